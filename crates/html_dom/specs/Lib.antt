@@ -1,0 +1,4 @@
+pub mod Attributes
+pub mod Equal
+pub mod Tree
+pub mod Views

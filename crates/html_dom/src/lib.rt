@@ -1,0 +1,16 @@
+//! The tree of an HTML document: elements, their attributes, texts, and tags that mark places.
+//!
+//! A contract sees a tree as a pure value in which each text is a list of characters.
+#![tactic(auto)]
+
+mod attrs;
+mod copy;
+mod node;
+mod place;
+mod same;
+#[cfg(test)]
+mod tests;
+
+pub use attrs::HtmlAttrs;
+pub use node::{HtmlElement, HtmlNode};
+pub use place::{Location, Span, Tag};

@@ -1,0 +1,67 @@
+-- What is wrong with a text, from its bytes; a text with which nothing is wrong is a valid name.
+use Rattle.std.proofs.Common.{◌≡◌, ℕ, Bool, true, false, not, ◌&&◌, eqb, List, [], ◌∷◌, length, chars, refl, sym, ap, ◌∙◌, Option, Some, None}
+use Rattle.std.specs.List.{find}
+use Rattle.std.specs.Str.{IsUtf8}
+use Rattle.std.proofs.lemmas.Bool.{false≢true, eqb-true}
+use Rattle.std.proofs.lemmas.List.{nil_from_length}
+use Rattle.std.proofs.lemmas.Str.{encodes-chars, chars-nil}
+use lib.Utf8.{encodes}
+use Rattle.html_names.specs.Characters.{all, IsOf, is_tag_char, is_attr_char}
+use Rattle.html_names.specs.Names.{tag_fault, fault_after, attr_fault, bad_attr_char}
+use Rattle.html_names.specs.declared.fault.NameFault.TheVariants.{EmptyTag, EmptyAttr}
+
+length_zero : (t : List ℕ) → eqb (length t) 0 ≡ true → t ≡ []
+length_zero t h = nil_from_length t (eqb-true (length t) 0 h)
+
+pub tag_fault-empty : (t : List ℕ) → eqb (length t) 0 ≡ true → tag_fault (chars t) ≡ Some EmptyTag
+tag_fault-empty t h = ap (λ b. tag_fault (chars b)) (length_zero t h) ∙ ap tag_fault chars-nil
+
+pub attr_fault-empty : (t : List ℕ) → eqb (length t) 0 ≡ true → attr_fault (chars t) ≡ Some EmptyAttr
+attr_fault-empty t h = ap (λ b. attr_fault (chars b)) (length_zero t h) ∙ ap attr_fault chars-nil
+
+tag_by : (cs t : List ℕ) → encodes cs ≡ t → eqb (length t) 0 ≡ false → tag_fault cs ≡ fault_after cs (find (λ c. not (is_tag_char c)) cs)
+tag_by [] t e h = absurd (false≢true (sym h ∙ ap (λ l. eqb (length l) 0) (sym e)))
+tag_by (c ∷ cs) t e h = refl
+
+pub tag_fault-more : (t : List ℕ) → IsUtf8 t → eqb (length t) 0 ≡ false → tag_fault (chars t) ≡ fault_after (chars t) (find (λ c. not (is_tag_char c)) (chars t))
+tag_fault-more t u h = tag_by (chars t) t (encodes-chars t u) h
+
+attr_by : (cs t : List ℕ) → encodes cs ≡ t → eqb (length t) 0 ≡ false → attr_fault cs ≡ bad_attr_char (find (λ c. not (is_attr_char c)) cs)
+attr_by [] t e h = absurd (false≢true (sym h ∙ ap (λ l. eqb (length l) 0) (sym e)))
+attr_by (c ∷ cs) t e h = refl
+
+pub attr_fault-more : (t : List ℕ) → IsUtf8 t → eqb (length t) 0 ≡ false → attr_fault (chars t) ≡ bad_attr_char (find (λ c. not (is_attr_char c)) (chars t))
+attr_fault-more t u h = attr_by (chars t) t (encodes-chars t u) h
+
+module _ (p : ℕ → Bool) where
+  valid_by : (b : Bool) (c : ℕ) (cs : List ℕ) → p c ≡ b → ((find (λ d. not (p d)) cs ≡ None) → all p cs ≡ true) → find (λ d. not (p d)) (c ∷ cs) ≡ None → (p c ≡ true) × (all p cs ≡ true)
+  valid_by true c cs e ih h = (e, ih (rw e at h))
+  valid_by false c cs e ih h = let w = rw e at h in cc
+
+  pub all_valid : (cs : List ℕ) → find (λ d. not (p d)) cs ≡ None → all p cs ≡ true
+  all_valid [] h = refl
+  all_valid (c ∷ cs) h = let both = valid_by (p c) c cs refl (all_valid cs) h in rw (both.0, both.1) refl
+
+  pub valid : (c : ℕ) (cs : List ℕ) → find (λ d. not (p d)) (c ∷ cs) ≡ None → IsOf p (c ∷ cs)
+  valid c cs h = valid_by (p c) c cs refl (all_valid cs) h
+
+none_bad : (name : List ℕ) (o : Option ℕ) → fault_after name o ≡ None → o ≡ None
+none_bad name (Some c) h = cc
+none_bad name None h = refl
+
+none_bad_attr : (o : Option ℕ) → bad_attr_char o ≡ None → o ≡ None
+none_bad_attr (Some c) h = cc
+none_bad_attr None h = refl
+
+pub valid_tag : (name : List ℕ) → tag_fault name ≡ None → IsOf is_tag_char name
+valid_tag [] h = cc
+valid_tag (c ∷ cs) h = valid is_tag_char c cs (none_bad (c ∷ cs) _ h)
+
+pub valid_attr : (name : List ℕ) → attr_fault name ≡ None → IsOf is_attr_char name
+valid_attr [] h = cc
+valid_attr (c ∷ cs) h = valid is_attr_char c cs (none_bad_attr _ h)
+
+-- for the calls that test a text
+pub ruleset tag_tests = (tag_fault-empty, tag_fault-more)
+
+pub ruleset attr_tests = (attr_fault-empty, attr_fault-more)

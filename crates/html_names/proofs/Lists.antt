@@ -1,0 +1,63 @@
+-- Whether a text is one of a list.
+use Rattle.std.proofs.Common.{◌≡◌, ℕ, zero, suc, ◌+◌, ◌<◌, Bool, ◌||◌, take, add-one, ⊎_elim, true, false, List, [], ◌∷◌, length, get_or, refl, sym, ap, ◌∙◌, arith, bytes_eq, chars, ltb-true}
+use Rattle.std.specs.Borrow.{Bor}
+use Rattle.std.specs.Bool.{one_answer}
+use Rattle.std.specs.Str.{IsUtf8, IsAscii}
+use Rattle.std.proofs.lemmas.Bool.{and_parts}
+use Rattle.std.proofs.lemmas.Slice.Eq.{bytes_eq-Decides}
+use Rattle.std.proofs.lemmas.Str.{chars-IsAscii, encodes-chars, IsUtf8-from_ascii}
+use Rattle.std.proofs.lemmas.Str.Ascii.{IsAscii-nil, IsAscii-cons}
+use lib.Utf8.{encodes}
+use Rattle.std.proofs.lemmas.Bool.{or_left, or_right, or_cases, false≢true}
+use Rattle.html_names.specs.Names.{texts, stands_in, is_ascii, are_ascii}
+
+or_comm : (x : Bool) → (x || false) ≡ (false || x)
+or_comm true = refl
+or_comm false = refl
+
+or_assoc : (x y z : Bool) → (x || (y || z)) ≡ ((x || y) || z)
+or_assoc true y z = refl
+or_assoc false y z = refl
+
+-- one more name
+pub stands_in_more : (names : List (Bor (List ℕ))) (text : List ℕ) (i : ℕ) (d : Bor (List ℕ)) → i < length names → stands_in (texts (take (i + 1) names)) text ≡ (stands_in (texts (take i names)) text || bytes_eq (get_or names i d).now text)
+unfolding stands_in
+stands_in_more [] text i d l = absurd (omega arith)
+stands_in_more (n ∷ ns) text zero d l = or_comm (bytes_eq n.now text)
+stands_in_more (n ∷ ns) text (suc i) d l =
+    let more = rw add-one at (stands_in_more ns text i d (omega arith)) in
+    rw add-one (ap (λ b. bytes_eq n.now text || b) more ∙ or_assoc (bytes_eq n.now text) _ _)
+
+-- what stands in a front stands in the list
+pub stands_in_front : (names : List (Bor (List ℕ))) (text : List ℕ) (i : ℕ) → stands_in (texts (take i names)) text ≡ true → stands_in (texts names) text ≡ true
+unfolding stands_in
+stands_in_front [] text zero h = h
+stands_in_front [] text (suc i) h = h
+stands_in_front (n ∷ ns) text zero h = absurd (false≢true h)
+stands_in_front (n ∷ ns) text (suc i) h = ⊎_elim (λ a. or_left (bytes_eq n.now text) _ a) (λ b. or_right (bytes_eq n.now text) _ (stands_in_front ns text i b)) (or_cases (bytes_eq n.now text) _ h)
+
+-- what is known in characters is known in bytes
+is_ascii_is : (s : List ℕ) → is_ascii s ≡ true → IsAscii s
+is_ascii_is [] h = IsAscii-nil
+is_ascii_is (c ∷ cs) h = IsAscii-cons c cs (ltb-true c 128 (and_parts _ _ h).0) (is_ascii_is cs (and_parts _ _ h).1)
+
+-- texts are equal where their characters are
+pub bytes_eq-chars : (a b : List ℕ) → IsUtf8 a → IsUtf8 b → bytes_eq (chars a) (chars b) ≡ bytes_eq a b
+bytes_eq-chars a b u v =
+    one_answer (bytes_eq (chars a) (chars b)) (bytes_eq a b) (bytes_eq-Decides (chars a) (chars b))
+    (λ h. ap chars ((bytes_eq-Decides a b).0 h), λ e. (bytes_eq-Decides a b).1 (sym (encodes-chars a u) ∙ (ap encodes e ∙ encodes-chars b v)))
+
+bytes_eq-ascii : (n t : List ℕ) → is_ascii n ≡ true → IsUtf8 t → bytes_eq n (chars t) ≡ bytes_eq n t
+bytes_eq-ascii n t a u =
+    let e : chars n ≡ n = chars-IsAscii n (is_ascii_is n a) in
+    let v : IsUtf8 n = IsUtf8-from_ascii n (is_ascii_is n a) in
+    ap (λ m. bytes_eq m (chars t)) (sym e) ∙ bytes_eq-chars n t v u
+
+pub stands_in-chars : (names : List (List ℕ)) (t : List ℕ) → are_ascii names ≡ true → IsUtf8 t → stands_in names (chars t) ≡ stands_in names t
+unfolding stands_in
+stands_in-chars [] t a u = refl
+stands_in-chars (n ∷ ns) t a u =
+    let both = and_parts (is_ascii n) (are_ascii ns) a in
+    rw (bytes_eq-ascii n t both.0 u, stands_in-chars ns t both.1 u) refl
+
+pub ruleset in_characters = (stands_in-chars, bytes_eq-chars, encodes-chars)

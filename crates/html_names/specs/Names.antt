@@ -1,0 +1,64 @@
+-- Lists of names, and what is wrong with a text as a name. Texts are lists of characters.
+use Rattle.std.specs.Prelude.{◌≡◌, ℕ, Bool, true, false, not, ◌||◌, ◌==◌, nat_lt, List, [], ◌∷◌, bytes_eq, codes, slice_index, if◌then◌else◌, Option, Some, None, Result, Ok, Err}
+use Rattle.std.specs.Borrow.{Bor}
+use Rattle.std.specs.List.{find, list_any, list_all}
+use Rattle.html_names.specs.Characters.{is_tag_char, is_attr_char, is_lower, is_capital, is_hyphen}
+use Rattle.html_names.specs.declared.fault.NameFault.{NameFault}
+use Rattle.html_names.specs.declared.fault.NameFault.TheVariants.{OutOfMemory, EmptyTag, BadTagChar, CustomStart, CustomCapital, Reserved, EmptyAttr, BadAttrChar}
+
+abbrev pub put_first : ℕ → List (List ℕ) → List (List ℕ)
+put_first c [] = (c ∷ []) ∷ []
+put_first c (n ∷ ns) = (c ∷ n) ∷ ns
+
+-- the names that a text lists, with one space between
+abbrev pub listed : List ℕ → List (List ℕ)
+listed [] = [] ∷ []
+listed (c ∷ cs) = if c == 32 then [] ∷ listed cs else put_first c (listed cs)
+
+-- the text is one of the list
+unfoldable pub stands_in : List (List ℕ) → List ℕ → Bool
+stands_in [] text = false
+stands_in (n ∷ ns) text = bytes_eq n text || stands_in ns text
+
+-- the texts that references lead to
+abbrev pub texts : List (Bor (List ℕ)) → List (List ℕ)
+texts [] = []
+texts (n ∷ ns) = n.now ∷ texts ns
+
+abbrev pub is_ascii : List ℕ → Bool
+is_ascii = list_all (λ c. nat_lt c 128)
+
+abbrev pub are_ascii : List (List ℕ) → Bool
+are_ascii = list_all is_ascii
+
+unfoldable pub is_reserved : List ℕ → Bool
+is_reserved name = stands_in (listed (codes "annotation-xml color-profile font-face font-face-src font-face-uri font-face-format font-face-name missing-glyph")) name
+
+-- what is wrong with a name that has a hyphen, as a custom element's name has
+abbrev pub custom_fault : List ℕ → Option NameFault
+custom_fault name = if is_lower (slice_index name 0) then (if list_any is_capital name then Some CustomCapital else (if is_reserved name then Some Reserved else None)) else Some CustomStart
+
+abbrev pub fault_after : List ℕ → Option ℕ → Option NameFault
+fault_after name (Some c) = Some (BadTagChar c)
+fault_after name None = if list_any is_hyphen name then custom_fault name else None
+
+-- the first that is wrong with a text as a tag name, in this order: it is empty, a character is not valid,
+-- and of a name with a hyphen the start, a capital, and that it is reserved
+abbrev pub tag_fault : List ℕ → Option NameFault
+tag_fault [] = Some EmptyTag
+tag_fault (c ∷ cs) = fault_after (c ∷ cs) (find (λ d. not (is_tag_char d)) (c ∷ cs))
+
+abbrev pub bad_attr_char : Option ℕ → Option NameFault
+bad_attr_char (Some c) = Some (BadAttrChar c)
+bad_attr_char None = None
+
+-- the first that is wrong with a text as an attribute name: it is empty, or a character is not valid
+abbrev pub attr_fault : List ℕ → Option NameFault
+attr_fault [] = Some EmptyAttr
+attr_fault (c ∷ cs) = bad_attr_char (find (λ d. not (is_attr_char d)) (c ∷ cs))
+
+-- a call makes the name of that text, or answers what is wrong with it, or that a name which is not known got no memory
+abbrev pub Interns : (fault : Option NameFault) (is_known : Bool) (name : List ℕ) → Result (List ℕ) NameFault → Type 0
+Interns fault is_known name (Ok t) = (fault ≡ None) × (t ≡ name)
+Interns fault is_known name (Err OutOfMemory) = (fault ≡ None) × (is_known ≡ false)
+Interns fault is_known name (Err f) = fault ≡ Some f

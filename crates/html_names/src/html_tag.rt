@@ -1,0 +1,400 @@
+ghost use Rattle.std.specs.Prelude.{◌≡◌, ℕ, List, bytes_eq, chars, IfOk, IfErr, OnErr, IfSome, IsTrue, is_some, false, map, not, slice_index};
+ghost use Rattle.std.specs.Bool.{OnTrue};
+ghost use Rattle.std.specs.List.{find, list_any};
+ghost use Rattle.html_names.specs.Characters.{IsOf, is_tag_char, is_hyphen, is_lower, is_capital};
+ghost use Rattle.html_names.specs.Names.{Interns, tag_fault, custom_fault, is_reserved, stands_in, texts, are_ascii};
+ghost use Rattle.html_names.specs.Known.{is_known_tag};
+ghost use Rattle.std.specs.Cmp as cmp;
+ghost use Rattle.std.specs.Cmp.{on_equiv, on_per};
+ghost use Rattle.std.specs.Cmp.Lexicographic.{nat_list_eq_equiv};
+
+use crate::charsets::is_valid_in_tag_name;
+use crate::fault::NameFault;
+use crate::name::{Name, is_one_of, known_in};
+use std::alloc::{AllocError, Global};
+use std::fmt;
+use std::hash::{Hash, Hasher};
+use std::marker::Model;
+
+/// A tag name. Two are equal where their texts are.
+///
+/// A contract sees it as its text, a list of characters.
+#[derive(Drop)]
+pub struct HtmlTag {
+    pub(crate) name: Name,
+}
+
+impl Model for HtmlTag {
+    ghost use Rattle.std.specs.Prelude.{ℕ, List};
+
+    ghost Value = { List ℕ };
+
+    ghost use Rattle.html_names.specs.Held.{text_of, IsHeld};
+    ghost use Rattle.html_names.specs.Characters.{is_tag_char};
+    ghost use Rattle.html_names.specs.Known.{is_known_tag};
+
+    ghost view = { λ t. text_of t.name };
+
+    ghost invariant = { λ t. IsHeld is_tag_char is_known_tag t.name };
+}
+
+/// The names that take no memory: those of the constants.
+const KNOWN_TAGS: [&str; 142] = [
+    "a",
+    "abbr",
+    "address",
+    "annotation",
+    "annotation-xml",
+    "area",
+    "article",
+    "aside",
+    "audio",
+    "b",
+    "base",
+    "bdi",
+    "bdo",
+    "blockquote",
+    "body",
+    "br",
+    "button",
+    "canvas",
+    "caption",
+    "cite",
+    "code",
+    "col",
+    "colgroup",
+    "data",
+    "datalist",
+    "dd",
+    "del",
+    "details",
+    "dfn",
+    "dialog",
+    "div",
+    "dl",
+    "dt",
+    "em",
+    "embed",
+    "fieldset",
+    "figcaption",
+    "figure",
+    "footer",
+    "form",
+    "h1",
+    "h2",
+    "h3",
+    "h4",
+    "h5",
+    "h6",
+    "head",
+    "header",
+    "hgroup",
+    "hr",
+    "html",
+    "i",
+    "iframe",
+    "img",
+    "input",
+    "ins",
+    "kbd",
+    "label",
+    "legend",
+    "li",
+    "link",
+    "maction",
+    "main",
+    "map",
+    "mark",
+    "math",
+    "menu",
+    "merror",
+    "meta",
+    "meter",
+    "mfrac",
+    "mi",
+    "mmultiscripts",
+    "mn",
+    "mo",
+    "mover",
+    "mpadded",
+    "mphantom",
+    "mprescripts",
+    "mroot",
+    "mrow",
+    "ms",
+    "mspace",
+    "msqrt",
+    "mstyle",
+    "msub",
+    "msubsup",
+    "msup",
+    "mtable",
+    "mtd",
+    "mtext",
+    "mtr",
+    "munder",
+    "munderover",
+    "nav",
+    "noscript",
+    "object",
+    "ol",
+    "optgroup",
+    "option",
+    "output",
+    "p",
+    "picture",
+    "pre",
+    "progress",
+    "q",
+    "rp",
+    "rt",
+    "ruby",
+    "s",
+    "samp",
+    "script",
+    "search",
+    "section",
+    "select",
+    "semantics",
+    "slot",
+    "small",
+    "source",
+    "span",
+    "strong",
+    "style",
+    "sub",
+    "summary",
+    "sup",
+    "table",
+    "tbody",
+    "td",
+    "template",
+    "textarea",
+    "tfoot",
+    "th",
+    "thead",
+    "time",
+    "title",
+    "tr",
+    "track",
+    "u",
+    "ul",
+    "var",
+    "video",
+    "wbr",
+];
+
+/// The names that HTML keeps for SVG and MathML, and that no custom element may have.
+const RESERVED: [&str; 8] = [
+    "annotation-xml",
+    "color-profile",
+    "font-face",
+    "font-face-src",
+    "font-face-uri",
+    "font-face-format",
+    "font-face-name",
+    "missing-glyph",
+];
+
+/// The first character that may not stand in a tag name.
+fn first_bad(text: &str) -> Option<char>
+    ensures { result ≡ find (λ c. not (is_tag_char c)) (chars text.now) }
+{
+    text.chars().find(|c| !is_valid_in_tag_name(*c))
+}
+
+/// Whether a hyphen stands in the text.
+fn has_hyphen(text: &str) -> bool
+    ensures { result ≡ list_any is_hyphen (chars text.now) }
+{
+    text.chars().any(|c| c == '-')
+}
+
+/// Whether an ASCII capital stands in the text.
+fn has_capital(text: &str) -> bool
+    ensures { result ≡ list_any is_capital (chars text.now) }
+{
+    text.chars().any(|c| c.is_ascii_uppercase())
+}
+
+/// Whether the text begins with a small ASCII letter.
+fn starts_lower(text: &str) -> bool
+    ensures { result ≡ is_lower (slice_index (chars text.now) 0) }
+{
+    match text.chars().next() {
+        Some(c) => c.is_ascii_lowercase(),
+        None => false,
+    }
+}
+
+/// Whether HTML keeps the name for SVG and MathML.
+#[tactic(auto, unfolding(crate::specs::Names::is_reserved))]
+fn is_reserved(text: &str) -> bool
+    ensures { result ≡ is_reserved (chars text.now) }
+{
+    is_one_of(&RESERVED, text)
+}
+
+/// What is wrong with a name that has a hyphen.
+fn custom_fault(text: &str) -> Option<NameFault>
+    ensures { result ≡ custom_fault (chars text.now) }
+{
+    if !starts_lower(text) {
+        return Some(NameFault::CustomStart);
+    }
+    if has_capital(text) {
+        return Some(NameFault::CustomCapital);
+    }
+    if is_reserved(text) {
+        return Some(NameFault::Reserved);
+    }
+    None
+}
+
+/// The first that is wrong with the text as a tag name.
+#[tactic(auto, using(crate::proofs::Faults::tag_tests))]
+fn fault_of(text: &str) -> Option<NameFault>
+    ensures { result ≡ tag_fault (chars text.now) }
+{
+    if text.is_empty() {
+        return Some(NameFault::EmptyTag);
+    }
+    if let Some(c) = first_bad(text) {
+        return Some(NameFault::BadTagChar(c));
+    }
+    if has_hyphen(text) {
+        return custom_fault(text);
+    }
+    None
+}
+
+/// The known name of this text.
+#[tactic(auto, unfolding(crate::specs::Known::is_known_tag))]
+fn known(text: &str) -> Option<&'static str>
+    ensures found { IfSome result (λ name. chars name.now ≡ chars text.now) }
+    ensures test { is_some result ≡ is_known_tag (chars text.now) }
+{
+    known_in(&KNOWN_TAGS, text)
+}
+
+impl HtmlTag {
+    /// The name of this text, or the first that is wrong with it: it is empty, a character is not
+    /// valid in a tag name (HTML Standard 13.1.2), or a name with a hyphen begins with something else
+    /// than a small ASCII letter, has an ASCII capital or is reserved (HTML Standard 4.13.2).
+    ///
+    /// A known name takes no memory.
+    #[tactic(auto, using(crate::proofs::Faults::valid_tag))]
+    pub fn intern(alloc: Global, text: &str) -> Result<HtmlTag, NameFault>
+        ensures { let name = chars text.now in Interns (tag_fault name) (is_known_tag name) name result }
+    {
+        if let Some(fault) = fault_of(text) {
+            return Err(fault);
+        }
+        Ok(HtmlTag::constant(alloc, text)?)
+    }
+
+    /// The name of a text that the caller knows to be one; unlike `intern` it takes reserved names
+    /// and any name with a hyphen. A known name takes no memory.
+    pub fn constant(alloc: Global, text: &str) -> Result<HtmlTag, AllocError>
+        requires { IsOf is_tag_char (chars text.now) }
+        ensures name { IfOk result (λ tag. tag ≡ chars text.now) }
+        ensures memory { OnErr result (is_known_tag (chars text.now) ≡ false) }
+    {
+        if let Some(name) = known(text) {
+            return Ok(HtmlTag {
+                name: Name::Known(name),
+            });
+        }
+        Ok(HtmlTag {
+            name: Name::Own(String::from_str(alloc, text)?),
+        })
+    }
+
+    /// A copy. One of a known name takes no memory.
+    pub fn try_clone(&self) -> Result<HtmlTag, AllocError>
+        ensures copy { IfOk result (λ tag. tag ≡ self.now) }
+        ensures memory { OnErr result (is_known_tag self.now ≡ false) }
+    {
+        match &self.name {
+            Name::Known(name) => Ok(HtmlTag {
+                name: Name::Known(name),
+            }),
+            Name::Own(name) => Ok(HtmlTag {
+                name: Name::Own(name.clone()?),
+            }),
+        }
+    }
+
+    /// The name's text, which is valid in a start tag.
+    pub fn resolve(&self) -> &str
+        ensures text { chars result.now ≡ self.now }
+        ensures valid { IsOf is_tag_char self.now }
+    {
+        self.name.as_str()
+    }
+
+    /// Whether the name is one of the list.
+    pub(crate) fn is_one_of(&self, names: &[&'static str]) -> bool
+        requires { IsTrue (are_ascii (texts names.now)) }
+        ensures { result ≡ stands_in (texts names.now) self.now }
+    {
+        is_one_of(names, self.resolve())
+    }
+}
+
+#[tactic(auto, using(crate::proofs::Lists::in_characters))]
+impl PartialEq for HtmlTag {
+    ghost eq = { λ x y. bytes_eq x y };
+
+    ghost laws = { on_per (λ x. x) (cmp.partial_equiv_from_equiv nat_list_eq_equiv) };
+
+    fn eq(&self, other: &Self) -> bool {
+        self.resolve() == other.resolve()
+    }
+}
+
+impl Eq for HtmlTag {
+    ghost laws = { on_equiv (λ x. x) nat_list_eq_equiv };
+}
+
+#[tactic(auto, using(crate::proofs::Lists::in_characters))]
+impl Hash for HtmlTag {
+    ghost use Rattle.std.specs.Hash as fed;
+    ghost use Rattle.std.specs.Cmp.Rules.{hashing};
+    ghost use Rattle.std.proofs.Common.{rules};
+    ghost use lib.Utf8.{encodes};
+
+    ghost hash_input = { λ name. fed.str (encodes name) };
+
+    ghost respects_eq = { Prim.search (hashing, rules) };
+
+    fn hash<H: Hasher>(&self, state: &mut H) {
+        self.resolve().hash(state);
+    }
+}
+
+/// `<name>`
+impl fmt::Display for HtmlTag {
+    ghost use Rattle.std.specs.Prelude.{codes, ◌++◌, Some};
+    ghost use lib.Utf8.{encodes};
+
+    ghost output = { λ name. Some (codes "<" ++ encodes name ++ codes ">") };
+
+    fn fmt<W: fmt::Write>(&self, f: &mut fmt::Formatter<W>) -> fmt::Result {
+        let text = self.resolve();
+        write!(f, "<{text}>")
+    }
+}
+
+/// `<name>`
+impl fmt::Debug for HtmlTag {
+    ghost use Rattle.std.specs.Prelude.{codes, ◌++◌, Some};
+    ghost use lib.Utf8.{encodes};
+
+    ghost debug_output = { λ name. Some (codes "<" ++ encodes name ++ codes ">") };
+
+    fn fmt<W: fmt::Write>(&self, f: &mut fmt::Formatter<W>) -> fmt::Result {
+        let text = self.resolve();
+        write!(f, "<{text}>")
+    }
+}
