@@ -1,2 +1,3 @@
+pub mod Attributes
 pub mod Equals
 pub mod Texts

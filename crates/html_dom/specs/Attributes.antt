@@ -1,11 +1,16 @@
 -- Lists of attributes, in which a name may come more than once.
-use Rattle.std.specs.Prelude.{ℕ, suc, ◌+◌, Bool, false, ◌||◌, List, [], ◌∷◌, ◌++◌, bytes_eq, if◌then◌else◌, Option, Some, None}
+use Rattle.std.specs.Prelude.{ℕ, ◌+◌, Bool, List, [], ◌∷◌, ◌++◌, bytes_eq, if◌then◌else◌, Option, Some, None, is_some}
 use Rattle.html_dom.specs.Tree.{Pair}
 
 -- the value of the first pair of that name
 abbrev pub first : List Pair → List ℕ → Option (List ℕ)
 first [] name = None
 first (p ∷ ps) name = if bytes_eq p.0 name then Some p.1 else first ps name
+
+-- with that value in the first pair of that name
+abbrev pub with_value : List Pair → (name value : List ℕ) → List Pair
+with_value [] name value = []
+with_value (p ∷ ps) name value = if bytes_eq p.0 name then (p.0, value) ∷ ps else p ∷ with_value ps name value
 
 -- the pairs before the first of that name
 abbrev pub place : List Pair → List ℕ → ℕ
@@ -14,8 +19,7 @@ place (p ∷ ps) name = if bytes_eq p.0 name then 0 else place ps name + 1
 
 -- a pair of that name is there
 abbrev pub has : List Pair → List ℕ → Bool
-has [] name = false
-has (p ∷ ps) name = bytes_eq p.0 name || has ps name
+has ps name = is_some (first ps name)
 
 -- with a pair at the end, unless its name is there
 abbrev pub with_new : List Pair → Pair → List Pair

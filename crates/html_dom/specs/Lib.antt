@@ -1,4 +1,5 @@
 pub mod Attributes
 pub mod Equal
+pub mod Lending
 pub mod Tree
 pub mod Views

@@ -13,6 +13,12 @@ use std::alloc::{AllocError, AllocFailed, Global};
 pub struct HtmlAttrs(pub Vec<(HtmlAttr, String)>);
 
 impl HtmlAttrs {
+    ghost use Rattle.std.specs.Prelude.{OnSome, ◌<◌, vec_len, slice_index_or};
+    ghost use Rattle.std.specs.Borrow.{Lends, LendsSo, sem};
+    ghost use Rattle.html_dom.specs.Attributes.{with_value};
+    ghost use Rattle.html_dom.specs.Lending.{text_row, with_text};
+    ghost use Rattle.html_dom.specs.contracts.attrs.HtmlAttrs.{the_row};
+
     /// The empty list.
     pub fn new(alloc: Global) -> HtmlAttrs
         ensures { attrs_view result ≡ [] }
@@ -58,6 +64,73 @@ impl HtmlAttrs {
             }
         }
         None
+    }
+
+    /// The value of the first pair of that name, to be written. The pair keeps its name, and the
+    /// others stay.
+    pub fn get_mut(&mut self, attr: &HtmlAttr) -> Option<&mut String>
+        ensures* writes_back { sem 𝓛 (LendsSo the_row text_row self.entry result
+            (λ attrs value. OnSome result (attrs_view attrs ≡ with_value (attrs_view self.old) attr.now (text_view value)))
+            (λ attrs. attrs_view attrs ≡ attrs_view self.old)) }
+        ensures value { option_map (λ value. text_view value.now) result ≡ first (attrs_view self.old) attr.now }
+    {
+        let place = self.place(attr);
+        if place < self.0.len() {
+            return Some(self.value_mut(place));
+        }
+        None
+    }
+
+    /// The value of the pair at that place, to be written.
+    fn value_mut(&mut self, place: usize) -> &mut String
+        requires { place < vec_len self.old.0 }
+        ensures* writes_back { sem 𝓛 (Lends the_row text_row self.entry result (with_text self.old place)) }
+        ensures value { result.now ≡ (slice_index_or self.old.0.items place ([], result.now)).1 }
+    {
+        &mut self.0[place].1
+    }
+
+    /// How many pairs stand before the first of that name.
+    fn place(&self, attr: &HtmlAttr) -> usize
+        ensures { result ≡ place (attrs_view self.now) attr.now }
+    {
+        let mut place = 0;
+        for pair in &self.0 {
+            if pair.0 == *attr {
+                break;
+            }
+            place += 1;
+        }
+        place
+    }
+
+    /// Whether a pair of that name is there.
+    fn contains(&self, attr: &HtmlAttr) -> bool
+        ensures { result ≡ has (attrs_view self.now) attr.now }
+    {
+        self.get(attr).is_some()
+    }
+
+    /// These pairs, and then the first pair of each name of `outer` that is not among them. Where
+    /// memory is refused, both lists come back.
+    pub fn fold(mut self, outer: HtmlAttrs) -> Result<HtmlAttrs, Refused<(HtmlAttrs, HtmlAttrs)>>
+        ensures union { IfOk result (λ attrs. attrs_view attrs ≡ union (attrs_view self) (attrs_view outer)) }
+        ensures back { IfErr result (λ refused. (attrs_view refused.back.0 ≡ attrs_view self) × (attrs_view refused.back.1 ≡ attrs_view outer)) }
+    {
+        if self.0.reserve(outer.0.len()).is_err() {
+            return Err(Refused {
+                back: (self, outer),
+            });
+        }
+        for (attr, value) in outer.0 {
+            if self.contains(&attr) {
+                continue;
+            }
+            if self.0.push((attr, value)).is_err() {
+                unreachable!();
+            }
+        }
+        Ok(self)
     }
 
     /// A copy.

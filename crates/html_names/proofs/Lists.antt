@@ -1,5 +1,5 @@
 -- Whether a text is one of a list.
-use Rattle.std.proofs.Common.{◌≡◌, ℕ, zero, suc, ◌+◌, ◌<◌, Bool, ◌||◌, take, add-one, ⊎_elim, true, false, List, [], ◌∷◌, length, get_or, refl, sym, ap, ◌∙◌, arith, bytes_eq, chars, ltb-true}
+use Rattle.std.proofs.Common.{◌≡◌, ℕ, zero, suc, ◌+◌, ◌<◌, Bool, ◌||◌, take, add-one, ⊎_elim, true, false, List, [], ◌∷◌, length, get_or, refl, sym, ap, map, ◌∙◌, arith, bytes_eq, chars, ltb-true}
 use Rattle.std.specs.Borrow.{Bor}
 use Rattle.std.specs.Bool.{one_answer}
 use Rattle.std.specs.Str.{IsUtf8, IsAscii}
@@ -10,31 +10,6 @@ use Rattle.std.proofs.lemmas.Str.Ascii.{IsAscii-nil, IsAscii-cons}
 use lib.Utf8.{encodes}
 use Rattle.std.proofs.lemmas.Bool.{or_left, or_right, or_cases, false≢true}
 use Rattle.html_names.specs.Names.{texts, stands_in, is_ascii, are_ascii}
-
-or_comm : (x : Bool) → (x || false) ≡ (false || x)
-or_comm true = refl
-or_comm false = refl
-
-or_assoc : (x y z : Bool) → (x || (y || z)) ≡ ((x || y) || z)
-or_assoc true y z = refl
-or_assoc false y z = refl
-
--- one more name
-pub stands_in_more : (names : List (Bor (List ℕ))) (text : List ℕ) (i : ℕ) (d : Bor (List ℕ)) → i < length names → stands_in (texts (take (i + 1) names)) text ≡ (stands_in (texts (take i names)) text || bytes_eq (get_or names i d).now text)
-unfolding stands_in
-stands_in_more [] text i d l = absurd (omega arith)
-stands_in_more (n ∷ ns) text zero d l = or_comm (bytes_eq n.now text)
-stands_in_more (n ∷ ns) text (suc i) d l =
-    let more = rw add-one at (stands_in_more ns text i d (omega arith)) in
-    rw add-one (ap (λ b. bytes_eq n.now text || b) more ∙ or_assoc (bytes_eq n.now text) _ _)
-
--- what stands in a front stands in the list
-pub stands_in_front : (names : List (Bor (List ℕ))) (text : List ℕ) (i : ℕ) → stands_in (texts (take i names)) text ≡ true → stands_in (texts names) text ≡ true
-unfolding stands_in
-stands_in_front [] text zero h = h
-stands_in_front [] text (suc i) h = h
-stands_in_front (n ∷ ns) text zero h = absurd (false≢true h)
-stands_in_front (n ∷ ns) text (suc i) h = ⊎_elim (λ a. or_left (bytes_eq n.now text) _ a) (λ b. or_right (bytes_eq n.now text) _ (stands_in_front ns text i b)) (or_cases (bytes_eq n.now text) _ h)
 
 -- what is known in characters is known in bytes
 is_ascii_is : (s : List ℕ) → is_ascii s ≡ true → IsAscii s

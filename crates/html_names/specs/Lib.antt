@@ -4,5 +4,7 @@ pub mod Faults
 pub mod Held
 pub mod Kinds
 pub mod Known
+pub mod KnownAttrs
+pub mod KnownTags
 pub mod Names
 pub mod Rows

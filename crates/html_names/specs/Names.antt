@@ -1,5 +1,5 @@
 -- Lists of names, and what is wrong with a text as a name. Texts are lists of characters.
-use Rattle.std.specs.Prelude.{◌≡◌, ℕ, Bool, true, false, not, ◌||◌, ◌==◌, nat_lt, List, [], ◌∷◌, bytes_eq, codes, slice_index, if◌then◌else◌, Option, Some, None, Result, Ok, Err}
+use Rattle.std.specs.Prelude.{◌≡◌, ℕ, Bool, true, false, not, ◌||◌, ◌==◌, nat_lt, List, [], ◌∷◌, bytes_eq, codes, map, slice_index, if◌then◌else◌, Option, Some, None, Result, Ok, Err}
 use Rattle.std.specs.Borrow.{Bor}
 use Rattle.std.specs.List.{find, list_any, list_all}
 use Rattle.html_names.specs.Characters.{is_tag_char, is_attr_char, is_lower, is_capital, is_hyphen}
@@ -22,8 +22,7 @@ stands_in (n ∷ ns) text = bytes_eq n text || stands_in ns text
 
 -- the texts that references lead to
 abbrev pub texts : List (Bor (List ℕ)) → List (List ℕ)
-texts [] = []
-texts (n ∷ ns) = n.now ∷ texts ns
+texts = map (λ n. n.now)
 
 abbrev pub is_ascii : List ℕ → Bool
 is_ascii = list_all (λ c. nat_lt c 128)

@@ -3,6 +3,7 @@ ghost use Rattle.std.specs.Bool.{OnTrue};
 ghost use Rattle.std.specs.List.{find};
 ghost use Rattle.html_names.specs.Characters.{IsOf, is_attr_char};
 ghost use Rattle.html_names.specs.Names.{Interns, attr_fault};
+ghost use Rattle.html_names.specs.KnownAttrs.{text_of};
 ghost use Rattle.html_names.specs.Known.{is_known_attr, is_aria_attr, is_html_attr, is_mathml_attr};
 ghost use Rattle.std.specs.Cmp as cmp;
 ghost use Rattle.std.specs.Cmp.{on_equiv, on_per};
@@ -10,6 +11,7 @@ ghost use Rattle.std.specs.Cmp.Lexicographic.{nat_list_eq_equiv};
 
 use crate::charsets::is_valid_in_attribute_name;
 use crate::fault::NameFault;
+use crate::known_attr::{ARIA, HTML, KnownAttr, MATHML};
 use crate::name::{Name, known_in};
 use std::alloc::{AllocError, Global};
 use std::fmt;
@@ -21,7 +23,7 @@ use std::marker::Model;
 /// A contract sees it as its text, a list of characters.
 #[derive(Drop)]
 pub struct HtmlAttr {
-    pub(crate) name: Name,
+    pub(crate) name: Name<KnownAttr>,
 }
 
 impl Model for HtmlAttr {
@@ -29,232 +31,15 @@ impl Model for HtmlAttr {
 
     ghost Value = { List ℕ };
 
-    ghost use Rattle.html_names.specs.Held.{text_of, IsHeld};
+    ghost use Rattle.html_names.specs.KnownAttrs.{text_of};
+    ghost use Rattle.html_names.specs.Held.{name_of, IsHeld};
     ghost use Rattle.html_names.specs.Characters.{is_attr_char};
     ghost use Rattle.html_names.specs.Known.{is_known_attr};
 
-    ghost view = { λ t. text_of t.name };
+    ghost view = { λ t. name_of text_of t.name };
 
-    ghost invariant = { λ t. IsHeld is_attr_char is_known_attr t.name };
+    ghost invariant = { λ t. IsHeld text_of is_attr_char is_known_attr t.name };
 }
-
-/// The names of ARIA among the constants.
-const ARIA: [&str; 46] = [
-    "aria-activedescendant",
-    "aria-atomic",
-    "aria-autocomplete",
-    "aria-busy",
-    "aria-checked",
-    "aria-colcount",
-    "aria-colindex",
-    "aria-colspan",
-    "aria-controls",
-    "aria-current",
-    "aria-describedby",
-    "aria-details",
-    "aria-disabled",
-    "aria-errormessage",
-    "aria-expanded",
-    "aria-flowto",
-    "aria-haspopup",
-    "aria-hidden",
-    "aria-invalid",
-    "aria-keyshortcuts",
-    "aria-label",
-    "aria-labelledby",
-    "aria-level",
-    "aria-live",
-    "aria-modal",
-    "aria-multiline",
-    "aria-multiselectable",
-    "aria-orientation",
-    "aria-owns",
-    "aria-placeholder",
-    "aria-posinset",
-    "aria-pressed",
-    "aria-readonly",
-    "aria-relevant",
-    "aria-required",
-    "aria-roledescription",
-    "aria-rowcount",
-    "aria-rowindex",
-    "aria-rowspan",
-    "aria-selected",
-    "aria-setsize",
-    "aria-sort",
-    "aria-valuemax",
-    "aria-valuemin",
-    "aria-valuenow",
-    "aria-valuetext",
-];
-
-/// HTML's other names among the constants.
-const HTML: [&str; 142] = [
-    "abbr",
-    "accept",
-    "accept-charset",
-    "accesskey",
-    "action",
-    "allow",
-    "allowfullscreen",
-    "alpha",
-    "alt",
-    "as",
-    "async",
-    "autocapitalize",
-    "autocomplete",
-    "autocorrect",
-    "autofocus",
-    "autoplay",
-    "blocking",
-    "charset",
-    "checked",
-    "cite",
-    "class",
-    "closedby",
-    "color",
-    "colorspace",
-    "cols",
-    "colspan",
-    "command",
-    "commandfor",
-    "content",
-    "contenteditable",
-    "controls",
-    "coords",
-    "crossorigin",
-    "data",
-    "datetime",
-    "decoding",
-    "default",
-    "defer",
-    "dir",
-    "dirname",
-    "disabled",
-    "download",
-    "draggable",
-    "enctype",
-    "enterkeyhint",
-    "fetchpriority",
-    "for",
-    "form",
-    "formaction",
-    "formenctype",
-    "formmethod",
-    "formnovalidate",
-    "formtarget",
-    "headers",
-    "height",
-    "hidden",
-    "high",
-    "href",
-    "hreflang",
-    "http-equiv",
-    "id",
-    "imagesizes",
-    "imagesrcset",
-    "inert",
-    "inputmode",
-    "integrity",
-    "is",
-    "ismap",
-    "itemid",
-    "itemprop",
-    "itemref",
-    "itemscope",
-    "itemtype",
-    "kind",
-    "label",
-    "lang",
-    "list",
-    "loading",
-    "loop",
-    "low",
-    "max",
-    "maxlength",
-    "media",
-    "method",
-    "min",
-    "minlength",
-    "multiple",
-    "muted",
-    "name",
-    "nomodule",
-    "nonce",
-    "novalidate",
-    "open",
-    "optimum",
-    "pattern",
-    "ping",
-    "placeholder",
-    "playsinline",
-    "popover",
-    "popovertarget",
-    "popovertargetaction",
-    "poster",
-    "preload",
-    "readonly",
-    "referrerpolicy",
-    "rel",
-    "required",
-    "reversed",
-    "role",
-    "rows",
-    "rowspan",
-    "sandbox",
-    "scope",
-    "selected",
-    "shadowrootclonable",
-    "shadowrootcustomelementregistry",
-    "shadowrootdelegatesfocus",
-    "shadowrootmode",
-    "shadowrootserializable",
-    "shape",
-    "size",
-    "sizes",
-    "slot",
-    "span",
-    "spellcheck",
-    "src",
-    "srcdoc",
-    "srclang",
-    "srcset",
-    "start",
-    "step",
-    "style",
-    "tabindex",
-    "target",
-    "title",
-    "translate",
-    "type",
-    "usemap",
-    "value",
-    "width",
-    "wrap",
-    "writingsuggestions",
-];
-
-/// The names of MathML among the constants that HTML does not have.
-const MATHML: [&str; 18] = [
-    "display",
-    "displaystyle",
-    "scriptlevel",
-    "linethickness",
-    "mathvariant",
-    "fence",
-    "separator",
-    "lspace",
-    "rspace",
-    "stretchy",
-    "symmetric",
-    "maxsize",
-    "minsize",
-    "largeop",
-    "movablelimits",
-    "accent",
-    "accentunder",
-    "columnspan",
-];
 
 /// The first character that may not stand in an attribute name.
 fn first_bad(text: &str) -> Option<char>
@@ -279,8 +64,8 @@ fn fault_of(text: &str) -> Option<NameFault>
 
 /// The name of ARIA that has this text.
 #[tactic(auto, unfolding(crate::specs::Known::is_aria_attr))]
-fn known_in_aria(text: &str) -> Option<&'static str>
-    ensures found { IfSome result (λ name. chars name.now ≡ chars text.now) }
+fn known_in_aria(text: &str) -> Option<KnownAttr>
+    ensures found { IfSome result (λ known. chars (text_of known) ≡ chars text.now) }
     ensures test { is_some result ≡ is_aria_attr (chars text.now) }
 {
     known_in(&ARIA, text)
@@ -288,8 +73,8 @@ fn known_in_aria(text: &str) -> Option<&'static str>
 
 /// The other name of HTML that has this text.
 #[tactic(auto, unfolding(crate::specs::Known::is_html_attr))]
-fn known_in_html(text: &str) -> Option<&'static str>
-    ensures found { IfSome result (λ name. chars name.now ≡ chars text.now) }
+fn known_in_html(text: &str) -> Option<KnownAttr>
+    ensures found { IfSome result (λ known. chars (text_of known) ≡ chars text.now) }
     ensures test { is_some result ≡ is_html_attr (chars text.now) }
 {
     known_in(&HTML, text)
@@ -297,23 +82,23 @@ fn known_in_html(text: &str) -> Option<&'static str>
 
 /// The name of MathML that has this text.
 #[tactic(auto, unfolding(crate::specs::Known::is_mathml_attr))]
-fn known_in_mathml(text: &str) -> Option<&'static str>
-    ensures found { IfSome result (λ name. chars name.now ≡ chars text.now) }
+fn known_in_mathml(text: &str) -> Option<KnownAttr>
+    ensures found { IfSome result (λ known. chars (text_of known) ≡ chars text.now) }
     ensures test { is_some result ≡ is_mathml_attr (chars text.now) }
 {
     known_in(&MATHML, text)
 }
 
 /// The known name of this text.
-fn known(text: &str) -> Option<&'static str>
-    ensures found { IfSome result (λ name. chars name.now ≡ chars text.now) }
+fn known(text: &str) -> Option<KnownAttr>
+    ensures found { IfSome result (λ known. chars (text_of known) ≡ chars text.now) }
     ensures test { is_some result ≡ is_known_attr (chars text.now) }
 {
-    if let Some(name) = known_in_aria(text) {
-        return Some(name);
+    if let Some(known) = known_in_aria(text) {
+        return Some(known);
     }
-    if let Some(name) = known_in_html(text) {
-        return Some(name);
+    if let Some(known) = known_in_html(text) {
+        return Some(known);
     }
     known_in_mathml(text)
 }
@@ -339,9 +124,9 @@ impl HtmlAttr {
         ensures name { IfOk result (λ attr. attr ≡ chars text.now) }
         ensures memory { OnErr result (is_known_attr (chars text.now) ≡ false) }
     {
-        if let Some(name) = known(text) {
+        if let Some(known) = known(text) {
             return Ok(HtmlAttr {
-                name: Name::Known(name),
+                name: Name::Known(known),
             });
         }
         Ok(HtmlAttr {
@@ -354,14 +139,9 @@ impl HtmlAttr {
         ensures copy { IfOk result (λ attr. attr ≡ self.now) }
         ensures memory { OnErr result (is_known_attr self.now ≡ false) }
     {
-        match &self.name {
-            Name::Known(name) => Ok(HtmlAttr {
-                name: Name::Known(name),
-            }),
-            Name::Own(name) => Ok(HtmlAttr {
-                name: Name::Own(name.clone()?),
-            }),
-        }
+        Ok(HtmlAttr {
+            name: self.name.try_clone()?,
+        })
     }
 
     /// The name's text, which is valid in a start tag.

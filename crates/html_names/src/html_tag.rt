@@ -3,6 +3,7 @@ ghost use Rattle.std.specs.Bool.{OnTrue};
 ghost use Rattle.std.specs.List.{find, list_any};
 ghost use Rattle.html_names.specs.Characters.{IsOf, is_tag_char, is_hyphen, is_lower, is_capital};
 ghost use Rattle.html_names.specs.Names.{Interns, tag_fault, custom_fault, is_reserved, stands_in, texts, are_ascii};
+ghost use Rattle.html_names.specs.KnownTags.{text_of};
 ghost use Rattle.html_names.specs.Known.{is_known_tag};
 ghost use Rattle.std.specs.Cmp as cmp;
 ghost use Rattle.std.specs.Cmp.{on_equiv, on_per};
@@ -10,6 +11,7 @@ ghost use Rattle.std.specs.Cmp.Lexicographic.{nat_list_eq_equiv};
 
 use crate::charsets::is_valid_in_tag_name;
 use crate::fault::NameFault;
+use crate::known_tag::{KnownTag, TAGS};
 use crate::name::{Name, is_one_of, known_in};
 use std::alloc::{AllocError, Global};
 use std::fmt;
@@ -21,7 +23,7 @@ use std::marker::Model;
 /// A contract sees it as its text, a list of characters.
 #[derive(Drop)]
 pub struct HtmlTag {
-    pub(crate) name: Name,
+    pub(crate) name: Name<KnownTag>,
 }
 
 impl Model for HtmlTag {
@@ -29,160 +31,15 @@ impl Model for HtmlTag {
 
     ghost Value = { List ℕ };
 
-    ghost use Rattle.html_names.specs.Held.{text_of, IsHeld};
+    ghost use Rattle.html_names.specs.KnownTags.{text_of};
+    ghost use Rattle.html_names.specs.Held.{name_of, IsHeld};
     ghost use Rattle.html_names.specs.Characters.{is_tag_char};
     ghost use Rattle.html_names.specs.Known.{is_known_tag};
 
-    ghost view = { λ t. text_of t.name };
+    ghost view = { λ t. name_of text_of t.name };
 
-    ghost invariant = { λ t. IsHeld is_tag_char is_known_tag t.name };
+    ghost invariant = { λ t. IsHeld text_of is_tag_char is_known_tag t.name };
 }
-
-/// The names that take no memory: those of the constants.
-const KNOWN_TAGS: [&str; 142] = [
-    "a",
-    "abbr",
-    "address",
-    "annotation",
-    "annotation-xml",
-    "area",
-    "article",
-    "aside",
-    "audio",
-    "b",
-    "base",
-    "bdi",
-    "bdo",
-    "blockquote",
-    "body",
-    "br",
-    "button",
-    "canvas",
-    "caption",
-    "cite",
-    "code",
-    "col",
-    "colgroup",
-    "data",
-    "datalist",
-    "dd",
-    "del",
-    "details",
-    "dfn",
-    "dialog",
-    "div",
-    "dl",
-    "dt",
-    "em",
-    "embed",
-    "fieldset",
-    "figcaption",
-    "figure",
-    "footer",
-    "form",
-    "h1",
-    "h2",
-    "h3",
-    "h4",
-    "h5",
-    "h6",
-    "head",
-    "header",
-    "hgroup",
-    "hr",
-    "html",
-    "i",
-    "iframe",
-    "img",
-    "input",
-    "ins",
-    "kbd",
-    "label",
-    "legend",
-    "li",
-    "link",
-    "maction",
-    "main",
-    "map",
-    "mark",
-    "math",
-    "menu",
-    "merror",
-    "meta",
-    "meter",
-    "mfrac",
-    "mi",
-    "mmultiscripts",
-    "mn",
-    "mo",
-    "mover",
-    "mpadded",
-    "mphantom",
-    "mprescripts",
-    "mroot",
-    "mrow",
-    "ms",
-    "mspace",
-    "msqrt",
-    "mstyle",
-    "msub",
-    "msubsup",
-    "msup",
-    "mtable",
-    "mtd",
-    "mtext",
-    "mtr",
-    "munder",
-    "munderover",
-    "nav",
-    "noscript",
-    "object",
-    "ol",
-    "optgroup",
-    "option",
-    "output",
-    "p",
-    "picture",
-    "pre",
-    "progress",
-    "q",
-    "rp",
-    "rt",
-    "ruby",
-    "s",
-    "samp",
-    "script",
-    "search",
-    "section",
-    "select",
-    "semantics",
-    "slot",
-    "small",
-    "source",
-    "span",
-    "strong",
-    "style",
-    "sub",
-    "summary",
-    "sup",
-    "table",
-    "tbody",
-    "td",
-    "template",
-    "textarea",
-    "tfoot",
-    "th",
-    "thead",
-    "time",
-    "title",
-    "tr",
-    "track",
-    "u",
-    "ul",
-    "var",
-    "video",
-    "wbr",
-];
 
 /// The names that HTML keeps for SVG and MathML, and that no custom element may have.
 const RESERVED: [&str; 8] = [
@@ -270,11 +127,11 @@ fn fault_of(text: &str) -> Option<NameFault>
 
 /// The known name of this text.
 #[tactic(auto, unfolding(crate::specs::Known::is_known_tag))]
-fn known(text: &str) -> Option<&'static str>
-    ensures found { IfSome result (λ name. chars name.now ≡ chars text.now) }
+fn known(text: &str) -> Option<KnownTag>
+    ensures found { IfSome result (λ known. chars (text_of known) ≡ chars text.now) }
     ensures test { is_some result ≡ is_known_tag (chars text.now) }
 {
-    known_in(&KNOWN_TAGS, text)
+    known_in(&TAGS, text)
 }
 
 impl HtmlTag {
@@ -300,9 +157,9 @@ impl HtmlTag {
         ensures name { IfOk result (λ tag. tag ≡ chars text.now) }
         ensures memory { OnErr result (is_known_tag (chars text.now) ≡ false) }
     {
-        if let Some(name) = known(text) {
+        if let Some(known) = known(text) {
             return Ok(HtmlTag {
-                name: Name::Known(name),
+                name: Name::Known(known),
             });
         }
         Ok(HtmlTag {
@@ -315,14 +172,9 @@ impl HtmlTag {
         ensures copy { IfOk result (λ tag. tag ≡ self.now) }
         ensures memory { OnErr result (is_known_tag self.now ≡ false) }
     {
-        match &self.name {
-            Name::Known(name) => Ok(HtmlTag {
-                name: Name::Known(name),
-            }),
-            Name::Own(name) => Ok(HtmlTag {
-                name: Name::Own(name.clone()?),
-            }),
-        }
+        Ok(HtmlTag {
+            name: self.name.try_clone()?,
+        })
     }
 
     /// The name's text, which is valid in a start tag.

@@ -9,6 +9,8 @@ pub mod charsets;
 mod fault;
 mod html_attr;
 mod html_tag;
+mod known_attr;
+mod known_tag;
 mod name;
 pub mod property;
 mod refused;

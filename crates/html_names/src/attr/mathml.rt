@@ -2,93 +2,94 @@
 #![allow(non_upper_case_globals)]
 
 use crate::html_attr::HtmlAttr;
+use crate::known_attr::KnownAttr;
 use crate::name::Name;
 
 /// `display`
 pub const display: HtmlAttr = HtmlAttr {
-    name: Name::Known("display"),
+    name: Name::Known(KnownAttr::Display),
 };
 /// `displaystyle`
 pub const displaystyle: HtmlAttr = HtmlAttr {
-    name: Name::Known("displaystyle"),
+    name: Name::Known(KnownAttr::Displaystyle),
 };
 /// `scriptlevel`
 pub const scriptlevel: HtmlAttr = HtmlAttr {
-    name: Name::Known("scriptlevel"),
+    name: Name::Known(KnownAttr::Scriptlevel),
 };
 /// `linethickness`
 pub const linethickness: HtmlAttr = HtmlAttr {
-    name: Name::Known("linethickness"),
+    name: Name::Known(KnownAttr::Linethickness),
 };
 /// `mathvariant`
 pub const mathvariant: HtmlAttr = HtmlAttr {
-    name: Name::Known("mathvariant"),
+    name: Name::Known(KnownAttr::Mathvariant),
 };
 /// `form`
 pub const form: HtmlAttr = HtmlAttr {
-    name: Name::Known("form"),
+    name: Name::Known(KnownAttr::Form),
 };
 /// `fence`
 pub const fence: HtmlAttr = HtmlAttr {
-    name: Name::Known("fence"),
+    name: Name::Known(KnownAttr::Fence),
 };
 /// `separator`
 pub const separator: HtmlAttr = HtmlAttr {
-    name: Name::Known("separator"),
+    name: Name::Known(KnownAttr::Separator),
 };
 /// `lspace`
 pub const lspace: HtmlAttr = HtmlAttr {
-    name: Name::Known("lspace"),
+    name: Name::Known(KnownAttr::Lspace),
 };
 /// `rspace`
 pub const rspace: HtmlAttr = HtmlAttr {
-    name: Name::Known("rspace"),
+    name: Name::Known(KnownAttr::Rspace),
 };
 /// `stretchy`
 pub const stretchy: HtmlAttr = HtmlAttr {
-    name: Name::Known("stretchy"),
+    name: Name::Known(KnownAttr::Stretchy),
 };
 /// `symmetric`
 pub const symmetric: HtmlAttr = HtmlAttr {
-    name: Name::Known("symmetric"),
+    name: Name::Known(KnownAttr::Symmetric),
 };
 /// `maxsize`
 pub const maxsize: HtmlAttr = HtmlAttr {
-    name: Name::Known("maxsize"),
+    name: Name::Known(KnownAttr::Maxsize),
 };
 /// `minsize`
 pub const minsize: HtmlAttr = HtmlAttr {
-    name: Name::Known("minsize"),
+    name: Name::Known(KnownAttr::Minsize),
 };
 /// `largeop`
 pub const largeop: HtmlAttr = HtmlAttr {
-    name: Name::Known("largeop"),
+    name: Name::Known(KnownAttr::Largeop),
 };
 /// `movablelimits`
 pub const movablelimits: HtmlAttr = HtmlAttr {
-    name: Name::Known("movablelimits"),
+    name: Name::Known(KnownAttr::Movablelimits),
 };
 /// `width`
 pub const width: HtmlAttr = HtmlAttr {
-    name: Name::Known("width"),
+    name: Name::Known(KnownAttr::Width),
 };
 /// `height`
 pub const height: HtmlAttr = HtmlAttr {
-    name: Name::Known("height"),
+    name: Name::Known(KnownAttr::Height),
 };
 /// `accent`
 pub const accent: HtmlAttr = HtmlAttr {
-    name: Name::Known("accent"),
+    name: Name::Known(KnownAttr::Accent),
 };
 /// `accentunder`
 pub const accentunder: HtmlAttr = HtmlAttr {
-    name: Name::Known("accentunder"),
+    name: Name::Known(KnownAttr::Accentunder),
 };
 /// `columnspan`
 pub const columnspan: HtmlAttr = HtmlAttr {
-    name: Name::Known("columnspan"),
+    name: Name::Known(KnownAttr::Columnspan),
 };
 /// `rowspan`
 pub const rowspan: HtmlAttr = HtmlAttr {
-    name: Name::Known("rowspan"),
+    name: Name::Known(KnownAttr::Rowspan),
 };

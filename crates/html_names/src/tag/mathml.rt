@@ -5,6 +5,7 @@ ghost use Rattle.std.specs.Prelude.{◌≡◌};
 ghost use Rattle.html_names.specs.Kinds as kinds;
 
 use crate::html_tag::HtmlTag;
+use crate::known_tag::KnownTag;
 use crate::name::Name;
 
 /// The names of MathML's elements.
@@ -62,121 +63,121 @@ pub fn is_token(tag: &HtmlTag) -> bool
 
 /// `<annotation>`
 pub const annotation: HtmlTag = HtmlTag {
-    name: Name::Known("annotation"),
+    name: Name::Known(KnownTag::Annotation),
 };
 /// `<annotation-xml>`
 pub const annotation_xml: HtmlTag = HtmlTag {
-    name: Name::Known("annotation-xml"),
+    name: Name::Known(KnownTag::AnnotationXml),
 };
 /// `<maction>`
 pub const maction: HtmlTag = HtmlTag {
-    name: Name::Known("maction"),
+    name: Name::Known(KnownTag::Maction),
 };
 /// `<math>`
 pub const math: HtmlTag = HtmlTag {
-    name: Name::Known("math"),
+    name: Name::Known(KnownTag::Math),
 };
 /// `<merror>`
 pub const merror: HtmlTag = HtmlTag {
-    name: Name::Known("merror"),
+    name: Name::Known(KnownTag::Merror),
 };
 /// `<mfrac>`
 pub const mfrac: HtmlTag = HtmlTag {
-    name: Name::Known("mfrac"),
+    name: Name::Known(KnownTag::Mfrac),
 };
 /// `<mi>`
 pub const mi: HtmlTag = HtmlTag {
-    name: Name::Known("mi"),
+    name: Name::Known(KnownTag::Mi),
 };
 /// `<mmultiscripts>`
 pub const mmultiscripts: HtmlTag = HtmlTag {
-    name: Name::Known("mmultiscripts"),
+    name: Name::Known(KnownTag::Mmultiscripts),
 };
 /// `<mn>`
 pub const mn: HtmlTag = HtmlTag {
-    name: Name::Known("mn"),
+    name: Name::Known(KnownTag::Mn),
 };
 /// `<mo>`
 pub const mo: HtmlTag = HtmlTag {
-    name: Name::Known("mo"),
+    name: Name::Known(KnownTag::Mo),
 };
 /// `<mover>`
 pub const mover: HtmlTag = HtmlTag {
-    name: Name::Known("mover"),
+    name: Name::Known(KnownTag::Mover),
 };
 /// `<mpadded>`
 pub const mpadded: HtmlTag = HtmlTag {
-    name: Name::Known("mpadded"),
+    name: Name::Known(KnownTag::Mpadded),
 };
 /// `<mphantom>`
 pub const mphantom: HtmlTag = HtmlTag {
-    name: Name::Known("mphantom"),
+    name: Name::Known(KnownTag::Mphantom),
 };
 /// `<mprescripts>`
 pub const mprescripts: HtmlTag = HtmlTag {
-    name: Name::Known("mprescripts"),
+    name: Name::Known(KnownTag::Mprescripts),
 };
 /// `<mroot>`
 pub const mroot: HtmlTag = HtmlTag {
-    name: Name::Known("mroot"),
+    name: Name::Known(KnownTag::Mroot),
 };
 /// `<mrow>`
 pub const mrow: HtmlTag = HtmlTag {
-    name: Name::Known("mrow"),
+    name: Name::Known(KnownTag::Mrow),
 };
 /// `<ms>`
 pub const ms: HtmlTag = HtmlTag {
-    name: Name::Known("ms"),
+    name: Name::Known(KnownTag::Ms),
 };
 /// `<mspace>`
 pub const mspace: HtmlTag = HtmlTag {
-    name: Name::Known("mspace"),
+    name: Name::Known(KnownTag::Mspace),
 };
 /// `<msqrt>`
 pub const msqrt: HtmlTag = HtmlTag {
-    name: Name::Known("msqrt"),
+    name: Name::Known(KnownTag::Msqrt),
 };
 /// `<mstyle>`
 pub const mstyle: HtmlTag = HtmlTag {
-    name: Name::Known("mstyle"),
+    name: Name::Known(KnownTag::Mstyle),
 };
 /// `<msub>`
 pub const msub: HtmlTag = HtmlTag {
-    name: Name::Known("msub"),
+    name: Name::Known(KnownTag::Msub),
 };
 /// `<msubsup>`
 pub const msubsup: HtmlTag = HtmlTag {
-    name: Name::Known("msubsup"),
+    name: Name::Known(KnownTag::Msubsup),
 };
 /// `<msup>`
 pub const msup: HtmlTag = HtmlTag {
-    name: Name::Known("msup"),
+    name: Name::Known(KnownTag::Msup),
 };
 /// `<mtable>`
 pub const mtable: HtmlTag = HtmlTag {
-    name: Name::Known("mtable"),
+    name: Name::Known(KnownTag::Mtable),
 };
 /// `<mtd>`
 pub const mtd: HtmlTag = HtmlTag {
-    name: Name::Known("mtd"),
+    name: Name::Known(KnownTag::Mtd),
 };
 /// `<mtext>`
 pub const mtext: HtmlTag = HtmlTag {
-    name: Name::Known("mtext"),
+    name: Name::Known(KnownTag::Mtext),
 };
 /// `<mtr>`
 pub const mtr: HtmlTag = HtmlTag {
-    name: Name::Known("mtr"),
+    name: Name::Known(KnownTag::Mtr),
 };
 /// `<munder>`
 pub const munder: HtmlTag = HtmlTag {
-    name: Name::Known("munder"),
+    name: Name::Known(KnownTag::Munder),
 };
 /// `<munderover>`
 pub const munderover: HtmlTag = HtmlTag {
-    name: Name::Known("munderover"),
+    name: Name::Known(KnownTag::Munderover),
 };
 /// `<semantics>`
 pub const semantics: HtmlTag = HtmlTag {
-    name: Name::Known("semantics"),
+    name: Name::Known(KnownTag::Semantics),
 };

@@ -1,6 +1,6 @@
-use Rattle.std.proofs.Common.{◌≡◌, take, false}
-use Rattle.html_names.specs.Names.{stands_in, texts}
+use Rattle.std.proofs.Common.{◌≡◌, drop, map}
+use Rattle.html_names.specs.Names.{stands_in}
 use Rattle.html_names.proofs.name.found_in.Given as goal
 
-abbrev pub invariant-loop-name : goal.invariant-loop-name
-invariant-loop-name l = stands_in (texts (take l.name-index l.names)) l.text ≡ false
+abbrev pub invariant-loop-known : goal.invariant-loop-known
+invariant-loop-known g l = stands_in (map g.K.Known.text (drop l.known-index l.names)) l.text ≡ stands_in (map g.K.Known.text l.names) l.text
