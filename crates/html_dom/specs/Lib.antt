@@ -1,5 +1,6 @@
 pub mod Attributes
 pub mod Equal
 pub mod Lending
+pub mod PlainTree
 pub mod Tree
 pub mod Views

@@ -1,0 +1,13 @@
+-- Trees with the same text have the same normal form.
+use Rattle.std.proofs.Common.{◌≡◌, Some, sym, ap, ◌∙◌}
+use Rattle.html_dom.specs.PlainTree.{normal}
+use Rattle.typst_html.specs.Reader.{read}
+use Rattle.typst_html.specs.ReadingBack.{SameTextSameForm}
+use Rattle.typst_html.proofs.Contents.{reads_back}
+
+pub same_text : SameTextSameForm
+same_text d e n m f w same =
+    let one = reads_back d n f in
+    let two = reads_back e m w in
+    let both : Some (normal d) ≡ Some (normal e) = sym one ∙ (ap read same ∙ two) in
+    cc

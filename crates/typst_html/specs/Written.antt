@@ -1,0 +1,82 @@
+-- The text of a tree by plain writing: HTML Standard 13.1, with the choices of this project.
+use Rattle.std.specs.Prelude.{ℕ, Bool, true, false, ◌||◌, ◌&&◌, ◌==◌, List, [], ◌∷◌, ◌++◌, if◌then◌else◌, codes}
+use Rattle.html_names.specs.Kinds.{is_void, is_foreign_self_closing, is_raw, is_escapable_raw}
+use Rattle.html_dom.specs.Tree.{Pair, Head, Node, tag_node, text_node, element_node, Nodes, none, node, Elem}
+use Rattle.typst_html.specs.References.{reference_to}
+use Rattle.typst_html.specs.Reader.{drops_feed}
+use Rattle.typst_html.specs.declared.escape.Escaping.{Escaping}
+use Rattle.typst_html.specs.declared.escape.Escaping.TheVariants as escaping
+
+-- a character as it is written in a text, in a text of references alone, in a value, in raw text
+abbrev pub char_written : Escaping → ℕ → List ℕ
+char_written escaping.Text c = if c == 38 then codes "&amp;" else (if c == 60 then codes "&lt;" else (c ∷ []))
+char_written escaping.Reference c = reference_to c
+char_written escaping.Value c = if c == 38 then codes "&amp;" else (if c == 34 then codes "&quot;" else (c ∷ []))
+char_written escaping.Raw c = c ∷ []
+
+abbrev pub escaped : Escaping → List ℕ → List ℕ
+escaped e [] = []
+escaped e (c ∷ cs) = char_written e c ++ escaped e cs
+
+-- texts directly under an element with the flag `pre_span` are of references alone
+abbrev pub escaping_of : (pre_span : Bool) → Escaping
+escaping_of true = escaping.Reference
+escaping_of false = escaping.Text
+
+-- nothing where the value is empty
+abbrev pub value_written : List ℕ → List ℕ
+value_written [] = []
+value_written (c ∷ cs) = codes "=\"" ++ (escaped escaping.Value (c ∷ cs) ++ codes "\"")
+
+abbrev pub pairs_written : List Pair → List ℕ
+pairs_written [] = []
+pairs_written (p ∷ ps) = codes " " ++ (p.0 ++ (value_written p.1 ++ pairs_written ps))
+
+abbrev pub tag_close : List ℕ → List ℕ
+tag_close name = if is_foreign_self_closing name then codes "/>" else codes ">"
+
+abbrev pub start_written : Head → List ℕ
+start_written h = codes "<" ++ (h.name ++ (pairs_written h.attrs ++ tag_close h.name))
+
+abbrev pub end_written : Head → List ℕ
+end_written h = codes "</" ++ (h.name ++ codes ">")
+
+-- an element that is its start tag alone
+abbrev pub ends_at_once : Head → Bool
+ends_at_once h = is_foreign_self_closing h.name || is_void h.name
+
+-- the first child that is neither a tag nor an empty text begins with LF or CR
+abbrev pub begins_with_feed : Nodes → Bool
+begins_with_feed none = false
+begins_with_feed (node (tag_node t) ns) = begins_with_feed ns
+begins_with_feed (node (text_node [] span) ns) = begins_with_feed ns
+begins_with_feed (node (text_node (c ∷ cs) span) ns) = (c == 10) || (c == 13)
+begins_with_feed (node (element_node h kids) ns) = false
+
+-- a line feed before a text that begins with one, where a reader would drop the text's own
+abbrev pub feed_written : Head → Nodes → List ℕ
+feed_written h ns = if drops_feed h.name && begins_with_feed ns then codes "\n" else []
+
+-- the texts among the nodes, joined
+abbrev pub texts : Nodes → List ℕ
+texts none = []
+texts (node (tag_node t) ns) = texts ns
+texts (node (text_node s span) ns) = s ++ texts ns
+texts (node (element_node h kids) ns) = texts ns
+
+unfoldable mutual
+  pub written : (pre_span : Bool) → Node → List ℕ
+  written pre_span (tag_node t) = []
+  written pre_span (text_node s span) = escaped (escaping_of pre_span) s
+  written pre_span (element_node h ns) =
+      start_written h ++ (if ends_at_once h then [] else (feed_written h ns
+      ++ ((if is_raw h.name then texts ns else (if is_escapable_raw h.name then escaped escaping.Text (texts ns) else all_written h.pre_span ns))
+      ++ end_written h)))
+
+  pub all_written : (pre_span : Bool) → Nodes → List ℕ
+  all_written pre_span none = []
+  all_written pre_span (node n ns) = written pre_span n ++ all_written pre_span ns
+
+-- the whole text of a document with this root
+abbrev pub document_written : Elem → List ℕ
+document_written e = codes "<!DOCTYPE html>" ++ written false (element_node e.0 e.1)

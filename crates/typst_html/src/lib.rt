@@ -1,0 +1,5 @@
+//! The exporter.
+#![tactic(auto)]
+
+mod escape;
+mod fault;
