@@ -1,3 +1,4 @@
 pub mod Attributes
 pub mod Equals
+pub mod Nodes
 pub mod Texts

@@ -1,4 +1,4 @@
--- Whether a text is one of a list.
+-- Texts in bytes and in characters.
 use Rattle.std.proofs.Common.{◌≡◌, ℕ, zero, suc, ◌+◌, ◌<◌, Bool, ◌||◌, take, add-one, ⊎_elim, true, false, List, [], ◌∷◌, length, get_or, refl, sym, ap, map, ◌∙◌, arith, bytes_eq, chars, ltb-true}
 use Rattle.std.specs.Borrow.{Bor}
 use Rattle.std.specs.Bool.{one_answer}
@@ -11,10 +11,13 @@ use lib.Utf8.{encodes}
 use Rattle.std.proofs.lemmas.Bool.{or_left, or_right, or_cases, false≢true}
 use Rattle.html_names.specs.Names.{texts, stands_in, is_ascii, are_ascii}
 
--- what is known in characters is known in bytes
+-- ASCII is its own characters
 is_ascii_is : (s : List ℕ) → is_ascii s ≡ true → IsAscii s
 is_ascii_is [] h = IsAscii-nil
 is_ascii_is (c ∷ cs) h = IsAscii-cons c cs (ltb-true c 128 (and_parts _ _ h).0) (is_ascii_is cs (and_parts _ _ h).1)
+
+pub chars_ascii : (s : List ℕ) → is_ascii s ≡ true → chars s ≡ s
+chars_ascii s h = chars-IsAscii s (is_ascii_is s h)
 
 -- texts are equal where their characters are
 pub bytes_eq-chars : (a b : List ℕ) → IsUtf8 a → IsUtf8 b → bytes_eq (chars a) (chars b) ≡ bytes_eq a b
@@ -24,7 +27,7 @@ bytes_eq-chars a b u v =
 
 bytes_eq-ascii : (n t : List ℕ) → is_ascii n ≡ true → IsUtf8 t → bytes_eq n (chars t) ≡ bytes_eq n t
 bytes_eq-ascii n t a u =
-    let e : chars n ≡ n = chars-IsAscii n (is_ascii_is n a) in
+    let e : chars n ≡ n = chars_ascii n a in
     let v : IsUtf8 n = IsUtf8-from_ascii n (is_ascii_is n a) in
     ap (λ m. bytes_eq m (chars t)) (sym e) ∙ bytes_eq-chars n t v u
 

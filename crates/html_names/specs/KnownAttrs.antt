@@ -1,5 +1,6 @@
 -- The texts of the known attribute names.
-use Rattle.std.specs.Prelude.{ℕ, List, codes}
+use Rattle.std.specs.Prelude.{◌≡◌, ℕ, List, true, codes, refl}
+use Rattle.html_names.specs.Names.{is_ascii}
 use Rattle.html_names.specs.declared.known_attr.KnownAttr.{KnownAttr}
 use Rattle.html_names.specs.declared.known_attr.KnownAttr.TheVariants as known
 
@@ -210,3 +211,7 @@ text_of known.Movablelimits = codes "movablelimits"
 text_of known.Accent = codes "accent"
 text_of known.Accentunder = codes "accentunder"
 text_of known.Columnspan = codes "columnspan"
+
+pub are_ascii : (name : KnownAttr) → is_ascii (text_of name) ≡ true
+are_ascii known.AriaActivedescendant = refl
+are_ascii _ = refl

@@ -1,5 +1,6 @@
 -- The texts of the known tag names.
-use Rattle.std.specs.Prelude.{ℕ, List, codes}
+use Rattle.std.specs.Prelude.{◌≡◌, ℕ, List, true, codes, refl}
+use Rattle.html_names.specs.Names.{is_ascii}
 use Rattle.html_names.specs.declared.known_tag.KnownTag.{KnownTag}
 use Rattle.html_names.specs.declared.known_tag.KnownTag.TheVariants as known
 
@@ -146,3 +147,7 @@ text_of known.Ul = codes "ul"
 text_of known.Var = codes "var"
 text_of known.Video = codes "video"
 text_of known.Wbr = codes "wbr"
+
+pub are_ascii : (name : KnownTag) → is_ascii (text_of name) ≡ true
+are_ascii known.A = refl
+are_ascii _ = refl

@@ -65,7 +65,7 @@ fn fault_of(text: &str) -> Option<NameFault>
 /// The name of ARIA that has this text.
 #[tactic(auto, unfolding(crate::specs::Known::is_aria_attr))]
 fn known_in_aria(text: &str) -> Option<KnownAttr>
-    ensures found { IfSome result (λ known. chars (text_of known) ≡ chars text.now) }
+    ensures found { IfSome result (λ known. text_of known ≡ chars text.now) }
     ensures test { is_some result ≡ is_aria_attr (chars text.now) }
 {
     known_in(&ARIA, text)
@@ -74,7 +74,7 @@ fn known_in_aria(text: &str) -> Option<KnownAttr>
 /// The other name of HTML that has this text.
 #[tactic(auto, unfolding(crate::specs::Known::is_html_attr))]
 fn known_in_html(text: &str) -> Option<KnownAttr>
-    ensures found { IfSome result (λ known. chars (text_of known) ≡ chars text.now) }
+    ensures found { IfSome result (λ known. text_of known ≡ chars text.now) }
     ensures test { is_some result ≡ is_html_attr (chars text.now) }
 {
     known_in(&HTML, text)
@@ -83,7 +83,7 @@ fn known_in_html(text: &str) -> Option<KnownAttr>
 /// The name of MathML that has this text.
 #[tactic(auto, unfolding(crate::specs::Known::is_mathml_attr))]
 fn known_in_mathml(text: &str) -> Option<KnownAttr>
-    ensures found { IfSome result (λ known. chars (text_of known) ≡ chars text.now) }
+    ensures found { IfSome result (λ known. text_of known ≡ chars text.now) }
     ensures test { is_some result ≡ is_mathml_attr (chars text.now) }
 {
     known_in(&MATHML, text)
@@ -91,7 +91,7 @@ fn known_in_mathml(text: &str) -> Option<KnownAttr>
 
 /// The known name of this text.
 fn known(text: &str) -> Option<KnownAttr>
-    ensures found { IfSome result (λ known. chars (text_of known) ≡ chars text.now) }
+    ensures found { IfSome result (λ known. text_of known ≡ chars text.now) }
     ensures test { is_some result ≡ is_known_attr (chars text.now) }
 {
     if let Some(known) = known_in_aria(text) {

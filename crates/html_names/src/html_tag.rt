@@ -128,7 +128,7 @@ fn fault_of(text: &str) -> Option<NameFault>
 /// The known name of this text.
 #[tactic(auto, unfolding(crate::specs::Known::is_known_tag))]
 fn known(text: &str) -> Option<KnownTag>
-    ensures found { IfSome result (λ known. chars (text_of known) ≡ chars text.now) }
+    ensures found { IfSome result (λ known. text_of known ≡ chars text.now) }
     ensures test { is_some result ≡ is_known_tag (chars text.now) }
 {
     known_in(&TAGS, text)

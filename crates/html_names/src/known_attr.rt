@@ -1,5 +1,5 @@
 ghost use Rattle.std.specs.Prelude.{◌≡◌};
-ghost use Rattle.html_names.specs.KnownAttrs.{text_of};
+ghost use Rattle.html_names.specs.KnownAttrs.{text_of, are_ascii};
 
 use crate::name::Known;
 
@@ -434,6 +434,8 @@ pub(crate) const MATHML: [KnownAttr; 18] = [
 
 impl Known for KnownAttr {
     ghost text = { text_of };
+
+    ghost ascii = { are_ascii };
 
     fn as_str(self) -> &'static str {
         match self {

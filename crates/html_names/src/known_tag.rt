@@ -1,5 +1,5 @@
 ghost use Rattle.std.specs.Prelude.{◌≡◌};
-ghost use Rattle.html_names.specs.KnownTags.{text_of};
+ghost use Rattle.html_names.specs.KnownTags.{text_of, are_ascii};
 
 use crate::name::Known;
 
@@ -298,6 +298,8 @@ pub(crate) const TAGS: [KnownTag; 142] = [
 
 impl Known for KnownTag {
     ghost text = { text_of };
+
+    ghost ascii = { are_ascii };
 
     fn as_str(self) -> &'static str {
         match self {

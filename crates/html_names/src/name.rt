@@ -1,5 +1,5 @@
-ghost use Rattle.std.specs.Prelude.{◌≡◌, List, ℕ, IfSome, IfOk, OnErr, chars, is_some, IsTrue, map};
-ghost use Rattle.html_names.specs.Names.{stands_in, texts, are_ascii};
+ghost use Rattle.std.specs.Prelude.{◌≡◌, List, ℕ, IfSome, IfOk, OnErr, chars, is_some, IsTrue, true, map};
+ghost use Rattle.html_names.specs.Names.{stands_in, texts, is_ascii, are_ascii};
 
 use std::alloc::AllocError;
 
@@ -10,6 +10,8 @@ pub(crate) trait Known: Copy {
 
     fn as_str(self) -> &'static str
         ensures { result.now ≡ text self };
+
+    ghost ascii: { (name : Self) → is_ascii (text name) ≡ true };
 }
 
 /// A name as it is held.
@@ -20,10 +22,10 @@ pub(crate) enum Name<K> {
 }
 
 impl<K: Known> Name<K> {
-    ghost use Rattle.html_names.specs.Held.{bytes_of, IsOwn, IsCopy};
+    ghost use Rattle.html_names.specs.Held.{name_of, IsOwn, IsCopy};
 
     pub(crate) fn as_str(&self) -> &str
-        ensures { result.now ≡ bytes_of K.text self.now }
+        ensures { chars result.now ≡ name_of K.text self.now }
     {
         match self {
             Name::Known(known) => known.as_str(),
@@ -61,7 +63,7 @@ fn found_in<K: Known>(names: &[K], text: &str) -> Option<K>
 #[tactic(auto, using(crate::proofs::Lists::in_characters))]
 pub(crate) fn known_in<K: Known>(names: &[K], text: &str) -> Option<K>
     requires { IsTrue (are_ascii (map K.text names.now)) }
-    ensures found { IfSome result (λ known. chars (K.text known) ≡ chars text.now) }
+    ensures found { IfSome result (λ known. K.text known ≡ chars text.now) }
     ensures test { is_some result ≡ stands_in (map K.text names.now) (chars text.now) }
 {
     found_in(names, text)

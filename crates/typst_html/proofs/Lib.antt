@@ -1,4 +1,8 @@
+pub mod Characters
 pub mod Contents
+pub mod Escapes
+pub mod Firsts
+pub mod Named
 pub mod Normals
 pub mod RawBack
 pub mod References

@@ -2,21 +2,25 @@
 use Rattle.std.proofs.Common.{◌≡◌, ℕ, ◌-◌, ◌<◌, Bool, true, false, ◌&&◌, ltb, List, [], ◌∷◌, ◌++◌, codes, bytes_eq, length, take, drop, get_or, map, refl, ap, ◌∙◌, sym, append_assoc, arith, length-append}
 use Rattle.std.specs.Prelude.{if◌then◌else◌, ◌==◌}
 use Rattle.std.specs.Char.{to_ascii_lowercase}
-use Rattle.std.proofs.lemmas.Bool.{and_parts, and_from, or_left, or_right, false_from_ne_true, false≢true, lt-ltb}
+use Rattle.std.proofs.lemmas.Bool.{and_parts, and_from, or_left, or_right, false_from_ne_true, false≢true, eq-eqb}
 use Rattle.std.proofs.lemmas.Bool.Decides.{nat_tests}
 use Rattle.std.proofs.lemmas.List.{append-nil, take-append-drop, take_at, drop_at, drop-append-le, map-append, get_or_at, length-map}
 use Rattle.std.proofs.lemmas.Slice.Eq.{bytes_eq-Decides}
 use Rattle.html_names.specs.Characters.{all, IsOf, is_tag_char}
-use Rattle.typst_html.specs.Closing.{is_tag_end, closing, begins_closing, holds_closing, ends_closing, ends_exact}
+use Rattle.typst_html.specs.Closing.{is_tag_end, closing, begins, holds, holds_closing, ends_closing, ends_exact}
 use Rattle.html_dom.specs.Tree.{Pair}
 use Rattle.html_dom.specs.PlainTree.{no_plains}
 use Rattle.typst_html.specs.Reader.{Raw, Open, with_text, complete, run, step}
 use Rattle.typst_html.proofs.Runs.{read_on, all_of, grows}
 
-holds_at : (name a s : List ℕ) → 0 < length s → begins_closing name s ≡ true → holds_closing name (a ++ s) ≡ true
-holds_at name [] [] l h = absurd (omega arith)
-holds_at name [] (c ∷ cs) l h = or_left (begins_closing name (c ∷ cs)) (holds_closing name cs) h
-holds_at name (x ∷ a) s l h = or_right (begins_closing name (x ∷ (a ++ s))) (holds_closing name (a ++ s)) (holds_at name a s l h)
+holds_at : (k a s : List ℕ) → 0 < length s → begins k s ≡ true → holds k (a ++ s) ≡ true
+holds_at k [] [] l h = absurd (omega arith)
+holds_at k [] (c ∷ cs) l h = or_left (begins k (c ∷ cs)) (holds k cs) h
+holds_at k (x ∷ a) s l h = or_right (begins k (x ∷ (a ++ s))) (holds k (a ++ s)) (holds_at k a s l h)
+
+begins_own : (b : List ℕ) (c : ℕ) (rest : List ℕ) → begins (map to_ascii_lowercase b) (b ++ c ∷ rest) ≡ is_tag_end c
+begins_own [] c rest = refl
+begins_own (d ∷ b) c rest = let same = eq-eqb (to_ascii_lowercase d) (to_ascii_lowercase d) refl in rw same (begins_own b c rest)
 
 -- a text whose end is a closing tag, and an ending character after it
 ends_holds : (name text : List ℕ) (c : ℕ) (rest : List ℕ) → is_tag_end c ≡ true → ends_closing name text ≡ true → holds_closing name (text ++ c ∷ rest) ≡ true
@@ -24,16 +28,10 @@ ends_holds name text c rest e h =
     let n = length text - length (closing name) in
     let a = take n text in
     let b = drop n text in
-    let k = length (closing name) in
     let same : map to_ascii_lowercase b ≡ closing name = (bytes_eq-Decides (map to_ascii_lowercase b) (closing name)).0 h in
-    let long : length b ≡ k = sym (length-map b to_ascii_lowercase) ∙ ap length same in
     let split : (text ++ c ∷ rest) ≡ a ++ (b ++ c ∷ rest) = ap (λ t. t ++ c ∷ rest) (sym (take-append-drop n text)) ∙ append_assoc a b (c ∷ rest) in
-    let front : take k (b ++ c ∷ rest) ≡ b = take_at b (c ∷ rest) k long in
-    let after : get_or (b ++ c ∷ rest) k 0 ≡ c = get_or_at b c rest 0 k long in
-    let first : bytes_eq (map to_ascii_lowercase (take k (b ++ c ∷ rest))) (closing name) ≡ true = rw front h in
-    let room : ltb k (length (b ++ c ∷ rest)) ≡ true = lt-ltb k (length (b ++ c ∷ rest)) (omega (arith, length-append b (c ∷ rest))) in
-    let begins : begins_closing name (b ++ c ∷ rest) ≡ true = and_from _ _ (and_from _ _ first room) (rw after e) in
-    ap (holds_closing name) split ∙ holds_at name a (b ++ c ∷ rest) (omega (arith, length-append b (c ∷ rest))) begins
+    let first : begins (closing name) (b ++ c ∷ rest) ≡ true = ap (λ k. begins k (b ++ c ∷ rest)) (sym same) ∙ (begins_own b c rest ∙ e) in
+    ap (holds_closing name) split ∙ holds_at (closing name) a (b ++ c ∷ rest) (omega (arith, length-append b (c ∷ rest))) first
 
 abbrev is_not_less : ℕ → Bool
 is_not_less c = if c == 60 then false else true

@@ -1,6 +1,6 @@
 -- Where the text of a raw element ends: before the first `</`, the name in any ASCII case, and an ending character
 -- (HTML Standard 13.1.2.6).
-use Rattle.std.specs.Prelude.{ℕ, ◌-◌, Bool, false, ◌||◌, ◌&&◌, ◌==◌, List, [], ◌∷◌, ◌++◌, codes, bytes_eq, take, drop, length, map, nat_lt, slice_index}
+use Rattle.std.specs.Prelude.{ℕ, ◌-◌, Bool, false, ◌||◌, ◌&&◌, ◌==◌, List, [], ◌∷◌, ◌++◌, codes, bytes_eq, take, drop, length, map}
 use Rattle.std.specs.Char.{to_ascii_lowercase}
 
 -- tab, LF, FF, CR, space, `>`, `/`
@@ -11,13 +11,21 @@ is_tag_end c = (c == 9) || (c == 10) || (c == 12) || (c == 13) || (c == 32) || (
 abbrev pub closing : List ℕ → List ℕ
 closing name = codes "</" ++ map to_ascii_lowercase name
 
-abbrev pub begins_closing : List ℕ → List ℕ → Bool
-begins_closing name s = bytes_eq (map to_ascii_lowercase (take (length (closing name)) s)) (closing name) && nat_lt (length (closing name)) (length s) && is_tag_end (slice_index s (length (closing name)))
+-- the text begins with these characters, in any ASCII case, and then an ending character
+abbrev pub begins : (closing text : List ℕ) → Bool
+begins [] [] = false
+begins [] (c ∷ cs) = is_tag_end c
+begins (x ∷ xs) [] = false
+begins (x ∷ xs) (c ∷ cs) = (to_ascii_lowercase c == x) && begins xs cs
 
--- the text holds a closing tag
-abbrev pub holds_closing : List ℕ → List ℕ → Bool
-holds_closing name [] = false
-holds_closing name (c ∷ cs) = begins_closing name (c ∷ cs) || holds_closing name cs
+-- it does so somewhere
+abbrev pub holds : (closing text : List ℕ) → Bool
+holds closing [] = false
+holds closing (c ∷ cs) = begins closing (c ∷ cs) || holds closing cs
+
+-- the text holds a closing tag of that name
+abbrev pub holds_closing : (name text : List ℕ) → Bool
+holds_closing name = holds (closing name)
 
 -- what has been read ends in a closing tag without its last character
 abbrev pub ends_closing : List ℕ → List ℕ → Bool

@@ -67,7 +67,14 @@ unfoldable mutual
   all_faults pre_span none = []
   all_faults pre_span (node n ns) = faults pre_span n ++ all_faults pre_span ns
 
--- the faults of a document with this root
+abbrev pub raw_content_faults : Head → Nodes → List Fault
+raw_content_faults h ns = raw_faults escaping.Raw ns ++ closing_faults h ns
+
+-- those of what stands between the tags of an element
+abbrev pub content_faults : Elem → List Fault
+content_faults e = if is_raw e.0.name then raw_content_faults e.0 e.1 else (if is_escapable_raw e.0.name then raw_faults escaping.Text e.1 else all_faults e.0.pre_span e.1)
+
+-- those of a document with this root
 abbrev pub document_faults : Elem → List Fault
 document_faults e = faults false (element_node e.0 e.1)
 

@@ -58,11 +58,14 @@ abbrev pub feed_written : Head → Nodes → List ℕ
 feed_written h ns = if drops_feed h.name && begins_with_feed ns then codes "\n" else []
 
 -- the texts among the nodes, joined
+abbrev pub one_text : Node → List ℕ
+one_text (tag_node t) = []
+one_text (text_node s span) = s
+one_text (element_node h kids) = []
+
 abbrev pub texts : Nodes → List ℕ
 texts none = []
-texts (node (tag_node t) ns) = texts ns
-texts (node (text_node s span) ns) = s ++ texts ns
-texts (node (element_node h kids) ns) = texts ns
+texts (node n ns) = one_text n ++ texts ns
 
 unfoldable mutual
   pub written : (pre_span : Bool) → Node → List ℕ
@@ -77,6 +80,13 @@ unfoldable mutual
   all_written pre_span none = []
   all_written pre_span (node n ns) = written pre_span n ++ all_written pre_span ns
 
+-- what stands between the tags of an element
+abbrev pub content_written : Elem → List ℕ
+content_written e = if is_raw e.0.name then texts e.1 else (if is_escapable_raw e.0.name then escaped escaping.Text (texts e.1) else all_written e.0.pre_span e.1)
+
+abbrev pub element_written : Elem → List ℕ
+element_written e = written false (element_node e.0 e.1)
+
 -- the whole text of a document with this root
 abbrev pub document_written : Elem → List ℕ
-document_written e = codes "<!DOCTYPE html>" ++ written false (element_node e.0 e.1)
+document_written e = codes "<!DOCTYPE html>" ++ element_written e

@@ -1,0 +1,16 @@
+use Rattle.std.proofs.Common.{◌≡◌, ◌++◌, drop}
+use Rattle.html_dom.specs.Views.{nodes_view}
+use Rattle.typst_html.specs.Written.{all_written}
+use Rattle.typst_html.specs.Faults.{all_faults}
+use Rattle.typst_html.specs.ReadingBack.{AreNamed}
+use Rattle.typst_html.proofs.write.+write.Given as goal
+
+abbrev pub invariant-write_children-loop-child : goal.invariant-write_children-loop-child
+invariant-write_children-loop-child l =
+    let left = nodes_view (drop l.child-index l.children) in
+    let all = nodes_view l.children in
+    record {
+      told : l.out ++ all_written l.pre_span left ≡ l.initial.out ++ all_written l.pre_span all;
+      clean : all_faults l.pre_span left ≡ all_faults l.pre_span all;
+      named : AreNamed left → AreNamed all;
+    }
