@@ -1,0 +1,8 @@
+-- The JSON value that bytes are: the reading of `serde_json`, of UTF-8.
+use Rattle.std.specs.Prelude.{ℕ, List, Option, None, if◌then◌else◌}
+use Rattle.std.specs.Str.{is_utf8}
+use Rattle.serde_json.specs.Data.{Data}
+use Rattle.serde_json.specs.Read.{read}
+
+abbrev pub json_of : List ℕ → Option Data
+json_of bytes = if is_utf8 bytes then read bytes else None

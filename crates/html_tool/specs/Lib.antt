@@ -1,0 +1,5 @@
+pub mod Answers
+pub mod Forms
+pub mod Json
+pub mod Names
+pub mod Spelled

@@ -1,0 +1,8 @@
+//! The program.
+#![tactic(auto)]
+
+mod form;
+mod spell;
+mod status;
+
+fn main() {}
