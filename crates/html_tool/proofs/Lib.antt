@@ -1,2 +1,4 @@
+pub mod Answering
+pub mod Bytes
+pub mod Firsts
 pub mod Forms
-pub mod Json

@@ -42,8 +42,11 @@ answer_by [] text = record { status = Done; line = encodes text }
 answer_by (r ∷ rs) text = record { status = Refused; line = refused_line r }
 
 -- names are refused before what is wrong with the tree
-abbrev pub tree_answer : Elem → Answer
-tree_answer e = answer_by (element_refusals e ++ map refusal_of (document_faults e)) (document_written e)
+abbrev pub tree_refusals : Elem → List Refusal
+tree_refusals e = element_refusals e ++ map refusal_of (document_faults e)
+
+unfoldable pub tree_answer : Elem → Answer
+tree_answer e = answer_by (tree_refusals e) (document_written e)
 
 abbrev pub answer_for : Option Elem → Answer
 answer_for None = bad_input

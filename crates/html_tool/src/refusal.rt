@@ -1,0 +1,49 @@
+ghost use Rattle.std.specs.Prelude.{◌≡◌};
+
+use html_dom::Span;
+use std::alloc::{AllocError, AllocFailed};
+use typst_html::ExportFault;
+
+/// Why a spelled tree has no text.
+#[derive(Clone, Copy, Debug, PartialEq, Eq)]
+pub(crate) enum Refusal {
+    OutOfMemory,
+    /// The number of a fault, and its place.
+    At(u8, Span),
+}
+
+impl From<AllocError> for Refusal {
+    ghost use Rattle.html_tool.specs.declared.refusal.Refusal.TheVariants.{OutOfMemory};
+
+    ghost from_gives = { λ _ e. e ≡ OutOfMemory };
+
+    fn from(_refused: AllocError) -> Refusal {
+        Refusal::OutOfMemory
+    }
+}
+
+impl<T: Drop> From<AllocFailed<T>> for Refusal {
+    ghost use Rattle.html_tool.specs.declared.refusal.Refusal.TheVariants.{OutOfMemory};
+
+    ghost from_gives = { λ _ e. e ≡ OutOfMemory };
+
+    fn from(_refused: AllocFailed<T>) -> Refusal {
+        Refusal::OutOfMemory
+    }
+}
+
+impl From<ExportFault> for Refusal {
+    ghost use Rattle.html_tool.specs.Refusals.{of_export};
+
+    ghost from_gives = { λ fault e. e ≡ of_export fault };
+
+    fn from(fault: ExportFault) -> Refusal {
+        match fault {
+            ExportFault::OutOfMemory => Refusal::OutOfMemory,
+            ExportFault::Unencodable { .. }
+            | ExportFault::VoidChildren { .. }
+            | ExportFault::RawChild { .. }
+            | ExportFault::RawClosing { .. } => Refusal::At(fault.number(), fault.span()),
+        }
+    }
+}
