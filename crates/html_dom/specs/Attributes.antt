@@ -1,5 +1,5 @@
 -- Lists of attributes, in which a name may come more than once.
-use Rattle.std.specs.Prelude.{ℕ, ◌+◌, Bool, List, [], ◌∷◌, ◌++◌, bytes_eq, if◌then◌else◌, Option, Some, None, is_some}
+use Rattle.std.specs.Prelude.{◌≡◌, ℕ, ◌+◌, Bool, true, not, ◌&&◌, List, [], ◌∷◌, ◌++◌, bytes_eq, if◌then◌else◌, Option, Some, None, is_some}
 use Rattle.html_dom.specs.Tree.{Pair}
 
 -- the value of the first pair of that name
@@ -29,3 +29,26 @@ with_new ps p = if has ps p.0 then ps else ps ++ p ∷ []
 abbrev pub union : (inner outer : List Pair) → List Pair
 union inner [] = inner
 union inner (p ∷ ps) = union (with_new inner p) ps
+
+-- no name comes twice
+abbrev pub names_differ : List Pair → Bool
+names_differ [] = true
+names_differ (p ∷ ps) = not (has ps p.0) && names_differ ps
+
+abbrev pub or_else : {A : Type 0} → Option A → Option A → Option A
+or_else None o = o
+or_else (Some x) o = Some x
+
+-- after a fold a name has its inner value where there is one, and else the outer
+abbrev pub FindsInnerFirst : Type 0
+FindsInnerFirst = (inner outer : List Pair) (name : List ℕ) → first (union inner outer) name ≡ or_else (first inner name) (first outer name)
+
+abbrev pub IsAssociative : Type 0
+IsAssociative = (as' bs cs : List Pair) → union (union as' bs) cs ≡ union as' (union bs cs)
+
+abbrev pub KeepsOnNothing : Type 0
+KeepsOnNothing = (inner : List Pair) → union inner [] ≡ inner
+
+-- an empty inner list takes each name of the outer once
+abbrev pub DropsRepeats : Type 0
+DropsRepeats = (outer : List Pair) → names_differ (union [] outer) ≡ true

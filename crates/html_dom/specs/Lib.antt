@@ -1,5 +1,6 @@
 pub mod Attributes
 pub mod Equal
+pub mod Hashes
 pub mod Lending
 pub mod PlainTree
 pub mod Tree

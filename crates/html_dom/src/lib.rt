@@ -5,6 +5,8 @@
 
 mod attrs;
 mod copy;
+mod hash;
+pub mod laws;
 mod node;
 mod place;
 mod same;

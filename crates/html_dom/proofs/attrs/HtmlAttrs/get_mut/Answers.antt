@@ -12,9 +12,10 @@ returns-then-place-len c =
     let here = c.place-place.ensures in
     let within : place (attrs_view c.args.self.now) name < length ps = omega (arith, here, c.if-place-len.true, c.len.ensures, c.args.self.now.0.ok.0) in
     let text = c.value_mut.result.now in
-    let value : text ≡ (get_or ps (place (attrs_view c.args.self.now) name) ([], text)).1 = c.value_mut.ensures.value ∙ ap (λ n. (get_or ps n ([], text)).1) here in
-    ((refl, λ w. ap (λ n. attrs_view (with_text c.args.self.now n w)) here ∙ put name ps w, refl),
-    record { writes_back = tt; value = ap (λ s. Some (text_view s)) value ∙ sym (first_at name ps ([], text) within) })
+    let value : text ≡ (get_or ps (place (attrs_view c.args.self.now) name) ([], text)).1 = c.value_mut.ensures.value ∙ ap (λ n. (get_or ps n ([], text)).1) here in (
+      (refl, λ w. ap (λ n. attrs_view (with_text c.args.self.now n w)) here ∙ put name ps w, refl),
+      record { writes_back = tt; value = ap (λ s. Some (text_view s)) value ∙ sym (first_at name ps ([], text) within) },
+    )
 
 pub returns : goal.returns
 returns c =
