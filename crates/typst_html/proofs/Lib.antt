@@ -6,6 +6,7 @@ pub mod Named
 pub mod Normals
 pub mod RawBack
 pub mod References
+pub mod Rows
 pub mod Runs
 pub mod Same
 pub mod Tags

@@ -4,4 +4,5 @@ pub mod Numbers
 pub mod ReadingBack
 pub mod Reader
 pub mod References
+pub mod Rows
 pub mod Written

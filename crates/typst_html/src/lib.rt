@@ -4,9 +4,12 @@
 mod escape;
 mod export;
 mod fault;
+pub mod laws;
 mod options;
 mod output;
 mod raw;
+#[cfg(test)]
+mod tests;
 mod write;
 
 pub use export::html_in_bundle;
