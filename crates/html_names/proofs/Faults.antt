@@ -1,13 +1,16 @@
 -- What is wrong with a text, from its bytes; a text with which nothing is wrong is a valid name.
-use Rattle.std.proofs.Common.{◌≡◌, ℕ, Bool, true, false, not, ◌&&◌, eqb, List, [], ◌∷◌, length, chars, refl, sym, ap, ◌∙◌, Option, Some, None}
+use Rattle.std.proofs.Common.{◌≡◌, ℕ, Bool, true, false, not, ◌&&◌, eqb, List, [], ◌∷◌, length, chars, refl, sym, ap, ◌∙◌, Option, Some, None, arith}
 use Rattle.std.specs.List.{find}
 use Rattle.std.specs.Str.{IsUtf8}
-use Rattle.std.proofs.lemmas.Bool.{false≢true, eqb-true}
+use Rattle.std.proofs.lemmas.Bool.{false≢true, eqb-true, and_parts, and_from}
+use Rattle.std.proofs.lemmas.Bool.Decides.{nat_tests}
+use Rattle.std.specs.Prelude.{nat_lt}
 use Rattle.std.proofs.lemmas.List.{nil_from_length}
 use Rattle.std.proofs.lemmas.Str.{encodes-chars, chars-nil}
 use lib.Utf8.{encodes}
 use Rattle.html_names.specs.Characters.{all, IsOf, is_tag_char, is_attr_char}
-use Rattle.html_names.specs.Names.{tag_fault, fault_after, attr_fault, bad_attr_char}
+use Rattle.html_names.specs.Names.{is_ascii, tag_fault, fault_after, attr_fault, bad_attr_char}
+use Rattle.html_names.proofs.Lists.{chars_ascii}
 use Rattle.html_names.specs.declared.fault.NameFault.TheVariants.{EmptyTag, EmptyAttr}
 
 length_zero : (t : List ℕ) → eqb (length t) 0 ≡ true → t ≡ []
@@ -65,3 +68,19 @@ valid_attr (c ∷ cs) h = valid is_attr_char c cs (none_bad_attr _ h)
 pub ruleset tag_tests = (tag_fault-empty, tag_fault-more)
 
 pub ruleset attr_tests = (attr_fault-empty, attr_fault-more)
+
+tag_char_ascii : (c : ℕ) → is_tag_char c ≡ true → nat_lt c 128 ≡ true
+tag_char_ascii c h = grind (arith, nat_tests)
+
+all_tag_ascii : (cs : List ℕ) → all is_tag_char cs ≡ true → is_ascii cs ≡ true
+all_tag_ascii [] h = refl
+all_tag_ascii (c ∷ cs) h = let both = and_parts (is_tag_char c) (all is_tag_char cs) h in and_from (nat_lt c 128) (is_ascii cs) (tag_char_ascii c both.0) (all_tag_ascii cs both.1)
+
+tag_ascii : (t : List ℕ) → IsOf is_tag_char t → is_ascii t ≡ true
+tag_ascii [] h = absurd h
+tag_ascii (c ∷ cs) h = and_from (nat_lt c 128) (is_ascii cs) (tag_char_ascii c h.0) (all_tag_ascii cs h.1)
+
+pub chars-tag : (t : List ℕ) → IsOf is_tag_char t → chars t ≡ t
+chars-tag t h = chars_ascii t (tag_ascii t h)
+
+pub ruleset constants = (chars-tag, chars_ascii)

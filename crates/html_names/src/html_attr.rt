@@ -2,7 +2,7 @@ ghost use Rattle.std.specs.Prelude.{◌≡◌, ℕ, List, bytes_eq, chars, IfOk,
 ghost use Rattle.std.specs.Bool.{OnTrue};
 ghost use Rattle.std.specs.List.{find};
 ghost use Rattle.html_names.specs.Characters.{IsOf, is_attr_char};
-ghost use Rattle.html_names.specs.Names.{Interns, attr_fault};
+ghost use Rattle.html_names.specs.Names.{Interns, attr_fault, is_ascii};
 ghost use Rattle.html_names.specs.KnownAttrs.{text_of};
 ghost use Rattle.html_names.specs.Known.{is_known_attr, is_aria_attr, is_html_attr, is_mathml_attr};
 ghost use Rattle.std.specs.Cmp as cmp;
@@ -115,11 +115,24 @@ impl HtmlAttr {
         if let Some(fault) = fault_of(text) {
             return Err(fault);
         }
-        Ok(HtmlAttr::constant(alloc, text)?)
+        Ok(HtmlAttr::make(alloc, text)?)
     }
 
-    /// The name of a text that the caller knows to be one. A known name takes no memory.
+    /// The name of a text that the caller knows to be one: not empty, and of valid ASCII characters.
+    ///
+    /// A known name takes no memory.
+    #[tactic(auto, using(crate::proofs::Faults::constants))]
     pub fn constant(alloc: Global, text: &str) -> Result<HtmlAttr, AllocError>
+        requires ascii { IsTrue (is_ascii text.now) }
+        requires valid { IsOf is_attr_char text.now }
+        ensures name { IfOk result (λ attr. attr ≡ text.now) }
+        ensures memory { OnErr result (is_known_attr text.now ≡ false) }
+    {
+        HtmlAttr::make(alloc, text)
+    }
+
+    /// The name of a valid text.
+    fn make(alloc: Global, text: &str) -> Result<HtmlAttr, AllocError>
         requires { IsOf is_attr_char (chars text.now) }
         ensures name { IfOk result (λ attr. attr ≡ chars text.now) }
         ensures memory { OnErr result (is_known_attr (chars text.now) ≡ false) }
@@ -204,6 +217,7 @@ impl fmt::Debug for HtmlAttr {
     ghost debug_output = { λ name. Some (encodes name) };
 
     fn fmt<W: fmt::Write>(&self, f: &mut fmt::Formatter<W>) -> fmt::Result {
-        f.write_str(self.resolve())
+        let name = self.resolve();
+        f.write_str(name)
     }
 }

@@ -147,12 +147,24 @@ impl HtmlTag {
         if let Some(fault) = fault_of(text) {
             return Err(fault);
         }
-        Ok(HtmlTag::constant(alloc, text)?)
+        Ok(HtmlTag::make(alloc, text)?)
     }
 
-    /// The name of a text that the caller knows to be one; unlike `intern` it takes reserved names
-    /// and any name with a hyphen. A known name takes no memory.
+    /// The name of a text that the caller knows to be one: not empty, and of valid ASCII characters.
+    /// Unlike `intern` it takes reserved names and any name with a hyphen.
+    ///
+    /// A known name takes no memory.
+    #[tactic(auto, using(crate::proofs::Faults::constants))]
     pub fn constant(alloc: Global, text: &str) -> Result<HtmlTag, AllocError>
+        requires { IsOf is_tag_char text.now }
+        ensures name { IfOk result (λ tag. tag ≡ text.now) }
+        ensures memory { OnErr result (is_known_tag text.now ≡ false) }
+    {
+        HtmlTag::make(alloc, text)
+    }
+
+    /// The name of a valid text.
+    fn make(alloc: Global, text: &str) -> Result<HtmlTag, AllocError>
         requires { IsOf is_tag_char (chars text.now) }
         ensures name { IfOk result (λ tag. tag ≡ chars text.now) }
         ensures memory { OnErr result (is_known_tag (chars text.now) ≡ false) }
@@ -246,7 +258,7 @@ impl fmt::Debug for HtmlTag {
     ghost debug_output = { λ name. Some (codes "<" ++ encodes name ++ codes ">") };
 
     fn fmt<W: fmt::Write>(&self, f: &mut fmt::Formatter<W>) -> fmt::Result {
-        let text = self.resolve();
-        write!(f, "<{text}>")
+        let name = self.resolve();
+        write!(f, "<{name}>")
     }
 }
