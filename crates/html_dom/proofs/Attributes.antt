@@ -1,5 +1,5 @@
 -- The first pair of a name: where it stands, what it holds, and what a write to it changes.
-use Rattle.std.proofs.Common.{◌≡◌, ℕ, suc, ◌+◌, ◌<◌, ◌≤◌, Bool, true, false, List, [], ◌∷◌, length, map, get_or, set, bytes_eq, Option, Some, None, String, Global, refl, sym, ap, ◌∙◌, arith, add-one}
+use Rattle.std.proofs.Common.{◌≡◌, ℕ, ◌+◌, ◌<◌, ◌≤◌, Bool, true, false, List, [], ◌∷◌, length, map, get_or, set, bytes_eq, Some, None, String, Global, refl, ap, arith, add-one}
 use Rattle.std.specs.Prelude.{if◌then◌else◌}
 use Rattle.html_names.specs.declared.html_attr.HtmlAttr.{HtmlAttr}
 use Rattle.html_dom.specs.Attributes.{first, place, with_value}

@@ -1,12 +1,12 @@
 -- A list of attributes is hashed by the bytes of its texts, which are those of its view.
-use Rattle.std.proofs.Common.{◌≡◌, List, [], ◌∷◌, ◌++◌, length, map, string_bytes, String, Global, refl, sym, ap, ◌∙◌}
+use Rattle.std.proofs.Common.{◌≡◌, List, [], ◌∷◌, ◌++◌, length, map, string_bytes, refl, sym, ap, ◌∙◌}
 use Rattle.std.specs.Prelude.{flat_map}
 use Rattle.std.specs.Hash as fed
 use Rattle.std.proofs.lemmas.List.{length-map}
 use Rattle.std.proofs.lemmas.Str.{IsUtf8-string_bytes, encodes-chars}
 use lib.Utf8.{encodes}
 use Rattle.html_dom.specs.Hashes.{pair_fed, attrs_fed}
-use Rattle.html_dom.specs.Views.{pair_view, text_view}
+use Rattle.html_dom.specs.Views.{pair_view}
 use Rattle.html_dom.proofs.Attributes.{Item}
 
 abbrev item_fed : Item → fed.HashWrites

@@ -1,5 +1,5 @@
 -- Texts with the same characters are equal.
-use Rattle.std.proofs.Common.{◌≡◌, List, ℕ, String, Global, string_bytes, chars, ap, sym, ◌∙◌}
+use Rattle.std.proofs.Common.{◌≡◌, String, Global, string_bytes, ap, sym, ◌∙◌}
 use Rattle.std.proofs.lemmas.Str.{IsUtf8-string_bytes, encodes-chars}
 use lib.Utf8.{encodes}
 use Rattle.html_dom.specs.Views.{text_view}

@@ -6,7 +6,7 @@ use Rattle.html_dom.specs.Tree.{Pair, Marker, starts, ends, Head, Node, tag_node
 use Rattle.html_dom.specs.declared.place.Tag.{Tag}
 use Rattle.html_dom.specs.declared.place.Tag.TheVariants.{Start, End}
 use Rattle.html_dom.specs.declared.attrs.HtmlAttrs.{HtmlAttrs}
-use Rattle.html_dom.specs.declared.node.HtmlElement.{HtmlElement, HtmlElement-F, fold-HtmlElement}
+use Rattle.html_dom.specs.declared.node.HtmlElement.{HtmlElement, HtmlElement-F}
 use Rattle.html_dom.specs.declared.node.HtmlNode.{HtmlNode, HtmlNode-F, fold-HtmlNode}
 
 -- a text as its characters

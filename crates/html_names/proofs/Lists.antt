@@ -1,6 +1,5 @@
 -- Texts in bytes and in characters.
-use Rattle.std.proofs.Common.{◌≡◌, ℕ, zero, suc, ◌+◌, ◌<◌, Bool, ◌||◌, take, add-one, ⊎_elim, true, false, List, [], ◌∷◌, length, get_or, refl, sym, ap, map, ◌∙◌, arith, bytes_eq, chars, ltb-true}
-use Rattle.std.specs.Borrow.{Bor}
+use Rattle.std.proofs.Common.{◌≡◌, ℕ, true, List, [], ◌∷◌, refl, sym, ap, ◌∙◌, bytes_eq, chars, ltb-true}
 use Rattle.std.specs.Bool.{one_answer}
 use Rattle.std.specs.Str.{IsUtf8, IsAscii}
 use Rattle.std.proofs.lemmas.Bool.{and_parts}
@@ -8,8 +7,7 @@ use Rattle.std.proofs.lemmas.Slice.Eq.{bytes_eq-Decides}
 use Rattle.std.proofs.lemmas.Str.{chars-IsAscii, encodes-chars, IsUtf8-from_ascii}
 use Rattle.std.proofs.lemmas.Str.Ascii.{IsAscii-nil, IsAscii-cons}
 use lib.Utf8.{encodes}
-use Rattle.std.proofs.lemmas.Bool.{or_left, or_right, or_cases, false≢true}
-use Rattle.html_names.specs.Names.{texts, stands_in, is_ascii, are_ascii}
+use Rattle.html_names.specs.Names.{stands_in, is_ascii, are_ascii}
 
 -- ASCII is its own characters
 is_ascii_is : (s : List ℕ) → is_ascii s ≡ true → IsAscii s

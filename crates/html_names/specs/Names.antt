@@ -1,5 +1,5 @@
 -- Lists of names, and what is wrong with a text as a name. Texts are lists of characters.
-use Rattle.std.specs.Prelude.{◌≡◌, ℕ, Bool, true, false, not, ◌||◌, ◌==◌, nat_lt, List, [], ◌∷◌, bytes_eq, codes, map, slice_index, if◌then◌else◌, Option, Some, None, Result, Ok, Err}
+use Rattle.std.specs.Prelude.{◌≡◌, ℕ, Bool, false, not, ◌||◌, ◌==◌, nat_lt, List, [], ◌∷◌, bytes_eq, codes, map, slice_index, if◌then◌else◌, Option, Some, None, Result, Ok, Err}
 use Rattle.std.specs.Borrow.{Bor}
 use Rattle.std.specs.List.{find, list_any, list_all}
 use Rattle.html_names.specs.Characters.{is_tag_char, is_attr_char, is_lower, is_capital, is_hyphen}

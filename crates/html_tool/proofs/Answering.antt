@@ -5,7 +5,7 @@ use Rattle.std.proofs.lemmas.Str.{encodes-chars}
 use lib.Utf8.{encodes}
 use Rattle.html_dom.specs.Tree.{Elem}
 use Rattle.typst_html.specs.Written.{document_written}
-use Rattle.html_tool.specs.Answers.{Answer, answer_by, refused_line, tree_refusals, tree_answer}
+use Rattle.html_tool.specs.Answers.{refused_line, tree_refusals, tree_answer}
 use Rattle.html_tool.specs.Names.{Refusal}
 use Rattle.html_tool.specs.Replies.{IsReply}
 use Rattle.html_tool.specs.declared.run.Reply.{Reply}

@@ -1,5 +1,5 @@
 -- The text of a value is UTF-8.
-use Rattle.std.proofs.Common.{◌≡◌, ℕ, List, None, Bool, true, false, refl, true≢false, sym, ◌∙◌}
+use Rattle.std.proofs.Common.{◌≡◌, ℕ, List, None, Bool, true, false, refl}
 use Rattle.std.specs.Str.{is_utf8, IsUtf8}
 use Rattle.std.proofs.lemmas.Str.{IsUtf8-from_is_utf8, is_utf8-from_IsUtf8}
 use Rattle.serde_json.specs.Read.{read}

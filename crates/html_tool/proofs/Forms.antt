@@ -1,10 +1,10 @@
 -- The forms of a value, by the length of its list.
-use Rattle.std.proofs.Common.{◌≡◌, ◌≢◌, ℕ, ◌+◌, false, List, [], ◌∷◌, length, get_or, Option, Some, None, option_map, map, drop, suc, ◌<◌, refl, sym, ap, ◌∙◌, ◌++◌, add-one, drop-cons, ◌≤◌, String, Vec, Global, rules, arith}
+use Rattle.std.proofs.Common.{◌≡◌, ◌≢◌, ℕ, ◌+◌, List, [], ◌∷◌, length, get_or, Option, Some, None, option_map, map, drop, suc, ◌<◌, refl, sym, ap, ◌∙◌, ◌++◌, add-one, drop-cons, ◌≤◌, rules, arith}
 use Rattle.std.proofs.lemmas.List.{map-append, drop_all}
 use Rattle.serde_json.specs.declared.value.Value.{Value}
 use Rattle.serde_json.specs.View.{view, items_view}
 use Rattle.html_dom.specs.Tree.{Node, element_node, Nodes, none, node}
-use Rattle.html_dom.specs.Views.{nodes_of, text_view}
+use Rattle.html_dom.specs.Views.{nodes_of}
 use Rattle.html_tool.specs.Spelled.{text_at, pair_form, pairs_at, text_form, dest_form, end_form, element_form, element_from, list_at, spelled, spelled_all}
 use Rattle.html_tool.specs.Forms.{joined, form_view, forms_view, element_form_view, after_done}
 use Rattle.html_tool.specs.declared.form.Form.{Form, Element, the_lemmas}

@@ -2,10 +2,10 @@
 use Rattle.std.specs.Prelude.{◌≡◌, ℕ, List, [], ◌∷◌, map, false, Option, Some, None, option_map, Result, MatchResult, String, Vec}
 use Rattle.std.specs.declared.alloc.Global.{Global}
 use Rattle.html_dom.specs.declared.place.Location.{Location}
-use Rattle.html_dom.specs.Tree.{Pair, Node, tag_node, text_node, element_node, Nodes, none, node, Elem}
+use Rattle.html_dom.specs.Tree.{Pair, Node, tag_node, text_node, element_node, Nodes, node, Elem}
 use Rattle.html_dom.specs.Views.{text_view, marker_view, nodes_of}
 use Rattle.html_tool.specs.declared.form.Form.{Form, Form-F, fold-Form}
-use Rattle.html_tool.specs.declared.form.ElementForm.{ElementForm, ElementForm-F, fold-ElementForm}
+use Rattle.html_tool.specs.declared.form.ElementForm.{ElementForm, ElementForm-F}
 use Rattle.html_tool.specs.declared.spell.SpellFault.{SpellFault}
 use Rattle.html_tool.specs.declared.spell.SpellFault.TheVariants.{BadInput}
 

@@ -2,7 +2,7 @@
 --     ["text", t]   ["el", tag, [[name, value], ..], [node, ..]]   ["start", n]   ["start", n, dest]   ["end", n]
 -- The spans are the numbers of these lists, from 1 on, in the order of their opening brackets.
 use Rattle.std.specs.Prelude.{ℕ, ◌+◌, List, [], ◌∷◌, false, chars, codes, bytes_eq, Option, Some, None, option_map, option_and_then, if◌then◌else◌}
-use Rattle.serde_json.specs.Data.{Data, null, boolean, number, string, array, object, Items, no_items, item}
+use Rattle.serde_json.specs.Data.{Data, array, Items, no_items, item}
 use Rattle.serde_json.specs.Find.{as_str, as_array, as_number, as_u64}
 use Rattle.html_dom.specs.Tree.{Pair, starts, ends, Node, tag_node, text_node, element_node, Nodes, none, node, Elem}
 

@@ -1,16 +1,15 @@
 -- The characters of a text that grows.
-use Rattle.std.proofs.Common.{◌≡◌, ℕ, ◌<◌, true, List, [], ◌∷◌, ◌++◌, refl, sym, ap, ◌∙◌, chars, encode_utf8, IsUtf8, ltb-true, false, ◌^◌, arith}
+use Rattle.std.proofs.Common.{◌≡◌, ℕ, ◌<◌, true, List, [], ◌∷◌, ◌++◌, refl, sym, ap, ◌∙◌, chars, IsUtf8, false, ◌^◌, arith}
 use Rattle.std.specs.Char.{digit_value}
 use Rattle.std.specs.Fmt.{digits}
 use Rattle.std.specs.Str.Parse.{AllDigits}
 use Rattle.std.proofs.lemmas.Bool.Decides.{nat_tests}
 use Rattle.std.proofs.lemmas.Fmt.{digits_is_IsNumeral}
 use Rattle.std.specs.Str.{IsAscii}
-use Rattle.std.proofs.lemmas.Bool.{and_parts, and_from}
-use Rattle.std.proofs.lemmas.Str.{chars-append, chars-encodes, chars-IsAscii, encodes-append}
+use Rattle.std.proofs.lemmas.Bool.{and_from}
+use Rattle.std.proofs.lemmas.Str.{chars-append, chars-encodes, chars-IsAscii}
 use Rattle.std.proofs.lemmas.Str.Ascii.{IsAscii-nil, IsAscii-cons}
-use Rattle.html_names.specs.Names.{is_ascii}
-use lib.Utf8.{scalar, encode, encodes}
+use lib.Utf8.{scalar, encode}
 use Rattle.std.proofs.lemmas.List.{append-nil}
 
 chars-encode : (c : ℕ) → scalar c ≡ true → chars (encode c) ≡ c ∷ []

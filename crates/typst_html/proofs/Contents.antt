@@ -9,7 +9,6 @@ use Rattle.html_names.specs.Names.{stands_in}
 use Rattle.html_names.specs.Kinds.{is_void, is_foreign_self_closing, is_raw, is_escapable_raw}
 use Rattle.html_dom.specs.Tree.{Head, tag_node, text_node, element_node, Nodes, none, node}
 use Rattle.typst_html.specs.References.{numeric}
-use Rattle.typst_html.specs.declared.escape.Escaping.{Escaping}
 use Rattle.typst_html.specs.declared.escape.Escaping.TheVariants as escaping
 use Rattle.typst_html.specs.Closing.{holds_closing}
 use Rattle.typst_html.specs.Written.{char_written, escaped, escaping_of, pairs_written, tag_close, end_written, ends_at_once, begins_with_feed, feed_written, texts, written, all_written}

@@ -1,5 +1,5 @@
 -- The first fault of a list is the first of a longer one.
-use Rattle.std.proofs.Common.{List, ◌∷◌, ◌++◌, ap}
+use Rattle.std.proofs.Common.{List, ◌++◌, ap}
 use Rattle.typst_html.specs.Faults.{Fault, BeginsWith, IsFirst}
 use Rattle.typst_html.specs.declared.fault.ExportFault.{ExportFault}
 use Rattle.typst_html.specs.declared.fault.ExportFault.TheVariants as fault

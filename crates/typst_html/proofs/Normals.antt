@@ -1,5 +1,5 @@
 -- What the reader gathers is the normal form.
-use Rattle.std.proofs.Common.{◌≡◌, ℕ, false, List, [], ◌∷◌, ◌++◌, refl, ap, ◌∙◌, sym, append_assoc}
+use Rattle.std.proofs.Common.{◌≡◌, ℕ, List, [], ◌∷◌, ◌++◌, refl, ap, ◌∙◌, sym, append_assoc}
 use Rattle.std.proofs.lemmas.List.{append-nil}
 use Rattle.html_dom.specs.Tree.{Pair, tag_node, text_node, element_node, Nodes, none, node}
 use Rattle.typst_html.specs.Written.{texts}

@@ -1,10 +1,10 @@
 -- Raw text without a closing tag is read back.
-use Rattle.std.proofs.Common.{◌≡◌, ℕ, ◌-◌, ◌<◌, Bool, true, false, ◌&&◌, ltb, List, [], ◌∷◌, ◌++◌, codes, bytes_eq, length, take, drop, get_or, map, refl, ap, ◌∙◌, sym, append_assoc, arith, length-append}
+use Rattle.std.proofs.Common.{◌≡◌, ℕ, ◌-◌, ◌<◌, Bool, true, false, ◌&&◌, List, [], ◌∷◌, ◌++◌, codes, length, take, drop, get_or, map, refl, ap, ◌∙◌, sym, append_assoc, arith, length-append}
 use Rattle.std.specs.Prelude.{if◌then◌else◌, ◌==◌}
 use Rattle.std.specs.Char.{to_ascii_lowercase}
 use Rattle.std.proofs.lemmas.Bool.{and_parts, and_from, or_left, or_right, false_from_ne_true, false≢true, eq-eqb}
 use Rattle.std.proofs.lemmas.Bool.Decides.{nat_tests}
-use Rattle.std.proofs.lemmas.List.{append-nil, take-append-drop, take_at, drop_at, drop-append-le, map-append, get_or_at, length-map}
+use Rattle.std.proofs.lemmas.List.{append-nil, take-append-drop, take_at, drop_at, drop-append-le, map-append, length-map}
 use Rattle.std.proofs.lemmas.Slice.Eq.{bytes_eq-Decides}
 use Rattle.html_names.specs.Characters.{all, IsOf, is_tag_char}
 use Rattle.typst_html.specs.Closing.{is_tag_end, closing, begins, holds, holds_closing, ends_closing, ends_exact}

@@ -1,9 +1,9 @@
 -- What the reader takes and what it refuses, computed.
-use Rattle.std.proofs.Common.{◌≡◌, ℕ, List, [], ◌∷◌, Some, None, codes, refl}
+use Rattle.std.proofs.Common.{◌≡◌, [], Some, None, codes, refl}
 use Rattle.std.specs.Fmt.{digits}
 use Rattle.html_names.specs.Names.{stands_in}
 use Rattle.html_names.specs.Kinds.{is_void, is_foreign_self_closing, is_raw, is_escapable_raw}
-use Rattle.html_dom.specs.PlainTree.{Plain, words, branch, no_plains, plain}
+use Rattle.html_dom.specs.PlainTree.{branch, no_plains}
 use Rattle.typst_html.specs.Closing.{is_tag_end}
 use Rattle.typst_html.specs.Reader.{drops_feed, read}
 use Rattle.typst_html.specs.Rows.{paragraph_of}

@@ -1,4 +1,4 @@
-use Rattle.std.proofs.Common.{◌≡◌, ◌++◌, map, take, drop}
+use Rattle.std.proofs.Common.{◌≡◌, map, take, drop}
 use Rattle.html_dom.specs.Views.{pair_view}
 use Rattle.html_tool.specs.Forms.{form_pair_view}
 use Rattle.html_tool.specs.Names.{pairs_refusals}

@@ -1,10 +1,10 @@
-use Rattle.std.proofs.Common.{◌≡◌, ◌++◌, List, chars, sym, ap, ◌∙◌, append_assoc}
+use Rattle.std.proofs.Common.{◌≡◌, ◌++◌, chars, sym, ◌∙◌, append_assoc}
 use Rattle.std.specs.Str.Iter.{chars_rest}
 use Rattle.std.proofs.lemmas.List.{append-nil}
 use Rattle.std.proofs.lemmas.Str.{IsUtf8-past_char, chars_past_char}
 use Rattle.std.proofs.lemmas.Result.{err_from_is_err_and}
 use Rattle.std.proofs.StrCases.{chars_of_empty}
-use Rattle.typst_html.specs.Faults.{Fault, char_faults, text_faults}
+use Rattle.typst_html.specs.Faults.{char_faults, text_faults}
 use Rattle.typst_html.proofs.Firsts.{first_of_more}
 use Rattle.typst_html.proofs.escape.write_text.Goals as goal
 

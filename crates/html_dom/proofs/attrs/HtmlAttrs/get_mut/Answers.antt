@@ -1,6 +1,6 @@
 use Rattle.std.proofs.Common.{◌≡◌, ◌≤◌, ◌<◌, ap, sym, ◌∙◌, refl, [], Some, length, get_or, arith}
 use Rattle.html_dom.specs.Views.{attrs_view, text_view}
-use Rattle.html_dom.specs.Attributes.{place, with_value}
+use Rattle.html_dom.specs.Attributes.{place}
 use Rattle.html_dom.specs.Lending.{with_text}
 use Rattle.html_dom.proofs.Attributes.{put, first_at, first_past}
 use Rattle.html_dom.proofs.attrs.HtmlAttrs.get_mut.Goals as goal

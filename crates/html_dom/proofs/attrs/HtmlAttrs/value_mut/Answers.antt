@@ -1,4 +1,4 @@
-use Rattle.std.proofs.Common.{◌≡◌, ap, sym, ◌∙◌, refl, [], get_or, String, Global, arith}
+use Rattle.std.proofs.Common.{◌≡◌, ap, ◌∙◌, refl, [], get_or, String, Global, arith}
 use Rattle.std.specs.Vec.{with_item}
 use Rattle.std.proofs.lemmas.List.{get_or_default}
 use Rattle.html_dom.specs.declared.attrs.HtmlAttrs.{HtmlAttrs}
