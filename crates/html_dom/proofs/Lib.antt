@@ -1,6 +1,7 @@
 pub mod Attributes
 pub mod Equals
 pub mod Folds
+pub mod Frames
 pub mod Hashed
 pub mod Nodes
-pub mod Texts
+pub mod Styles

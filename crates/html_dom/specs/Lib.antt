@@ -1,7 +1,12 @@
 pub mod Attributes
+pub mod Drawings
 pub mod Equal
+pub mod FrameEqual
+pub mod FrameViews
 pub mod Hashes
 pub mod Lending
+pub mod Marks
 pub mod PlainTree
+pub mod Styled
 pub mod Tree
 pub mod Views

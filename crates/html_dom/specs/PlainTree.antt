@@ -1,7 +1,7 @@
 -- Plain trees: what is left of a tree when tags, spans, parents and flags are forgotten, neighbouring texts are
--- joined, also across dropped tags, and empty texts are gone. That is a tree's normal form.
+-- joined, also across dropped tags, and empty texts are gone. That is a tree's normal form, of a tree without frames.
 use Rattle.std.specs.Prelude.{ℕ, List, [], ◌∷◌, ◌++◌}
-use Rattle.html_dom.specs.Tree.{Pair, tag_node, text_node, element_node, Nodes, none, node, Elem}
+use Rattle.html_dom.specs.Tree.{Pair, tag_node, text_node, element_node, frame_node, Nodes, none, node, Elem}
 
 mutual
   pub data Plain : Type 0 where
@@ -25,6 +25,7 @@ normal_nodes none = no_plains
 normal_nodes (node (tag_node t) ns) = normal_nodes ns
 normal_nodes (node (text_node s span) ns) = put_words s (normal_nodes ns)
 normal_nodes (node (element_node h kids) ns) = plain (branch h.name h.attrs (normal_nodes kids)) (normal_nodes ns)
+normal_nodes (node (frame_node b) ns) = normal_nodes ns
 
 -- the normal form of an element
 abbrev pub normal : Elem → Plain

@@ -1,24 +1,14 @@
 -- The trees that the program's values stand for.
-use Rattle.std.specs.Prelude.{ℕ, List, [], ◌∷◌, map, Option, option_map, chars, String, string_bytes}
+use Rattle.std.specs.Prelude.{List, [], ◌∷◌, map, option_map, String}
 use Rattle.std.specs.declared.alloc.Global.{Global}
 use Rattle.html_names.specs.declared.html_attr.HtmlAttr.{HtmlAttr}
-use Rattle.html_dom.specs.Tree.{Pair, Marker, starts, ends, Head, Node, tag_node, text_node, element_node, Nodes, none, node, Elem}
-use Rattle.html_dom.specs.declared.place.Tag.{Tag}
-use Rattle.html_dom.specs.declared.place.Tag.TheVariants.{Start, End}
+pub use Rattle.html_names.specs.Texts.{text_view}
+pub use Rattle.html_dom.specs.FrameViews.{label_view, marker_view}
+use Rattle.html_dom.specs.FrameViews.{box_view}
+use Rattle.html_dom.specs.Tree.{Pair, Head, Node, tag_node, text_node, element_node, frame_node, Nodes, none, node, Elem}
 use Rattle.html_dom.specs.declared.attrs.HtmlAttrs.{HtmlAttrs}
 use Rattle.html_dom.specs.declared.node.HtmlElement.{HtmlElement, HtmlElement-F}
 use Rattle.html_dom.specs.declared.node.HtmlNode.{HtmlNode, HtmlNode-F, fold-HtmlNode}
-
--- a text as its characters
-abbrev pub text_view : String Global → List ℕ
-text_view s = chars (string_bytes s)
-
-abbrev pub label_view : Option (String Global) → Option (List ℕ)
-label_view = option_map text_view
-
-abbrev pub marker_view : Tag → Marker
-marker_view (Start location label dest) = starts location.0 (label_view label) (option_map (λ l. l.0) dest)
-marker_view (End location) = ends location.0
 
 abbrev pub pair_view : HtmlAttr × String Global → Pair
 pair_view p = (p.0, text_view p.1)
@@ -35,12 +25,14 @@ abbrev pub node_step : HtmlNode-F Node Elem → Node
 node_step (HtmlNode-F.Tag t) = tag_node (marker_view t)
 node_step (HtmlNode-F.Text s span) = text_node (text_view s) span.0
 node_step (HtmlNode-F.Element e) = element_node e.0 e.1
+node_step (HtmlNode-F.Frame f) = frame_node (box_view f)
 
 -- an element apart from its children
 abbrev pub head_of : {A B : Type 0} → HtmlElement-F A B → Head
 head_of e = record {
   name = e.tag;
   attrs = attrs_view e.attrs;
+  css = e.css;
   parent = option_map (λ l. l.0) e.parent;
   span = e.span.0;
   pre_span = e.pre_span;

@@ -14,6 +14,7 @@ impl HtmlNode {
             HtmlNode::Tag(tag) => Ok(HtmlNode::Tag(tag.try_clone()?)),
             HtmlNode::Text(text, span) => Ok(HtmlNode::Text(text.clone()?, *span)),
             HtmlNode::Element(element) => Ok(HtmlNode::Element(element.try_clone()?)),
+            HtmlNode::Frame(frame) => Ok(HtmlNode::Frame(frame.try_clone()?)),
         }
     }
 }
@@ -38,6 +39,7 @@ impl HtmlElement {
         Ok(HtmlElement {
             tag: self.tag.try_clone()?,
             attrs: self.attrs.try_clone()?,
+            css: self.css.try_clone()?,
             children: copy_nodes(*self.children.allocator(), &self.children)?,
             parent: self.parent,
             span: self.span,

@@ -1,6 +1,15 @@
-//! Laws of this crate's definitions. The functions do nothing: each has a law as its contract.
+//! Laws of this crate's definitions and types. Each function has a law as its contract; those that
+//! need no value do nothing.
 
+ghost use Rattle.std.specs.Prelude.{◌≡◌, ◌↔◌, IsTrue};
 ghost use Rattle.html_dom.specs.Attributes.{FindsInnerFirst, IsAssociative, KeepsOnNothing, DropsRepeats};
+ghost use Rattle.html_dom.specs.FrameViews.{marker_view, place_view, thing_view, drawing_view, box_view};
+ghost use Rattle.html_dom.specs.Views.{attrs_view, node_view, element_view};
+
+use crate::attrs::HtmlAttrs;
+use crate::frame::{Frame, FrameItem, HtmlFrame, Point};
+use crate::node::{HtmlElement, HtmlNode};
+use crate::place::{Location, Span, Tag};
 
 /// After a fold a name has its inner value where there is one, and else its outer value.
 #[tactic(auto, using(crate::proofs::Folds::finds_inner_first))]
@@ -25,3 +34,73 @@ pub fn fold_keeps_on_nothing()
 pub fn fold_drops_repeats()
     ensures { DropsRepeats }
 {}
+
+/// Spans are equal where their numbers are.
+pub fn equal_spans(a: Span, b: Span) -> bool
+    ensures { IsTrue result ↔ (a.0 ≡ b.0) }
+{
+    a == b
+}
+
+/// Locations are equal where their numbers are.
+pub fn equal_locations(a: Location, b: Location) -> bool
+    ensures { IsTrue result ↔ (a.0 ≡ b.0) }
+{
+    a == b
+}
+
+/// Tags are equal where all their fields are.
+pub fn equal_tags(a: &Tag, b: &Tag) -> bool
+    ensures { IsTrue result ↔ (marker_view a.now ≡ marker_view b.now) }
+{
+    a == b
+}
+
+/// Points are equal where both ways are.
+pub fn equal_points(a: Point, b: Point) -> bool
+    ensures { IsTrue result ↔ (place_view a ≡ place_view b) }
+{
+    a == b
+}
+
+/// What stands in drawings is equal where all fields are, at any depth.
+pub fn equal_frame_items(a: &FrameItem, b: &FrameItem) -> bool
+    ensures { IsTrue result ↔ (thing_view a.now ≡ thing_view b.now) }
+{
+    a == b
+}
+
+/// Drawings are equal where all their fields are, at any depth.
+pub fn equal_frames(a: &Frame, b: &Frame) -> bool
+    ensures { IsTrue result ↔ (drawing_view a.now ≡ drawing_view b.now) }
+{
+    a == b
+}
+
+/// Drawings in a tree are equal where all their fields are, at any depth.
+pub fn equal_html_frames(a: &HtmlFrame, b: &HtmlFrame) -> bool
+    ensures { IsTrue result ↔ (box_view a.now ≡ box_view b.now) }
+{
+    a == b
+}
+
+/// Attribute lists are equal where their names and values are, in order.
+pub fn equal_attrs(a: &HtmlAttrs, b: &HtmlAttrs) -> bool
+    ensures { IsTrue result ↔ (attrs_view a.now ≡ attrs_view b.now) }
+{
+    a == b
+}
+
+/// Nodes are equal where all their fields are, at any depth.
+pub fn equal_nodes(a: &HtmlNode, b: &HtmlNode) -> bool
+    ensures { IsTrue result ↔ (node_view a.now ≡ node_view b.now) }
+{
+    a == b
+}
+
+/// Elements are equal where all their fields are, at any depth.
+pub fn equal_elements(a: &HtmlElement, b: &HtmlElement) -> bool
+    ensures { IsTrue result ↔ (element_view a.now ≡ element_view b.now) }
+{
+    a == b
+}

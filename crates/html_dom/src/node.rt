@@ -1,10 +1,13 @@
 ghost use Rattle.std.specs.Prelude.{◌≡◌, ◌++◌, ◌∷◌, [], IfOk, IfErr};
-ghost use Rattle.html_dom.specs.Tree.{new_element, with_pair, node_span, text_node, tag_node, element_node};
+ghost use Rattle.html_dom.specs.Tree.{new_element, with_pair, node_span, text_node, tag_node, element_node, frame_node};
+ghost use Rattle.html_dom.specs.FrameViews.{box_view};
 ghost use Rattle.html_dom.specs.Views.{text_view, marker_view, node_view, element_view, nodes_view};
 
 use crate::attrs::HtmlAttrs;
+use crate::frame::HtmlFrame;
 use crate::place::{Location, Span, Tag};
 use html_names::{HtmlAttr, HtmlTag, Refused};
+use html_values::Properties;
 use std::alloc::Global;
 
 /// A node of the tree. Two are equal where all their fields are.
@@ -17,6 +20,8 @@ pub enum HtmlNode {
     Text(String, Span),
     /// An element with its children.
     Element(HtmlElement),
+    /// A drawing.
+    Frame(HtmlFrame),
 }
 
 /// An element. Two are equal where all their fields are.
@@ -27,6 +32,8 @@ pub struct HtmlElement {
     pub tag: HtmlTag,
     /// The attributes, in the order in which they are written.
     pub attrs: HtmlAttrs,
+    /// The css properties, which `resolve_inline_styles` writes into the attribute `style`.
+    pub css: Properties,
     /// The children.
     pub children: Vec<HtmlNode>,
     /// The location of the element's parent in the source, where it stands elsewhere in the tree.
@@ -54,6 +61,7 @@ impl HtmlNode {
             HtmlNode::Tag(_) => Span(0),
             HtmlNode::Text(_, span) => *span,
             HtmlNode::Element(element) => element.span,
+            HtmlNode::Frame(frame) => frame.span,
         }
     }
 }
@@ -74,14 +82,23 @@ impl From<HtmlElement> for HtmlNode {
     }
 }
 
+impl From<HtmlFrame> for HtmlNode {
+    ghost from_gives = { λ frame node. node_view node ≡ frame_node (box_view frame) };
+
+    fn from(frame: HtmlFrame) -> HtmlNode {
+        HtmlNode::Frame(frame)
+    }
+}
+
 impl HtmlElement {
-    /// An element of that name, with nothing else: no attribute, no child, no parent, span 0.
+    /// An element of that name, with nothing else: no attribute, no css, no child, no parent, span 0.
     pub fn new(alloc: Global, tag: HtmlTag) -> HtmlElement
         ensures { element_view result ≡ new_element tag }
     {
         HtmlElement {
             tag,
             attrs: HtmlAttrs::new(alloc),
+            css: Properties::new(alloc),
             children: Vec::new(alloc),
             parent: None,
             span: Span(0),
@@ -94,6 +111,14 @@ impl HtmlElement {
         ensures { element_view result ≡ ((element_view self).0, nodes_view children.items) }
     {
         self.children = children;
+        self
+    }
+
+    /// The element with these css properties in place of its own.
+    pub fn with_css(mut self, css: Properties) -> HtmlElement
+        ensures { element_view result ≡ (record (element_view self).0 { css = css }, (element_view self).1) }
+    {
+        self.css = css;
         self
     }
 

@@ -30,7 +30,7 @@ pub enum Tag {
     },
 }
 
-fn copy_label(label: &Option<String>) -> Result<Option<String>, AllocError>
+pub(crate) fn copy_label(label: &Option<String>) -> Result<Option<String>, AllocError>
     ensures { IfOk result (λ copy. label_view copy ≡ label_view label.now) }
 {
     match label {

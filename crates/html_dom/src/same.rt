@@ -4,15 +4,17 @@ ghost use Rattle.html_dom.specs.Views.{text_view, label_view, marker_view, pair_
 use crate::attrs::HtmlAttrs;
 use crate::node::{HtmlElement, HtmlNode};
 use crate::place::Tag;
+use crate::same_frame::same_html_frame;
 use html_names::HtmlAttr;
+use html_values::laws::equal_properties;
 
-fn same_text(a: &String, b: &String) -> bool
+pub(crate) fn same_text(a: &String, b: &String) -> bool
     ensures { IsTrue result ↔ (text_view a.now ≡ text_view b.now) }
 {
     *a == *b
 }
 
-fn same_label(a: &Option<String>, b: &Option<String>) -> bool
+pub(crate) fn same_label(a: &Option<String>, b: &Option<String>) -> bool
     ensures { IsTrue result ↔ (label_view a.now ≡ label_view b.now) }
 {
     match (a, b) {
@@ -22,7 +24,7 @@ fn same_label(a: &Option<String>, b: &Option<String>) -> bool
     }
 }
 
-fn same_tag(a: &Tag, b: &Tag) -> bool
+pub(crate) fn same_tag(a: &Tag, b: &Tag) -> bool
     ensures { IsTrue result ↔ (marker_view a.now ≡ marker_view b.now) }
 {
     match a {
@@ -51,7 +53,7 @@ fn same_pair(a: &(HtmlAttr, String), b: &(HtmlAttr, String)) -> bool
     a.0 == b.0 && same_text(&a.1, &b.1)
 }
 
-#[tactic(auto, using(crate::proofs::Equals::same_count))]
+#[tactic(auto, using(html_names::proofs::Equals::same_count))]
 fn same_pairs(a: &[(HtmlAttr, String)], b: &[(HtmlAttr, String)]) -> bool
     ensures { IsTrue result ↔ (map pair_view a.now ≡ map pair_view b.now) }
 {
@@ -98,6 +100,13 @@ fn same_node(a: &HtmlNode, b: &HtmlNode) -> bool
                 false
             }
         }
+        HtmlNode::Frame(frame) => {
+            if let HtmlNode::Frame(other) = b {
+                same_html_frame(frame, other)
+            } else {
+                false
+            }
+        }
     }
 }
 
@@ -107,6 +116,7 @@ fn same_element(a: &HtmlElement, b: &HtmlElement) -> bool
 {
     a.tag == b.tag
         && same_attrs(&a.attrs, &b.attrs)
+        && equal_properties(&a.css, &b.css)
         && a.parent == b.parent
         && a.span == b.span
         && a.pre_span == b.pre_span
@@ -152,12 +162,12 @@ impl Eq for Tag {
 
 impl PartialEq for HtmlAttrs {
     ghost use Rattle.std.specs.Cmp.{partial_equiv_from_equiv};
-    ghost use Rattle.html_dom.specs.Equal.{same, same_equiv, attrs_discrete};
+    ghost use Rattle.html_dom.specs.Equal.{same, same_equiv, pairs_discrete};
     ghost use Rattle.html_dom.specs.Views.{attrs_view};
 
-    ghost eq = { same attrs_view attrs_discrete };
+    ghost eq = { same attrs_view pairs_discrete };
 
-    ghost laws = { partial_equiv_from_equiv (same_equiv attrs_view attrs_discrete) };
+    ghost laws = { partial_equiv_from_equiv (same_equiv attrs_view pairs_discrete) };
 
     fn eq(&self, other: &HtmlAttrs) -> bool {
         same_attrs(self, other)
@@ -165,10 +175,10 @@ impl PartialEq for HtmlAttrs {
 }
 
 impl Eq for HtmlAttrs {
-    ghost use Rattle.html_dom.specs.Equal.{same_equiv, attrs_discrete};
+    ghost use Rattle.html_dom.specs.Equal.{same_equiv, pairs_discrete};
     ghost use Rattle.html_dom.specs.Views.{attrs_view};
 
-    ghost laws = { same_equiv attrs_view attrs_discrete };
+    ghost laws = { same_equiv attrs_view pairs_discrete };
 }
 
 impl PartialEq for HtmlNode {

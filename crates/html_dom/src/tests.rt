@@ -1,5 +1,8 @@
-use crate::{HtmlAttrs, HtmlElement, HtmlNode, Location, Span, Tag};
+use crate::{
+    Frame, FrameItem, HtmlAttrs, HtmlElement, HtmlFrame, HtmlNode, Location, Point, Span, Tag,
+};
 use html_names::{HtmlAttr, HtmlTag, attr, tag};
+use html_values::Abs;
 use std::alloc::{AllocError, Global};
 use std::collections::HashMap;
 use std::test::Fail;
@@ -115,5 +118,62 @@ fn equality_and_copies(rt: HostRuntime) -> Result<(), Fail> {
     assert!(rt; node.try_clone()? == node);
     let shown = format!(in alloc; "{node:?}")?;
     assert!(rt; shown.as_str().starts_with("Element("));
+    Ok(())
+}
+
+fn frame(alloc: Global, picture: u64) -> Result<HtmlFrame, Fail> {
+    let mut inner = Vec::new(alloc);
+    inner.push((
+        Point {
+            x: Abs::from_millionths(1),
+            y: Abs::from_millionths(2),
+        },
+        FrameItem::Link(Some(Location(7))),
+    ))?;
+    let group = Frame {
+        picture: 3,
+        items: inner,
+    };
+    let mut items = Vec::new(alloc);
+    items.push((
+        Point {
+            x: Abs::from_millionths(0),
+            y: Abs::from_millionths(0),
+        },
+        FrameItem::Group(group),
+    ))?;
+    Ok(HtmlFrame::new(
+        alloc,
+        Frame { picture, items },
+        Abs::from_millionths(11_000_000),
+        Span(5),
+    ))
+}
+
+#[test]
+fn frames_are_equal_where_all_fields_are(rt: HostRuntime) -> Result<(), Fail> {
+    let alloc = rt.alloc();
+    let one = frame(alloc, 1)?;
+    let copy = one.try_clone()?;
+    assert!(rt; one == copy);
+    assert!(rt; one != frame(alloc, 2)?);
+    let mut named = one.try_clone()?;
+    named.id = Some(String::from_str(alloc, "a")?);
+    assert!(rt; one != named);
+    Ok(())
+}
+
+#[test]
+fn frame_nodes(rt: HostRuntime) -> Result<(), Fail> {
+    let alloc = rt.alloc();
+    let node = HtmlNode::from(frame(alloc, 1)?);
+    assert_eq!(rt; node.span(), Span(5));
+    assert!(rt; node.try_clone()? == node);
+    assert!(rt; node == HtmlNode::from(frame(alloc, 1)?));
+    assert!(rt; node != HtmlNode::from(frame(alloc, 2)?));
+    let link = FrameItem::Link(Some(Location(7)));
+    assert!(rt; link.try_clone()? == link);
+    assert!(rt; link != FrameItem::Link(None));
+    assert!(rt; link != FrameItem::Other);
     Ok(())
 }

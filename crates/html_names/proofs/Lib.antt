@@ -1,2 +1,4 @@
+pub mod Equals
 pub mod Faults
 pub mod Lists
+pub mod Texts

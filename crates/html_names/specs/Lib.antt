@@ -1,6 +1,8 @@
 pub mod Characters
 pub mod Displays
+pub mod Equal
 pub mod Faults
+pub mod Hashes
 pub mod Held
 pub mod Kinds
 pub mod Known
@@ -8,3 +10,4 @@ pub mod KnownAttrs
 pub mod KnownTags
 pub mod Names
 pub mod Rows
+pub mod Texts

@@ -4,6 +4,7 @@ use Rattle.std.specs.Str.{IsUtf8}
 use Rattle.std.proofs.lemmas.Str.{encodes-chars}
 use lib.Utf8.{encodes}
 use Rattle.html_dom.specs.Tree.{Elem}
+use Rattle.typst_html.specs.Frames.{no_frames}
 use Rattle.typst_html.specs.Written.{document_written}
 use Rattle.html_tool.specs.Answers.{refused_line, tree_refusals, tree_answer}
 use Rattle.html_tool.specs.Names.{Refusal}
@@ -11,11 +12,11 @@ use Rattle.html_tool.specs.Replies.{IsReply}
 use Rattle.html_tool.specs.declared.run.Reply.{Reply}
 use Rattle.html_tool.specs.declared.status.Status.TheVariants.{Done, Refused}
 
-pub reply_done : (e : Elem) (bytes : List ℕ) (reply : Reply) → tree_refusals e ≡ [] → IsUtf8 bytes → chars bytes ≡ document_written e
+pub reply_done : (e : Elem) (bytes : List ℕ) (reply : Reply) → tree_refusals e ≡ [] → IsUtf8 bytes → chars bytes ≡ document_written no_frames e
     → (reply.status ≡ Done) × (reply.text.items ≡ bytes) → IsReply reply (tree_answer e)
 unfolding tree_answer
 reply_done e bytes reply clean utf8 text h =
-    let same : encodes (document_written e) ≡ bytes = ap encodes (sym text) ∙ encodes-chars bytes utf8 in
+    let same : encodes (document_written no_frames e) ≡ bytes = ap encodes (sym text) ∙ encodes-chars bytes utf8 in
     rw (clean, same, h.0, h.1) refl
 
 pub reply_refused : (e : Elem) (refusal : Refusal) (rest : List Refusal) (reply : Reply) → tree_refusals e ≡ refusal ∷ rest

@@ -5,7 +5,8 @@ use Rattle.std.specs.Io.KnownBytes.{Appends}
 use Rattle.std.specs.Fmt.{decimal}
 use lib.Utf8.{encodes}
 use Rattle.html_dom.specs.Tree.{Elem}
-use Rattle.typst_html.specs.Faults.{Fault, unencodable, void_children, raw_child, raw_closing, document_faults}
+use Rattle.typst_html.specs.Faults.{Fault, unencodable, void_children, raw_child, raw_closing, frame_refused, document_faults}
+use Rattle.typst_html.specs.Frames.{no_frames}
 use Rattle.typst_html.specs.Written.{document_written}
 use Rattle.html_tool.specs.Json.{json_of}
 use Rattle.html_tool.specs.Names.{Refusal, element_refusals}
@@ -32,6 +33,7 @@ refusal_of (unencodable c span) = (11, span)
 refusal_of (void_children span) = (12, span)
 refusal_of (raw_child span) = (13, span)
 refusal_of (raw_closing span) = (14, span)
+refusal_of (frame_refused span) = (15, span)
 
 abbrev pub refused_line : Refusal → List ℕ
 refused_line r = codes "refused: " ++ (decimal r.0 ++ (codes " at " ++ (decimal r.1 ++ codes "\n")))
@@ -43,10 +45,10 @@ answer_by (r ∷ rs) text = record { status = Refused; line = refused_line r }
 
 -- names are refused before what is wrong with the tree
 abbrev pub tree_refusals : Elem → List Refusal
-tree_refusals e = element_refusals e ++ map refusal_of (document_faults e)
+tree_refusals e = element_refusals e ++ map refusal_of (document_faults no_frames e)
 
 unfoldable pub tree_answer : Elem → Answer
-tree_answer e = answer_by (tree_refusals e) (document_written e)
+tree_answer e = answer_by (tree_refusals e) (document_written no_frames e)
 
 abbrev pub answer_for : Option Elem → Answer
 answer_for None = bad_input

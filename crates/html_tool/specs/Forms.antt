@@ -17,6 +17,7 @@ element_form_step e = (
   record {
     name = text_view e.tag;
     attrs = map form_pair_view e.attrs.items;
+    css = [];
     parent = None;
     span = e.span.0;
     pre_span = false;
@@ -40,6 +41,7 @@ element_form_view e = (
   record {
     name = text_view e.tag;
     attrs = map form_pair_view e.attrs.items;
+    css = [];
     parent = None;
     span = e.span.0;
     pre_span = false;

@@ -3,7 +3,7 @@ use Rattle.std.specs.Prelude.{ℕ, List, [], ◌∷◌, ◌++◌, Option, Some, 
 use Rattle.html_names.specs.Faults.{number_of}
 use Rattle.html_names.specs.Names.{tag_fault, attr_fault}
 use Rattle.html_names.specs.declared.fault.NameFault.{NameFault}
-use Rattle.html_dom.specs.Tree.{Pair, Head, Node, tag_node, text_node, element_node, Nodes, none, node, Elem}
+use Rattle.html_dom.specs.Tree.{Pair, Head, Node, tag_node, text_node, element_node, frame_node, Nodes, none, node, Elem}
 
 -- a refusal: its number and its place
 abbrev pub Refusal : Type 0
@@ -25,6 +25,7 @@ unfoldable mutual
   name_refusals (tag_node t) = []
   name_refusals (text_node s span) = []
   name_refusals (element_node h kids) = head_refusals h ++ all_name_refusals kids
+  name_refusals (frame_node b) = []
 
   pub all_name_refusals : Nodes → List Refusal
   all_name_refusals none = []

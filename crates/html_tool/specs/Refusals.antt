@@ -23,6 +23,7 @@ of_export (fault.Unencodable c span) = at_place 11 span.0
 of_export (fault.VoidChildren span) = at_place 12 span.0
 of_export (fault.RawChild span) = at_place 13 span.0
 of_export (fault.RawClosing span) = at_place 14 span.0
+of_export (fault.FrameRefused span) = at_place 15 span.0
 
 -- a name's fault as a refusal of the element at that place
 abbrev pub of_name : NameFault → Span → Refusal

@@ -4,7 +4,7 @@
 use Rattle.std.specs.Prelude.{ℕ, ◌+◌, List, [], ◌∷◌, false, chars, codes, bytes_eq, Option, Some, None, option_map, option_and_then, if◌then◌else◌}
 use Rattle.serde_json.specs.Data.{Data, array, Items, no_items, item}
 use Rattle.serde_json.specs.Find.{as_str, as_array, as_number, as_u64}
-use Rattle.html_dom.specs.Tree.{Pair, starts, ends, Node, tag_node, text_node, element_node, Nodes, none, node, Elem}
+use Rattle.html_dom.specs.Tree.{Pair, starts, ends, Node, tag_node, text_node, element_node, frame_node, Nodes, none, node, Elem}
 
 -- a text's characters
 abbrev pub text_at : Data → Option (List ℕ)
@@ -48,7 +48,7 @@ end_form _ n = None
 
 abbrev pub element_from : (tag : Option (List ℕ)) (pairs : Option (List Pair)) (children : Option (Nodes × ℕ)) → ℕ → Option (Node × ℕ)
 element_from tag pairs children n =
-    option_and_then (λ t. option_and_then (λ ps. option_map (λ c. (element_node (record { name = t; attrs = ps; parent = None; span = n; pre_span = false }) c.0, c.1)) children) pairs) tag
+    option_and_then (λ t. option_and_then (λ ps. option_map (λ c. (element_node (record { name = t; attrs = ps; css = []; parent = None; span = n; pre_span = false }) c.0, c.1)) children) pairs) tag
 
 abbrev pub form_from : (kind : Option (List ℕ)) (as_text as_element as_start as_end : Option (Node × ℕ)) → Option (Node × ℕ)
 form_from kind as_text as_element as_start as_end = option_and_then (λ k.
@@ -85,6 +85,7 @@ abbrev pub element_of : Node × ℕ → Option Elem
 element_of (element_node h kids, n) = Some (h, kids)
 element_of (tag_node t, n) = None
 element_of (text_node s span, n) = None
+element_of (frame_node b, n) = None
 
 -- the element that a value spells
 abbrev pub element_spelled : Data → Option Elem

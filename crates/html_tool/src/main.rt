@@ -2,6 +2,7 @@
 #![tactic(auto)]
 
 mod form;
+mod frames;
 mod json;
 mod names;
 mod refusal;

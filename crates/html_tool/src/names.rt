@@ -11,6 +11,7 @@ use crate::form::{ElementForm, Form};
 use crate::refusal::Refusal;
 use html_dom::{HtmlAttrs, HtmlElement, HtmlNode, Span};
 use html_names::{HtmlAttr, HtmlTag, NameFault};
+use html_values::Properties;
 use std::alloc::Global;
 
 /// The refusal of a name of the element at that place.
@@ -87,6 +88,7 @@ pub(crate) fn element_of(alloc: Global, form: &ElementForm) -> Result<HtmlElemen
     Ok(HtmlElement {
         tag: tag_of(alloc, &form.tag, form.span)?,
         attrs: attrs_of(alloc, &form.attrs, form.span)?,
+        css: Properties::new(alloc),
         children: nodes_of(alloc, &form.children)?,
         parent: None,
         span: form.span,

@@ -43,7 +43,8 @@ impl From<ExportFault> for Refusal {
             ExportFault::Unencodable { .. }
             | ExportFault::VoidChildren { .. }
             | ExportFault::RawChild { .. }
-            | ExportFault::RawClosing { .. } => Refusal::At(fault.number(), fault.span()),
+            | ExportFault::RawClosing { .. }
+            | ExportFault::FrameRefused { .. } => Refusal::At(fault.number(), fault.span()),
         }
     }
 }

@@ -5,6 +5,7 @@ ghost use Rattle.std.specs.Bool.{OnTrue};
 ghost use Rattle.std.specs.Io.KnownBytes.{Appends, Keeps};
 ghost use Rattle.html_dom.specs.Views.{text_view, element_view};
 ghost use Rattle.typst_html.specs.Faults.{document_faults};
+ghost use Rattle.typst_html.specs.Frames.{no_frames};
 ghost use Rattle.typst_html.specs.Written.{document_written};
 ghost use Rattle.html_tool.specs.Answers.{AppendsBeginning, EndsAs, bad_input, answer_of, answer_to, words_are_right, texts_of, refused_line, refusal_of, tree_refusals, tree_answer};
 ghost use Rattle.html_tool.specs.Forms.{element_form_view};
@@ -15,6 +16,7 @@ ghost use Rattle.html_tool.specs.Replies.{IsReply, shown};
 ghost use Rattle.html_tool.specs.Spelled.{element_spelled};
 
 use crate::form::{ElementForm, Form};
+use crate::frames::NoFrames;
 use crate::json::parse;
 use crate::names::element_of;
 use crate::refusal::Refusal;
@@ -110,12 +112,12 @@ fn form_in(alloc: Global, input: &[u8]) -> Result<Option<ElementForm>, AllocErro
 
 /// The plain text of an element.
 fn plain_text(alloc: Global, element: &HtmlElement) -> Result<String, Refusal>
-    ensures text { IfOk result (λ text. text_view text ≡ document_written (element_view element.now)) }
-    ensures clean { OnOk result (map refusal_of (document_faults (element_view element.now)) ≡ []) }
-    ensures refused { IfErr result (λ e. IsFirst e (map refusal_of (document_faults (element_view element.now)))) }
+    ensures text { IfOk result (λ text. text_view text ≡ document_written no_frames (element_view element.now)) }
+    ensures clean { OnOk result (map refusal_of (document_faults no_frames (element_view element.now)) ≡ []) }
+    ensures refused { IfErr result (λ e. IsFirst e (map refusal_of (document_faults no_frames (element_view element.now)))) }
 {
     let options = HtmlOptions { pretty: false };
-    match html_in_bundle(alloc, element, &options) {
+    match html_in_bundle(alloc, element, &options, &NoFrames) {
         Ok(text) => Ok(text),
         Err(fault) => Err(Refusal::from(fault)),
     }
@@ -123,7 +125,7 @@ fn plain_text(alloc: Global, element: &HtmlElement) -> Result<String, Refusal>
 
 /// The text of the tree that is spelled, or the first refusal: of its names, and then of the tree.
 fn text_of(alloc: Global, form: &ElementForm) -> Result<String, Refusal>
-    ensures text { IfOk result (λ text. text_view text ≡ document_written (element_form_view form.now)) }
+    ensures text { IfOk result (λ text. text_view text ≡ document_written no_frames (element_form_view form.now)) }
     ensures clean { OnOk result (tree_refusals (element_form_view form.now) ≡ []) }
     ensures refused { IfErr result (λ e. IsFirst e (tree_refusals (element_form_view form.now))) }
 {

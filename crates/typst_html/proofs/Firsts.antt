@@ -13,3 +13,4 @@ first_of_more (fault.Unencodable c span) fs gs h = begins_more _ fs gs h
 first_of_more (fault.VoidChildren span) fs gs h = begins_more _ fs gs h
 first_of_more (fault.RawChild span) fs gs h = begins_more _ fs gs h
 first_of_more (fault.RawClosing span) fs gs h = begins_more _ fs gs h
+first_of_more (fault.FrameRefused span) fs gs h = begins_more _ fs gs h

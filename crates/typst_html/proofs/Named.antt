@@ -1,6 +1,6 @@
 -- Names of elements without elements in them.
 use Rattle.std.proofs.Common.{◌≡◌, ℕ, []}
-use Rattle.html_dom.specs.Tree.{Head, tag_node, text_node, element_node, Nodes, none, node}
+use Rattle.html_dom.specs.Tree.{Head, tag_node, text_node, element_node, frame_node, Nodes, none, node}
 use Rattle.typst_html.specs.Faults.{void_faults, text_faults, raw_faults, closing_faults, raw_content_faults}
 use Rattle.typst_html.specs.ReadingBack.{IsNamed, AreNamed}
 use Rattle.typst_html.specs.declared.escape.Escaping.{Escaping}
@@ -13,6 +13,7 @@ texts_named e none h = tt
 texts_named e (node (tag_node t) ns) h = (tt, texts_named e ns h)
 texts_named e (node (text_node s span) ns) h = (tt, texts_named e ns (right_empty (text_faults e span s) (raw_faults e ns) h))
 texts_named e (node (element_node g kids) ns) h = cc
+texts_named e (node (frame_node b) ns) h = cc
 
 pub raw_content_named : (h : Head) (ns : Nodes) → raw_content_faults h ns ≡ [] → AreNamed ns
 raw_content_named h ns e = texts_named escaping.Raw ns (left_empty (raw_faults escaping.Raw ns) (closing_faults h ns) e)

@@ -1,7 +1,7 @@
 -- What the reader gathers is the normal form.
 use Rattle.std.proofs.Common.{◌≡◌, ℕ, List, [], ◌∷◌, ◌++◌, refl, ap, ◌∙◌, sym, append_assoc}
 use Rattle.std.proofs.lemmas.List.{append-nil}
-use Rattle.html_dom.specs.Tree.{Pair, tag_node, text_node, element_node, Nodes, none, node}
+use Rattle.html_dom.specs.Tree.{Pair, tag_node, text_node, element_node, frame_node, Nodes, none, node}
 use Rattle.typst_html.specs.Written.{texts}
 use Rattle.html_dom.specs.PlainTree.{words, branch, Plains, no_plains, plain, put_words, normal_nodes}
 use Rattle.typst_html.specs.Faults.{raw_faults, text_faults}
@@ -15,6 +15,7 @@ joined before text none = (before, text)
 joined before text (node (tag_node t) ns) = joined before text ns
 joined before text (node (text_node s span) ns) = joined before (text ++ s) ns
 joined before text (node (element_node h kids) ns) = joined (with_text text before then plain (branch h.name h.attrs (normal_nodes kids)) no_plains) [] ns
+joined before text (node (frame_node b) ns) = joined before text ns
 
 abbrev pub closed : Plains × List ℕ → Plains
 closed x = with_text x.1 x.0
@@ -56,6 +57,7 @@ joined_is (node (element_node h kids) ns) b t =
     ∙ (ap (λ l. l then plain e (normal_nodes ns)) (with_text_is t b)
     ∙ (then_assoc b (put_words t no_plains) (plain e (normal_nodes ns))
     ∙ ap (λ n. b then n) (before_element t h.name h.attrs (normal_nodes kids) (normal_nodes ns)))))
+joined_is (node (frame_node x) ns) b t = joined_is ns b t
 
 -- where the children are texts and tags alone
 pub texts_alone : (e : Escaping) (ns : Nodes) → raw_faults e ns ≡ [] → put_words (texts ns) no_plains ≡ normal_nodes ns
@@ -64,6 +66,7 @@ texts_alone e none h = refl
 texts_alone e (node (tag_node m) ns) h = texts_alone e ns h
 texts_alone e (node (text_node s span) ns) h = sym (put_words-put_words s (texts ns) no_plains) ∙ ap (put_words s) (texts_alone e ns (right_empty (text_faults e span s) (raw_faults e ns) h))
 texts_alone e (node (element_node h kids) ns) f = cc
+texts_alone e (node (frame_node b) ns) f = cc
 
 pub with_text_none : (t : List ℕ) → with_text t no_plains ≡ put_words t no_plains
 with_text_none [] = refl

@@ -6,8 +6,8 @@ use Rattle.typst_html.specs.ReadingBack.{SameTextSameForm}
 use Rattle.typst_html.proofs.Contents.{reads_back}
 
 pub same_text : SameTextSameForm
-same_text d e n m f w same =
-    let one = reads_back d n f in
-    let two = reads_back e m w in
+same_text frames d e n m x y f w same =
+    let one = reads_back frames d n x f in
+    let two = reads_back frames e m y w in
     let both : Some (normal d) ≡ Some (normal e) = sym one ∙ (ap read same ∙ two) in
     cc

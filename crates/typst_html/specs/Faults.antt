@@ -1,9 +1,10 @@
 -- What can be wrong with a tree, all of it, in the order in which it is refused.
-use Rattle.std.specs.Prelude.{◌≡◌, ℕ, Bool, true, false, not, ◌||◌, ◌&&◌, ◌==◌, List, [], ◌∷◌, ◌++◌, if◌then◌else◌}
+use Rattle.std.specs.Prelude.{◌≡◌, ℕ, Bool, true, false, not, ◌||◌, ◌&&◌, ◌==◌, List, [], ◌∷◌, ◌++◌, if◌then◌else◌, Option, Some, None}
 use Rattle.html_names.specs.Characters.{is_text_char}
 use Rattle.html_names.specs.Kinds.{is_raw, is_escapable_raw}
-use Rattle.html_dom.specs.Tree.{Pair, Head, Node, tag_node, text_node, element_node, Nodes, none, node, Elem}
+use Rattle.html_dom.specs.Tree.{Pair, Head, Node, tag_node, text_node, element_node, frame_node, Nodes, none, node, Elem}
 use Rattle.typst_html.specs.Closing.{holds_closing}
+use Rattle.typst_html.specs.Frames.{Frames}
 use Rattle.typst_html.specs.Written.{texts, ends_at_once, escaping_of}
 use Rattle.typst_html.specs.declared.escape.Escaping.{Escaping}
 use Rattle.typst_html.specs.declared.escape.Escaping.TheVariants as escaping
@@ -15,6 +16,7 @@ pub data Fault : Type 0 where
   void_children : (span : ℕ) → Fault
   raw_child : (span : ℕ) → Fault
   raw_closing : (span : ℕ) → Fault
+  frame_refused : (span : ℕ) → Fault
 
 abbrev pub is_reference : Escaping → Bool
 is_reference escaping.Reference = true
@@ -46,6 +48,7 @@ abbrev pub raw_one_faults : Escaping → Node → List Fault
 raw_one_faults e (tag_node t) = []
 raw_one_faults e (text_node s span) = text_faults e span s
 raw_one_faults e (element_node h kids) = raw_child h.span ∷ []
+raw_one_faults e (frame_node b) = raw_child b.span ∷ []
 
 abbrev pub raw_faults : Escaping → Nodes → List Fault
 raw_faults e none = []
@@ -54,29 +57,35 @@ raw_faults e (node n ns) = raw_one_faults e n ++ raw_faults e ns
 abbrev pub closing_faults : Head → Nodes → List Fault
 closing_faults h ns = if holds_closing h.name (texts ns) then raw_closing h.span ∷ [] else []
 
+-- a frame that its writer refuses
+abbrev pub frame_faults : (span : ℕ) → Option (List ℕ) → List Fault
+frame_faults span (Some text) = []
+frame_faults span None = frame_refused span ∷ []
+
 unfoldable mutual
-  pub faults : (pre_span : Bool) → Node → List Fault
-  faults pre_span (tag_node t) = []
-  faults pre_span (text_node s span) = text_faults (escaping_of pre_span) span s
-  faults pre_span (element_node h ns) =
+  pub faults : Frames → (pre_span : Bool) → Node → List Fault
+  faults frames pre_span (tag_node t) = []
+  faults frames pre_span (text_node s span) = text_faults (escaping_of pre_span) span s
+  faults frames pre_span (element_node h ns) =
       pairs_faults h.span h.attrs ++ (if ends_at_once h then void_faults h.span ns
       else (if is_raw h.name then (raw_faults escaping.Raw ns ++ closing_faults h ns)
-      else (if is_escapable_raw h.name then raw_faults escaping.Text ns else all_faults h.pre_span ns)))
+      else (if is_escapable_raw h.name then raw_faults escaping.Text ns else all_faults frames h.pre_span ns)))
+  faults frames pre_span (frame_node b) = frame_faults b.span (frames b false)
 
-  pub all_faults : (pre_span : Bool) → Nodes → List Fault
-  all_faults pre_span none = []
-  all_faults pre_span (node n ns) = faults pre_span n ++ all_faults pre_span ns
+  pub all_faults : Frames → (pre_span : Bool) → Nodes → List Fault
+  all_faults frames pre_span none = []
+  all_faults frames pre_span (node n ns) = faults frames pre_span n ++ all_faults frames pre_span ns
 
 abbrev pub raw_content_faults : Head → Nodes → List Fault
 raw_content_faults h ns = raw_faults escaping.Raw ns ++ closing_faults h ns
 
 -- those of what stands between the tags of an element
-abbrev pub content_faults : Elem → List Fault
-content_faults e = if is_raw e.0.name then raw_content_faults e.0 e.1 else (if is_escapable_raw e.0.name then raw_faults escaping.Text e.1 else all_faults e.0.pre_span e.1)
+abbrev pub content_faults : Frames → Elem → List Fault
+content_faults frames e = if is_raw e.0.name then raw_content_faults e.0 e.1 else (if is_escapable_raw e.0.name then raw_faults escaping.Text e.1 else all_faults frames e.0.pre_span e.1)
 
 -- those of a document with this root
-abbrev pub document_faults : Elem → List Fault
-document_faults e = faults false (element_node e.0 e.1)
+abbrev pub document_faults : Frames → Elem → List Fault
+document_faults frames e = faults frames false (element_node e.0 e.1)
 
 -- the list begins with the fault
 abbrev pub BeginsWith : Fault → List Fault → Type 0
@@ -89,3 +98,4 @@ IsFirst (fault.Unencodable c span) fs = BeginsWith (unencodable c span.0) fs
 IsFirst (fault.VoidChildren span) fs = BeginsWith (void_children span.0) fs
 IsFirst (fault.RawChild span) fs = BeginsWith (raw_child span.0) fs
 IsFirst (fault.RawClosing span) fs = BeginsWith (raw_closing span.0) fs
+IsFirst (fault.FrameRefused span) fs = BeginsWith (frame_refused span.0) fs

@@ -1,5 +1,6 @@
 pub mod Closing
 pub mod Faults
+pub mod Frames
 pub mod Numbers
 pub mod ReadingBack
 pub mod Reader

@@ -2,9 +2,10 @@
 use Rattle.std.specs.Prelude.{◌≡◌, List, [], Some}
 use Rattle.std.specs.List.{AllByRecursion}
 use Rattle.html_names.specs.Characters.{is_tag_char, is_attr_char, IsOf}
-use Rattle.html_dom.specs.Tree.{Pair, Head, Node, tag_node, text_node, element_node, Nodes, none, node, Elem}
+use Rattle.html_dom.specs.Tree.{Pair, Head, Node, tag_node, text_node, element_node, frame_node, Nodes, none, node, Elem}
 use Rattle.html_dom.specs.PlainTree.{normal}
 use Rattle.typst_html.specs.Faults.{document_faults}
+use Rattle.typst_html.specs.Frames.{Frames}
 use Rattle.typst_html.specs.Reader.{read}
 use Rattle.typst_html.specs.Written.{document_written}
 
@@ -24,6 +25,7 @@ unfoldable mutual
   IsNamed (tag_node t) = Unit {0}
   IsNamed (text_node s span) = Unit {0}
   IsNamed (element_node h kids) = IsHead h × AreNamed kids
+  IsNamed (frame_node b) = Unit {0}
 
   pub AreNamed : Nodes → Type 0
   AreNamed none = Unit {0}
@@ -32,11 +34,29 @@ unfoldable mutual
 abbrev pub IsNamedElement : Elem → Type 0
 IsNamedElement e = IsNamed (element_node e.0 e.1)
 
--- the text of a tree without a fault reads as the tree's normal form
-abbrev pub ReadsBack : Type 0
-ReadsBack = (e : Elem) → IsNamedElement e → document_faults e ≡ [] → read (document_written e) ≡ Some (normal e)
+-- no frame at any depth
+unfoldable mutual
+  pub IsFrameFree : Node → Type 0
+  IsFrameFree (tag_node t) = Unit {0}
+  IsFrameFree (text_node s span) = Unit {0}
+  IsFrameFree (element_node h kids) = AreFrameFree kids
+  IsFrameFree (frame_node b) = ⊥
 
--- trees with the same text have the same normal form
+  pub AreFrameFree : Nodes → Type 0
+  AreFrameFree none = Unit {0}
+  AreFrameFree (node n ns) = IsFrameFree n × AreFrameFree ns
+
+abbrev pub HasNoFrame : Elem → Type 0
+HasNoFrame e = AreFrameFree e.1
+
+-- the text of a frame-free tree without a fault reads as the tree's normal form
+abbrev pub ReadsBackWith : Frames → Type 0
+ReadsBackWith frames = (e : Elem) → IsNamedElement e → HasNoFrame e → document_faults frames e ≡ [] → read (document_written frames e) ≡ Some (normal e)
+
+abbrev pub ReadsBack : Type 0
+ReadsBack = (frames : Frames) → ReadsBackWith frames
+
+-- frame-free trees with the same text have the same normal form
 abbrev pub SameTextSameForm : Type 0
-SameTextSameForm = (d e : Elem) → IsNamedElement d → IsNamedElement e → document_faults d ≡ [] → document_faults e ≡ [] →
-    document_written d ≡ document_written e → normal d ≡ normal e
+SameTextSameForm = (frames : Frames) (d e : Elem) → IsNamedElement d → IsNamedElement e → HasNoFrame d → HasNoFrame e → document_faults frames d ≡ [] → document_faults frames e ≡ [] →
+    document_written frames d ≡ document_written frames e → normal d ≡ normal e

@@ -1,8 +1,9 @@
 -- The text of a tree by plain writing: HTML Standard 13.1, with the choices of this project.
 use Rattle.std.specs.Prelude.{ℕ, Bool, true, false, ◌||◌, ◌&&◌, ◌==◌, List, [], ◌∷◌, ◌++◌, if◌then◌else◌, codes}
 use Rattle.html_names.specs.Kinds.{is_void, is_foreign_self_closing, is_raw, is_escapable_raw}
-use Rattle.html_dom.specs.Tree.{Pair, Head, Node, tag_node, text_node, element_node, Nodes, none, node, Elem}
+use Rattle.html_dom.specs.Tree.{Pair, Head, Node, tag_node, text_node, element_node, frame_node, Nodes, none, node, Elem}
 use Rattle.typst_html.specs.References.{reference_to}
+use Rattle.typst_html.specs.Frames.{Frames, frame_text}
 use Rattle.typst_html.specs.Reader.{drops_feed}
 use Rattle.typst_html.specs.declared.escape.Escaping.{Escaping}
 use Rattle.typst_html.specs.declared.escape.Escaping.TheVariants as escaping
@@ -52,6 +53,7 @@ begins_with_feed (node (tag_node t) ns) = begins_with_feed ns
 begins_with_feed (node (text_node [] span) ns) = begins_with_feed ns
 begins_with_feed (node (text_node (c ∷ cs) span) ns) = (c == 10) || (c == 13)
 begins_with_feed (node (element_node h kids) ns) = false
+begins_with_feed (node (frame_node b) ns) = false
 
 -- a line feed before a text that begins with one, where a reader would drop the text's own
 abbrev pub feed_written : Head → Nodes → List ℕ
@@ -62,31 +64,33 @@ abbrev pub one_text : Node → List ℕ
 one_text (tag_node t) = []
 one_text (text_node s span) = s
 one_text (element_node h kids) = []
+one_text (frame_node b) = []
 
 abbrev pub texts : Nodes → List ℕ
 texts none = []
 texts (node n ns) = one_text n ++ texts ns
 
 unfoldable mutual
-  pub written : (pre_span : Bool) → Node → List ℕ
-  written pre_span (tag_node t) = []
-  written pre_span (text_node s span) = escaped (escaping_of pre_span) s
-  written pre_span (element_node h ns) =
+  pub written : Frames → (pre_span : Bool) → Node → List ℕ
+  written frames pre_span (tag_node t) = []
+  written frames pre_span (text_node s span) = escaped (escaping_of pre_span) s
+  written frames pre_span (element_node h ns) =
       start_written h ++ (if ends_at_once h then [] else (feed_written h ns
-      ++ ((if is_raw h.name then texts ns else (if is_escapable_raw h.name then escaped escaping.Text (texts ns) else all_written h.pre_span ns))
+      ++ ((if is_raw h.name then texts ns else (if is_escapable_raw h.name then escaped escaping.Text (texts ns) else all_written frames h.pre_span ns))
       ++ end_written h)))
+  written frames pre_span (frame_node b) = frame_text (frames b false)
 
-  pub all_written : (pre_span : Bool) → Nodes → List ℕ
-  all_written pre_span none = []
-  all_written pre_span (node n ns) = written pre_span n ++ all_written pre_span ns
+  pub all_written : Frames → (pre_span : Bool) → Nodes → List ℕ
+  all_written frames pre_span none = []
+  all_written frames pre_span (node n ns) = written frames pre_span n ++ all_written frames pre_span ns
 
 -- what stands between the tags of an element
-abbrev pub content_written : Elem → List ℕ
-content_written e = if is_raw e.0.name then texts e.1 else (if is_escapable_raw e.0.name then escaped escaping.Text (texts e.1) else all_written e.0.pre_span e.1)
+abbrev pub content_written : Frames → Elem → List ℕ
+content_written frames e = if is_raw e.0.name then texts e.1 else (if is_escapable_raw e.0.name then escaped escaping.Text (texts e.1) else all_written frames e.0.pre_span e.1)
 
-abbrev pub element_written : Elem → List ℕ
-element_written e = written false (element_node e.0 e.1)
+abbrev pub element_written : Frames → Elem → List ℕ
+element_written frames e = written frames false (element_node e.0 e.1)
 
 -- the whole text of a document with this root
-abbrev pub document_written : Elem → List ℕ
-document_written e = codes "<!DOCTYPE html>" ++ element_written e
+abbrev pub document_written : Frames → Elem → List ℕ
+document_written frames e = codes "<!DOCTYPE html>" ++ element_written frames e

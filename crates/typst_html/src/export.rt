@@ -3,9 +3,11 @@ ghost use Rattle.html_dom.specs.PlainTree.{normal};
 ghost use Rattle.html_dom.specs.Views.{text_view, element_view};
 ghost use Rattle.typst_html.specs.Faults.{document_faults, IsFirst};
 ghost use Rattle.typst_html.specs.Reader.{read};
+ghost use Rattle.typst_html.specs.ReadingBack.{HasNoFrame};
 ghost use Rattle.typst_html.specs.Written.{document_written};
 
 use crate::fault::ExportFault;
+use crate::frame::FrameWriter;
 use crate::options::HtmlOptions;
 use crate::output::Output;
 use crate::write::write_element;
@@ -15,25 +17,27 @@ use std::alloc::Global;
 /// The HTML text of a tree: the document type and the element.
 ///
 /// It succeeds exactly where nothing is wrong with the tree, and answers the first fault otherwise;
-/// want of memory may come before that. The text reads back, by HTML Standard 13.1 without a
-/// browser's repairs, as the tree with its tags dropped and neighbouring texts joined.
-pub fn html_in_bundle(
+/// want of memory may come before that. Frames are written by their writer. The text of a tree
+/// without frames reads back, by HTML Standard 13.1 without a browser's repairs, as the tree with its
+/// tags dropped and neighbouring texts joined.
+pub fn html_in_bundle<F: FrameWriter>(
     alloc: Global,
     root: &HtmlElement,
     options: &HtmlOptions,
+    frames: &F,
 ) -> Result<String, ExportFault>
     requires { options.now.pretty ≡ false }
 
     // Which trees have a text, and what is answered for the others.
-    ensures clean { OnOk result (document_faults (element_view root.now) ≡ []) }
-    ensures fault { IfErr result (λ e. IsFirst e (document_faults (element_view root.now))) }
+    ensures clean { OnOk result (document_faults (F.drawing frames.now) (element_view root.now) ≡ []) }
+    ensures fault { IfErr result (λ e. IsFirst e (document_faults (F.drawing frames.now) (element_view root.now))) }
 
-    // The text, and what it reads as.
-    ensures text { IfOk result (λ text. text_view text ≡ document_written (element_view root.now)) }
-    ensures reads_back { IfOk result (λ text. read (text_view text) ≡ Some (normal (element_view root.now))) }
+    // The text, and what that of a tree without frames reads as.
+    ensures text { IfOk result (λ text. text_view text ≡ document_written (F.drawing frames.now) (element_view root.now)) }
+    ensures reads_back { HasNoFrame (element_view root.now) → IfOk result (λ text. read (text_view text) ≡ Some (normal (element_view root.now))) }
 {
     let mut out = Output::new(alloc);
     out.push_ascii("<!DOCTYPE html>")?;
-    write_element(alloc, &mut out, root)?;
+    write_element(alloc, &mut out, root, frames)?;
     Ok(out.into_string())
 }

@@ -25,7 +25,7 @@ pub enum ExportFault {
         /// The element's place.
         span: Span,
     },
-    /// A raw or escapable raw element has an element as its child.
+    /// A raw or escapable raw element has an element or a frame as its child.
     #[error("HTML raw text element cannot have non-text children")]
     RawChild {
         /// The child's place.
@@ -35,6 +35,12 @@ pub enum ExportFault {
     #[error("HTML raw text element cannot contain its own closing tag")]
     RawClosing {
         /// The element's place.
+        span: Span,
+    },
+    /// The writer of frames refused a frame.
+    #[error("a frame was refused by its writer")]
+    FrameRefused {
+        /// The frame's place.
         span: Span,
     },
 }
@@ -52,6 +58,7 @@ impl ExportFault {
             ExportFault::VoidChildren { .. } => 12,
             ExportFault::RawChild { .. } => 13,
             ExportFault::RawClosing { .. } => 14,
+            ExportFault::FrameRefused { .. } => 15,
         }
     }
 
@@ -64,7 +71,8 @@ impl ExportFault {
             ExportFault::Unencodable { span, .. }
             | ExportFault::VoidChildren { span }
             | ExportFault::RawChild { span }
-            | ExportFault::RawClosing { span } => *span,
+            | ExportFault::RawClosing { span }
+            | ExportFault::FrameRefused { span } => *span,
         }
     }
 }

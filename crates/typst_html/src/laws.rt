@@ -6,13 +6,13 @@ ghost use Rattle.typst_html.specs.ReadingBack.{ReadsBack, SameTextSameForm};
 ghost use Rattle.typst_html.specs.Reader.{read};
 ghost use Rattle.typst_html.specs.Rows.{paragraph_of};
 
-/// The text of a tree without a fault reads as the tree's normal form.
+/// The text of a frame-free tree without a fault reads as the tree's normal form.
 #[tactic(auto, using(crate::proofs::Contents::reads_back))]
 pub fn text_reads_back()
     ensures { ReadsBack }
 {}
 
-/// Trees with the same text have the same normal form.
+/// Frame-free trees with the same text have the same normal form.
 #[tactic(auto, using(crate::proofs::Same::same_text))]
 pub fn same_text_same_form()
     ensures { SameTextSameForm }

@@ -4,6 +4,7 @@
 mod escape;
 mod export;
 mod fault;
+mod frame;
 pub mod laws;
 mod options;
 mod output;
@@ -14,6 +15,14 @@ mod write;
 
 pub use export::html_in_bundle;
 pub use fault::ExportFault;
-pub use html_dom::{HtmlAttrs, HtmlElement, HtmlNode, Location, Span, Tag};
+pub use frame::{FrameFault, FrameWriter};
+pub use html_dom::{
+    Frame, FrameItem, HtmlAttrs, HtmlElement, HtmlFrame, HtmlNode, Location, Point, Span, Tag,
+    resolve_inline_styles,
+};
 pub use html_names::{HtmlAttr, HtmlTag, NameFault, Refused, attr, charsets, property, tag};
+pub use html_values::{
+    Abs, Angle, Calc, CalcPart, Call, CssWriter, Dir, Em, Inline, Length, Paint, Properties,
+    PropertiesBuilder, Property, Ratio, Rel, Rgba, Separator, ToCss, Warning, WarningSink,
+};
 pub use options::HtmlOptions;

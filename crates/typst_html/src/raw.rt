@@ -23,6 +23,7 @@ fn write_child(out: &mut Output, escaping: Escaping, child: &HtmlNode) -> Result
         HtmlNode::Tag(_) => Ok(()),
         HtmlNode::Text(text, span) => write_text(out, escaping, text.as_str(), *span),
         HtmlNode::Element(element) => Err(ExportFault::RawChild { span: element.span }),
+        HtmlNode::Frame(frame) => Err(ExportFault::RawChild { span: frame.span }),
     }
 }
 

@@ -1,7 +1,10 @@
+mod frames;
+
+use crate::tests::frames::Nothing;
 use crate::{
-    ExportFault, HtmlElement, HtmlNode, HtmlOptions, HtmlTag, Span, Tag, html_in_bundle, tag,
+    ExportFault, HtmlElement, HtmlNode, HtmlOptions, HtmlTag, Location, Properties, Span, Tag,
+    attr, html_in_bundle, resolve_inline_styles, tag,
 };
-use html_dom::Location;
 use std::alloc::{AllocError, Global};
 use std::test::Fail;
 
@@ -25,7 +28,7 @@ fn element(alloc: Global, tag: HtmlTag, texts: &[&str]) -> Result<HtmlElement, F
 }
 
 fn plain(alloc: Global, root: &HtmlElement) -> Result<String, ExportFault> {
-    html_in_bundle(alloc, root, &HtmlOptions { pretty: false })
+    html_in_bundle(alloc, root, &HtmlOptions { pretty: false }, &Nothing)
 }
 
 #[test]
@@ -129,6 +132,12 @@ fn numbers_and_texts_of_faults(rt: HostRuntime) -> Result<(), Fail> {
             7,
             "HTML raw text element cannot contain its own closing tag",
         ),
+        (
+            ExportFault::FrameRefused { span },
+            15,
+            7,
+            "a frame was refused by its writer",
+        ),
     ];
     for (fault, number, place, text) in &faults {
         assert_eq!(rt; fault.number(), *number);
@@ -136,5 +145,55 @@ fn numbers_and_texts_of_faults(rt: HostRuntime) -> Result<(), Fail> {
         assert_eq!(rt; fault.to_string(alloc)?.as_str(), *text);
     }
     assert!(rt; !HtmlOptions::default().pretty);
+    Ok(())
+}
+
+/// A `p` with css `display: block` and these `style` values.
+fn styled(alloc: Global, styles: &[&str]) -> Result<HtmlElement, Fail> {
+    let mut css = Properties::new(alloc);
+    css.push("display", String::from_str(alloc, "block")?)?;
+    let mut p = HtmlElement::new(alloc, tag::p).with_css(css);
+    for style in styles {
+        p.attrs.push(attr::style, String::from_str(alloc, style)?)?;
+    }
+    resolve_inline_styles(alloc, &mut p)?;
+    Ok(p)
+}
+
+#[test]
+fn css_comes_before_the_first_style(rt: HostRuntime) -> Result<(), Fail> {
+    let alloc = rt.alloc();
+    let cases: [(&[&str], &str); 3] = [
+        (
+            &["color: red"],
+            "<!DOCTYPE html><p style=\"display: block; color: red\"></p>",
+        ),
+        (
+            &["", "x"],
+            "<!DOCTYPE html><p style=\"display: block\" style=\"x\"></p>",
+        ),
+        (&[], "<!DOCTYPE html><p style=\"display: block\"></p>"),
+    ];
+    for (styles, wanted) in cases {
+        assert_eq!(rt; plain(alloc, &styled(alloc, styles)?)?.as_str(), wanted);
+    }
+    Ok(())
+}
+
+#[test]
+fn styles_are_written_at_any_depth(rt: HostRuntime) -> Result<(), Fail> {
+    let alloc = rt.alloc();
+    let mut css = Properties::new(alloc);
+    css.push("color", String::from_str(alloc, "red")?)?;
+    let em = HtmlElement::new(alloc, tag::em).with_css(css);
+    let mut children = Vec::new(alloc);
+    children.push(text(alloc, "a", 2)?)?;
+    children.push(HtmlNode::Element(em))?;
+    let mut p = HtmlElement::new(alloc, tag::p).with_children(children);
+    resolve_inline_styles(alloc, &mut p)?;
+    assert_eq!(rt;
+        plain(alloc, &p)?.as_str(),
+        "<!DOCTYPE html><p>a<em style=\"color: red\"></em></p>"
+    );
     Ok(())
 }

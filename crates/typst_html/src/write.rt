@@ -2,16 +2,20 @@
 
 ghost use Rattle.std.specs.Prelude.{◌≡◌, ◌++◌, [], OnOk, IfErr, map};
 ghost use Rattle.html_dom.specs.Views.{text_view, pair_view, attrs_view, head_of, node_view, element_view, nodes_view};
-ghost use Rattle.typst_html.specs.Faults.{text_faults, pairs_faults, void_faults, raw_content_faults, content_faults, faults, all_faults, document_faults, IsFirst};
+ghost use Rattle.typst_html.specs.Faults.{text_faults, pairs_faults, void_faults, raw_content_faults, content_faults, frame_faults, faults, all_faults, document_faults, IsFirst};
+ghost use Rattle.typst_html.specs.Frames.{frame_text};
+ghost use Rattle.html_dom.specs.FrameViews.{box_view};
+ghost use Rattle.std.specs.Prelude.{false};
 ghost use Rattle.typst_html.specs.ReadingBack.{ArePairs, IsHead, IsNamed, AreNamed, IsNamedElement};
 ghost use Rattle.typst_html.specs.Written.{value_written, pairs_written, tag_close, start_written, end_written, ends_at_once, begins_with_feed, feed_written, texts, content_written, written, all_written, element_written, escaping_of};
 ghost use Rattle.typst_html.specs.Reader.{drops_feed};
 
 use crate::escape::{Escaping, write_text};
 use crate::fault::ExportFault;
+use crate::frame::{FrameFault, FrameWriter};
 use crate::output::Output;
 use crate::raw;
-use html_dom::{HtmlAttrs, HtmlElement, HtmlNode, Span};
+use html_dom::{HtmlAttrs, HtmlElement, HtmlFrame, HtmlNode, Span};
 use html_names::{HtmlTag, tag};
 use std::alloc::{AllocError, Global};
 
@@ -100,7 +104,7 @@ fn begins_with_feed(children: &[HtmlNode]) -> bool
                     return c == '\n' || c == '\r';
                 }
             }
-            HtmlNode::Element(_) => return false,
+            HtmlNode::Element(_) | HtmlNode::Frame(_) => return false,
         }
     }
     false
@@ -151,35 +155,58 @@ fn write_raw(alloc: Global, out: &mut Output, element: &HtmlElement) -> Result<(
 /// Writes a node.
 #[cycle(write)]
 #[tactic(auto, using(crate::proofs::Firsts::first_of_more, crate::proofs::Named::texts_named, crate::proofs::Named::raw_content_named, crate::proofs::Named::childless_named), unfolding(crate::specs::Written::written, crate::specs::Faults::faults, crate::specs::ReadingBack::IsNamed))]
-fn write_node(
+fn write_node<F: FrameWriter>(
     alloc: Global,
     out: &mut Output,
     node: &HtmlNode,
     pre_span: bool,
+    frames: &F,
 ) -> Result<(), ExportFault>
-    ensures text { OnOk result (out.new ≡ out.old ++ written pre_span (node_view node.now)) }
-    ensures clean { OnOk result (faults pre_span (node_view node.now) ≡ []) }
-    ensures fault { IfErr result (λ e. IsFirst e (faults pre_span (node_view node.now))) }
+    ensures text { OnOk result (out.new ≡ out.old ++ written (F.drawing frames.now) pre_span (node_view node.now)) }
+    ensures clean { OnOk result (faults (F.drawing frames.now) pre_span (node_view node.now) ≡ []) }
+    ensures fault { IfErr result (λ e. IsFirst e (faults (F.drawing frames.now) pre_span (node_view node.now))) }
     ensures named { OnOk result (IsNamed (node_view node.now)) }
 {
     match node {
         HtmlNode::Tag(_) => Ok(()),
         HtmlNode::Text(text, span) => write_text(out, escaping(pre_span), text.as_str(), *span),
-        HtmlNode::Element(element) => write_element(alloc, out, element),
+        HtmlNode::Element(element) => write_element(alloc, out, element, frames),
+        HtmlNode::Frame(frame) => write_frame(out, frame, frames),
+    }
+}
+
+/// Writes a frame by its writer.
+fn write_frame<F: FrameWriter>(
+    out: &mut Output,
+    frame: &HtmlFrame,
+    frames: &F,
+) -> Result<(), ExportFault>
+    ensures text { OnOk result (out.new ≡ out.old ++ frame_text (F.drawing frames.now (box_view frame.now) false)) }
+    ensures clean { OnOk result (frame_faults frame.now.span.0 (F.drawing frames.now (box_view frame.now) false) ≡ []) }
+    ensures fault { IfErr result (λ e. IsFirst e (frame_faults frame.now.span.0 (F.drawing frames.now (box_view frame.now) false))) }
+{
+    match frames.write(frame, false) {
+        Ok(text) => {
+            out.push_str(text.as_str())?;
+            Ok(())
+        }
+        Err(FrameFault::OutOfMemory) => Err(ExportFault::OutOfMemory),
+        Err(FrameFault::Refused) => Err(ExportFault::FrameRefused { span: frame.span }),
     }
 }
 
 /// Writes an element.
 #[cycle(write)]
 #[tactic(auto, using(crate::proofs::Firsts::first_of_more, crate::proofs::Named::texts_named, crate::proofs::Named::raw_content_named, crate::proofs::Named::childless_named), unfolding(crate::specs::Written::written, crate::specs::Faults::faults, crate::specs::ReadingBack::IsNamed))]
-pub(crate) fn write_element(
+pub(crate) fn write_element<F: FrameWriter>(
     alloc: Global,
     out: &mut Output,
     element: &HtmlElement,
+    frames: &F,
 ) -> Result<(), ExportFault>
-    ensures text { OnOk result (out.new ≡ out.old ++ element_written (element_view element.now)) }
-    ensures clean { OnOk result (document_faults (element_view element.now) ≡ []) }
-    ensures fault { IfErr result (λ e. IsFirst e (document_faults (element_view element.now))) }
+    ensures text { OnOk result (out.new ≡ out.old ++ element_written (F.drawing frames.now) (element_view element.now)) }
+    ensures clean { OnOk result (document_faults (F.drawing frames.now) (element_view element.now) ≡ []) }
+    ensures fault { IfErr result (λ e. IsFirst e (document_faults (F.drawing frames.now) (element_view element.now))) }
     ensures named { OnOk result (IsNamedElement (element_view element.now)) }
 {
     write_start(out, element)?;
@@ -187,7 +214,7 @@ pub(crate) fn write_element(
         return refuse_children(element);
     }
     write_feed(out, element)?;
-    write_content(alloc, out, element)?;
+    write_content(alloc, out, element, frames)?;
     write_end(out, element)?;
     Ok(())
 }
@@ -195,10 +222,15 @@ pub(crate) fn write_element(
 /// Writes what stands between the tags of an element.
 #[cycle(write)]
 #[tactic(auto, using(crate::proofs::Firsts::first_of_more, crate::proofs::Named::texts_named, crate::proofs::Named::raw_content_named, crate::proofs::Named::childless_named), unfolding(crate::specs::Written::written, crate::specs::Faults::faults, crate::specs::ReadingBack::IsNamed))]
-fn write_content(alloc: Global, out: &mut Output, element: &HtmlElement) -> Result<(), ExportFault>
-    ensures text { OnOk result (out.new ≡ out.old ++ content_written (element_view element.now)) }
-    ensures clean { OnOk result (content_faults (element_view element.now) ≡ []) }
-    ensures fault { IfErr result (λ e. IsFirst e (content_faults (element_view element.now))) }
+fn write_content<F: FrameWriter>(
+    alloc: Global,
+    out: &mut Output,
+    element: &HtmlElement,
+    frames: &F,
+) -> Result<(), ExportFault>
+    ensures text { OnOk result (out.new ≡ out.old ++ content_written (F.drawing frames.now) (element_view element.now)) }
+    ensures clean { OnOk result (content_faults (F.drawing frames.now) (element_view element.now) ≡ []) }
+    ensures fault { IfErr result (λ e. IsFirst e (content_faults (F.drawing frames.now) (element_view element.now))) }
     ensures named { OnOk result (AreNamed (nodes_view element.now.children.items)) }
 {
     if tag::is_raw(&element.tag) {
@@ -206,26 +238,27 @@ fn write_content(alloc: Global, out: &mut Output, element: &HtmlElement) -> Resu
     } else if tag::is_escapable_raw(&element.tag) {
         raw::write_children(out, Escaping::Text, &element.children)
     } else {
-        write_children(alloc, out, &element.children, element.pre_span)
+        write_children(alloc, out, &element.children, element.pre_span, frames)
     }
 }
 
 /// Writes nodes.
 #[cycle(write)]
 #[tactic(auto, using(crate::proofs::Firsts::first_of_more, crate::proofs::Named::texts_named, crate::proofs::Named::raw_content_named, crate::proofs::Named::childless_named), unfolding(crate::specs::Written::written, crate::specs::Faults::faults, crate::specs::ReadingBack::IsNamed))]
-fn write_children(
+fn write_children<F: FrameWriter>(
     alloc: Global,
     out: &mut Output,
     children: &[HtmlNode],
     pre_span: bool,
+    frames: &F,
 ) -> Result<(), ExportFault>
-    ensures text { OnOk result (out.new ≡ out.old ++ all_written pre_span (nodes_view children.now)) }
-    ensures clean { OnOk result (all_faults pre_span (nodes_view children.now) ≡ []) }
-    ensures fault { IfErr result (λ e. IsFirst e (all_faults pre_span (nodes_view children.now))) }
+    ensures text { OnOk result (out.new ≡ out.old ++ all_written (F.drawing frames.now) pre_span (nodes_view children.now)) }
+    ensures clean { OnOk result (all_faults (F.drawing frames.now) pre_span (nodes_view children.now) ≡ []) }
+    ensures fault { IfErr result (λ e. IsFirst e (all_faults (F.drawing frames.now) pre_span (nodes_view children.now))) }
     ensures named { OnOk result (AreNamed (nodes_view children.now)) }
 {
     for child in children {
-        write_node(alloc, out, child, pre_span)?;
+        write_node(alloc, out, child, pre_span, frames)?;
     }
     Ok(())
 }

@@ -1,6 +1,6 @@
 use Rattle.std.proofs.Common.{string_bytes, chars, ap, sym, ◌∙◌}
 use Rattle.std.proofs.lemmas.Slice.Eq.{bytes_eq-Decides}
-use Rattle.html_dom.proofs.Texts.{text_views}
+use Rattle.html_names.proofs.Texts.{text_views}
 use Rattle.html_dom.proofs.same.same_text.Goals as goal
 
 pub returns : goal.returns

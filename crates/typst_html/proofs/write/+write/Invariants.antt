@@ -6,11 +6,12 @@ use Rattle.typst_html.specs.ReadingBack.{AreNamed}
 use Rattle.typst_html.proofs.write.+write.Given as goal
 
 abbrev pub invariant-write_children-loop-child : goal.invariant-write_children-loop-child
-invariant-write_children-loop-child l =
+invariant-write_children-loop-child g l =
+    let frames = g.F.FrameWriter.drawing l.frames in
     let left = nodes_view (drop l.child-index l.children) in
     let all = nodes_view l.children in
     record {
-      told : l.out ++ all_written l.pre_span left ≡ l.initial.out ++ all_written l.pre_span all;
-      clean : all_faults l.pre_span left ≡ all_faults l.pre_span all;
+      told : l.out ++ all_written frames l.pre_span left ≡ l.initial.out ++ all_written frames l.pre_span all;
+      clean : all_faults frames l.pre_span left ≡ all_faults frames l.pre_span all;
       named : AreNamed left → AreNamed all;
     }

@@ -1,6 +1,6 @@
 use Rattle.html_dom.specs.Equal.{element_discrete}
 use Rattle.html_dom.specs.Views.{element_view}
-use Rattle.html_dom.proofs.Equals.{same_result}
+use Rattle.html_names.proofs.Equals.{same_result}
 use Rattle.html_dom.proofs.same.HtmlElementPartialEq.eq.Goals as goal
 
 pub returns : goal.returns

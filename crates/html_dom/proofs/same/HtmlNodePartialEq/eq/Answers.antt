@@ -1,6 +1,6 @@
 use Rattle.html_dom.specs.Equal.{node_discrete}
 use Rattle.html_dom.specs.Views.{node_view}
-use Rattle.html_dom.proofs.Equals.{same_result}
+use Rattle.html_names.proofs.Equals.{same_result}
 use Rattle.html_dom.proofs.same.HtmlNodePartialEq.eq.Goals as goal
 
 pub returns : goal.returns

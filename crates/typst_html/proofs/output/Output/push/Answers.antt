@@ -1,6 +1,6 @@
 use Rattle.std.proofs.Common.{ap, ◌∙◌, ◌++◌, ◌∷◌, []}
 use Rattle.std.proofs.lemmas.Str.{IsUtf8-string_bytes}
-use Rattle.typst_html.proofs.Characters.{chars_push}
+use Rattle.html_names.proofs.Texts.{chars_push}
 use Rattle.typst_html.proofs.output.Output.push.Goals as goal
 
 pub returns : goal.returns

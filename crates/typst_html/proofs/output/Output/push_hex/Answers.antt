@@ -1,7 +1,8 @@
 use Rattle.std.proofs.Common.{ap, ◌∙◌, ◌++◌, chars, false}
 use Rattle.std.specs.Fmt.{digits}
 use Rattle.std.proofs.lemmas.Str.{IsUtf8-string_bytes}
-use Rattle.typst_html.proofs.Characters.{chars_add, chars-digits}
+use Rattle.html_names.proofs.Texts.{chars_add}
+use Rattle.typst_html.proofs.Characters.{chars-digits}
 use Rattle.typst_html.proofs.output.Output.push_hex.Goals as goal
 
 pub returns : goal.returns

@@ -1,6 +1,6 @@
 use Rattle.std.proofs.Common.{ap, ◌∙◌, ◌++◌, chars}
 use Rattle.std.proofs.lemmas.Str.{IsUtf8-string_bytes}
-use Rattle.typst_html.proofs.Characters.{chars_add}
+use Rattle.html_names.proofs.Texts.{chars_add}
 use Rattle.typst_html.proofs.output.Output.push_str.Goals as goal
 
 pub returns : goal.returns

@@ -1,0 +1,109 @@
+ghost use Rattle.std.specs.Prelude.{◌≡◌, [], IfOk, OnOk, OnErr, codes};
+ghost use Rattle.html_values.specs.Properties.{inline_text};
+ghost use Rattle.html_dom.specs.Attributes.{first};
+ghost use Rattle.html_dom.specs.Views.{text_view, attrs_view, node_view, element_view, nodes_view};
+ghost use Rattle.html_dom.specs.Styled.{before_value, put_style, styled_attrs, styled, all_styled, styled_element};
+
+use crate::attrs::HtmlAttrs;
+use crate::node::{HtmlElement, HtmlNode};
+use html_names::attr;
+use html_values::Properties;
+use std::alloc::{AllocError, Global};
+
+/// Writes the css of each element, at any depth, into its attribute `style`: before the first value
+/// of that name, with `; ` between unless that is empty, or as a last attribute. A refused call
+/// changes nothing.
+pub fn resolve_inline_styles(alloc: Global, element: &mut HtmlElement) -> Result<(), AllocError>
+    ensures ok { OnOk result (element_view element.new ≡ styled_element (element_view element.old)) }
+    ensures err { OnErr result (element.new ≡ element.old) }
+{
+    let made = styled_element(alloc, element)?;
+    *element = made;
+    Ok(())
+}
+
+#[cycle(style)]
+#[tactic(auto, unfolding(crate::specs::Styled::styled))]
+fn styled_node(alloc: Global, node: &HtmlNode) -> Result<HtmlNode, AllocError>
+    ensures { IfOk result (λ made. node_view made ≡ styled (node_view node.now)) }
+{
+    match node {
+        HtmlNode::Element(element) => Ok(HtmlNode::Element(styled_element(alloc, element)?)),
+        HtmlNode::Tag(_) | HtmlNode::Text(_, _) | HtmlNode::Frame(_) => node.try_clone(),
+    }
+}
+
+#[cycle(style)]
+#[tactic(auto, unfolding(crate::specs::Styled::styled))]
+fn styled_nodes(alloc: Global, nodes: &[HtmlNode]) -> Result<Vec<HtmlNode>, AllocError>
+    ensures { IfOk result (λ made. nodes_view made.items ≡ all_styled (nodes_view nodes.now)) }
+{
+    let mut made = Vec::new(alloc);
+    for node in nodes {
+        made.push(styled_node(alloc, node)?)?;
+    }
+    Ok(made)
+}
+
+#[cycle(style)]
+fn styled_element(alloc: Global, element: &HtmlElement) -> Result<HtmlElement, AllocError>
+    ensures { IfOk result (λ made. element_view made ≡ styled_element (element_view element.now)) }
+{
+    Ok(HtmlElement {
+        tag: element.tag.try_clone()?,
+        attrs: styled_attrs(alloc, &element.css, &element.attrs)?,
+        css: element.css.try_clone()?,
+        children: styled_nodes(alloc, &element.children)?,
+        parent: element.parent,
+        span: element.span,
+        pre_span: element.pre_span,
+    })
+}
+
+/// The attributes with the css in them.
+fn styled_attrs(alloc: Global, css: &Properties, attrs: &HtmlAttrs) -> Result<HtmlAttrs, AllocError>
+    ensures { IfOk result (λ made. attrs_view made ≡ styled_attrs css.now (attrs_view attrs.now)) }
+{
+    let mut made = attrs.try_clone()?;
+    if css.as_slice().is_empty() {
+        return Ok(made);
+    }
+    put_style(&mut made, inline(alloc, css)?)?;
+    Ok(made)
+}
+
+/// The css as the text of a `style` attribute.
+fn inline(alloc: Global, css: &Properties) -> Result<String, AllocError>
+    ensures { IfOk result (λ text. text_view text ≡ inline_text css.now) }
+{
+    css.to_inline().to_string(alloc)
+}
+
+/// Puts a text before the first `style` value, or adds it as a last attribute.
+fn put_style(attrs: &mut HtmlAttrs, text: String) -> Result<(), AllocError>
+    ensures { OnOk result (attrs_view attrs.new ≡ put_style (text_view text) (attrs_view attrs.old) (first (attrs_view attrs.old) (codes "style"))) }
+{
+    match attrs.get_mut(&attr::style) {
+        Some(value) => {
+            let joined = before_value(text, value)?;
+            *value = joined;
+            Ok(())
+        }
+        None => match attrs.push(attr::style, text) {
+            Ok(()) => Ok(()),
+            Err(_) => Err(AllocError),
+        },
+    }
+}
+
+/// A text before a value, with `; ` between unless the value is empty.
+fn before_value(mut text: String, value: &String) -> Result<String, AllocError>
+    ensures { IfOk result (λ joined. text_view joined ≡ before_value (text_view text) (text_view value.now)) }
+{
+    if value.is_empty() {
+        return Ok(text);
+    }
+    text.push_str("; ")?;
+    text.push_str(value.as_str())?;
+    Ok(text)
+}

@@ -1,0 +1,11 @@
+-- What a hash of pairs of texts reads: their number, and of each the name and the value.
+use Rattle.std.specs.Prelude.{List, ◌++◌}
+use Rattle.std.specs.Hash as fed
+use lib.Utf8.{encodes}
+use Rattle.html_names.specs.Texts.{Pair}
+
+abbrev pub pair_fed : Pair → fed.HashWrites
+pair_fed p = fed.str (encodes p.0) ++ fed.str (encodes p.1)
+
+abbrev pub pairs_fed : List Pair → fed.HashWrites
+pairs_fed = fed.slice pair_fed

@@ -1,0 +1,16 @@
+//! The program's writer of frames.
+
+ghost use Rattle.typst_html.specs.Frames.{no_frames};
+
+use typst_html::{FrameFault, FrameWriter, HtmlFrame};
+
+/// Refuses every frame. The program's input spells none.
+pub(crate) struct NoFrames;
+
+impl FrameWriter for NoFrames {
+    ghost drawing = { λ _. no_frames };
+
+    fn write(&self, _frame: &HtmlFrame, _pretty: bool) -> Result<String, FrameFault> {
+        Err(FrameFault::Refused)
+    }
+}

@@ -1,0 +1,54 @@
+-- Whole millionths, and their css texts (CSS Values 4, section 5 and 6: a number with its unit).
+use Rattle.std.specs.Prelude.{ℕ, zero, suc, ◌+◌, ◌/◌, ◌%◌, ◌^◌, ◌≤◌, ℤ, unsigned_abs, pos, negsuc, List, [], ◌∷◌, ◌++◌, codes, Bool, true, false}
+use Rattle.std.specs.Fmt.{decimal}
+
+-- at most 10^15 millionths
+abbrev pub IsQuantity : ℤ → Type 0
+IsQuantity z = unsigned_abs z ≤ 10 ^ 15
+
+abbrev pub is_zero : ℤ → Bool
+is_zero (pos zero) = true
+is_zero (pos (suc n)) = false
+is_zero (negsuc n) = false
+
+abbrev pub is_negative : ℤ → Bool
+is_negative (pos n) = false
+is_negative (negsuc n) = true
+
+-- hundreds of millionths, rounded half away from zero
+abbrev pub rounded : ℤ → ℕ
+rounded z = (unsigned_abs z + 50) / 100
+
+-- the digits of n parts of 10^k, without the zeros at the end
+abbrev pub fraction_digits : ℕ → ℕ → List ℕ
+fraction_digits zero n = []
+fraction_digits (suc k) zero = []
+fraction_digits (suc k) (suc n) = (48 + suc n / 10 ^ k) ∷ fraction_digits k (suc n % 10 ^ k)
+
+-- a rounded zero has no sign
+abbrev pub sign_text : ℤ → ℕ → List ℕ
+sign_text (pos n) hundreds = []
+sign_text (negsuc n) zero = []
+sign_text (negsuc n) (suc hundreds) = codes "-"
+
+abbrev pub point_text : ℕ → ℕ → List ℕ
+point_text k zero = []
+point_text k (suc n) = codes "." ++ fraction_digits k (suc n)
+
+-- with at most k decimals, where 10^k hundreds of millionths are one
+abbrev pub fixed_text : ℕ → ℤ → List ℕ
+fixed_text k z = sign_text z (rounded z) ++ decimal (rounded z / 10 ^ k) ++ point_text k (rounded z % 10 ^ k)
+
+-- millionths of a point, of an em, of a degree, and of one
+abbrev pub abs_text : ℤ → List ℕ
+abs_text z = fixed_text 4 z ++ codes "pt"
+
+abbrev pub em_text : ℤ → List ℕ
+em_text z = fixed_text 4 z ++ codes "em"
+
+abbrev pub angle_text : ℤ → List ℕ
+angle_text z = fixed_text 4 z ++ codes "deg"
+
+-- a percent is 10^4 millionths of one
+abbrev pub ratio_text : ℤ → List ℕ
+ratio_text z = fixed_text 2 z ++ codes "%"

@@ -1,0 +1,12 @@
+/// A direction of writing.
+#[derive(Clone, Copy, Debug, PartialEq, Eq)]
+pub enum Dir {
+    /// From left to right.
+    LTR,
+    /// From right to left.
+    RTL,
+    /// From top to bottom.
+    TTB,
+    /// From bottom to top.
+    BTT,
+}

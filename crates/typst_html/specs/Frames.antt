@@ -1,0 +1,31 @@
+-- What a writer of frames answers.
+use Rattle.std.specs.Prelude.{◌≡◌, ℕ, List, [], Bool, false, Option, Some, None, Result, Ok, Err, String}
+use Rattle.std.specs.declared.alloc.Global.{Global}
+use Rattle.html_names.specs.Texts.{text_view}
+use Rattle.html_dom.specs.Drawings.{Drawing, drawing, Box}
+use Rattle.typst_html.specs.declared.frame.FrameFault.{FrameFault}
+use Rattle.typst_html.specs.declared.frame.FrameFault.TheVariants.{OutOfMemory, Refused}
+
+-- the text of a frame where pretty writing is on or off, and nothing where it is refused
+abbrev pub Frames : Type 0
+Frames = Box → (pretty : Bool) → Option (List ℕ)
+
+-- the caller's number of a frame's picture
+abbrev pub number_of : Drawing → ℕ
+number_of (drawing picture items) = picture
+
+-- every frame is refused
+abbrev pub no_frames : Frames
+no_frames b pretty = None
+
+-- an answer is that text, or that refusal; want of memory may come before either
+abbrev pub Draws : Option (List ℕ) → Result (String Global) FrameFault → Type 0
+Draws (Some text) (Ok s) = text_view s ≡ text
+Draws (Some text) (Err OutOfMemory) = Unit {0}
+Draws (Some text) (Err Refused) = ⊥
+Draws None (Ok s) = ⊥
+Draws None (Err fault) = Unit {0}
+
+abbrev pub frame_text : Option (List ℕ) → List ℕ
+frame_text (Some text) = text
+frame_text None = []
