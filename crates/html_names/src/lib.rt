@@ -11,6 +11,7 @@ mod html_attr;
 mod html_tag;
 mod known_attr;
 mod known_tag;
+pub mod laws;
 mod name;
 pub mod property;
 mod refused;

@@ -1,10 +1,13 @@
-//! Laws of this crate's definitions. The functions do nothing: each has laws as its contract.
+//! Laws of this crate's definitions and types. Each function has laws as its contract; those that need
+//! no value do nothing.
 
-ghost use Rattle.std.specs.Prelude.{◌≡◌, [], codes, Some, None};
+ghost use Rattle.std.specs.Prelude.{◌≡◌, ◌↔◌, [], codes, IsTrue, Some, None};
 ghost use Rattle.html_dom.specs.PlainTree.{branch, no_plains};
 ghost use Rattle.typst_html.specs.ReadingBack.{ReadsBack, SameTextSameForm};
 ghost use Rattle.typst_html.specs.Reader.{read};
 ghost use Rattle.typst_html.specs.Rows.{paragraph_of};
+
+use crate::options::HtmlOptions;
 
 /// The text of a frame-free tree without a fault reads as the tree's normal form.
 #[tactic(auto, using(crate::proofs::Contents::reads_back))]
@@ -63,3 +66,10 @@ pub fn reads_raw_text()
     ensures feed_kept { read (codes "<!DOCTYPE html><p>\nx</p>") ≡ Some (paragraph_of (codes "p") (codes "\nx")) }
     ensures feed_dropped { read (codes "<!DOCTYPE html><pre>\nx</pre>") ≡ Some (paragraph_of (codes "pre") (codes "x")) }
 {}
+
+/// Options are equal where both ask for pretty text or neither does.
+pub fn equal_options(a: &HtmlOptions, b: &HtmlOptions) -> bool
+    ensures { IsTrue result ↔ (a.now ≡ b.now) }
+{
+    a == b
+}
