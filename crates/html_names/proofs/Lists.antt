@@ -23,7 +23,7 @@ bytes_eq-chars a b u v =
     one_answer (bytes_eq (chars a) (chars b)) (bytes_eq a b) (bytes_eq-Decides (chars a) (chars b))
     (λ h. ap chars ((bytes_eq-Decides a b).0 h), λ e. (bytes_eq-Decides a b).1 (sym (encodes-chars a u) ∙ (ap encodes e ∙ encodes-chars b v)))
 
-bytes_eq-ascii : (n t : List ℕ) → is_ascii n ≡ true → IsUtf8 t → bytes_eq n (chars t) ≡ bytes_eq n t
+pub bytes_eq-ascii : (n t : List ℕ) → is_ascii n ≡ true → IsUtf8 t → bytes_eq n (chars t) ≡ bytes_eq n t
 bytes_eq-ascii n t a u =
     let e : chars n ≡ n = chars_ascii n a in
     let v : IsUtf8 n = IsUtf8-from_ascii n (is_ascii_is n a) in

@@ -1,5 +1,5 @@
 -- What a run answers, and what it does to its reader and its writer.
-use Rattle.std.specs.Prelude.{◌≡◌, ℕ, List, [], ◌∷◌, ◌++◌, map, take, Option, Some, None, option_and_then, ◌⊎◌, codes, bytes_eq, String, string_bytes, Bool, false, if◌then◌else◌}
+use Rattle.std.specs.Prelude.{◌≡◌, ℕ, List, [], ◌∷◌, ◌++◌, map, take, Option, Some, None, option_and_then, ◌⊎◌, codes, bytes_eq, String, string_bytes, Bool, true, false, ◌&&◌, if◌then◌else◌}
 use Rattle.std.specs.declared.alloc.Global.{Global}
 use Rattle.std.specs.Io.KnownBytes.{Appends}
 use Rattle.std.specs.Fmt.{decimal}
@@ -44,27 +44,32 @@ answer_by [] text = record { status = Done; line = encodes text }
 answer_by (r ∷ rs) text = record { status = Refused; line = refused_line r }
 
 -- names are refused before what is wrong with the tree
-abbrev pub tree_refusals : Elem → List Refusal
-tree_refusals e = element_refusals e ++ map refusal_of (document_faults no_frames e)
+abbrev pub tree_refusals : (pretty : Bool) → Elem → List Refusal
+tree_refusals pretty e = element_refusals e ++ map refusal_of (document_faults no_frames pretty e)
 
-unfoldable pub tree_answer : Elem → Answer
-tree_answer e = answer_by (tree_refusals e) (document_written no_frames e)
+unfoldable pub tree_answer : (pretty : Bool) → Elem → Answer
+tree_answer pretty e = answer_by (tree_refusals pretty e) (document_written no_frames pretty e)
 
-abbrev pub answer_for : Option Elem → Answer
-answer_for None = bad_input
-answer_for (Some e) = tree_answer e
+abbrev pub answer_for : (pretty : Bool) → Option Elem → Answer
+answer_for pretty None = bad_input
+answer_for pretty (Some e) = tree_answer pretty e
 
-unfoldable pub answer_to : (input : List ℕ) → Answer
-answer_to input = answer_for (option_and_then element_spelled (json_of input))
+unfoldable pub answer_to : (pretty : Bool) (input : List ℕ) → Answer
+answer_to pretty input = answer_for pretty (option_and_then element_spelled (json_of input))
 
--- the one word that is right is `tree`
-abbrev pub words_are_right : List (List ℕ) → Bool
-words_are_right [] = false
-words_are_right (w ∷ []) = bytes_eq w (codes "tree")
-words_are_right (w ∷ v ∷ ws) = false
+-- whether pretty text is wanted: the words are `tree`, or `tree` and `--pretty`, and all others are wrong
+abbrev pub wants_pretty : (words : List (List ℕ)) → Option Bool
+wants_pretty [] = None
+wants_pretty (w ∷ []) = if bytes_eq w (codes "tree") then Some false else None
+wants_pretty (w ∷ v ∷ []) = if bytes_eq w (codes "tree") && bytes_eq v (codes "--pretty") then Some true else None
+wants_pretty (w ∷ v ∷ u ∷ ws) = None
+
+abbrev pub answer_in : Option Bool → (input : List ℕ) → Answer
+answer_in None input = bad_input
+answer_in (Some pretty) input = answer_to pretty input
 
 abbrev pub answer_of : (words : List (List ℕ)) (input : List ℕ) → Answer
-answer_of words input = if words_are_right words then answer_to input else bad_input
+answer_of words = answer_in (wants_pretty words)
 
 abbrev pub texts_of : List (String Global) → List (List ℕ)
 texts_of = map string_bytes

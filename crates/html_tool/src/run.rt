@@ -1,13 +1,13 @@
 //! A run of the program on any reader and writer.
 
-ghost use Rattle.std.specs.Prelude.{◌≡◌, ◌++◌, [], false, map, option_map, option_and_then, IfSome, IfOk, OnOk, IfErr};
+ghost use Rattle.std.specs.Prelude.{◌≡◌, ◌++◌, [], None, map, option_map, option_and_then, IfSome, IfOk, OnOk, IfErr};
 ghost use Rattle.std.specs.Bool.{OnTrue};
 ghost use Rattle.std.specs.Io.KnownBytes.{Appends, Keeps};
 ghost use Rattle.html_dom.specs.Views.{text_view, element_view};
 ghost use Rattle.typst_html.specs.Faults.{document_faults};
 ghost use Rattle.typst_html.specs.Frames.{no_frames};
 ghost use Rattle.typst_html.specs.Written.{document_written};
-ghost use Rattle.html_tool.specs.Answers.{AppendsBeginning, EndsAs, bad_input, answer_of, answer_to, words_are_right, texts_of, refused_line, refusal_of, tree_refusals, tree_answer};
+ghost use Rattle.html_tool.specs.Answers.{AppendsBeginning, EndsAs, bad_input, answer_of, answer_to, wants_pretty, texts_of, refused_line, refusal_of, tree_refusals, tree_answer};
 ghost use Rattle.html_tool.specs.Forms.{element_form_view};
 ghost use Rattle.html_tool.specs.Json.{json_of};
 ghost use Rattle.html_tool.specs.Names.{element_refusals};
@@ -110,13 +110,13 @@ fn form_in(alloc: Global, input: &[u8]) -> Result<Option<ElementForm>, AllocErro
     }
 }
 
-/// The plain text of an element.
-fn plain_text(alloc: Global, element: &HtmlElement) -> Result<String, Refusal>
-    ensures text { IfOk result (λ text. text_view text ≡ document_written no_frames (element_view element.now)) }
-    ensures clean { OnOk result (map refusal_of (document_faults no_frames (element_view element.now)) ≡ []) }
-    ensures refused { IfErr result (λ e. IsFirst e (map refusal_of (document_faults no_frames (element_view element.now)))) }
+/// The text of an element.
+fn html_text(alloc: Global, element: &HtmlElement, pretty: bool) -> Result<String, Refusal>
+    ensures text { IfOk result (λ text. text_view text ≡ document_written no_frames pretty (element_view element.now)) }
+    ensures clean { OnOk result (map refusal_of (document_faults no_frames pretty (element_view element.now)) ≡ []) }
+    ensures refused { IfErr result (λ e. IsFirst e (map refusal_of (document_faults no_frames pretty (element_view element.now)))) }
 {
-    let options = HtmlOptions { pretty: false };
+    let options = HtmlOptions { pretty };
     match html_in_bundle(alloc, element, &options, &NoFrames) {
         Ok(text) => Ok(text),
         Err(fault) => Err(Refusal::from(fault)),
@@ -124,43 +124,45 @@ fn plain_text(alloc: Global, element: &HtmlElement) -> Result<String, Refusal>
 }
 
 /// The text of the tree that is spelled, or the first refusal: of its names, and then of the tree.
-fn text_of(alloc: Global, form: &ElementForm) -> Result<String, Refusal>
-    ensures text { IfOk result (λ text. text_view text ≡ document_written no_frames (element_form_view form.now)) }
-    ensures clean { OnOk result (tree_refusals (element_form_view form.now) ≡ []) }
-    ensures refused { IfErr result (λ e. IsFirst e (tree_refusals (element_form_view form.now))) }
+fn text_of(alloc: Global, form: &ElementForm, pretty: bool) -> Result<String, Refusal>
+    ensures text { IfOk result (λ text. text_view text ≡ document_written no_frames pretty (element_form_view form.now)) }
+    ensures clean { OnOk result (tree_refusals pretty (element_form_view form.now) ≡ []) }
+    ensures refused { IfErr result (λ e. IsFirst e (tree_refusals pretty (element_form_view form.now))) }
 {
     let element = element_of(alloc, form)?;
-    plain_text(alloc, &element)
+    html_text(alloc, &element, pretty)
 }
 
 /// The answer to an input.
 #[tactic(auto, unfolding(crate::specs::Answers::answer_to))]
-fn answer(alloc: Global, input: &[u8]) -> Result<Reply, AllocError>
-    ensures { IfOk result (λ reply. IsReply reply (answer_to input.now)) }
+fn answer(alloc: Global, input: &[u8], pretty: bool) -> Result<Reply, AllocError>
+    ensures { IfOk result (λ reply. IsReply reply (answer_to pretty input.now)) }
 {
     let Some(form) = form_in(alloc, input)? else {
         return bad_input(alloc);
     };
-    answer_form(alloc, &form)
+    answer_form(alloc, &form, pretty)
 }
 
 /// The answer to an input that spells this element.
-fn answer_form(alloc: Global, form: &ElementForm) -> Result<Reply, AllocError>
-    ensures { IfOk result (λ reply. IsReply reply (tree_answer (element_form_view form.now))) }
+fn answer_form(alloc: Global, form: &ElementForm, pretty: bool) -> Result<Reply, AllocError>
+    ensures { IfOk result (λ reply. IsReply reply (tree_answer pretty (element_form_view form.now))) }
 {
-    match text_of(alloc, form) {
+    match text_of(alloc, form, pretty) {
         Ok(text) => make_reply(alloc, Status::Done, text.as_bytes()),
         Err(Refusal::OutOfMemory) => Err(AllocError),
         Err(Refusal::At(number, span)) => refused(alloc, number, span),
     }
 }
 
-fn are_right(words: &[String]) -> bool
-    ensures { result ≡ words_are_right (texts_of words.now) }
+/// Whether pretty text is wanted, where the words are right.
+fn wants_pretty(words: &[String]) -> Option<bool>
+    ensures { result ≡ wants_pretty (texts_of words.now) }
 {
     match words {
-        [only] => only.as_str() == "tree",
-        _ => false,
+        [task] if task.as_str() == "tree" => Some(false),
+        [task, option] if task.as_str() == "tree" && option.as_str() == "--pretty" => Some(true),
+        _ => None,
     }
 }
 
@@ -168,15 +170,15 @@ fn are_right(words: &[String]) -> bool
 fn wanted<R: Read>(alloc: Global, reader: &mut R, words: &[String]) -> Result<Reply, AllocError>
     ensures answers { IfOk result (λ reply. IfSome (R.remaining reader.old)
         (λ input. IsReply reply (answer_of (texts_of words.now) input))) }
-    ensures wrong_words { words_are_right (texts_of words.now) ≡ false → IfOk result (λ reply. IsReply reply bad_input) }
-    ensures unread { words_are_right (texts_of words.now) ≡ false
+    ensures wrong_words { wants_pretty (texts_of words.now) ≡ None → IfOk result (λ reply. IsReply reply bad_input) }
+    ensures unread { wants_pretty (texts_of words.now) ≡ None
         → Keeps (R.remaining reader.old) (R.remaining reader.new) }
 {
-    if !are_right(words) {
+    let Some(pretty) = wants_pretty(words) else {
         return bad_input(alloc);
-    }
+    };
     match read_all(alloc, reader) {
-        Some(input) => answer(alloc, &input),
+        Some(input) => answer(alloc, &input, pretty),
         None => Err(AllocError),
     }
 }
@@ -192,11 +194,11 @@ fn tell<W: Write>(writer: &mut W, reply: &Reply) -> Status
     }
 }
 
-/// Reads all that the reader has, as one JSON value, and writes the plain HTML text of the tree that
-/// it spells, or one line that says why there is none.
+/// Reads all that the reader has, as one JSON value, and writes the HTML text of the tree that it
+/// spells, or one line that says why there is none.
 ///
-/// `words` are those after the program's name; `tree` alone is right, and others are told before
-/// anything is read. Where memory, the reader or the writer fails, at most a beginning of the answer
+/// `words` are those after the program's name: `tree` for plain text, `tree` and `--pretty` for
+/// pretty text. Others are told before anything is read. Where memory, the reader or the writer fails, at most a beginning of the answer
 /// was written. The reader is read in pieces of at most 4,096 bytes, at most 1,048,576 times.
 pub fn run<R: Read, W: Write>(
     alloc: Global,
@@ -208,9 +210,9 @@ pub fn run<R: Read, W: Write>(
         (λ input. EndsAs (answer_of (texts_of words.now) input) result (W.contents writer.old) (W.contents writer.new)) }
 
     // Wrong words.
-    ensures wrong_words { words_are_right (texts_of words.now) ≡ false
+    ensures wrong_words { wants_pretty (texts_of words.now) ≡ None
         → EndsAs bad_input result (W.contents writer.old) (W.contents writer.new) }
-    ensures unread { words_are_right (texts_of words.now) ≡ false
+    ensures unread { wants_pretty (texts_of words.now) ≡ None
         → Keeps (R.remaining reader.old) (R.remaining reader.new) }
 {
     match wanted(alloc, reader, words) {

@@ -4,6 +4,7 @@ use std::alloc::{AllocError, Global};
 use std::test::Fail;
 
 mod devices;
+mod pretty;
 mod rows;
 
 fn words(alloc: Global, list: &[&str]) -> Result<Vec<String>, AllocError> {
@@ -31,12 +32,16 @@ fn codes(rt: HostRuntime) {
 #[test]
 fn wrong_words(rt: HostRuntime) -> Result<(), Fail> {
     let alloc = rt.alloc();
-    let wrong: [&[&str]; 5] = [
+    let wrong: [&[&str]; 9] = [
         &[],
         &["doc"],
-        &["tree", "--pretty"],
         &["tree", "tree"],
         &["Tree"],
+        &["--pretty"],
+        &["--pretty", "tree"],
+        &["tree", "pretty"],
+        &["tree", "--Pretty"],
+        &["tree", "--pretty", "--pretty"],
     ];
     for list in wrong {
         let mut out = Vec::new(alloc);

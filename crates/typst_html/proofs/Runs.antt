@@ -37,3 +37,6 @@ right_empty (x ∷ xs) ys h = cc
 pub test_fails : {A : Type 0} (b : Bool) (x : A) → (if b then x ∷ [] else []) ≡ [] → b ≡ false
 test_fails true x h = cc
 test_fails false x h = refl
+
+pub four_joined : {A : Type 0} (a b c d : List A) → ((a ++ b) ++ c) ++ d ≡ a ++ (b ++ (c ++ d))
+four_joined a b c d = append_assoc (a ++ b) c d ∙ append_assoc a b (c ++ d)

@@ -3,11 +3,11 @@ use Rattle.std.proofs.Common.{◌≡◌, Some, sym, ap, ◌∙◌}
 use Rattle.html_dom.specs.PlainTree.{normal}
 use Rattle.typst_html.specs.Reader.{read}
 use Rattle.typst_html.specs.ReadingBack.{SameTextSameForm}
-use Rattle.typst_html.proofs.Contents.{reads_back}
+use Rattle.typst_html.proofs.Contents.{plain_reads_back}
 
 pub same_text : SameTextSameForm
 same_text frames d e n m x y f w same =
-    let one = reads_back frames d n x f in
-    let two = reads_back frames e m y w in
+    let one = plain_reads_back frames d n x f in
+    let two = plain_reads_back frames e m y w in
     let both : Some (normal d) ≡ Some (normal e) = sym one ∙ (ap read same ∙ two) in
     cc

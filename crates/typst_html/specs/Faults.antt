@@ -1,10 +1,12 @@
--- What can be wrong with a tree, all of it, in the order in which it is refused.
+-- What can be wrong with a tree, all of it, in the order in which it is refused. Pretty writing matters to frames alone:
+-- their writer is asked in the mode of their place.
 use Rattle.std.specs.Prelude.{◌≡◌, ℕ, Bool, true, false, not, ◌||◌, ◌&&◌, ◌==◌, List, [], ◌∷◌, ◌++◌, if◌then◌else◌, Option, Some, None}
 use Rattle.html_names.specs.Characters.{is_text_char}
 use Rattle.html_names.specs.Kinds.{is_raw, is_escapable_raw}
 use Rattle.html_dom.specs.Tree.{Pair, Head, Node, tag_node, text_node, element_node, frame_node, Nodes, none, node, Elem}
 use Rattle.typst_html.specs.Closing.{holds_closing}
 use Rattle.typst_html.specs.Frames.{Frames}
+use Rattle.typst_html.specs.Layout.{opens}
 use Rattle.typst_html.specs.Written.{texts, ends_at_once, escaping_of}
 use Rattle.typst_html.specs.declared.escape.Escaping.{Escaping}
 use Rattle.typst_html.specs.declared.escape.Escaping.TheVariants as escaping
@@ -63,29 +65,30 @@ frame_faults span (Some text) = []
 frame_faults span None = frame_refused span ∷ []
 
 unfoldable mutual
-  pub faults : Frames → (pre_span : Bool) → Node → List Fault
-  faults frames pre_span (tag_node t) = []
-  faults frames pre_span (text_node s span) = text_faults (escaping_of pre_span) span s
-  faults frames pre_span (element_node h ns) =
+  pub faults : Frames → (pre_span pretty : Bool) → Node → List Fault
+  faults frames pre_span pretty (tag_node t) = []
+  faults frames pre_span pretty (text_node s span) = text_faults (escaping_of pre_span) span s
+  faults frames pre_span pretty (element_node h ns) =
       pairs_faults h.span h.attrs ++ (if ends_at_once h then void_faults h.span ns
       else (if is_raw h.name then (raw_faults escaping.Raw ns ++ closing_faults h ns)
-      else (if is_escapable_raw h.name then raw_faults escaping.Text ns else all_faults frames h.pre_span ns)))
-  faults frames pre_span (frame_node b) = frame_faults b.span (frames b false)
+      else (if is_escapable_raw h.name then raw_faults escaping.Text ns else all_faults frames h.pre_span (pretty && opens h ns) ns)))
+  faults frames pre_span pretty (frame_node b) = frame_faults b.span (frames b pretty)
 
-  pub all_faults : Frames → (pre_span : Bool) → Nodes → List Fault
-  all_faults frames pre_span none = []
-  all_faults frames pre_span (node n ns) = faults frames pre_span n ++ all_faults frames pre_span ns
+  pub all_faults : Frames → (pre_span pretty : Bool) → Nodes → List Fault
+  all_faults frames pre_span pretty none = []
+  all_faults frames pre_span pretty (node n ns) = faults frames pre_span pretty n ++ all_faults frames pre_span pretty ns
 
 abbrev pub raw_content_faults : Head → Nodes → List Fault
 raw_content_faults h ns = raw_faults escaping.Raw ns ++ closing_faults h ns
 
 -- those of what stands between the tags of an element
-abbrev pub content_faults : Frames → Elem → List Fault
-content_faults frames e = if is_raw e.0.name then raw_content_faults e.0 e.1 else (if is_escapable_raw e.0.name then raw_faults escaping.Text e.1 else all_faults frames e.0.pre_span e.1)
+abbrev pub content_faults : Frames → (pretty : Bool) → Elem → List Fault
+content_faults frames pretty e = if is_raw e.0.name then raw_content_faults e.0 e.1
+    else (if is_escapable_raw e.0.name then raw_faults escaping.Text e.1 else all_faults frames e.0.pre_span (pretty && opens e.0 e.1) e.1)
 
 -- those of a document with this root
-abbrev pub document_faults : Frames → Elem → List Fault
-document_faults frames e = faults frames false (element_node e.0 e.1)
+abbrev pub document_faults : Frames → (pretty : Bool) → Elem → List Fault
+document_faults frames pretty e = faults frames false pretty (element_node e.0 e.1)
 
 -- the list begins with the fault
 abbrev pub BeginsWith : Fault → List Fault → Type 0

@@ -1,5 +1,5 @@
 -- What a writer of frames answers.
-use Rattle.std.specs.Prelude.{◌≡◌, ℕ, List, [], Bool, false, Option, Some, None, Result, Ok, Err, String}
+use Rattle.std.specs.Prelude.{◌≡◌, ℕ, List, Bool, Option, Some, None, Result, Ok, Err, String}
 use Rattle.std.specs.declared.alloc.Global.{Global}
 use Rattle.html_names.specs.Texts.{text_view}
 use Rattle.html_dom.specs.Drawings.{Drawing, drawing, Box}
@@ -25,7 +25,3 @@ Draws (Some text) (Err OutOfMemory) = Unit {0}
 Draws (Some text) (Err Refused) = ⊥
 Draws None (Ok s) = ⊥
 Draws None (Err fault) = Unit {0}
-
-abbrev pub frame_text : Option (List ℕ) → List ℕ
-frame_text (Some text) = text
-frame_text None = []

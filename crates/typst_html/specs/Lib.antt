@@ -1,6 +1,10 @@
 pub mod Closing
+pub mod Collapsing
 pub mod Faults
 pub mod Frames
+pub mod Indented
+pub mod IndentsCollapse
+pub mod Layout
 pub mod Numbers
 pub mod ReadingBack
 pub mod Reader

@@ -1,11 +1,12 @@
 -- What is written is read back.
-use Rattle.std.specs.Prelude.{◌≡◌, List, [], Some}
+use Rattle.std.specs.Prelude.{◌≡◌, true, false, List, [], Some}
 use Rattle.std.specs.List.{AllByRecursion}
 use Rattle.html_names.specs.Characters.{is_tag_char, is_attr_char, IsOf}
 use Rattle.html_dom.specs.Tree.{Pair, Head, Node, tag_node, text_node, element_node, frame_node, Nodes, none, node, Elem}
 use Rattle.html_dom.specs.PlainTree.{normal}
 use Rattle.typst_html.specs.Faults.{document_faults}
 use Rattle.typst_html.specs.Frames.{Frames}
+use Rattle.typst_html.specs.Indented.{indented, IsWellEnded}
 use Rattle.typst_html.specs.Reader.{read}
 use Rattle.typst_html.specs.Written.{document_written}
 
@@ -49,14 +50,19 @@ unfoldable mutual
 abbrev pub HasNoFrame : Elem → Type 0
 HasNoFrame e = AreFrameFree e.1
 
--- the text of a frame-free tree without a fault reads as the tree's normal form
-abbrev pub ReadsBackWith : Frames → Type 0
-ReadsBackWith frames = (e : Elem) → IsNamedElement e → HasNoFrame e → document_faults frames e ≡ [] → read (document_written frames e) ≡ Some (normal e)
+-- the plain text of a frame-free tree without a fault reads as the tree's normal form
+abbrev pub PlainReadsBack : Frames → Type 0
+PlainReadsBack frames = (e : Elem) → IsNamedElement e → HasNoFrame e → document_faults frames false e ≡ [] → read (document_written frames false e) ≡ Some (normal e)
+
+-- its pretty text reads as that of the indented tree
+abbrev pub PrettyReadsBack : Frames → Type 0
+PrettyReadsBack frames = (e : Elem) → IsNamedElement e → HasNoFrame e → IsWellEnded true e → document_faults frames true e ≡ [] →
+    read (document_written frames true e) ≡ Some (normal (indented e))
 
 abbrev pub ReadsBack : Type 0
-ReadsBack = (frames : Frames) → ReadsBackWith frames
+ReadsBack = (frames : Frames) → PlainReadsBack frames × PrettyReadsBack frames
 
--- frame-free trees with the same text have the same normal form
+-- frame-free trees with the same plain text have the same normal form
 abbrev pub SameTextSameForm : Type 0
-SameTextSameForm = (frames : Frames) (d e : Elem) → IsNamedElement d → IsNamedElement e → HasNoFrame d → HasNoFrame e → document_faults frames d ≡ [] → document_faults frames e ≡ [] →
-    document_written frames d ≡ document_written frames e → normal d ≡ normal e
+SameTextSameForm = (frames : Frames) (d e : Elem) → IsNamedElement d → IsNamedElement e → HasNoFrame d → HasNoFrame e → document_faults frames false d ≡ [] → document_faults frames false e ≡ [] →
+    document_written frames false d ≡ document_written frames false e → normal d ≡ normal e

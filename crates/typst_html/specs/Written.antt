@@ -1,9 +1,10 @@
--- The text of a tree by plain writing: HTML Standard 13.1, with the choices of this project.
-use Rattle.std.specs.Prelude.{ℕ, Bool, true, false, ◌||◌, ◌&&◌, ◌==◌, List, [], ◌∷◌, ◌++◌, if◌then◌else◌, codes}
+-- The text of a tree, plain and pretty: HTML Standard 13.1, with the choices of this project.
+use Rattle.std.specs.Prelude.{ℕ, ◌+◌, Bool, true, false, ◌||◌, ◌&&◌, ◌==◌, List, [], ◌∷◌, ◌++◌, if◌then◌else◌, codes}
 use Rattle.html_names.specs.Kinds.{is_void, is_foreign_self_closing, is_raw, is_escapable_raw}
 use Rattle.html_dom.specs.Tree.{Pair, Head, Node, tag_node, text_node, element_node, frame_node, Nodes, none, node, Elem}
 use Rattle.typst_html.specs.References.{reference_to}
-use Rattle.typst_html.specs.Frames.{Frames, frame_text}
+use Rattle.typst_html.specs.Frames.{Frames}
+use Rattle.typst_html.specs.Layout.{indent_where, feed_where, opens, has_indent, due_after, raw_written, frame_written}
 use Rattle.typst_html.specs.Reader.{drops_feed}
 use Rattle.typst_html.specs.declared.escape.Escaping.{Escaping}
 use Rattle.typst_html.specs.declared.escape.Escaping.TheVariants as escaping
@@ -71,26 +72,32 @@ texts none = []
 texts (node n ns) = one_text n ++ texts ns
 
 unfoldable mutual
-  pub written : Frames → (pre_span : Bool) → Node → List ℕ
-  written frames pre_span (tag_node t) = []
-  written frames pre_span (text_node s span) = escaped (escaping_of pre_span) s
-  written frames pre_span (element_node h ns) =
+  -- a node on its level
+  pub written : Frames → (pre_span pretty : Bool) (level : ℕ) → Node → List ℕ
+  written frames pre_span pretty level (tag_node t) = []
+  written frames pre_span pretty level (text_node s span) = escaped (escaping_of pre_span) s
+  written frames pre_span pretty level (element_node h ns) =
       start_written h ++ (if ends_at_once h then [] else (feed_written h ns
-      ++ ((if is_raw h.name then texts ns else (if is_escapable_raw h.name then escaped escaping.Text (texts ns) else all_written frames h.pre_span ns))
+      ++ ((if is_raw h.name then raw_written pretty level h (texts ns)
+      else (if is_escapable_raw h.name then escaped escaping.Text (texts ns) else children_written frames h.pre_span (pretty && opens h ns) true level ns))
       ++ end_written h)))
-  written frames pre_span (frame_node b) = frame_text (frames b false)
+  written frames pre_span pretty level (frame_node b) = frame_written pretty level (frames b pretty)
 
-  pub all_written : Frames → (pre_span : Bool) → Nodes → List ℕ
-  all_written frames pre_span none = []
-  all_written frames pre_span (node n ns) = written frames pre_span n ++ all_written frames pre_span ns
+  -- the children of an element of that level, and what stands before its end tag
+  pub children_written : Frames → (pre_span pretty due : Bool) (level : ℕ) → Nodes → List ℕ
+  children_written frames pre_span pretty due level none = indent_where pretty level
+  children_written frames pre_span pretty due level (node n ns) =
+      indent_where (pretty && has_indent due n) (level + 1)
+      ++ (written frames pre_span pretty (level + 1) n ++ children_written frames pre_span pretty (due_after due n) level ns)
 
 -- what stands between the tags of an element
-abbrev pub content_written : Frames → Elem → List ℕ
-content_written frames e = if is_raw e.0.name then texts e.1 else (if is_escapable_raw e.0.name then escaped escaping.Text (texts e.1) else all_written frames e.0.pre_span e.1)
+abbrev pub content_written : Frames → (pretty : Bool) (level : ℕ) → Elem → List ℕ
+content_written frames pretty level e = if is_raw e.0.name then raw_written pretty level e.0 (texts e.1)
+    else (if is_escapable_raw e.0.name then escaped escaping.Text (texts e.1) else children_written frames e.0.pre_span (pretty && opens e.0 e.1) true level e.1)
 
-abbrev pub element_written : Frames → Elem → List ℕ
-element_written frames e = written frames false (element_node e.0 e.1)
+abbrev pub element_written : Frames → (pretty : Bool) (level : ℕ) → Elem → List ℕ
+element_written frames pretty level e = written frames false pretty level (element_node e.0 e.1)
 
 -- the whole text of a document with this root
-abbrev pub document_written : Frames → Elem → List ℕ
-document_written frames e = codes "<!DOCTYPE html>" ++ element_written frames e
+abbrev pub document_written : Frames → (pretty : Bool) → Elem → List ℕ
+document_written frames pretty e = codes "<!DOCTYPE html>" ++ (indent_where pretty 0 ++ (element_written frames pretty 0 e ++ feed_where pretty))

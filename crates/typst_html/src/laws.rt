@@ -3,6 +3,7 @@
 
 ghost use Rattle.std.specs.Prelude.{◌≡◌, ◌↔◌, [], codes, IsTrue, Some, None};
 ghost use Rattle.html_dom.specs.PlainTree.{branch, no_plains};
+ghost use Rattle.typst_html.specs.IndentsCollapse.{BodyCollapses, ContentCollapses};
 ghost use Rattle.typst_html.specs.ReadingBack.{ReadsBack, SameTextSameForm};
 ghost use Rattle.typst_html.specs.Reader.{read};
 ghost use Rattle.typst_html.specs.Rows.{paragraph_of};
@@ -73,3 +74,9 @@ pub fn equal_options(a: &HtmlOptions, b: &HtmlOptions) -> bool
 {
     a == b
 }
+
+/// Indents are not seen once white space has collapsed: each touches a border.
+pub fn indents_collapse()
+    ensures content { ContentCollapses }
+    ensures body { BodyCollapses }
+{}

@@ -6,6 +6,7 @@ mod export;
 mod fault;
 mod frame;
 pub mod laws;
+mod layout;
 mod options;
 mod output;
 mod raw;

@@ -1,6 +1,8 @@
 ghost use Rattle.std.specs.Prelude.{◌≡◌, ◌++◌, ◌∷◌, [], OnOk, chars, string_bytes, IsTrue, false};
 ghost use Rattle.std.specs.Fmt.{digits};
+ghost use Rattle.std.specs.Str.Lines.{lines};
 ghost use Rattle.html_names.specs.Names.{is_ascii};
+ghost use Rattle.typst_html.specs.Layout.{indent, indent_where, feed_where, by_lines};
 
 use std::alloc::{AllocError, Global};
 use std::marker::Model;
@@ -53,6 +55,56 @@ impl Output {
         ensures { OnOk result (self.new ≡ self.old ++ text.now) }
     {
         self.push_str(text)
+    }
+
+    /// Adds a line feed and two spaces a level.
+    #[tactic(auto, unfolding(crate::specs::Layout::indent))]
+    pub(crate) fn push_indent(&mut self, level: usize) -> Result<(), AllocError>
+        ensures { OnOk result (self.new ≡ self.old ++ indent level) }
+    {
+        self.push('\n')?;
+        for _ in 0..level {
+            self.push_ascii("  ")?;
+        }
+        Ok(())
+    }
+
+    /// Adds an indent where asked.
+    pub(crate) fn push_indent_if(&mut self, asked: bool, level: usize) -> Result<(), AllocError>
+        ensures { OnOk result (self.new ≡ self.old ++ indent_where asked level) }
+    {
+        if asked {
+            self.push_indent(level)?;
+        }
+        Ok(())
+    }
+
+    /// Adds a line feed where asked.
+    pub(crate) fn push_feed_if(&mut self, asked: bool) -> Result<(), AllocError>
+        ensures { OnOk result (self.new ≡ self.old ++ feed_where asked) }
+    {
+        if asked {
+            self.push('\n')?;
+        }
+        Ok(())
+    }
+
+    /// Adds the lines of a text, with an indent between them, and before the first where asked.
+    pub(crate) fn push_lines(
+        &mut self,
+        text: &str,
+        level: usize,
+        before_first: bool,
+    ) -> Result<(), AllocError>
+        ensures { OnOk result (self.new ≡ self.old ++ by_lines before_first (indent level) (lines (chars text.now))) }
+    {
+        let mut indented = before_first;
+        for line in text.lines() {
+            self.push_indent_if(indented, level)?;
+            self.push_str(line)?;
+            indented = true;
+        }
+        Ok(())
     }
 
     /// Adds a number in small hexadecimal digits.

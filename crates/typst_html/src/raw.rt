@@ -43,6 +43,17 @@ pub(crate) fn write_children(
     Ok(())
 }
 
+/// The text of a raw element: that of its children, joined.
+pub(crate) fn joined(alloc: Global, children: &[HtmlNode]) -> Result<String, ExportFault>
+    ensures text { IfOk result (λ text. text_view text ≡ texts (nodes_view children.now)) }
+    ensures clean { OnOk result (raw_faults Escaping.Raw (nodes_view children.now) ≡ []) }
+    ensures fault { IfErr result (λ e. IsFirst e (raw_faults Escaping.Raw (nodes_view children.now))) }
+{
+    let mut out = Output::new(alloc);
+    write_children(&mut out, Escaping::Raw, children)?;
+    Ok(out.into_string())
+}
+
 /// Adds the characters of a text.
 fn push_chars(list: &mut Vec<char>, text: &str) -> Result<(), AllocError>
     ensures { OnOk result (list.new.items ≡ list.old.items ++ chars text.now) }
@@ -51,19 +62,6 @@ fn push_chars(list: &mut Vec<char>, text: &str) -> Result<(), AllocError>
         list.push(c)?;
     }
     Ok(())
-}
-
-/// The characters of the texts among the nodes.
-fn chars_of(alloc: Global, nodes: &[HtmlNode]) -> Result<Vec<char>, AllocError>
-    ensures { IfOk result (λ list. list.items ≡ texts (nodes_view nodes.now)) }
-{
-    let mut list = Vec::new(alloc);
-    for node in nodes {
-        if let HtmlNode::Text(text, _) = node {
-            push_chars(&mut list, text.as_str())?;
-        }
-    }
-    Ok(list)
 }
 
 /// `</` and the name in small letters.
@@ -115,15 +113,12 @@ fn holds(closing: &[char], text: &[char]) -> bool
     false
 }
 
-/// Whether the texts among the nodes, joined, hold the closing tag of an element of that name.
-pub(crate) fn hold_closing(
-    alloc: Global,
-    nodes: &[HtmlNode],
-    name: &str,
-) -> Result<bool, AllocError>
-    ensures { IfOk result (λ holds. holds ≡ ending.holds_closing (chars name.now) (texts (nodes_view nodes.now))) }
+/// Whether the text holds the closing tag of an element of that name.
+pub(crate) fn holds_closing(alloc: Global, name: &str, text: &str) -> Result<bool, AllocError>
+    ensures { IfOk result (λ holds. holds ≡ ending.holds_closing (chars name.now) (chars text.now)) }
 {
     let closing = closing(alloc, name)?;
-    let text = chars_of(alloc, nodes)?;
-    Ok(holds(&closing, &text))
+    let mut list = Vec::new(alloc);
+    push_chars(&mut list, text)?;
+    Ok(holds(&closing, &list))
 }

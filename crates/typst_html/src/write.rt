@@ -1,18 +1,18 @@
-//! Plain writing.
+//! Writing, plain and pretty.
 
-ghost use Rattle.std.specs.Prelude.{◌≡◌, ◌++◌, [], OnOk, IfErr, map};
+ghost use Rattle.std.specs.Prelude.{◌≡◌, ◌++◌, [], IfErr, IfOk, OnOk, Some, chars, map, true};
 ghost use Rattle.html_dom.specs.Views.{text_view, pair_view, attrs_view, head_of, node_view, element_view, nodes_view};
 ghost use Rattle.typst_html.specs.Faults.{text_faults, pairs_faults, void_faults, raw_content_faults, content_faults, frame_faults, faults, all_faults, document_faults, IsFirst};
-ghost use Rattle.typst_html.specs.Frames.{frame_text};
+ghost use Rattle.typst_html.specs.Layout.{lines_written, raw_written, frame_written};
 ghost use Rattle.html_dom.specs.FrameViews.{box_view};
-ghost use Rattle.std.specs.Prelude.{false};
 ghost use Rattle.typst_html.specs.ReadingBack.{ArePairs, IsHead, IsNamed, AreNamed, IsNamedElement};
-ghost use Rattle.typst_html.specs.Written.{value_written, pairs_written, tag_close, start_written, end_written, ends_at_once, begins_with_feed, feed_written, texts, content_written, written, all_written, element_written, escaping_of};
+ghost use Rattle.typst_html.specs.Written.{value_written, pairs_written, tag_close, start_written, end_written, ends_at_once, begins_with_feed, feed_written, texts, content_written, written, children_written, element_written, escaping_of};
 ghost use Rattle.typst_html.specs.Reader.{drops_feed};
 
 use crate::escape::{Escaping, write_text};
 use crate::fault::ExportFault;
 use crate::frame::{FrameFault, FrameWriter};
+use crate::layout::{Place, due_after, has_indent, is_by_lines, keeps_lines, opens};
 use crate::output::Output;
 use crate::raw;
 use html_dom::{HtmlAttrs, HtmlElement, HtmlFrame, HtmlNode, Span};
@@ -139,17 +139,75 @@ fn refuse_children(element: &HtmlElement) -> Result<(), ExportFault>
     }
 }
 
-/// Writes the content of a raw element.
-fn write_raw(alloc: Global, out: &mut Output, element: &HtmlElement) -> Result<(), ExportFault>
-    ensures text { OnOk result (out.new ≡ out.old ++ texts (nodes_view element.now.children.items)) }
+/// Writes a raw text on lines of its own.
+#[tactic(auto, unfolding(crate::specs::Layout::lines_written))]
+fn write_lines(out: &mut Output, tag: &HtmlTag, text: &str, level: usize) -> Result<(), AllocError>
+    ensures { OnOk result (out.new ≡ out.old ++ lines_written level tag.now (chars text.now)) }
+{
+    if keeps_lines(tag, text) {
+        out.push('\n')?;
+        out.push_str(text)?;
+    } else {
+        let inner = level.checked_add(1).ok_or(AllocError)?;
+        out.push_lines(text, inner, true)?;
+    }
+    out.push_indent(level)
+}
+
+/// Writes a raw text.
+fn write_raw_text(
+    out: &mut Output,
+    element: &HtmlElement,
+    text: &str,
+    place: Place,
+) -> Result<(), AllocError>
+    ensures { OnOk result (out.new ≡ out.old ++ raw_written place.pretty place.level (head_of element.now) (chars text.now)) }
+{
+    if place.pretty && is_by_lines(element) {
+        write_lines(out, &element.tag, text, place.level)
+    } else {
+        out.push_str(text)
+    }
+}
+
+/// The text of a raw element.
+fn raw_text(alloc: Global, element: &HtmlElement) -> Result<String, ExportFault>
+    ensures text { IfOk result (λ text. text_view text ≡ texts (nodes_view element.now.children.items)) }
     ensures clean { OnOk result (raw_content_faults (head_of element.now) (nodes_view element.now.children.items) ≡ []) }
     ensures fault { IfErr result (λ e. IsFirst e (raw_content_faults (head_of element.now) (nodes_view element.now.children.items))) }
 {
-    raw::write_children(out, Escaping::Raw, &element.children)?;
-    if raw::hold_closing(alloc, &element.children, element.tag.resolve())? {
+    let text = raw::joined(alloc, &element.children)?;
+    if raw::holds_closing(alloc, element.tag.resolve(), text.as_str())? {
         return Err(ExportFault::RawClosing { span: element.span });
     }
+    Ok(text)
+}
+
+/// Writes the content of a raw element.
+fn write_raw(
+    alloc: Global,
+    out: &mut Output,
+    element: &HtmlElement,
+    place: Place,
+) -> Result<(), ExportFault>
+    ensures text { OnOk result (out.new ≡ out.old ++ raw_written place.pretty place.level (head_of element.now) (texts (nodes_view element.now.children.items))) }
+    ensures clean { OnOk result (raw_content_faults (head_of element.now) (nodes_view element.now.children.items) ≡ []) }
+    ensures fault { IfErr result (λ e. IsFirst e (raw_content_faults (head_of element.now) (nodes_view element.now.children.items))) }
+{
+    let text = raw_text(alloc, element)?;
+    write_raw_text(out, element, text.as_str(), place)?;
     Ok(())
+}
+
+/// Writes the text of a frame.
+fn write_drawn(out: &mut Output, text: &str, place: Place) -> Result<(), AllocError>
+    ensures { OnOk result (out.new ≡ out.old ++ frame_written place.pretty place.level (Some (chars text.now))) }
+{
+    if place.pretty {
+        out.push_lines(text, place.level, false)
+    } else {
+        out.push_str(text)
+    }
 }
 
 /// Writes a node.
@@ -160,18 +218,19 @@ fn write_node<F: FrameWriter>(
     out: &mut Output,
     node: &HtmlNode,
     pre_span: bool,
+    place: Place,
     frames: &F,
 ) -> Result<(), ExportFault>
-    ensures text { OnOk result (out.new ≡ out.old ++ written (F.drawing frames.now) pre_span (node_view node.now)) }
-    ensures clean { OnOk result (faults (F.drawing frames.now) pre_span (node_view node.now) ≡ []) }
-    ensures fault { IfErr result (λ e. IsFirst e (faults (F.drawing frames.now) pre_span (node_view node.now))) }
+    ensures text { OnOk result (out.new ≡ out.old ++ written (F.drawing frames.now) pre_span place.pretty place.level (node_view node.now)) }
+    ensures clean { OnOk result (faults (F.drawing frames.now) pre_span place.pretty (node_view node.now) ≡ []) }
+    ensures fault { IfErr result (λ e. IsFirst e (faults (F.drawing frames.now) pre_span place.pretty (node_view node.now))) }
     ensures named { OnOk result (IsNamed (node_view node.now)) }
 {
     match node {
         HtmlNode::Tag(_) => Ok(()),
         HtmlNode::Text(text, span) => write_text(out, escaping(pre_span), text.as_str(), *span),
-        HtmlNode::Element(element) => write_element(alloc, out, element, frames),
-        HtmlNode::Frame(frame) => write_frame(out, frame, frames),
+        HtmlNode::Element(element) => write_element(alloc, out, element, place, frames),
+        HtmlNode::Frame(frame) => write_frame(out, frame, place, frames),
     }
 }
 
@@ -179,15 +238,16 @@ fn write_node<F: FrameWriter>(
 fn write_frame<F: FrameWriter>(
     out: &mut Output,
     frame: &HtmlFrame,
+    place: Place,
     frames: &F,
 ) -> Result<(), ExportFault>
-    ensures text { OnOk result (out.new ≡ out.old ++ frame_text (F.drawing frames.now (box_view frame.now) false)) }
-    ensures clean { OnOk result (frame_faults frame.now.span.0 (F.drawing frames.now (box_view frame.now) false) ≡ []) }
-    ensures fault { IfErr result (λ e. IsFirst e (frame_faults frame.now.span.0 (F.drawing frames.now (box_view frame.now) false))) }
+    ensures text { OnOk result (out.new ≡ out.old ++ frame_written place.pretty place.level (F.drawing frames.now (box_view frame.now) place.pretty)) }
+    ensures clean { OnOk result (frame_faults frame.now.span.0 (F.drawing frames.now (box_view frame.now) place.pretty) ≡ []) }
+    ensures fault { IfErr result (λ e. IsFirst e (frame_faults frame.now.span.0 (F.drawing frames.now (box_view frame.now) place.pretty))) }
 {
-    match frames.write(frame, false) {
+    match frames.write(frame, place.pretty) {
         Ok(text) => {
-            out.push_str(text.as_str())?;
+            write_drawn(out, text.as_str(), place)?;
             Ok(())
         }
         Err(FrameFault::OutOfMemory) => Err(ExportFault::OutOfMemory),
@@ -202,11 +262,12 @@ pub(crate) fn write_element<F: FrameWriter>(
     alloc: Global,
     out: &mut Output,
     element: &HtmlElement,
+    place: Place,
     frames: &F,
 ) -> Result<(), ExportFault>
-    ensures text { OnOk result (out.new ≡ out.old ++ element_written (F.drawing frames.now) (element_view element.now)) }
-    ensures clean { OnOk result (document_faults (F.drawing frames.now) (element_view element.now) ≡ []) }
-    ensures fault { IfErr result (λ e. IsFirst e (document_faults (F.drawing frames.now) (element_view element.now))) }
+    ensures text { OnOk result (out.new ≡ out.old ++ element_written (F.drawing frames.now) place.pretty place.level (element_view element.now)) }
+    ensures clean { OnOk result (document_faults (F.drawing frames.now) place.pretty (element_view element.now) ≡ []) }
+    ensures fault { IfErr result (λ e. IsFirst e (document_faults (F.drawing frames.now) place.pretty (element_view element.now))) }
     ensures named { OnOk result (IsNamedElement (element_view element.now)) }
 {
     write_start(out, element)?;
@@ -214,7 +275,7 @@ pub(crate) fn write_element<F: FrameWriter>(
         return refuse_children(element);
     }
     write_feed(out, element)?;
-    write_content(alloc, out, element, frames)?;
+    write_content(alloc, out, element, place, frames)?;
     write_end(out, element)?;
     Ok(())
 }
@@ -226,23 +287,35 @@ fn write_content<F: FrameWriter>(
     alloc: Global,
     out: &mut Output,
     element: &HtmlElement,
+    place: Place,
     frames: &F,
 ) -> Result<(), ExportFault>
-    ensures text { OnOk result (out.new ≡ out.old ++ content_written (F.drawing frames.now) (element_view element.now)) }
-    ensures clean { OnOk result (content_faults (F.drawing frames.now) (element_view element.now) ≡ []) }
-    ensures fault { IfErr result (λ e. IsFirst e (content_faults (F.drawing frames.now) (element_view element.now))) }
+    ensures text { OnOk result (out.new ≡ out.old ++ content_written (F.drawing frames.now) place.pretty place.level (element_view element.now)) }
+    ensures clean { OnOk result (content_faults (F.drawing frames.now) place.pretty (element_view element.now) ≡ []) }
+    ensures fault { IfErr result (λ e. IsFirst e (content_faults (F.drawing frames.now) place.pretty (element_view element.now))) }
     ensures named { OnOk result (AreNamed (nodes_view element.now.children.items)) }
 {
     if tag::is_raw(&element.tag) {
-        write_raw(alloc, out, element)
+        write_raw(alloc, out, element, place)
     } else if tag::is_escapable_raw(&element.tag) {
         raw::write_children(out, Escaping::Text, &element.children)
     } else {
-        write_children(alloc, out, &element.children, element.pre_span, frames)
+        let inside = Place {
+            pretty: place.pretty && opens(element),
+            level: place.level,
+        };
+        write_children(
+            alloc,
+            out,
+            &element.children,
+            element.pre_span,
+            inside,
+            frames,
+        )
     }
 }
 
-/// Writes nodes.
+/// Writes the children of an element, whose own level `place` has.
 #[cycle(write)]
 #[tactic(auto, using(crate::proofs::Firsts::first_of_more, crate::proofs::Named::texts_named, crate::proofs::Named::raw_content_named, crate::proofs::Named::childless_named), unfolding(crate::specs::Written::written, crate::specs::Faults::faults, crate::specs::ReadingBack::IsNamed))]
 fn write_children<F: FrameWriter>(
@@ -250,16 +323,22 @@ fn write_children<F: FrameWriter>(
     out: &mut Output,
     children: &[HtmlNode],
     pre_span: bool,
+    place: Place,
     frames: &F,
 ) -> Result<(), ExportFault>
-    ensures text { OnOk result (out.new ≡ out.old ++ all_written (F.drawing frames.now) pre_span (nodes_view children.now)) }
-    ensures clean { OnOk result (all_faults (F.drawing frames.now) pre_span (nodes_view children.now) ≡ []) }
-    ensures fault { IfErr result (λ e. IsFirst e (all_faults (F.drawing frames.now) pre_span (nodes_view children.now))) }
+    ensures text { OnOk result (out.new ≡ out.old ++ children_written (F.drawing frames.now) pre_span place.pretty true place.level (nodes_view children.now)) }
+    ensures clean { OnOk result (all_faults (F.drawing frames.now) pre_span place.pretty (nodes_view children.now) ≡ []) }
+    ensures fault { IfErr result (λ e. IsFirst e (all_faults (F.drawing frames.now) pre_span place.pretty (nodes_view children.now))) }
     ensures named { OnOk result (AreNamed (nodes_view children.now)) }
 {
+    let inner = place.deeper()?;
+    let mut due = true;
     for child in children {
-        write_node(alloc, out, child, pre_span, frames)?;
+        out.push_indent_if(inner.pretty && has_indent(due, child), inner.level)?;
+        write_node(alloc, out, child, pre_span, inner, frames)?;
+        due = due_after(due, child);
     }
+    out.push_indent_if(place.pretty, place.level)?;
     Ok(())
 }
 

@@ -44,6 +44,25 @@ impl FrameWriter for OneText {
     }
 }
 
+/// Writes one text where pretty writing is on, and another where it is off.
+#[derive(Drop)]
+struct TwoTexts {
+    plain: String,
+    pretty: String,
+}
+
+impl FrameWriter for TwoTexts {
+    ghost drawing = { λ writer b pretty. Some (if pretty then text_view writer.pretty else text_view writer.plain) };
+
+    fn write(&self, _frame: &HtmlFrame, pretty: bool) -> Result<String, FrameFault> {
+        let text = if pretty { &self.pretty } else { &self.plain };
+        match text.clone() {
+            Ok(text) => Ok(text),
+            Err(AllocError) => Err(FrameFault::OutOfMemory),
+        }
+    }
+}
+
 /// Has no memory for any frame.
 struct Exhausted;
 
@@ -95,6 +114,8 @@ fn with_frames(alloc: Global, tag: HtmlTag, frames: &[(u64, u64)]) -> Result<Htm
 
 const PLAIN: HtmlOptions = HtmlOptions { pretty: false };
 
+const PRETTY: HtmlOptions = HtmlOptions { pretty: true };
+
 #[test]
 fn a_frame_is_its_writers_text(rt: HostRuntime) -> Result<(), Fail> {
     let alloc = rt.alloc();
@@ -139,5 +160,56 @@ fn frames_are_no_text(rt: HostRuntime) -> Result<(), Fail> {
     let void = with_frames(alloc, tag::br, &[(1, 3)])?;
     let refused = html_in_bundle(alloc, &void, &PLAIN, &one_text(alloc, "<svg></svg>", 1)?);
     assert_eq!(rt; refused, Err(ExportFault::VoidChildren { span: Span(1) }));
+    Ok(())
+}
+
+fn two_texts(alloc: Global, plain: &str, pretty: &str) -> Result<TwoTexts, AllocError> {
+    Ok(TwoTexts {
+        plain: String::from_str(alloc, plain)?,
+        pretty: String::from_str(alloc, pretty)?,
+    })
+}
+
+/// The lines of a frame are joined by the indents of its place.
+#[test]
+fn lines_of_a_frame_are_indented(rt: HostRuntime) -> Result<(), Fail> {
+    let alloc = rt.alloc();
+    let writer = two_texts(alloc, "<svg/>", "<svg>\n  <g/>\n</svg>")?;
+    let div = with_frames(alloc, tag::div, &[(1, 3)])?;
+    assert_eq!(rt;
+        html_in_bundle(alloc, &div, &PRETTY, &writer)?.as_str(),
+        "<!DOCTYPE html>\n<div>\n  <svg>\n    <g/>\n  </svg>\n</div>\n"
+    );
+    let pair = with_frames(alloc, tag::div, &[(1, 3), (2, 5)])?;
+    assert_eq!(rt;
+        html_in_bundle(
+            alloc,
+            &pair,
+            &PRETTY,
+            &two_texts(alloc, "", "<svg>\r\n</svg>\n")?
+        )?
+        .as_str(),
+        "<!DOCTYPE html>\n<div>\n  <svg>\n  </svg><svg>\n  </svg>\n</div>\n"
+    );
+    Ok(())
+}
+
+/// Where pretty writing is off at its place, the writer of a frame is told so.
+#[test]
+fn a_frame_has_the_mode_of_its_place(rt: HostRuntime) -> Result<(), Fail> {
+    let alloc = rt.alloc();
+    let writer = two_texts(alloc, "<svg>\n</svg>", "<g>\n</g>")?;
+    let span = with_frames(alloc, tag::span, &[(1, 3)])?;
+    assert_eq!(rt;
+        html_in_bundle(alloc, &span, &PRETTY, &writer)?.as_str(),
+        "<!DOCTYPE html>\n<span><svg>\n</svg></span>\n"
+    );
+    let refused = html_in_bundle(
+        alloc,
+        &with_frames(alloc, tag::div, &[(1, 3)])?,
+        &PRETTY,
+        &Nothing,
+    );
+    assert_eq!(rt; refused, Err(ExportFault::FrameRefused { span: Span(3) }));
     Ok(())
 }

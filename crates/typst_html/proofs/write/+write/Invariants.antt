@@ -1,6 +1,6 @@
-use Rattle.std.proofs.Common.{◌≡◌, ◌++◌, drop}
+use Rattle.std.proofs.Common.{◌≡◌, ◌++◌, drop, true}
 use Rattle.html_dom.specs.Views.{nodes_view}
-use Rattle.typst_html.specs.Written.{all_written}
+use Rattle.typst_html.specs.Written.{children_written}
 use Rattle.typst_html.specs.Faults.{all_faults}
 use Rattle.typst_html.specs.ReadingBack.{AreNamed}
 use Rattle.typst_html.proofs.write.+write.Given as goal
@@ -11,7 +11,7 @@ invariant-write_children-loop-child g l =
     let left = nodes_view (drop l.child-index l.children) in
     let all = nodes_view l.children in
     record {
-      told : l.out ++ all_written frames l.pre_span left ≡ l.initial.out ++ all_written frames l.pre_span all;
-      clean : all_faults frames l.pre_span left ≡ all_faults frames l.pre_span all;
+      told : l.out ++ children_written frames l.pre_span l.place.pretty l.due l.place.level left ≡ l.initial.out ++ children_written frames l.pre_span l.place.pretty true l.place.level all;
+      clean : all_faults frames l.pre_span l.place.pretty left ≡ all_faults frames l.pre_span l.place.pretty all;
       named : AreNamed left → AreNamed all;
     }
