@@ -1,6 +1,6 @@
 -- Trees with style attributes made of css (CSS Style Attributes, section 3).
 use Rattle.std.specs.Prelude.{ℕ, List, [], ◌∷◌, ◌++◌, codes, Option, Some, None}
-use Rattle.html_values.specs.Properties.{inline_text}
+use Rattle.html_css.specs.Properties.{inline_text}
 use Rattle.html_dom.specs.Attributes.{first, with_value}
 use Rattle.html_dom.specs.Tree.{Pair, Head, Node, tag_node, text_node, element_node, frame_node, Nodes, none, node, Elem}
 

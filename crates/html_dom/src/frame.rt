@@ -3,7 +3,7 @@ ghost use Rattle.html_dom.specs.Drawings.{new_box};
 ghost use Rattle.html_dom.specs.FrameViews.{thing_view, drawing_view, anchors_view, box_view};
 
 use crate::place::{Location, Span, Tag, copy_label};
-use html_values::{Abs, Properties};
+use html_css::{Abs, Properties};
 use std::alloc::{AllocError, Global};
 
 /// A place in a drawing: so far to the right and so far down from its corner.

@@ -6,8 +6,8 @@ ghost use Rattle.html_dom.specs.Views.{text_view, marker_view, node_view, elemen
 use crate::attrs::HtmlAttrs;
 use crate::frame::HtmlFrame;
 use crate::place::{Location, Span, Tag};
+use html_css::Properties;
 use html_names::{HtmlAttr, HtmlTag, Refused};
-use html_values::Properties;
 use std::alloc::Global;
 
 /// A node of the tree. Two are equal where all their fields are.

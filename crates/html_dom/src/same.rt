@@ -5,8 +5,8 @@ use crate::attrs::HtmlAttrs;
 use crate::node::{HtmlElement, HtmlNode};
 use crate::place::Tag;
 use crate::same_frame::same_html_frame;
+use html_css::laws::equal_properties;
 use html_names::HtmlAttr;
-use html_values::laws::equal_properties;
 
 pub(crate) fn same_text(a: &String, b: &String) -> bool
     ensures { IsTrue result ↔ (text_view a.now ≡ text_view b.now) }

@@ -3,7 +3,7 @@ ghost use Rattle.html_dom.specs.FrameViews.{thing_view, drawing_view, items_view
 
 use crate::frame::{Frame, FrameItem, HtmlFrame, Point};
 use crate::same::{same_label, same_tag, same_text};
-use html_values::laws::equal_properties;
+use html_css::laws::equal_properties;
 
 #[cycle(same)]
 fn same_thing(a: &FrameItem, b: &FrameItem) -> bool

@@ -1,13 +1,13 @@
 ghost use Rattle.std.specs.Prelude.{◌≡◌, [], IfOk, OnOk, OnErr, codes};
-ghost use Rattle.html_values.specs.Properties.{inline_text};
+ghost use Rattle.html_css.specs.Properties.{inline_text};
 ghost use Rattle.html_dom.specs.Attributes.{first};
 ghost use Rattle.html_dom.specs.Views.{text_view, attrs_view, node_view, element_view, nodes_view};
 ghost use Rattle.html_dom.specs.Styled.{before_value, put_style, styled_attrs, styled, all_styled, styled_element};
 
 use crate::attrs::HtmlAttrs;
 use crate::node::{HtmlElement, HtmlNode};
+use html_css::Properties;
 use html_names::attr;
-use html_values::Properties;
 use std::alloc::{AllocError, Global};
 
 /// Writes the css of each element, at any depth, into its attribute `style`: before the first value

@@ -1,8 +1,8 @@
 use crate::{
     Frame, FrameItem, HtmlAttrs, HtmlElement, HtmlFrame, HtmlNode, Location, Point, Span, Tag,
 };
+use html_css::Abs;
 use html_names::{HtmlAttr, HtmlTag, attr, tag};
-use html_values::Abs;
 use std::alloc::{AllocError, Global};
 use std::collections::HashMap;
 use std::test::Fail;

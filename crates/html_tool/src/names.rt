@@ -9,9 +9,9 @@ ghost use Rattle.html_tool.specs.Refusals.{IsFirst, of_name};
 
 use crate::form::{ElementForm, Form};
 use crate::refusal::Refusal;
+use html_css::Properties;
 use html_dom::{HtmlAttrs, HtmlElement, HtmlNode, Span};
 use html_names::{HtmlAttr, HtmlTag, NameFault};
-use html_values::Properties;
 use std::alloc::Global;
 
 /// The refusal of a name of the element at that place.

@@ -1,43 +1,37 @@
-//! Values of css: quantities, colours, the texts that they have, and maps of properties.
+//! Typed values of attributes: the texts that they have, and the types of attributes that cast values
+//! of a document to texts. With the css values of `html_css`.
 //!
-//! A contract sees a text as a list of characters, and a quantity as a whole number of millionths.
+//! A contract sees a text as a list of characters.
 #![tactic(auto)]
 
-mod abs;
-mod angle;
-mod builder;
-mod calc;
-mod call;
-mod direction;
-mod em;
-mod fixed;
-mod inline;
-pub mod laws;
-mod length;
-mod paint;
-mod properties;
-mod property;
-mod ratio;
-mod same;
-mod sink;
+mod attr_type;
+mod cast;
+mod cast_fault;
+mod duration;
+mod image;
+mod into_attr;
+mod moment;
+mod native_cast;
+mod native_type;
 #[cfg(test)]
 mod tests;
-mod to_css;
-mod writer;
+mod text;
+mod value;
+mod words;
 
-pub use abs::Abs;
-pub use angle::Angle;
-pub use builder::PropertiesBuilder;
-pub use calc::{Calc, CalcPart};
-pub use call::{Call, Separator};
-pub use direction::Dir;
-pub use em::Em;
-pub use inline::Inline;
-pub use length::{Length, Rel};
-pub use paint::{Paint, Rgba};
-pub use properties::Properties;
-pub use property::Property;
-pub use ratio::Ratio;
-pub use sink::{Warning, WarningSink};
-pub use to_css::ToCss;
-pub use writer::CssWriter;
+pub use attr_type::{AttrType, ListType};
+pub use cast_fault::CastFault;
+pub use duration::Duration;
+pub use html_css::{
+    Abs, Angle, Calc, CalcPart, Call, CssWriter, Dir, Em, Inline, Length, Paint, Properties,
+    PropertiesBuilder, Property, Ratio, Rel, Rgba, Separator, ToCss, Warning, WarningSink, laws,
+};
+pub use image::{IconSize, ImageCandidate};
+pub use into_attr::{IntoAttr, Str};
+pub use moment::{Datetime, Moment};
+pub use native_type::NativeType;
+pub use value::Value;
+pub use words::{
+    AutoValue, HorizontalDir, NoneEmpty, NoneUndefined, NoneValue, OnOffBool, TrueFalseBool,
+    YesNoBool,
+};

@@ -1,371 +1,449 @@
 use crate::{
-    Abs, Angle, CalcPart, CssWriter, Em, Length, Paint, Properties, PropertiesBuilder, Property,
-    Ratio, Rel, Rgba, Separator, ToCss, Warning, WarningSink,
+    AttrType, AutoValue, CastFault, Datetime, Dir, Duration, HorizontalDir, IconSize,
+    ImageCandidate, IntoAttr, ListType, Moment, NativeType, NoneEmpty, NoneUndefined, NoneValue,
+    OnOffBool, Rgba, Str, TrueFalseBool, Value, YesNoBool,
 };
-use html_names::property::Display;
-use std::alloc::AllocError;
-use std::hash::{DefaultHasher, Hash, Hasher};
+use jiff::civil::{date, datetime, time};
+use std::alloc::{AllocError, Global};
+use std::num::{NonZeroI64, NonZeroU64};
 use std::test::Fail;
 
-/// A value of the tests' own, which writes two texts.
-struct Twice<'a>(&'a str, &'a str);
-
-impl ToCss for Twice<'_> {
-    ghost use Rattle.std.specs.Prelude.{chars, ◌++◌, false};
-
-    ghost text = { λ t. chars t.0.now ++ chars t.1.now };
-
-    ghost fails = { λ _. false };
-
-    fn emit<S: WarningSink>(&self, out: &mut CssWriter<S>) -> Result<(), AllocError> {
-        out.write(self.0)?;
-        out.write(self.1)
+/// What a cast answers, in words: a text in quotes, `nothing`, or a fault's number.
+fn shown(alloc: Global, answer: Result<Option<String>, CastFault>) -> Result<String, AllocError> {
+    match answer {
+        Ok(Some(text)) => format!(in alloc; "'{text}'"),
+        Ok(None) => String::from_str(alloc, "nothing"),
+        Err(fault) => format!(in alloc; "{}", fault.number()),
     }
 }
 
-fn half_less_two_points() -> Rel {
-    Rel {
-        rel: Ratio::from_millionths(500_000),
-        abs: Length {
-            em: Em::from_millionths(0),
-            abs: Abs::from_millionths(-2_000_000),
-        },
+fn cast(alloc: Global, kind: &AttrType, value: &Value) -> Result<String, AllocError> {
+    shown(alloc, kind.cast(alloc, value))
+}
+
+fn native(alloc: Global, kind: NativeType, value: &Value) -> Result<String, AllocError> {
+    cast(alloc, &AttrType::Native(kind), value)
+}
+
+fn text(alloc: Global, text: &str) -> Result<Value, AllocError> {
+    Ok(Value::Str(String::from_str(alloc, text)?))
+}
+
+fn pair(alloc: Global, first: Value, second: Value) -> Result<Value, Fail> {
+    let mut items = Vec::new(alloc);
+    items.push(first)?;
+    items.push(second)?;
+    Ok(Value::Array(items))
+}
+
+fn image(alloc: Global, src: &str, width: Option<i64>) -> Result<Value, AllocError> {
+    Ok(Value::Image {
+        src: String::from_str(alloc, src)?,
+        width,
+    })
+}
+
+fn strings(alloc: Global, texts: &[&'static str]) -> Result<AttrType, Fail> {
+    let mut allowed = Vec::new(alloc);
+    for text in texts {
+        allowed.push(String::from_str(alloc, text)?)?;
     }
+    Ok(AttrType::Strings(allowed))
+}
+
+fn texts_by(alloc: Global, separator: char, shorthand: bool) -> Result<AttrType, Fail> {
+    let inner = AttrType::Native(NativeType::Str);
+    Ok(AttrType::List(ListType::new(alloc, inner, separator, shorthand)?))
 }
 
 #[test]
-fn a_sum_drops_parts_of_zero(rt: HostRuntime) -> Result<(), Fail> {
-    let css = half_less_two_points().to_css(rt.alloc(), &mut ())?;
-    assert_eq!(rt; css.as_str(), "calc(50% - 2pt)");
-    Ok(())
-}
-
-#[test]
-fn lengths(rt: HostRuntime) -> Result<(), Fail> {
-    let cases = [
-        (0i64, 0i64, "0"),
-        (-500_000, 250_000, "calc(-0.5em + 0.25pt)"),
-        (1_000_000, -10, "calc(1em - 0pt)"),
-        (-1_500_000, 0, "-1.5em"),
-        (0, 10, "0pt"),
-    ];
-    for (em, abs, text) in cases {
-        assert!(rt; em.unsigned_abs() <= 1_000_000_000_000_000);
-        assert!(rt; abs.unsigned_abs() <= 1_000_000_000_000_000);
-        let length = Length {
-            em: Em::from_millionths(em),
-            abs: Abs::from_millionths(abs),
-        };
-        assert_eq!(rt; length.to_css(rt.alloc(), &mut ())?.as_str(), text);
-    }
-    Ok(())
-}
-
-#[test]
-fn points_have_four_decimals(rt: HostRuntime) -> Result<(), Fail> {
-    let cases = [
-        (-10i64, "0pt"),
-        (-50, "-0.0001pt"),
-        (50, "0.0001pt"),
-        (49, "0pt"),
-        (-2_000_000, "-2pt"),
-        (12_345_678, "12.3457pt"),
-        (1_000_000_000_000_000, "1000000000pt"),
-        (-1_000_000_000_000_000, "-1000000000pt"),
-    ];
-    for (millionths, text) in cases {
-        assert!(rt; millionths.unsigned_abs() <= 1_000_000_000_000_000);
-        let abs = Abs::from_millionths(millionths);
-        assert_eq!(rt; abs.millionths(), millionths);
-        assert_eq!(rt; abs.to_css(rt.alloc(), &mut ())?.as_str(), text);
-    }
-    Ok(())
-}
-
-#[test]
-fn ratios_angles_and_ems(rt: HostRuntime) -> Result<(), Fail> {
+fn durations(rt: HostRuntime) -> Result<(), Fail> {
     let alloc = rt.alloc();
+    let cases = [
+        (694_861u64, "1w 1d 1h 1m 1s"),
+        (0, "0s"),
+        (59, "59s"),
+        (60, "1m"),
+        (3_661, "1h 1m 1s"),
+        (604_800, "1w"),
+        (518_400, "6d"),
+    ];
+    for (seconds, text) in cases {
+        assert_eq!(rt; Duration(seconds).into_attr(alloc)?.as_str(), text);
+    }
     assert_eq!(rt;
-        Ratio::from_millionths(333_350)
-            .to_css(alloc, &mut ())?
-            .as_str(),
-        "33.34%"
+        native(alloc, NativeType::Duration, &Value::Duration(694_861))?.as_str(),
+        "'1w 1d 1h 1m 1s'"
     );
     assert_eq!(rt;
-        Ratio::from_millionths(1_234_567)
-            .to_css(alloc, &mut ())?
-            .as_str(),
-        "123.46%"
+        native(alloc, NativeType::Duration, &Value::Int(1))?.as_str(),
+        "16"
     );
-    assert_eq!(rt; Ratio::from_millionths(1_234_567).millionths(), 1_234_567);
-    assert_eq!(rt;
-        Angle::from_millionths(90_000_050)
-            .to_css(alloc, &mut ())?
-            .as_str(),
-        "90.0001deg"
-    );
-    assert_eq!(rt; Angle::from_millionths(90_000_050).millionths(), 90_000_050);
-    assert_eq!(rt;
-        Em::from_millionths(1_500_000)
-            .to_css(alloc, &mut ())?
-            .as_str(),
-        "1.5em"
-    );
-    assert_eq!(rt; Em::from_millionths(-1).millionths(), -1);
     Ok(())
 }
 
 #[test]
-fn parts_of_a_sum_speak_of_one_number(rt: HostRuntime) -> Result<(), Fail> {
-    assert!(rt; Abs::from_millionths(0).is_zero());
-    assert!(rt; !Em::from_millionths(1).is_zero());
-    assert!(rt; Ratio::from_millionths(-1).is_negative());
-    assert!(rt; !Abs::from_millionths(0).is_negative());
-    assert_eq!(rt; Em::from_millionths(7).negated(), Em::from_millionths(-7));
-    assert!(rt; Abs::from_millionths(1) < Abs::from_millionths(2));
-    Ok(())
-}
-
-#[test]
-fn colours(rt: HostRuntime) -> Result<(), Fail> {
+fn moments(rt: HostRuntime) -> Result<(), Fail> {
     let alloc = rt.alloc();
-    let opaque = Rgba {
-        r: 1,
-        g: 2,
-        b: 3,
-        a: 255,
+    let cases = [
+        (Moment::Date(date(2024, 2, 9)), "'2024-02-09'"),
+        (Moment::Date(date(1, 12, 31)), "'0001-12-31'"),
+        (Moment::Date(date(9999, 1, 1)), "'9999-01-01'"),
+        (Moment::Date(date(0, 1, 1)), "23"),
+        (Moment::Date(date(-1, 1, 1)), "23"),
+        (Moment::Time(time(8, 5, 0, 0)), "'08:05'"),
+        (Moment::Time(time(8, 5, 30, 0)), "'08:05:30'"),
+        (Moment::Time(time(23, 59, 0, 999)), "'23:59'"),
+        (
+            Moment::DateTime(datetime(2024, 2, 9, 8, 5, 0, 0)),
+            "'2024-02-09T08:05'",
+        ),
+        (Moment::DateTime(datetime(0, 2, 9, 8, 5, 0, 0)), "23"),
+    ];
+    for (moment, text) in cases {
+        assert_eq!(rt;
+            native(alloc, NativeType::Datetime, &Value::Datetime(moment))?.as_str(),
+            text
+        );
+    }
+    let made = Datetime::new(Moment::Date(date(2024, 2, 9)));
+    assert!(rt; made.is_ok());
+    if let Ok(datetime) = made {
+        assert_eq!(rt; datetime.into_attr(alloc)?.as_str(), "2024-02-09");
+    }
+    assert!(rt; Datetime::new(Moment::Date(date(0, 1, 1))).is_err());
+    Ok(())
+}
+
+#[test]
+fn texts_of_words(rt: HostRuntime) -> Result<(), Fail> {
+    let alloc = rt.alloc();
+    assert_eq!(rt; NoneValue.into_attr(alloc)?.as_str(), "none");
+    assert_eq!(rt; NoneEmpty.into_attr(alloc)?.as_str(), "");
+    assert_eq!(rt; NoneUndefined.into_attr(alloc)?.as_str(), "undefined");
+    assert_eq!(rt; AutoValue.into_attr(alloc)?.as_str(), "auto");
+    assert_eq!(rt; TrueFalseBool(true).into_attr(alloc)?.as_str(), "true");
+    assert_eq!(rt; TrueFalseBool(false).into_attr(alloc)?.as_str(), "false");
+    assert_eq!(rt; YesNoBool(true).into_attr(alloc)?.as_str(), "yes");
+    assert_eq!(rt; YesNoBool(false).into_attr(alloc)?.as_str(), "no");
+    assert_eq!(rt; OnOffBool(true).into_attr(alloc)?.as_str(), "on");
+    assert_eq!(rt; OnOffBool(false).into_attr(alloc)?.as_str(), "off");
+    assert_eq!(rt; HorizontalDir::LTR.into_attr(alloc)?.as_str(), "ltr");
+    assert_eq!(rt; HorizontalDir::RTL.into_attr(alloc)?.as_str(), "rtl");
+    assert_eq!(rt; Dir::LTR.into_attr(alloc)?.as_str(), "ltr");
+    assert_eq!(rt; Dir::RTL.into_attr(alloc)?.as_str(), "rtl");
+    assert_eq!(rt; Dir::TTB.into_attr(alloc)?.as_str(), "ttb");
+    assert_eq!(rt; Dir::BTT.into_attr(alloc)?.as_str(), "btt");
+    Ok(())
+}
+
+#[test]
+fn texts_of_numbers(rt: HostRuntime) -> Result<(), Fail> {
+    let alloc = rt.alloc();
+    assert_eq!(rt; 0u64.into_attr(alloc)?.as_str(), "0");
+    assert_eq!(rt; u64::MAX.into_attr(alloc)?.as_str(), "18446744073709551615");
+    assert_eq!(rt; (-12i64).into_attr(alloc)?.as_str(), "-12");
+    assert_eq!(rt; i64::MIN.into_attr(alloc)?.as_str(), "-9223372036854775808");
+    if let Some(n) = NonZeroU64::new(7) {
+        assert_eq!(rt; n.into_attr(alloc)?.as_str(), "7");
+    }
+    if let Some(n) = NonZeroI64::new(-7) {
+        assert_eq!(rt; n.into_attr(alloc)?.as_str(), "-7");
+    }
+    Ok(())
+}
+
+#[test]
+fn texts_of_texts(rt: HostRuntime) -> Result<(), Fail> {
+    let alloc = rt.alloc();
+    assert_eq!(rt; 'é'.into_attr(alloc)?.as_str(), "é");
+    assert_eq!(rt;
+        Str(String::from_str(alloc, "<a b")?)
+            .into_attr(alloc)?
+            .as_str(),
+        "<a b"
+    );
+    let size = IconSize {
+        width: 16,
+        height: 0,
     };
-    let faint = Rgba {
+    assert_eq!(rt; size.into_attr(alloc)?.as_str(), "16x0");
+    let image = ImageCandidate {
+        src: String::from_str(alloc, ",é")?,
+        width: NonZeroU64::new(480),
+    };
+    assert_eq!(rt; image.into_attr(alloc)?.as_str(), ",é 480w");
+    let image = ImageCandidate {
+        src: String::from_str(alloc, "x.png")?,
+        width: None,
+    };
+    assert_eq!(rt; image.into_attr(alloc)?.as_str(), "x.png");
+    let color = Rgba {
         r: 255,
         g: 0,
         b: 16,
         a: 128,
     };
-    assert_eq!(rt; opaque.to_css(alloc, &mut ())?.as_str(), "#010203");
-    assert_eq!(rt;
-        Paint::Solid(faint).to_css(alloc, &mut ())?.as_str(),
-        "#ff001080"
-    );
+    assert_eq!(rt; color.into_attr(alloc)?.as_str(), "#ff001080");
     Ok(())
 }
 
 #[test]
-fn a_gradient_has_no_text_and_warns(rt: HostRuntime) -> Result<(), Fail> {
+fn casts_of_words(rt: HostRuntime) -> Result<(), Fail> {
     let alloc = rt.alloc();
-    let mut warnings = Vec::new(alloc);
-    assert_eq!(rt; Paint::Gradient.to_css(alloc, &mut warnings)?.as_str(), "");
-    assert_eq!(rt; Paint::Tiling.to_css(alloc, &mut warnings)?.as_str(), "");
-    assert_eq!(rt;
-        warnings.as_slice(),
-        [Warning::Gradient, Warning::Tiling].as_slice()
-    );
-    assert_eq!(rt; Paint::Gradient.to_css(alloc, &mut ())?.as_str(), "");
-    Ok(())
-}
-
-#[test]
-fn texts_of_warnings(rt: HostRuntime) -> Result<(), Fail> {
-    let alloc = rt.alloc();
-    assert_eq!(rt;
-        Warning::Gradient.to_string(alloc)?.as_str(),
-        "gradient was ignored during HTML export"
-    );
-    assert_eq!(rt;
-        Warning::Tiling.to_string(alloc)?.as_str(),
-        "tiling was ignored during HTML export"
-    );
-    Ok(())
-}
-
-#[test]
-fn other_texts(rt: HostRuntime) -> Result<(), Fail> {
-    let alloc = rt.alloc();
-    assert_eq!(rt;
-        Display::ListItem.to_css(alloc, &mut ())?.as_str(),
-        "list-item"
-    );
-    assert_eq!(rt; "é".to_css(alloc, &mut ())?.as_str(), "é");
-    assert_eq!(rt; Twice("a", "b").to_css(alloc, &mut ())?.as_str(), "ab");
-    Ok(())
-}
-
-#[test]
-fn a_sum_leaves_earlier_text_alone(rt: HostRuntime) -> Result<(), Fail> {
-    let mut out = CssWriter::new(rt.alloc(), ());
-    out.write("0 ")?;
-    out.emit(&half_less_two_points())?;
-    assert_eq!(rt; out.text(), "0 calc(50% - 2pt)");
-    assert!(rt; !out.failed());
-    Ok(())
-}
-
-#[test]
-fn a_sum_of_one_part_stands_alone(rt: HostRuntime) -> Result<(), Fail> {
-    let mut out = CssWriter::new(rt.alloc(), ());
-    out.write("ä ")?;
-    let mut sum = out.calc();
-    sum.sum(&Em::from_millionths(0))?;
-    sum.sum(&Abs::from_millionths(-1_000_000))?;
-    sum.finish()?;
-    assert_eq!(rt; out.text(), "ä -1pt");
-    Ok(())
-}
-
-#[test]
-fn a_sum_that_is_not_finished_is_open(rt: HostRuntime) -> Result<(), Fail> {
-    let mut out = CssWriter::new(rt.alloc(), ());
-    out.write("0 ")?;
-    let mut sum = out.calc();
-    sum.sum(&Em::from_millionths(1_000_000))?;
-    sum.sum(&Abs::from_millionths(2_000_000))?;
-    assert_eq!(rt; out.text(), "0 calc(1em + 2pt");
-    Ok(())
-}
-
-#[test]
-fn a_call_with_two_separators(rt: HostRuntime) -> Result<(), Fail> {
-    let mut out = CssWriter::new(rt.alloc(), ());
-    out.write("0 ")?;
-    let mut call = out.call("rgb", Separator::Space)?;
-    call.arg(&Ratio::from_millionths(500_000))?;
-    call.arg(&Ratio::from_millionths(200_000))?;
-    call.arg_with(&Ratio::from_millionths(100_000), Separator::Slash)?;
-    call.finish()?;
-    assert_eq!(rt; out.text(), "0 rgb(50% 20% / 10%)");
-    Ok(())
-}
-
-#[test]
-fn a_caller_may_fail(rt: HostRuntime) -> Result<(), Fail> {
-    let alloc = rt.alloc();
-    let mut warnings = Vec::new(alloc);
-    let mut out = CssWriter::new(alloc, &mut warnings);
-    out.write("a")?;
-    out.fail(Warning::Tiling)?;
-    out.write("b")?;
-    assert!(rt; out.failed());
-    assert_eq!(rt; out.text(), "ab");
-    drop(out);
-    assert_eq!(rt; warnings.as_slice(), [Warning::Tiling].as_slice());
-    Ok(())
-}
-
-#[test]
-fn a_name_has_its_last_value(rt: HostRuntime) -> Result<(), Fail> {
-    let alloc = rt.alloc();
-    let mut properties = Properties::new(alloc);
-    properties.push("display", String::from_str(alloc, "block")?)?;
-    properties.push("color", String::from_str(alloc, "red")?)?;
-    properties.push("display", String::from_str(alloc, "none")?)?;
-    assert_eq!(rt;
-        properties.to_inline().to_string(alloc)?.as_str(),
-        "color: red; display: none"
-    );
-    assert_eq!(rt; properties.as_slice().len(), 2);
-    assert_eq!(rt; properties.as_slice()[0].name.as_str(), "color");
-    Ok(())
-}
-
-#[test]
-fn names_are_listed_by_their_bytes(rt: HostRuntime) -> Result<(), Fail> {
-    let alloc = rt.alloc();
-    let mut properties = Properties::new(alloc);
-    for name in ["é", "z", "-a", "a", "Z", "ab"] {
-        properties.push(name, String::from_str(alloc, "1")?)?;
+    let cases = [
+        (NativeType::NoValue, "'none'", "16", "16"),
+        (NativeType::NoneEmpty, "''", "16", "16"),
+        (NativeType::NoneUndefined, "'undefined'", "16", "16"),
+        (NativeType::Auto, "16", "'auto'", "16"),
+        (NativeType::TrueFalse, "16", "16", "'false'"),
+        (NativeType::YesNo, "16", "16", "'no'"),
+        (NativeType::OnOff, "16", "16", "'off'"),
+    ];
+    for (kind, none, auto, truth) in cases {
+        assert_eq!(rt; native(alloc, kind, &Value::None)?.as_str(), none);
+        assert_eq!(rt; native(alloc, kind, &Value::Auto)?.as_str(), auto);
+        assert_eq!(rt; native(alloc, kind, &Value::Bool(false))?.as_str(), truth);
     }
     assert_eq!(rt;
-        properties.to_inline().to_string(alloc)?.as_str(),
-        "-a: 1; Z: 1; a: 1; ab: 1; z: 1; é: 1"
+        native(alloc, NativeType::TrueFalse, &Value::Bool(true))?.as_str(),
+        "'true'"
     );
-    properties.remove("z");
-    properties.remove("none");
     assert_eq!(rt;
-        properties.to_inline().to_string(alloc)?.as_str(),
-        "-a: 1; Z: 1; a: 1; ab: 1; é: 1"
+        native(alloc, NativeType::YesNo, &Value::Bool(true))?.as_str(),
+        "'yes'"
     );
-    Ok(())
-}
-
-#[test]
-fn no_properties_have_an_empty_text(rt: HostRuntime) -> Result<(), Fail> {
-    let alloc = rt.alloc();
     assert_eq!(rt;
-        Properties::new(alloc)
-            .to_inline()
-            .to_string(alloc)?
-            .as_str(),
-        ""
+        native(alloc, NativeType::OnOff, &Value::Bool(true))?.as_str(),
+        "'on'"
     );
-    Ok(())
-}
-
-#[test]
-fn the_order_of_pushes_does_not_matter(rt: HostRuntime) -> Result<(), Fail> {
-    let alloc = rt.alloc();
-    let one = Properties::new(alloc)
-        .with("color", String::from_str(alloc, "red")?)?
-        .with("width", String::from_str(alloc, "1pt")?)?;
-    let other = Properties::new(alloc)
-        .with("width", String::from_str(alloc, "1pt")?)?
-        .with("color", String::from_str(alloc, "red")?)?;
-    assert!(rt; one == other);
-    assert!(rt; one.try_clone()? == other);
-    let mut first = DefaultHasher::new();
-    let mut second = DefaultHasher::new();
-    one.hash(&mut first);
-    other.hash(&mut second);
-    assert_eq!(rt; first.finish(), second.finish());
-    let more = other.with("width", String::from_str(alloc, "2pt")?)?;
-    assert!(rt; one != more);
-    Ok(())
-}
-
-#[test]
-fn a_property_is_its_name_and_its_value(rt: HostRuntime) -> Result<(), Fail> {
-    let alloc = rt.alloc();
-    let property = Property::new(
-        String::from_str(alloc, "color")?,
-        String::from_str(alloc, "red")?,
-    );
-    let same = property.try_clone()?;
-    assert!(rt; property == same);
-    let other = Property::new(
-        String::from_str(alloc, "color")?,
-        String::from_str(alloc, "blue")?,
-    );
-    assert!(rt; property != other);
-    Ok(())
-}
-
-#[test]
-fn a_value_that_fails_is_not_pushed(rt: HostRuntime) -> Result<(), Fail> {
-    let alloc = rt.alloc();
-    let mut warnings = Vec::new(alloc);
-    let mut builder = Properties::build(alloc, &mut warnings);
-    builder.push("color", &Paint::Gradient)?;
-    builder.push("width", &Abs::from_millionths(1_000_000))?;
-    let properties = builder.finish();
     assert_eq!(rt;
-        properties.to_inline().to_string(alloc)?.as_str(),
-        "width: 1pt"
+        cast(alloc, &AttrType::Presence, &Value::Bool(true))?.as_str(),
+        "''"
     );
-    assert_eq!(rt; warnings.as_slice(), [Warning::Gradient].as_slice());
+    assert_eq!(rt;
+        cast(alloc, &AttrType::Presence, &Value::Bool(false))?.as_str(),
+        "nothing"
+    );
+    assert_eq!(rt;
+        cast(alloc, &AttrType::Presence, &Value::None)?.as_str(),
+        "16"
+    );
     Ok(())
 }
 
 #[test]
-fn an_earlier_value_stays_where_one_fails(rt: HostRuntime) -> Result<(), Fail> {
+fn casts_of_numbers(rt: HostRuntime) -> Result<(), Fail> {
     let alloc = rt.alloc();
-    let made = PropertiesBuilder::new(alloc, ())
-        .with("color", &"red")
-        .and_then(|builder| builder.with("color", &Paint::Tiling));
-    let Ok(builder) = made else {
-        return Err(AllocError.into());
-    };
-    let properties = builder.finish();
+    let cases = [
+        (-1i64, "'-1'", "18", "18"),
+        (0, "'0'", "'0'", "18"),
+        (1, "'1'", "'1'", "'1'"),
+        (
+            i64::MAX,
+            "'9223372036854775807'",
+            "'9223372036854775807'",
+            "'9223372036854775807'",
+        ),
+    ];
+    for (n, any, natural, positive) in cases {
+        let value = Value::Int(n);
+        assert_eq!(rt; native(alloc, NativeType::Int, &value)?.as_str(), any);
+        assert_eq!(rt;
+            native(alloc, NativeType::NonNegativeInt, &value)?.as_str(),
+            natural
+        );
+        assert_eq!(rt;
+            native(alloc, NativeType::PositiveInt, &value)?.as_str(),
+            positive
+        );
+        assert_eq!(rt; native(alloc, NativeType::Str, &value)?.as_str(), "16");
+    }
+    Ok(())
+}
+
+#[test]
+fn casts_of_texts(rt: HostRuntime) -> Result<(), Fail> {
+    let alloc = rt.alloc();
+    for (content, any, one) in [("", "''", "19"), ("é", "'é'", "'é'"), ("ab", "'ab'", "19")] {
+        let value = text(alloc, content)?;
+        assert_eq!(rt; native(alloc, NativeType::Str, &value)?.as_str(), any);
+        assert_eq!(rt; native(alloc, NativeType::Char, &value)?.as_str(), one);
+        assert_eq!(rt; native(alloc, NativeType::Int, &value)?.as_str(), "16");
+    }
+    let allowed = strings(alloc, &["auto", "none"])?;
     assert_eq!(rt;
-        properties.to_inline().to_string(alloc)?.as_str(),
-        "color: red"
+        cast(alloc, &allowed, &text(alloc, "none")?)?.as_str(),
+        "'none'"
     );
+    assert_eq!(rt; cast(alloc, &allowed, &text(alloc, "no")?)?.as_str(), "17");
+    assert_eq!(rt; cast(alloc, &allowed, &Value::None)?.as_str(), "16");
+    assert!(rt; allowed.castable(&text(alloc, "auto")?));
+    assert!(rt; !allowed.castable(&text(alloc, "x")?));
+    Ok(())
+}
+
+#[test]
+fn casts_of_colours_and_directions(rt: HostRuntime) -> Result<(), Fail> {
+    let alloc = rt.alloc();
+    let color = Value::Color(Rgba {
+        r: 255,
+        g: 0,
+        b: 16,
+        a: 128,
+    });
+    assert_eq!(rt;
+        native(alloc, NativeType::Color, &color)?.as_str(),
+        "'#ff001080'"
+    );
+    assert_eq!(rt;
+        native(alloc, NativeType::Color, &Value::Auto)?.as_str(),
+        "16"
+    );
+    let cases = [
+        (Dir::LTR, "'ltr'"),
+        (Dir::RTL, "'rtl'"),
+        (Dir::TTB, "20"),
+        (Dir::BTT, "20"),
+    ];
+    for (dir, text) in cases {
+        assert_eq!(rt;
+            native(alloc, NativeType::HorizontalDir, &Value::Dir(dir))?.as_str(),
+            text
+        );
+    }
+    Ok(())
+}
+
+#[test]
+fn casts_of_images(rt: HostRuntime) -> Result<(), Fail> {
+    let alloc = rt.alloc();
+    let cases = [
+        ("x.png", Some(480i64), "'x.png 480w'"),
+        ("x.png", None, "'x.png'"),
+        ("x.png", Some(1), "'x.png 1w'"),
+        ("x.png", Some(0), "18"),
+        ("", Some(0), "18"),
+        ("", None, "21"),
+        (",x", None, "21"),
+        ("x,", Some(2), "21"),
+        ("x,y", None, "'x,y'"),
+    ];
+    for (src, width, text) in cases {
+        let value = image(alloc, src, width)?;
+        assert_eq!(rt;
+            native(alloc, NativeType::ImageCandidate, &value)?.as_str(),
+            text
+        );
+    }
+    Ok(())
+}
+
+#[test]
+fn casts_of_icon_sizes(rt: HostRuntime) -> Result<(), Fail> {
+    let alloc = rt.alloc();
+    let kind = NativeType::IconSize;
+    let cases = [
+        (16i64, 16i64, "'16x16'"),
+        (0, 7, "'0x7'"),
+        (-1, 3, "18"),
+        (3, -1, "18"),
+    ];
+    for (width, height, text) in cases {
+        let value = pair(alloc, Value::Int(width), Value::Int(height))?;
+        assert_eq!(rt; native(alloc, kind, &value)?.as_str(), text);
+    }
+    let mixed = pair(alloc, Value::Int(-1), Value::None)?;
+    assert_eq!(rt; native(alloc, kind, &mixed)?.as_str(), "16");
+    assert_eq!(rt;
+        native(alloc, kind, &Value::Array(Vec::new(alloc)))?.as_str(),
+        "16"
+    );
+    Ok(())
+}
+
+#[test]
+fn casts_of_unions(rt: HostRuntime) -> Result<(), Fail> {
+    let alloc = rt.alloc();
+    let mut members = Vec::new(alloc);
+    members.push(AttrType::Native(NativeType::Int))?;
+    members.push(strings(alloc, &["auto"])?)?;
+    let union = AttrType::Union(members);
+    assert_eq!(rt;
+        cast(alloc, &union, &text(alloc, "auto")?)?.as_str(),
+        "'auto'"
+    );
+    assert_eq!(rt; cast(alloc, &union, &text(alloc, "x")?)?.as_str(), "16");
+    assert_eq!(rt; cast(alloc, &union, &Value::Int(3))?.as_str(), "'3'");
+    let mut members = Vec::new(alloc);
+    members.push(AttrType::Native(NativeType::Char))?;
+    members.push(AttrType::Native(NativeType::Str))?;
+    members.push(AttrType::Presence)?;
+    let union = AttrType::Union(members);
+    assert_eq!(rt; cast(alloc, &union, &text(alloc, "ab")?)?.as_str(), "19");
+    assert!(rt; union.has_presence());
+    assert!(rt; AttrType::Presence.has_presence());
+    assert!(rt; !AttrType::Native(NativeType::TrueFalse).has_presence());
+    Ok(())
+}
+
+#[test]
+fn casts_of_lists(rt: HostRuntime) -> Result<(), Fail> {
+    let alloc = rt.alloc();
+    let commas = texts_by(alloc, ',', false)?;
+    let letters = pair(alloc, text(alloc, "a")?, text(alloc, "b")?)?;
+    assert_eq!(rt; cast(alloc, &commas, &letters)?.as_str(), "'a, b'");
+    assert_eq!(rt;
+        cast(alloc, &commas, &Value::Array(Vec::new(alloc)))?.as_str(),
+        "''"
+    );
+    assert_eq!(rt; cast(alloc, &commas, &text(alloc, "a")?)?.as_str(), "16");
+    let spaces = texts_by(alloc, ' ', true)?;
+    assert_eq!(rt; cast(alloc, &spaces, &letters)?.as_str(), "'a b'");
+    assert_eq!(rt;
+        cast(alloc, &spaces, &text(alloc, "a b")?)?.as_str(),
+        "'a b'"
+    );
+    let mut items = Vec::new(alloc);
+    items.push(text(alloc, "a b")?)?;
+    assert_eq!(rt; cast(alloc, &spaces, &Value::Array(items))?.as_str(), "22");
+    let mixed = pair(alloc, Value::Int(1), text(alloc, "a b")?)?;
+    assert_eq!(rt; cast(alloc, &spaces, &mixed)?.as_str(), "16");
+    assert_eq!(rt; cast(alloc, &spaces, &Value::Int(1))?.as_str(), "16");
+    assert!(rt; commas.castable(&mixed));
+    assert!(rt; !commas.castable(&Value::Int(1)));
+    Ok(())
+}
+
+#[test]
+fn texts_of_faults(rt: HostRuntime) -> Result<(), Fail> {
+    let alloc = rt.alloc();
+    let cases = [
+        (CastFault::OutOfMemory, 0u8, "out of memory"),
+        (CastFault::WrongKind, 16, "the value has the wrong kind"),
+        (
+            CastFault::NotInStrings,
+            17,
+            "the text is not one of the allowed ones",
+        ),
+        (CastFault::NumberRange, 18, "the number is out of range"),
+        (CastFault::NotOneChar, 19, "expected exactly one character"),
+        (CastFault::VerticalDir, 20, "direction must be horizontal"),
+        (
+            CastFault::BadImageSource,
+            21,
+            "src must not be empty or start or end with a comma",
+        ),
+        (
+            CastFault::SeparatorInItem,
+            22,
+            "array item may not contain the separator",
+        ),
+        (CastFault::YearRange, 23, "the year is out of range"),
+    ];
+    for (fault, number, text) in cases {
+        assert_eq!(rt; fault.number(), number);
+        assert_eq!(rt; fault.to_string(alloc)?.as_str(), text);
+    }
     Ok(())
 }

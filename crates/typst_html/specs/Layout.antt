@@ -35,6 +35,7 @@ unfoldable pub allows_inside : List ℕ → Bool
 allows_inside name = (is_mathml name && not (is_token name))
     || ((is_of_lines (default_display name) && not (bytes_eq name (codes "pre"))) || bytes_eq name (codes "head"))
 
+-- a value that is there and has that text
 abbrev pub is_text : List ℕ → Option (List ℕ) → Bool
 is_text s None = false
 is_text s (Some t) = bytes_eq s t

@@ -10,7 +10,9 @@ ghost use Rattle.typst_html.specs.Rows.{paragraph_of};
 
 use crate::options::HtmlOptions;
 
-/// The text of a frame-free tree without a fault reads as the tree's normal form.
+/// The plain text of a frame-free tree without a fault reads as the tree's normal form, and its pretty
+/// text as that of the indented tree, unless a raw text that is put on lines of its own ends in a
+/// closing tag that lacks its last character.
 #[tactic(auto, using(crate::proofs::Contents::reads_back))]
 pub fn text_reads_back()
     ensures { ReadsBack }

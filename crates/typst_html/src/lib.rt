@@ -21,9 +21,16 @@ pub use html_dom::{
     Frame, FrameItem, HtmlAttrs, HtmlElement, HtmlFrame, HtmlNode, Location, Point, Span, Tag,
     resolve_inline_styles,
 };
+pub use html_flow::{
+    Arg, ArgValue, Args, ConstructFault, ElementInfo, FrameElem, HtmlElem, Item, Pair, Role,
+    construct,
+};
 pub use html_names::{HtmlAttr, HtmlTag, NameFault, Refused, attr, charsets, property, tag};
 pub use html_values::{
-    Abs, Angle, Calc, CalcPart, Call, CssWriter, Dir, Em, Inline, Length, Paint, Properties,
-    PropertiesBuilder, Property, Ratio, Rel, Rgba, Separator, ToCss, Warning, WarningSink,
+    Abs, Angle, AttrType, AutoValue, Calc, CalcPart, Call, CastFault, CssWriter, Datetime, Dir,
+    Duration, Em, HorizontalDir, IconSize, ImageCandidate, Inline, IntoAttr, Length, ListType,
+    Moment, NativeType, NoneEmpty, NoneUndefined, NoneValue, OnOffBool, Paint, Properties,
+    PropertiesBuilder, Property, Ratio, Rel, Rgba, Separator, Str, ToCss, TrueFalseBool, Value,
+    Warning, WarningSink, YesNoBool,
 };
 pub use options::HtmlOptions;

@@ -1,0 +1,12 @@
+pub mod Colors
+pub mod Digits
+pub mod Emitting
+pub mod Equals
+pub mod Listing
+pub mod Names
+pub mod Places
+pub mod Pushes
+pub mod Styles
+pub mod Summing
+pub mod Values
+pub mod Worth

@@ -1,0 +1,13 @@
+pub mod Calc
+pub mod Call
+pub mod Colors
+pub mod Hashes
+pub mod Lengths
+pub mod Paints
+pub mod Properties
+pub mod PropertyLaws
+pub mod Quantities
+pub mod Search
+pub mod Sink
+pub mod Sums
+pub mod Writer

@@ -1,0 +1,143 @@
+//! What holds of every css value, as contracts of functions that do nothing.
+
+ghost use Rattle.html_css.specs.Lengths.{LengthValue, Nearest, RelValue};
+ghost use Rattle.html_css.specs.Properties.{property_view};
+ghost use Rattle.html_css.specs.PropertyLaws.{AnyOrder, PushSets, RemoveClears, ValuesDecide};
+ghost use Rattle.html_css.specs.Sums.{SumWritten};
+ghost use Rattle.std.specs.Prelude.{◌≡◌, ◌↔◌, IsTrue};
+
+use crate::{
+    Abs, Angle, Dir, Em, Length, Paint, Properties, Property, Ratio, Rel, Rgba, Separator, Warning,
+};
+
+/// A push gives its name that value, and no other name another.
+pub fn push_sets()
+    ensures { PushSets }
+{}
+
+/// The values of the names decide the list of properties.
+pub fn values_decide()
+    ensures { ValuesDecide }
+{}
+
+/// After a remove its name has no value, and the others have theirs.
+pub fn remove_clears()
+    ensures { RemoveClears }
+{}
+
+/// Pushed in any order, distinct names give the same properties and the same text.
+pub fn any_order()
+    ensures { AnyOrder }
+{}
+
+/// The css text of a length is worth, unit by unit, its parts, each rounded to four decimals.
+pub fn length_value()
+    ensures { LengthValue }
+{}
+
+/// The css text of a relative length is worth, unit by unit, its parts, each rounded: the ratio to
+/// two decimals of a percent, the others to four decimals.
+pub fn rel_value()
+    ensures { RelValue }
+{}
+
+/// A quantity is rounded to the nearest hundred of its millionths, a half away from zero.
+pub fn rounds_to_nearest()
+    ensures { Nearest }
+{}
+
+/// What a sum writes part by part is its text.
+pub fn sum_is_written()
+    ensures { SumWritten }
+{}
+
+/// Absolute lengths are equal where all their fields are.
+pub fn equal_abs(a: Abs, b: Abs) -> bool
+    ensures { IsTrue result ↔ (a ≡ b) }
+{
+    a == b
+}
+
+/// Ems are equal where all their fields are.
+pub fn equal_ems(a: Em, b: Em) -> bool
+    ensures { IsTrue result ↔ (a ≡ b) }
+{
+    a == b
+}
+
+/// Ratios are equal where all their fields are.
+pub fn equal_ratios(a: Ratio, b: Ratio) -> bool
+    ensures { IsTrue result ↔ (a ≡ b) }
+{
+    a == b
+}
+
+/// Angles are equal where all their fields are.
+pub fn equal_angles(a: Angle, b: Angle) -> bool
+    ensures { IsTrue result ↔ (a ≡ b) }
+{
+    a == b
+}
+
+/// Lengths are equal where all their fields are.
+pub fn equal_lengths(a: Length, b: Length) -> bool
+    ensures { IsTrue result ↔ (a ≡ b) }
+{
+    a == b
+}
+
+/// Relative lengths are equal where all their fields are.
+pub fn equal_rels(a: Rel, b: Rel) -> bool
+    ensures { IsTrue result ↔ (a ≡ b) }
+{
+    a == b
+}
+
+/// Colours are equal where all their fields are.
+pub fn equal_colours(a: Rgba, b: Rgba) -> bool
+    ensures { IsTrue result ↔ (a ≡ b) }
+{
+    a == b
+}
+
+/// Paints are equal where all their fields are.
+pub fn equal_paints(a: Paint, b: Paint) -> bool
+    ensures { IsTrue result ↔ (a ≡ b) }
+{
+    a == b
+}
+
+/// Directions are equal where all their fields are.
+pub fn equal_directions(a: Dir, b: Dir) -> bool
+    ensures { IsTrue result ↔ (a ≡ b) }
+{
+    a == b
+}
+
+/// Warnings are equal where all their fields are.
+pub fn equal_warnings(a: Warning, b: Warning) -> bool
+    ensures { IsTrue result ↔ (a ≡ b) }
+{
+    a == b
+}
+
+/// Separators are equal where all their fields are.
+pub fn equal_separators(a: Separator, b: Separator) -> bool
+    ensures { IsTrue result ↔ (a ≡ b) }
+{
+    a == b
+}
+
+/// Properties of one name and one value are equal where both texts are.
+pub fn equal_property(a: &Property, b: &Property) -> bool
+    ensures { IsTrue result ↔ (property_view a.now ≡ property_view b.now) }
+{
+    a == b
+}
+
+/// Property maps are equal where their lists of names and values are.
+pub fn equal_properties(a: &Properties, b: &Properties) -> bool
+    ensures { IsTrue result ↔ (a.now ≡ b.now) }
+{
+    a == b
+}

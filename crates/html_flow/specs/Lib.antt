@@ -1,0 +1,4 @@
+pub mod Construct
+pub mod Items
+pub mod Numbers
+pub mod Views

@@ -1,0 +1,72 @@
+ghost use Rattle.std.specs.Prelude.{◌≡◌};
+ghost use Rattle.html_flow.specs.Numbers.{number_of};
+
+use html_dom::Span;
+use html_names::{HtmlAttr, Refused};
+use html_values::CastFault;
+use std::alloc::{AllocError, AllocFailed};
+use thiserror::Error;
+
+/// Why no element could be constructed of its arguments.
+#[derive(Debug, Drop, PartialEq, Eq, Error)]
+pub enum ConstructFault {
+    /// A growth of memory was refused.
+    #[error("out of memory")]
+    OutOfMemory,
+    /// These arguments could not be cast to their attributes' types.
+    #[error("arguments could not be cast")]
+    Casts(Vec<(CastFault, Span)>),
+    /// The first argument without a name can be no body of the element.
+    #[error("the body has the wrong kind")]
+    BodyKind {
+        /// The argument's place.
+        span: Span,
+    },
+}
+
+impl ConstructFault {
+    /// The fault's number: 0 for want of memory, 24 for a body of the wrong kind, and for casts that of
+    /// the first of them (0 where there is none).
+    pub fn number(&self) -> u8
+        ensures { result ≡ number_of self.now }
+    {
+        match self {
+            ConstructFault::OutOfMemory => 0,
+            ConstructFault::Casts(faults) => match faults.first() {
+                Some((fault, _)) => fault.number(),
+                None => 0,
+            },
+            ConstructFault::BodyKind { .. } => 24,
+        }
+    }
+}
+
+impl From<AllocError> for ConstructFault {
+    ghost use Rattle.html_flow.specs.declared.fault.ConstructFault.TheVariants.{OutOfMemory};
+
+    ghost from_gives = { λ _ e. e ≡ OutOfMemory };
+
+    fn from(_refused: AllocError) -> ConstructFault {
+        ConstructFault::OutOfMemory
+    }
+}
+
+impl<T: Drop> From<AllocFailed<T>> for ConstructFault {
+    ghost use Rattle.html_flow.specs.declared.fault.ConstructFault.TheVariants.{OutOfMemory};
+
+    ghost from_gives = { λ _ e. e ≡ OutOfMemory };
+
+    fn from(_refused: AllocFailed<T>) -> ConstructFault {
+        ConstructFault::OutOfMemory
+    }
+}
+
+impl From<Refused<(HtmlAttr, String)>> for ConstructFault {
+    ghost use Rattle.html_flow.specs.declared.fault.ConstructFault.TheVariants.{OutOfMemory};
+
+    ghost from_gives = { λ _ e. e ≡ OutOfMemory };
+
+    fn from(_refused: Refused<(HtmlAttr, String)>) -> ConstructFault {
+        ConstructFault::OutOfMemory
+    }
+}

@@ -1,0 +1,17 @@
+-- Arrays that are no pair.
+use Rattle.std.proofs.Common.{◌≡◌, ◌<◌, ◌≤◌, List, [], ◌∷◌, length, refl, arith}
+use Rattle.html_values.specs.Casts.{icon_size, refuses}
+use Rattle.html_values.specs.Values.{values_view}
+use Rattle.html_values.specs.declared.cast_fault.CastFault.TheVariants.{WrongKind}
+use Rattle.html_values.specs.declared.value.Value.{Value}
+
+pub too_few : (vs : List Value) → length vs < 2 → icon_size (values_view vs) ≡ refuses WrongKind
+too_few [] h = refl
+too_few (v ∷ []) h = refl
+too_few (v ∷ w ∷ vs) h = absurd (omega arith)
+
+pub too_many : (vs : List Value) → 3 ≤ length vs → icon_size (values_view vs) ≡ refuses WrongKind
+too_many [] h = absurd (omega arith)
+too_many (v ∷ []) h = absurd (omega arith)
+too_many (v ∷ w ∷ []) h = absurd (omega arith)
+too_many (v ∷ w ∷ x ∷ vs) h = refl

@@ -1,0 +1,11 @@
+use Rattle.std.proofs.Common.{sym, ◌∙◌}
+use Rattle.html_values.proofs.OneChar.{one_is, more_are}
+use Rattle.html_values.proofs.native_cast.only_char.Goals as goal
+
+pub returns-in-Some-None-clause-ok : goal.returns-in-Some-None-clause-ok
+returns-in-Some-None-clause-ok c =
+    one_is c.args.text.now _ c.in-Some-None.c c.utf8.text (sym c.chars-characters.ensures.rest ∙ c.in-Some-None.ensures.steps.0) c.in-Some-None.ensures'.steps.0.0
+
+pub returns-in_default-clause-err : goal.returns-in_default-clause-err
+returns-in_default-clause-err c =
+    more_are c.args.text.now _ _ c.in_default.field-0-0 c.in_default.field-0-1 c.utf8.text (sym c.chars-characters.ensures.rest ∙ c.in_default.ensures.steps.0) c.in_default.ensures'.steps.0

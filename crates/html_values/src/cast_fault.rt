@@ -1,0 +1,77 @@
+ghost use Rattle.std.specs.Prelude.{◌≡◌};
+
+use std::alloc::{AllocError, AllocFailed};
+use thiserror::Error;
+
+/// Why a value has no text as an attribute of a type.
+#[derive(Clone, Copy, Debug, PartialEq, Eq, Error)]
+pub enum CastFault {
+    /// A growth of memory was refused.
+    #[error("out of memory")]
+    OutOfMemory,
+    /// The type is not for values of this kind.
+    #[error("the value has the wrong kind")]
+    WrongKind,
+    /// The text is none of those that the type lists.
+    #[error("the text is not one of the allowed ones")]
+    NotInStrings,
+    /// A number below the type's least.
+    #[error("the number is out of range")]
+    NumberRange,
+    /// A text of no character or of several, where one is wanted.
+    #[error("expected exactly one character")]
+    NotOneChar,
+    /// A direction from top to bottom, or from bottom to top.
+    #[error("direction must be horizontal")]
+    VerticalDir,
+    /// An image's source is empty, or begins or ends with a comma.
+    #[error("src must not be empty or start or end with a comma")]
+    BadImageSource,
+    /// The text of a list's item has the list's separator in it.
+    #[error("array item may not contain the separator")]
+    SeparatorInItem,
+    /// A year outside 1 to 9999.
+    #[error("the year is out of range")]
+    YearRange,
+}
+
+impl CastFault {
+    ghost use Rattle.html_values.specs.CastFaults.{number_of};
+
+    /// The fault's number: 0 for want of memory, and from 16 on in the order of the variants.
+    pub fn number(&self) -> u8
+        ensures { result ≡ number_of self.now }
+    {
+        match self {
+            CastFault::OutOfMemory => 0,
+            CastFault::WrongKind => 16,
+            CastFault::NotInStrings => 17,
+            CastFault::NumberRange => 18,
+            CastFault::NotOneChar => 19,
+            CastFault::VerticalDir => 20,
+            CastFault::BadImageSource => 21,
+            CastFault::SeparatorInItem => 22,
+            CastFault::YearRange => 23,
+        }
+    }
+}
+
+impl From<AllocError> for CastFault {
+    ghost use Rattle.html_values.specs.declared.cast_fault.CastFault.TheVariants.{OutOfMemory};
+
+    ghost from_gives = { λ _ e. e ≡ OutOfMemory };
+
+    fn from(_refused: AllocError) -> CastFault {
+        CastFault::OutOfMemory
+    }
+}
+
+impl<T: Drop> From<AllocFailed<T>> for CastFault {
+    ghost use Rattle.html_values.specs.declared.cast_fault.CastFault.TheVariants.{OutOfMemory};
+
+    ghost from_gives = { λ _ e. e ≡ OutOfMemory };
+
+    fn from(_refused: AllocFailed<T>) -> CastFault {
+        CastFault::OutOfMemory
+    }
+}

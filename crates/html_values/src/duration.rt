@@ -1,0 +1,73 @@
+ghost use Rattle.std.specs.Prelude.{◌≡◌, ◌++◌, OnOk, codes, IsTrue};
+ghost use Rattle.html_names.specs.Names.{is_ascii};
+ghost use Rattle.html_names.specs.Texts.{text_view};
+ghost use Rattle.html_values.specs.AttrTexts.{counts_text, count_text, gap_after, spaced};
+ghost use Rattle.html_values.specs.Attributes.{IsText};
+
+use crate::into_attr::IntoAttr;
+use crate::text::{ascii, empty, push_ascii, push_number};
+use std::alloc::{AllocError, Global};
+
+const MINUTE: u64 = 60;
+
+const HOUR: u64 = 60 * MINUTE;
+
+const DAY: u64 = 24 * HOUR;
+
+const WEEK: u64 = 7 * DAY;
+
+/// A span of time in whole seconds.
+///
+/// Its text has weeks, days, hours, minutes and seconds, each above zero, as in `1w 2d`; `0s` where
+/// there is none (HTML Standard 2.3.5, duration strings).
+#[derive(Clone, Copy, Debug, PartialEq, Eq)]
+pub struct Duration(pub u64);
+
+/// Adds a space, unless the text is empty.
+fn push_gap(text: &mut String) -> Result<(), AllocError>
+    ensures { OnOk result (text_view text.new ≡ gap_after (text_view text.old)) }
+{
+    if text.as_str().is_empty() {
+        return Ok(());
+    }
+    push_ascii(text, " ")
+}
+
+/// Adds a count with its unit, unless it is zero, and a space before it, unless it is the first.
+fn push_count(text: &mut String, count: u64, unit: &str) -> Result<(), AllocError>
+    requires { IsTrue (is_ascii unit.now) }
+    ensures { OnOk result (text_view text.new ≡ spaced (text_view text.old) (count_text count unit.now)) }
+{
+    if count == 0 {
+        return Ok(());
+    }
+    push_gap(text)?;
+    push_number(text, count)?;
+    push_ascii(text, unit)
+}
+
+/// The counts that are above zero.
+fn counts(alloc: Global, seconds: u64) -> Result<String, AllocError>
+    ensures { IsText result (counts_text seconds) }
+{
+    let mut text = empty(alloc);
+    push_count(&mut text, seconds / WEEK, "w")?;
+    push_count(&mut text, seconds / DAY % 7, "d")?;
+    push_count(&mut text, seconds / HOUR % 24, "h")?;
+    push_count(&mut text, seconds / MINUTE % 60, "m")?;
+    push_count(&mut text, seconds % 60, "s")?;
+    Ok(text)
+}
+
+impl IntoAttr for Duration {
+    ghost use Rattle.html_values.specs.AttrTexts.{duration_text};
+
+    ghost attr_text = { λ d. duration_text d.0 };
+
+    fn into_attr(&self, alloc: Global) -> Result<String, AllocError> {
+        if self.0 == 0 {
+            return ascii(alloc, "0s");
+        }
+        counts(alloc, self.0)
+    }
+}

@@ -1,0 +1,54 @@
+ghost use Rattle.std.specs.Prelude.{option_map};
+ghost use Rattle.std.specs.Int.NonZero.{non_zero_u64_get};
+ghost use Rattle.html_names.specs.Texts.{text_view};
+ghost use Rattle.html_values.specs.AttrTexts.{size_text, candidate_text};
+
+use crate::into_attr::IntoAttr;
+use crate::text::{empty, push_ascii, push_number};
+use std::alloc::{AllocError, Global};
+use std::num::NonZeroU64;
+
+/// The size of an icon in pixels, written `16x16` (HTML Standard 4.6.7.8, `sizes`).
+#[derive(Clone, Copy, Debug, PartialEq, Eq)]
+pub struct IconSize {
+    /// From left to right.
+    pub width: u64,
+    /// From top to bottom.
+    pub height: u64,
+}
+
+/// A source of an image and perhaps its width in pixels, written `x.png 480w` (HTML Standard
+/// 4.8.4.2.1, image candidate strings).
+#[derive(Debug, Drop, PartialEq, Eq)]
+pub struct ImageCandidate {
+    /// Where the image is.
+    pub src: String,
+    /// How wide it is.
+    pub width: Option<NonZeroU64>,
+}
+
+impl IntoAttr for IconSize {
+    ghost attr_text = { λ size. size_text size.width size.height };
+
+    fn into_attr(&self, alloc: Global) -> Result<String, AllocError> {
+        let mut text = empty(alloc);
+        push_number(&mut text, self.width)?;
+        push_ascii(&mut text, "x")?;
+        push_number(&mut text, self.height)?;
+        Ok(text)
+    }
+}
+
+impl IntoAttr for ImageCandidate {
+    ghost attr_text = { λ image. candidate_text (text_view image.src) (option_map non_zero_u64_get image.width) };
+
+    fn into_attr(&self, _alloc: Global) -> Result<String, AllocError> {
+        let mut text = self.src.clone()?;
+        if let Some(width) = self.width {
+            push_ascii(&mut text, " ")?;
+            push_number(&mut text, width.get())?;
+            push_ascii(&mut text, "w")?;
+        }
+        Ok(text)
+    }
+}

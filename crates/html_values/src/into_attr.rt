@@ -1,0 +1,107 @@
+ghost use Rattle.std.specs.Prelude.{ℕ, List, ◌∷◌, []};
+ghost use Rattle.std.specs.Fmt.{decimal, signed_decimal};
+ghost use Rattle.std.specs.Int.NonZero.{non_zero_i64_get, non_zero_u64_get};
+ghost use Rattle.html_names.specs.Texts.{text_view};
+ghost use Rattle.html_css.specs.Colors.{color_text};
+ghost use Rattle.html_values.specs.AttrTexts.{dir_text};
+ghost use Rattle.html_values.specs.Attributes.{IsText};
+
+use crate::text::{ascii, empty, push_char, push_number};
+use html_css::{Dir, Rgba, ToCss};
+use std::alloc::{AllocError, Global};
+use std::num::{NonZeroI64, NonZeroU64};
+
+/// A value that has a text as an attribute. The text is decided by the value.
+pub trait IntoAttr {
+    /// The text of a value.
+    ghost attr_text: { Self → List ℕ };
+
+    /// The value's text.
+    fn into_attr(&self, alloc: Global) -> Result<String, AllocError>
+        ensures { IsText result (attr_text self.now) };
+}
+
+/// A text as it is.
+#[derive(Debug, Drop, PartialEq, Eq)]
+pub struct Str(pub String);
+
+impl IntoAttr for Str {
+    ghost attr_text = { λ s. text_view s.0 };
+
+    fn into_attr(&self, _alloc: Global) -> Result<String, AllocError> {
+        self.0.clone()
+    }
+}
+
+impl IntoAttr for char {
+    ghost attr_text = { λ c. c ∷ [] };
+
+    fn into_attr(&self, alloc: Global) -> Result<String, AllocError> {
+        let mut text = empty(alloc);
+        push_char(&mut text, *self)?;
+        Ok(text)
+    }
+}
+
+impl IntoAttr for u64 {
+    ghost attr_text = { decimal };
+
+    fn into_attr(&self, alloc: Global) -> Result<String, AllocError> {
+        let mut text = empty(alloc);
+        push_number(&mut text, *self)?;
+        Ok(text)
+    }
+}
+
+impl IntoAttr for NonZeroU64 {
+    ghost attr_text = { λ n. decimal (non_zero_u64_get n) };
+
+    fn into_attr(&self, alloc: Global) -> Result<String, AllocError> {
+        u64::into_attr(&self.get(), alloc)
+    }
+}
+
+impl IntoAttr for i64 {
+    ghost attr_text = { signed_decimal };
+
+    fn into_attr(&self, alloc: Global) -> Result<String, AllocError> {
+        let mut text = empty(alloc);
+        if *self < 0 {
+            push_char(&mut text, '-')?;
+        }
+        push_number(&mut text, self.unsigned_abs())?;
+        Ok(text)
+    }
+}
+
+impl IntoAttr for NonZeroI64 {
+    ghost attr_text = { λ n. signed_decimal (non_zero_i64_get n) };
+
+    fn into_attr(&self, alloc: Global) -> Result<String, AllocError> {
+        i64::into_attr(&self.get(), alloc)
+    }
+}
+
+impl IntoAttr for Dir {
+    ghost attr_text = { dir_text };
+
+    fn into_attr(&self, alloc: Global) -> Result<String, AllocError> {
+        ascii(
+            alloc,
+            match self {
+                Dir::LTR => "ltr",
+                Dir::RTL => "rtl",
+                Dir::TTB => "ttb",
+                Dir::BTT => "btt",
+            },
+        )
+    }
+}
+
+impl IntoAttr for Rgba {
+    ghost attr_text = { color_text };
+
+    fn into_attr(&self, alloc: Global) -> Result<String, AllocError> {
+        self.to_css(alloc, &mut ())
+    }
+}

@@ -1,0 +1,35 @@
+use crate::moment::Moment;
+use html_css::{Dir, Rgba};
+
+/// A value of a document, which a type of attribute casts to a text.
+#[derive(Debug, Drop)]
+#[cycle(value)]
+pub enum Value {
+    /// Nothing.
+    None,
+    /// What decides by itself.
+    Auto,
+    /// A truth.
+    Bool(bool),
+    /// A whole number.
+    Int(i64),
+    /// A text.
+    Str(String),
+    /// A colour.
+    Color(Rgba),
+    /// A date, a time, or both.
+    Datetime(Moment),
+    /// A span of time in seconds.
+    Duration(u64),
+    /// A direction of writing.
+    Dir(Dir),
+    /// An image.
+    Image {
+        /// Where the image is.
+        src: String,
+        /// How wide it is in pixels.
+        width: Option<i64>,
+    },
+    /// Several values.
+    Array(Vec<Value>),
+}
