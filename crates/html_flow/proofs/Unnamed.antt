@@ -6,7 +6,8 @@ use Rattle.std.proofs.lemmas.Option.{none-some, same_Some}
 use Rattle.html_names.specs.Kinds.{is_void, is_raw}
 use Rattle.html_flow.specs.declared.fault.ConstructFault.{ConstructFault}
 use Rattle.html_flow.specs.declared.fault.ConstructFault.TheVariants.{OutOfMemory, Casts, BodyKind}
-use Rattle.html_flow.specs.Construct.{Argument, IsBodyRefusal, IsTakenRefusal, arg_at, arg_view, args_view, as_body, fails, keeping, taken, taken_as, taken_first, takes, unnamed_at}
+use Rattle.html_flow.specs.Construct.{Argument, arg_view, args_view, as_body, fails, keeping, taken, taken_as, taken_first, takes}
+use Rattle.html_flow.specs.Pieces.{IsBodyRefusal, IsTakenRefusal, arg_at, unnamed_at}
 use Rattle.html_flow.specs.Items.{Body, absent}
 use Rattle.html_flow.specs.declared.args.Arg.{Arg}
 

@@ -1,6 +1,6 @@
 -- An element that is constructed of arguments: attributes of its typed arguments, and a body of the first
 -- argument without a name.
-use Rattle.std.specs.Prelude.{ℕ, suc, List, [], ◌∷◌, ◌++◌, map, Bool, false, if◌then◌else◌, Option, None, Some, option_map, is_some, bytes_eq, ◌≡◌, ◌<◌, length, get_or}
+use Rattle.std.specs.Prelude.{ℕ, List, [], ◌∷◌, ◌++◌, map, Bool, false, if◌then◌else◌, Option, None, Some, option_map, is_some, bytes_eq, ◌≡◌}
 use Rattle.html_names.specs.Kinds.{is_void, is_raw}
 use Rattle.html_names.specs.Texts.{Pair, text_view}
 use Rattle.html_names.specs.declared.html_attr.HtmlAttr.{HtmlAttr}
@@ -11,7 +11,7 @@ use Rattle.html_values.specs.Values.{Val, none_val, str_val, value_view}
 use Rattle.html_values.specs.declared.attr_type.AttrType.{AttrType}
 use Rattle.html_values.specs.declared.cast_fault.CastFault.{CastFault}
 use Rattle.html_values.specs.declared.cast_fault.CastFault.TheVariants.{WrongKind}
-use Rattle.html_flow.specs.Items.{Elem, Contents, no_contents, content, text_content, inherits, Body, absent, present}
+use Rattle.html_flow.specs.Items.{Elem, Contents, no_contents, content, text_content, inherits, Body, absent, present, new_head}
 use Rattle.html_flow.specs.Views.{contents_view}
 use Rattle.html_flow.specs.declared.args.ArgValue.{ArgValue}
 use Rattle.html_flow.specs.declared.args.ArgValue.TheVariants.{Plain, Body as Items}
@@ -138,7 +138,7 @@ pub data Outcome : Type 0 where
   body_fails : (span : ℕ) → Outcome
 
 abbrev pub element_of : List ℕ → List Pair → Body → Elem
-element_of name pairs body = (record { name = name; attrs = pairs; css = []; parent = None; span = 0 }, body)
+element_of name pairs body = (record (new_head name) { attrs = pairs }, body)
 
 abbrev pub with_body : List ℕ → List Entry → List Pair → Taken → Outcome
 with_body name es pairs (takes body left) = makes (element_of name pairs body) (others es left)
@@ -156,40 +156,6 @@ constructed info args =
 
 abbrev pub faults_view : List (CastFault × Span) → List (CastFault × ℕ)
 faults_view = map (λ f. (f.0, f.1.0))
-
--- where the first argument without a name stands
-abbrev pub unnamed_at : List Argument → Option ℕ
-unnamed_at [] = None
-unnamed_at (a ∷ more) = if is_some a.name then option_map (λ k. suc k) (unnamed_at more) else Some 0
-
--- the argument that stands there
-abbrev pub no_argument : Argument
-no_argument = record { name = None; span = 0; given = plain none_val }
-
-abbrev pub arg_at : List Argument → ℕ → Argument
-arg_at args place = get_or args place no_argument
-
--- items are a body of their own, whatever is made of a value
-abbrev pub or_own : Given → Contents → Contents
-or_own (plain v) made = made
-or_own (items c) made = c
-
--- a body of the wrong kind, or want of memory
-abbrev pub IsBodyRefusal : Option Body → ℕ → ConstructFault → Type 0
-IsBodyRefusal body span OutOfMemory = Unit
-IsBodyRefusal body span (Casts fs) = ⊥
-IsBodyRefusal body span (BodyKind place) = (body ≡ None) × (place.0 ≡ span)
-
-abbrev pub IsTakenRefusal : Taken → ConstructFault → Type 0
-IsTakenRefusal outcome OutOfMemory = Unit
-IsTakenRefusal outcome (Casts fs) = ⊥
-IsTakenRefusal outcome (BodyKind span) = outcome ≡ fails span.0
-
--- the faults of a refusal, or want of memory
-abbrev pub AreFaults : List (CastFault × ℕ) → ConstructFault → Type 0
-AreFaults found OutOfMemory = Unit
-AreFaults found (Casts fs) = (0 < length found) × (found ≡ faults_view fs.items)
-AreFaults found (BodyKind span) = ⊥
 
 -- a refusal is the right one, or want of memory
 abbrev pub IsRefusal : Outcome → ConstructFault → Type 0

@@ -21,8 +21,8 @@ dir_text TTB = codes "ttb"
 dir_text BTT = codes "btt"
 
 abbrev pub horizontal_text : HorizontalDir → List ℕ
-horizontal_text HorizontalDir.LTR = codes "ltr"
-horizontal_text HorizontalDir.RTL = codes "rtl"
+horizontal_text HorizontalDir.LTR = dir_text LTR
+horizontal_text HorizontalDir.RTL = dir_text RTL
 
 -- a number below a hundred in two digits, and one below ten thousand in four
 abbrev pub two_digits : ℕ → List ℕ

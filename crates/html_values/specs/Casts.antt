@@ -9,7 +9,7 @@ use Rattle.html_names.specs.Texts.{text_view}
 use Rattle.html_css.specs.Colors.{color_text}
 use Rattle.html_css.specs.declared.direction.Dir.{Dir}
 use Rattle.html_css.specs.declared.direction.Dir.TheVariants.{LTR, RTL, TTB, BTT}
-use Rattle.html_values.specs.AttrTexts.{word_of, has_year, moment_text, duration_text, size_text, candidate_text}
+use Rattle.html_values.specs.AttrTexts.{word_of, dir_text, has_year, moment_text, duration_text, size_text, candidate_text}
 use Rattle.html_values.specs.Types.{Kind, presence, native, strings, union, list, Kinds, no_kinds, kind}
 use Rattle.html_values.specs.Values.{Val, none_val, auto_val, bool_val, int_val, str_val, color_val, datetime_val, duration_val, dir_val, image_val, array_val, Vals, no_vals, val}
 use Rattle.html_values.specs.declared.cast_fault.CastFault.{CastFault}
@@ -81,8 +81,8 @@ one_char (c ∷ []) = gives (c ∷ [])
 one_char cs = refuses NotOneChar
 
 abbrev pub horizontal : Dir → Answer
-horizontal LTR = gives (codes "ltr")
-horizontal RTL = gives (codes "rtl")
+horizontal LTR = gives (dir_text LTR)
+horizontal RTL = gives (dir_text RTL)
 horizontal TTB = refuses VerticalDir
 horizontal BTT = refuses VerticalDir
 

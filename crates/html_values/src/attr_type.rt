@@ -1,12 +1,10 @@
-ghost use Rattle.std.specs.Prelude.{◌≡◌, ◌&&◌, false, IfOk, IfErr, chars, Ok};
-ghost use Rattle.std.specs.Str.{bytes_eq};
-ghost use Rattle.html_names.specs.Names.{stands_in};
+ghost use Rattle.std.specs.Prelude.{◌≡◌, ◌&&◌, false, IfOk, IfErr, Ok};
 ghost use Rattle.html_names.specs.Texts.{text_view};
 ghost use Rattle.html_values.specs.Casts.{IsRefusal, alone, answered, cast, castable, castable_by_any, first_cast, gives, has_presence, item_texts, joined, presence_in, takes};
 ghost use Rattle.html_values.specs.Types.{inner_view, list, listed_view, texts_view, type_view, types_view};
 ghost use Rattle.html_values.specs.Values.{value_view, values_view};
 
-use crate::cast::{allowed, counted, joined, unparted};
+use crate::cast::{allowed, counted, is_among, joined, unparted};
 use crate::cast_fault::CastFault;
 use crate::native_type::NativeType;
 use crate::text::empty;
@@ -91,26 +89,6 @@ impl NativeType {
             NativeType::ImageCandidate => matches!(value, Value::Image { .. }),
         }
     }
-}
-
-/// Whether a text is one of these.
-#[tactic(auto, unfolding(html_names::specs::Names::stands_in))]
-pub(crate) fn is_among(text: &str, texts: &[String]) -> bool
-    ensures { result ≡ stands_in (texts_view texts.now) (chars text.now) }
-{
-    for allowed in texts {
-        if is_same(allowed.as_str(), text) {
-            return true;
-        }
-    }
-    false
-}
-
-#[tactic(auto, using(html_names::proofs::Lists::in_characters))]
-fn is_same(a: &str, b: &str) -> bool
-    ensures { result ≡ bytes_eq (chars a.now) (chars b.now) }
-{
-    *a == *b
 }
 
 impl AttrType {

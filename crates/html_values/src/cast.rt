@@ -2,17 +2,38 @@
 
 ghost use Rattle.std.specs.Prelude.{◌≡◌, ◌++◌, ◌==◌, chars, IfOk, IfErr, OnOk, Ok, Err};
 ghost use Rattle.std.specs.List.{flat_map, join_by, list_any};
+ghost use Rattle.std.specs.Str.{bytes_eq};
+ghost use Rattle.html_names.specs.Names.{stands_in};
 ghost use Rattle.html_names.specs.Texts.{text_view};
 ghost use Rattle.html_values.specs.Attributes.{IsText};
 ghost use Rattle.html_values.specs.Casts.{IsRefusal, answered, between, counted, gives, item_text, strings_cast};
 ghost use Rattle.html_values.specs.Types.{texts_view};
 ghost use Rattle.html_values.specs.Values.{value_view};
 
-use crate::attr_type::is_among;
 use crate::cast_fault::CastFault;
 use crate::text::{empty, push_char, push_text};
 use crate::value::Value;
 use std::alloc::{AllocError, Global};
+
+/// Whether a text is one of these.
+#[tactic(auto, unfolding(html_names::specs::Names::stands_in))]
+pub(crate) fn is_among(text: &str, texts: &[String]) -> bool
+    ensures { result ≡ stands_in (texts_view texts.now) (chars text.now) }
+{
+    for allowed in texts {
+        if is_same(allowed.as_str(), text) {
+            return true;
+        }
+    }
+    false
+}
+
+#[tactic(auto, using(html_names::proofs::Lists::in_characters))]
+fn is_same(a: &str, b: &str) -> bool
+    ensures { result ≡ bytes_eq (chars a.now) (chars b.now) }
+{
+    *a == *b
+}
 
 /// A text that is one of these.
 pub(crate) fn allowed(texts: &[String], value: &Value) -> Result<String, CastFault>

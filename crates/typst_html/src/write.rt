@@ -141,17 +141,16 @@ fn refuse_children(element: &HtmlElement) -> Result<(), ExportFault>
 
 /// Writes a raw text on lines of its own.
 #[tactic(auto, unfolding(crate::specs::Layout::lines_written))]
-fn write_lines(out: &mut Output, tag: &HtmlTag, text: &str, level: usize) -> Result<(), AllocError>
-    ensures { OnOk result (out.new ≡ out.old ++ lines_written level tag.now (chars text.now)) }
+fn write_lines(out: &mut Output, tag: &HtmlTag, text: &str, place: Place) -> Result<(), AllocError>
+    ensures { OnOk result (out.new ≡ out.old ++ lines_written place.level tag.now (chars text.now)) }
 {
     if keeps_lines(tag, text) {
         out.push('\n')?;
         out.push_str(text)?;
     } else {
-        let inner = level.checked_add(1).ok_or(AllocError)?;
-        out.push_lines(text, inner, true)?;
+        out.push_lines(text, place.deeper()?.level, true)?;
     }
-    out.push_indent(level)
+    out.push_indent(place.level)
 }
 
 /// Writes a raw text.
@@ -164,7 +163,7 @@ fn write_raw_text(
     ensures { OnOk result (out.new ≡ out.old ++ raw_written place.pretty place.level (head_of element.now) (chars text.now)) }
 {
     if place.pretty && is_by_lines(element) {
-        write_lines(out, &element.tag, text, place.level)
+        write_lines(out, &element.tag, text, place)
     } else {
         out.push_str(text)
     }

@@ -1,6 +1,7 @@
 use Rattle.std.proofs.Common.{◌∙◌, ◌≡◌, ap, sym, false, Some}
 use Rattle.html_names.specs.Kinds.{is_void}
-use Rattle.html_flow.specs.Construct.{args_view, takes, unnamed_at}
+use Rattle.html_flow.specs.Construct.{args_view, takes}
+use Rattle.html_flow.specs.Pieces.{unnamed_at}
 use Rattle.html_flow.specs.Items.{present}
 use Rattle.html_flow.specs.Views.{contents_view}
 use Rattle.html_flow.proofs.Unnamed.{no_body, a_body, a_refusal, removed_view}
