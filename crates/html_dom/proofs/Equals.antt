@@ -1,10 +1,10 @@
 -- Nodes with one view are equally many.
 use Rattle.std.proofs.Common.{◌≡◌, ℕ, suc, List, [], ◌∷◌, length, ap, refl}
-use Rattle.html_dom.specs.Tree.{Nodes, none, node}
+use Rattle.html_dom.specs.Tree.{NodesView, none, node}
 use Rattle.html_dom.specs.Views.{nodes_view}
 use Rattle.html_dom.specs.declared.node.HtmlNode.{HtmlNode}
 
-abbrev count : Nodes → ℕ
+abbrev count : NodesView → ℕ
 count none = 0
 count (node n ns) = suc (count ns)
 

@@ -1,16 +1,16 @@
--- `all_styled` over a list, and the text before a value.
+-- `nodes_styled` over a list, and the text before a value.
 use Rattle.std.proofs.Common.{◌≡◌, ℕ, ◌<◌, List, [], ◌∷◌, ◌++◌, length, map, codes, chars, IsUtf8, refl, sym, ap, ◌∙◌, arith}
 use Rattle.std.proofs.lemmas.Str.{chars-nil, encodes-chars}
 use lib.Utf8.{encodes}
 use Rattle.html_names.proofs.Lists.{chars_ascii}
-use Rattle.html_dom.specs.Tree.{Node, node}
+use Rattle.html_dom.specs.Tree.{NodeView, node}
 use Rattle.html_dom.specs.Views.{nodes_of}
-use Rattle.html_dom.specs.Styled.{styled, all_styled, before_value}
+use Rattle.html_dom.specs.Styled.{node_styled, nodes_styled, before_value}
 
-pub all_styled_of : (ns : List Node) → all_styled (nodes_of ns) ≡ nodes_of (map styled ns)
-unfolding styled
+pub all_styled_of : (ns : List NodeView) → nodes_styled (nodes_of ns) ≡ nodes_of (map node_styled ns)
+unfolding node_styled
 all_styled_of [] = refl
-all_styled_of (n ∷ ns) = ap (node (styled n)) (all_styled_of ns)
+all_styled_of (n ∷ ns) = ap (node (node_styled n)) (all_styled_of ns)
 
 -- a text before an empty value, and before one that is not empty
 pub before_nothing : (t b : List ℕ) → length b ≡ 0 → before_value t (chars b) ≡ t

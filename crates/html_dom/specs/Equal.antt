@@ -5,8 +5,8 @@ use mathlib.Core.Bool.{Bool-discrete}
 use mathlib.Core.HLevel.{×_discrete}
 use Rattle.std.proofs.Common.{ap}
 pub use Rattle.html_names.specs.Equal.{same, same_decides, same_equiv, option_discrete, text_discrete, pairs_discrete}
-pub use Rattle.html_dom.specs.FrameEqual.{marker_discrete, box_discrete}
-use Rattle.html_dom.specs.Tree.{Pair, Head, Node, Node-discrete, Nodes, Nodes-discrete, Elem}
+pub use Rattle.html_dom.specs.FrameEqual.{tag_discrete, html_frame_discrete}
+use Rattle.html_dom.specs.Tree.{Pair, Head, NodeView, NodeView-discrete, NodesView, NodesView-discrete, ElementView}
 
 abbrev Parts : Type 0
 Parts = List ℕ × (List Pair × (List Pair × (Option ℕ × (ℕ × Bool))))
@@ -23,11 +23,11 @@ parts_discrete = ×_discrete text_discrete (×_discrete pairs_discrete (×_discr
 head_discrete : Discrete Head
 head_discrete g h = elim (parts_discrete (parts g) (parts h)) [ yes p ↦ yes (ap of_parts p) | no n ↦ no (λ e. n (ap parts e)) ]
 
-pub node_discrete : Discrete Node
-node_discrete = Node-discrete marker_discrete text_discrete ℕ_discrete head_discrete box_discrete
+pub node_discrete : Discrete NodeView
+node_discrete = NodeView-discrete tag_discrete text_discrete ℕ_discrete head_discrete html_frame_discrete
 
-nodes_discrete : Discrete Nodes
-nodes_discrete = Nodes-discrete marker_discrete text_discrete ℕ_discrete head_discrete box_discrete
+nodes_discrete : Discrete NodesView
+nodes_discrete = NodesView-discrete tag_discrete text_discrete ℕ_discrete head_discrete html_frame_discrete
 
-pub element_discrete : Discrete Elem
+pub element_discrete : Discrete ElementView
 element_discrete = ×_discrete head_discrete nodes_discrete

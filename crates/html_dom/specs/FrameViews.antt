@@ -1,9 +1,9 @@
 -- The drawings that the program's frames stand for.
 use Rattle.std.specs.Prelude.{ℕ, List, [], ◌∷◌, map, Option, option_map, String}
 use Rattle.std.specs.declared.alloc.Global.{Global}
-use Rattle.html_dom.specs.Drawings.{Place, Drawing, drawing, Items, no_items, item, Thing, marker, group, link, other, Box}
+use Rattle.html_dom.specs.Frames.{PointView, FrameView, frame, FrameItemsView, no_items, item, FrameItemView, tag_item, group_item, link_item, other_item, HtmlFrameView}
 use Rattle.html_names.specs.Texts.{text_view}
-use Rattle.html_dom.specs.Marks.{Marker, starts, ends}
+use Rattle.html_dom.specs.Tags.{TagView, starts, ends}
 use Rattle.html_dom.specs.declared.place.Tag.{Tag}
 use Rattle.html_dom.specs.declared.place.Tag.TheVariants.{Start, End}
 use Rattle.html_dom.specs.declared.frame.Point.{Point}
@@ -14,48 +14,48 @@ use Rattle.html_dom.specs.declared.frame.FrameItem.{FrameItem, FrameItem-F, fold
 abbrev pub label_view : Option (String Global) → Option (List ℕ)
 label_view = option_map text_view
 
-abbrev pub marker_view : Tag → Marker
-marker_view (Start location label dest) = starts location.0 (label_view label) (option_map (λ l. l.0) dest)
-marker_view (End location) = ends location.0
+abbrev pub tag_view : Tag → TagView
+tag_view (Start location label dest) = starts location.0 (label_view label) (option_map (λ l. l.0) dest)
+tag_view (End location) = ends location.0
 
-abbrev pub place_view : Point → Place
-place_view p = (p.x, p.y)
+abbrev pub point_view : Point → PointView
+point_view p = (p.x, p.y)
 
-abbrev pub anchor_view : Point × String Global → Place × List ℕ
-anchor_view a = (place_view a.0, text_view a.1)
+abbrev pub anchor_view : Point × String Global → PointView × List ℕ
+anchor_view a = (point_view a.0, text_view a.1)
 
 -- things of a frame, each already seen
-abbrev pub items_of : List (Point × Thing) → Items
-items_of [] = no_items
-items_of (x ∷ xs) = item (place_view x.0) x.1 (items_of xs)
+abbrev pub frame_items_of : List (Point × FrameItemView) → FrameItemsView
+frame_items_of [] = no_items
+frame_items_of (x ∷ xs) = item (point_view x.0) x.1 (frame_items_of xs)
 
-abbrev pub thing_step : FrameItem-F Thing Drawing → Thing
-thing_step (FrameItem-F.Tag t) = marker (marker_view t)
-thing_step (FrameItem-F.Group f) = group f
-thing_step (FrameItem-F.Link l) = link (option_map (λ d. d.0) l)
-thing_step FrameItem-F.Other = other
+abbrev pub frame_item_step : FrameItem-F FrameItemView FrameView → FrameItemView
+frame_item_step (FrameItem-F.Tag t) = tag_item (tag_view t)
+frame_item_step (FrameItem-F.Group f) = group_item f
+frame_item_step (FrameItem-F.Link l) = link_item (option_map (λ d. d.0) l)
+frame_item_step FrameItem-F.Other = other_item
 
-abbrev pub drawing_step : Frame-F Thing Drawing → Drawing
-drawing_step f = drawing f.picture (items_of f.items.items)
+abbrev pub frame_step : Frame-F FrameItemView FrameView → FrameView
+frame_step f = frame f.picture (frame_items_of f.items.items)
 
-abbrev pub thing_view : FrameItem → Thing
-thing_view = fold-FrameItem Thing Drawing thing_step drawing_step
+abbrev pub frame_item_view : FrameItem → FrameItemView
+frame_item_view = fold-FrameItem FrameItemView FrameView frame_item_step frame_step
 
-abbrev pub item_view : Point × FrameItem → Point × Thing
-item_view x = (x.0, thing_view x.1)
+abbrev pub positioned_view : Point × FrameItem → Point × FrameItemView
+positioned_view x = (x.0, frame_item_view x.1)
 
-abbrev pub items_view : List (Point × FrameItem) → Items
-items_view xs = items_of (map item_view xs)
+abbrev pub frame_items_view : List (Point × FrameItem) → FrameItemsView
+frame_items_view xs = frame_items_of (map positioned_view xs)
 
-abbrev pub drawing_view : Frame → Drawing
-drawing_view f = drawing f.picture (items_view f.items.items)
+abbrev pub frame_view : Frame → FrameView
+frame_view f = frame f.picture (frame_items_view f.items.items)
 
-abbrev pub anchors_view : List (Point × String Global) → List (Place × List ℕ)
+abbrev pub anchors_view : List (Point × String Global) → List (PointView × List ℕ)
 anchors_view = map anchor_view
 
-abbrev pub box_view : HtmlFrame → Box
-box_view f = record {
-  inner = drawing_view f.inner;
+abbrev pub html_frame_view : HtmlFrame → HtmlFrameView
+html_frame_view f = record {
+  inner = frame_view f.inner;
   text_size = f.text_size;
   id = label_view f.id;
   css = f.css;

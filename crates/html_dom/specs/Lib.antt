@@ -1,11 +1,11 @@
 pub mod Attributes
-pub mod Drawings
+pub mod Frames
 pub mod Equal
 pub mod FrameEqual
 pub mod FrameViews
 pub mod Hashes
 pub mod Lending
-pub mod Marks
+pub mod Tags
 pub mod PlainTree
 pub mod Styled
 pub mod Tree

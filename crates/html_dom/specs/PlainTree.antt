@@ -1,7 +1,7 @@
 -- Plain trees: what is left of a tree when tags, spans, parents and flags are forgotten, neighbouring texts are
 -- joined, also across dropped tags, and empty texts are gone. That is a tree's normal form, of a tree without frames.
 use Rattle.std.specs.Prelude.{ℕ, List, [], ◌∷◌, ◌++◌}
-use Rattle.html_dom.specs.Tree.{Pair, tag_node, text_node, element_node, frame_node, Nodes, none, node, Elem}
+use Rattle.html_dom.specs.Tree.{Pair, tag_node, text_node, element_node, frame_node, NodesView, none, node, ElementView}
 
 mutual
   pub data Plain : Type 0 where
@@ -20,13 +20,13 @@ put_words (c ∷ cs) (plain (words t) ps) = plain (words ((c ∷ cs) ++ t)) ps
 put_words (c ∷ cs) (plain (branch name attrs kids) ps) = plain (words (c ∷ cs)) (plain (branch name attrs kids) ps)
 
 -- one recursion goes through both types
-unfoldable pub normal_nodes : Nodes → Plains
-normal_nodes none = no_plains
-normal_nodes (node (tag_node t) ns) = normal_nodes ns
-normal_nodes (node (text_node s span) ns) = put_words s (normal_nodes ns)
-normal_nodes (node (element_node h kids) ns) = plain (branch h.name h.attrs (normal_nodes kids)) (normal_nodes ns)
-normal_nodes (node (frame_node b) ns) = normal_nodes ns
+unfoldable pub nodes_normal : NodesView → Plains
+nodes_normal none = no_plains
+nodes_normal (node (tag_node t) ns) = nodes_normal ns
+nodes_normal (node (text_node s span) ns) = put_words s (nodes_normal ns)
+nodes_normal (node (element_node h kids) ns) = plain (branch h.name h.attrs (nodes_normal kids)) (nodes_normal ns)
+nodes_normal (node (frame_node b) ns) = nodes_normal ns
 
 -- the normal form of an element
-abbrev pub normal : Elem → Plain
-normal e = branch e.0.name e.0.attrs (normal_nodes e.1)
+abbrev pub element_normal : ElementView → Plain
+element_normal e = branch e.0.name e.0.attrs (nodes_normal e.1)

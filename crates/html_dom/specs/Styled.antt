@@ -2,7 +2,7 @@
 use Rattle.std.specs.Prelude.{ℕ, List, [], ◌∷◌, ◌++◌, codes, Option, Some, None}
 use Rattle.html_css.specs.Properties.{inline_text}
 use Rattle.html_dom.specs.Attributes.{first, with_value}
-use Rattle.html_dom.specs.Tree.{Pair, Head, Node, tag_node, text_node, element_node, frame_node, Nodes, none, node, Elem}
+use Rattle.html_dom.specs.Tree.{Pair, Head, NodeView, tag_node, text_node, element_node, frame_node, NodesView, none, node, ElementView}
 
 -- a text before a value, with `; ` between unless the value is empty
 abbrev pub before_value : List ℕ → List ℕ → List ℕ
@@ -14,24 +14,24 @@ abbrev pub put_style : List ℕ → List Pair → Option (List ℕ) → List Pai
 put_style text attrs (Some value) = with_value attrs (codes "style") (before_value text value)
 put_style text attrs None = attrs ++ (codes "style", text) ∷ []
 
-abbrev pub styled_attrs : List Pair → List Pair → List Pair
-styled_attrs [] attrs = attrs
-styled_attrs (p ∷ ps) attrs = put_style (inline_text (p ∷ ps)) attrs (first attrs (codes "style"))
+abbrev pub attrs_styled : List Pair → List Pair → List Pair
+attrs_styled [] attrs = attrs
+attrs_styled (p ∷ ps) attrs = put_style (inline_text (p ∷ ps)) attrs (first attrs (codes "style"))
 
-abbrev pub styled_head : Head → Head
-styled_head h = record h { attrs = styled_attrs h.css h.attrs }
+abbrev pub head_styled : Head → Head
+head_styled h = record h { attrs = attrs_styled h.css h.attrs }
 
 -- nothing else is changed
 unfoldable mutual
-  pub styled : Node → Node
-  styled (tag_node t) = tag_node t
-  styled (text_node s span) = text_node s span
-  styled (element_node h ns) = element_node (styled_head h) (all_styled ns)
-  styled (frame_node b) = frame_node b
+  pub node_styled : NodeView → NodeView
+  node_styled (tag_node t) = tag_node t
+  node_styled (text_node s span) = text_node s span
+  node_styled (element_node h ns) = element_node (head_styled h) (nodes_styled ns)
+  node_styled (frame_node b) = frame_node b
 
-  pub all_styled : Nodes → Nodes
-  all_styled none = none
-  all_styled (node n ns) = node (styled n) (all_styled ns)
+  pub nodes_styled : NodesView → NodesView
+  nodes_styled none = none
+  nodes_styled (node n ns) = node (node_styled n) (nodes_styled ns)
 
-abbrev pub styled_element : Elem → Elem
-styled_element e = (styled_head e.0, all_styled e.1)
+abbrev pub element_styled : ElementView → ElementView
+element_styled e = (head_styled e.0, nodes_styled e.1)

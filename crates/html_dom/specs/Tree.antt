@@ -2,8 +2,8 @@
 use Rattle.std.specs.Prelude.{ℕ, List, [], ◌∷◌, ◌++◌, Bool, false, Option, None}
 -- an attribute is a pair: its name and its value
 pub use Rattle.html_names.specs.Texts.{Pair}
-pub use Rattle.html_dom.specs.Marks.{Marker, Marker-discrete, starts, ends}
-use Rattle.html_dom.specs.Drawings.{Box}
+pub use Rattle.html_dom.specs.Tags.{TagView, TagView-discrete, starts, ends}
+use Rattle.html_dom.specs.Frames.{HtmlFrameView}
 
 -- an element apart from its children
 pub record Head : Type 0 where
@@ -15,32 +15,32 @@ pub record Head : Type 0 where
   pub pre_span : Bool
 
 mutual
-  pub data Node : Type 0 where
-    tag_node : Marker → Node
-    text_node : (content : List ℕ) (span : ℕ) → Node
-    element_node : (head : Head) (children : Nodes) → Node
-    frame_node : Box → Node
-    deriving Discrete as Node-discrete
+  pub data NodeView : Type 0 where
+    tag_node : TagView → NodeView
+    text_node : (content : List ℕ) (span : ℕ) → NodeView
+    element_node : (head : Head) (children : NodesView) → NodeView
+    frame_node : HtmlFrameView → NodeView
+    deriving Discrete as NodeView-discrete
 
-  pub data Nodes : Type 0 where
-    none : Nodes
-    node : Node → Nodes → Nodes
-    deriving Discrete as Nodes-discrete
+  pub data NodesView : Type 0 where
+    none : NodesView
+    node : NodeView → NodesView → NodesView
+    deriving Discrete as NodesView-discrete
 
 -- an element, and its children
-abbrev pub Elem : Type 0
-Elem = Head × Nodes
+abbrev pub ElementView : Type 0
+ElementView = Head × NodesView
 
 -- an element of that name and nothing else
-abbrev pub new_element : List ℕ → Elem
+abbrev pub new_element : List ℕ → ElementView
 new_element name = (record { name = name; attrs = []; css = []; parent = None; span = 0; pre_span = false }, none)
 
 -- with a pair as its last
-abbrev pub with_pair : Pair → Elem → Elem
+abbrev pub with_pair : Pair → ElementView → ElementView
 with_pair pair e = (record e.0 { attrs = e.0.attrs ++ pair ∷ [] }, e.1)
 
 -- the place that a node comes from, 0 for a tag
-abbrev pub node_span : Node → ℕ
+abbrev pub node_span : NodeView → ℕ
 node_span (tag_node t) = 0
 node_span (text_node s span) = span
 node_span (element_node h ns) = h.span

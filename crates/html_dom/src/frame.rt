@@ -1,6 +1,6 @@
 ghost use Rattle.std.specs.Prelude.{◌≡◌, IfOk};
-ghost use Rattle.html_dom.specs.Drawings.{new_box};
-ghost use Rattle.html_dom.specs.FrameViews.{thing_view, drawing_view, anchors_view, box_view};
+ghost use Rattle.html_dom.specs.Frames.{new_html_frame};
+ghost use Rattle.html_dom.specs.FrameViews.{frame_item_view, frame_view, anchors_view, html_frame_view};
 
 use crate::place::{Location, Span, Tag, copy_label};
 use html_css::{Abs, Properties};
@@ -59,7 +59,7 @@ pub struct HtmlFrame {
 impl HtmlFrame {
     /// A drawing in the tree with nothing else: no `id`, no css, no anchor.
     pub fn new(alloc: Global, inner: Frame, text_size: Abs, span: Span) -> HtmlFrame
-        ensures { box_view result ≡ new_box (drawing_view inner) text_size span.0 }
+        ensures { html_frame_view result ≡ new_html_frame (frame_view inner) text_size span.0 }
     {
         HtmlFrame {
             inner,
@@ -73,7 +73,7 @@ impl HtmlFrame {
 
     /// A copy.
     pub fn try_clone(&self) -> Result<HtmlFrame, AllocError>
-        ensures { IfOk result (λ copy. box_view copy ≡ box_view self.now) }
+        ensures { IfOk result (λ copy. html_frame_view copy ≡ html_frame_view self.now) }
     {
         Ok(HtmlFrame {
             inner: self.inner.try_clone()?,
@@ -100,7 +100,7 @@ impl FrameItem {
     /// A copy.
     #[cycle(copy_frame)]
     pub fn try_clone(&self) -> Result<FrameItem, AllocError>
-        ensures { IfOk result (λ copy. thing_view copy ≡ thing_view self.now) }
+        ensures { IfOk result (λ copy. frame_item_view copy ≡ frame_item_view self.now) }
     {
         match self {
             FrameItem::Tag(tag) => Ok(FrameItem::Tag(tag.try_clone()?)),
@@ -115,7 +115,7 @@ impl Frame {
     /// A copy of the drawing and all in it.
     #[cycle(copy_frame)]
     pub fn try_clone(&self) -> Result<Frame, AllocError>
-        ensures { IfOk result (λ copy. drawing_view copy ≡ drawing_view self.now) }
+        ensures { IfOk result (λ copy. frame_view copy ≡ frame_view self.now) }
     {
         let mut items = Vec::new(*self.items.allocator());
         for item in &self.items {

@@ -3,7 +3,7 @@
 
 ghost use Rattle.std.specs.Prelude.{◌≡◌, ◌↔◌, IsTrue};
 ghost use Rattle.html_dom.specs.Attributes.{FindsInnerFirst, IsAssociative, KeepsOnNothing, DropsRepeats};
-ghost use Rattle.html_dom.specs.FrameViews.{marker_view, place_view, thing_view, drawing_view, box_view};
+ghost use Rattle.html_dom.specs.FrameViews.{tag_view, point_view, frame_item_view, frame_view, html_frame_view};
 ghost use Rattle.html_dom.specs.Views.{attrs_view, node_view, element_view};
 
 use crate::attrs::HtmlAttrs;
@@ -51,35 +51,35 @@ pub fn equal_locations(a: Location, b: Location) -> bool
 
 /// Tags are equal where all their fields are.
 pub fn equal_tags(a: &Tag, b: &Tag) -> bool
-    ensures { IsTrue result ↔ (marker_view a.now ≡ marker_view b.now) }
+    ensures { IsTrue result ↔ (tag_view a.now ≡ tag_view b.now) }
 {
     a == b
 }
 
 /// Points are equal where both ways are.
 pub fn equal_points(a: Point, b: Point) -> bool
-    ensures { IsTrue result ↔ (place_view a ≡ place_view b) }
+    ensures { IsTrue result ↔ (point_view a ≡ point_view b) }
 {
     a == b
 }
 
 /// What stands in drawings is equal where all fields are, at any depth.
 pub fn equal_frame_items(a: &FrameItem, b: &FrameItem) -> bool
-    ensures { IsTrue result ↔ (thing_view a.now ≡ thing_view b.now) }
+    ensures { IsTrue result ↔ (frame_item_view a.now ≡ frame_item_view b.now) }
 {
     a == b
 }
 
 /// Drawings are equal where all their fields are, at any depth.
 pub fn equal_frames(a: &Frame, b: &Frame) -> bool
-    ensures { IsTrue result ↔ (drawing_view a.now ≡ drawing_view b.now) }
+    ensures { IsTrue result ↔ (frame_view a.now ≡ frame_view b.now) }
 {
     a == b
 }
 
 /// Drawings in a tree are equal where all their fields are, at any depth.
 pub fn equal_html_frames(a: &HtmlFrame, b: &HtmlFrame) -> bool
-    ensures { IsTrue result ↔ (box_view a.now ≡ box_view b.now) }
+    ensures { IsTrue result ↔ (html_frame_view a.now ≡ html_frame_view b.now) }
 {
     a == b
 }

@@ -1,7 +1,7 @@
 ghost use Rattle.std.specs.Prelude.{◌≡◌, ◌++◌, ◌∷◌, [], IfOk, IfErr};
 ghost use Rattle.html_dom.specs.Tree.{new_element, with_pair, node_span, text_node, tag_node, element_node, frame_node};
-ghost use Rattle.html_dom.specs.FrameViews.{box_view};
-ghost use Rattle.html_dom.specs.Views.{text_view, marker_view, node_view, element_view, nodes_view};
+ghost use Rattle.html_dom.specs.FrameViews.{html_frame_view};
+ghost use Rattle.html_dom.specs.Views.{text_view, tag_view, node_view, element_view, nodes_view};
 
 use crate::attrs::HtmlAttrs;
 use crate::frame::HtmlFrame;
@@ -67,7 +67,7 @@ impl HtmlNode {
 }
 
 impl From<Tag> for HtmlNode {
-    ghost from_gives = { λ tag node. node_view node ≡ tag_node (marker_view tag) };
+    ghost from_gives = { λ tag node. node_view node ≡ tag_node (tag_view tag) };
 
     fn from(tag: Tag) -> HtmlNode {
         HtmlNode::Tag(tag)
@@ -83,7 +83,7 @@ impl From<HtmlElement> for HtmlNode {
 }
 
 impl From<HtmlFrame> for HtmlNode {
-    ghost from_gives = { λ frame node. node_view node ≡ frame_node (box_view frame) };
+    ghost from_gives = { λ frame node. node_view node ≡ frame_node (html_frame_view frame) };
 
     fn from(frame: HtmlFrame) -> HtmlNode {
         HtmlNode::Frame(frame)

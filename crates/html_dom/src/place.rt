@@ -1,5 +1,5 @@
 ghost use Rattle.std.specs.Prelude.{◌≡◌, IfOk};
-ghost use Rattle.html_dom.specs.Views.{marker_view, label_view};
+ghost use Rattle.html_dom.specs.Views.{tag_view, label_view};
 
 use std::alloc::AllocError;
 
@@ -42,7 +42,7 @@ pub(crate) fn copy_label(label: &Option<String>) -> Result<Option<String>, Alloc
 impl Tag {
     /// A copy.
     pub fn try_clone(&self) -> Result<Tag, AllocError>
-        ensures { IfOk result (λ tag. marker_view tag ≡ marker_view self.now) }
+        ensures { IfOk result (λ tag. tag_view tag ≡ tag_view self.now) }
     {
         match self {
             Tag::Start {

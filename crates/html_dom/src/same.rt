@@ -1,5 +1,5 @@
 ghost use Rattle.std.specs.Prelude.{◌≡◌, ◌↔◌, IsTrue, map};
-ghost use Rattle.html_dom.specs.Views.{text_view, label_view, marker_view, pair_view, attrs_view, node_view, element_view, nodes_view};
+ghost use Rattle.html_dom.specs.Views.{text_view, label_view, tag_view, pair_view, attrs_view, node_view, element_view, nodes_view};
 
 use crate::attrs::HtmlAttrs;
 use crate::node::{HtmlElement, HtmlNode};
@@ -25,7 +25,7 @@ pub(crate) fn same_label(a: &Option<String>, b: &Option<String>) -> bool
 }
 
 pub(crate) fn same_tag(a: &Tag, b: &Tag) -> bool
-    ensures { IsTrue result ↔ (marker_view a.now ≡ marker_view b.now) }
+    ensures { IsTrue result ↔ (tag_view a.now ≡ tag_view b.now) }
 {
     match a {
         Tag::Start {
@@ -141,12 +141,12 @@ fn same_nodes(a: &[HtmlNode], b: &[HtmlNode]) -> bool
 
 impl PartialEq for Tag {
     ghost use Rattle.std.specs.Cmp.{partial_equiv_from_equiv};
-    ghost use Rattle.html_dom.specs.Equal.{same, same_equiv, marker_discrete};
-    ghost use Rattle.html_dom.specs.Views.{marker_view};
+    ghost use Rattle.html_dom.specs.Equal.{same, same_equiv, tag_discrete};
+    ghost use Rattle.html_dom.specs.Views.{tag_view};
 
-    ghost eq = { same marker_view marker_discrete };
+    ghost eq = { same tag_view tag_discrete };
 
-    ghost laws = { partial_equiv_from_equiv (same_equiv marker_view marker_discrete) };
+    ghost laws = { partial_equiv_from_equiv (same_equiv tag_view tag_discrete) };
 
     fn eq(&self, other: &Tag) -> bool {
         same_tag(self, other)
@@ -154,10 +154,10 @@ impl PartialEq for Tag {
 }
 
 impl Eq for Tag {
-    ghost use Rattle.html_dom.specs.Equal.{same_equiv, marker_discrete};
-    ghost use Rattle.html_dom.specs.Views.{marker_view};
+    ghost use Rattle.html_dom.specs.Equal.{same_equiv, tag_discrete};
+    ghost use Rattle.html_dom.specs.Views.{tag_view};
 
-    ghost laws = { same_equiv marker_view marker_discrete };
+    ghost laws = { same_equiv tag_view tag_discrete };
 }
 
 impl PartialEq for HtmlAttrs {

@@ -1,5 +1,5 @@
 ghost use Rattle.std.specs.Prelude.{◌≡◌, ◌↔◌, IsTrue};
-ghost use Rattle.html_dom.specs.FrameViews.{thing_view, drawing_view, items_view, anchor_view, anchors_view, box_view};
+ghost use Rattle.html_dom.specs.FrameViews.{frame_item_view, frame_view, frame_items_view, anchor_view, anchors_view, html_frame_view};
 
 use crate::frame::{Frame, FrameItem, HtmlFrame, Point};
 use crate::same::{same_label, same_tag, same_text};
@@ -7,7 +7,7 @@ use html_css::laws::equal_properties;
 
 #[cycle(same)]
 fn same_thing(a: &FrameItem, b: &FrameItem) -> bool
-    ensures { IsTrue result ↔ (thing_view a.now ≡ thing_view b.now) }
+    ensures { IsTrue result ↔ (frame_item_view a.now ≡ frame_item_view b.now) }
 {
     match a {
         FrameItem::Tag(tag) => {
@@ -43,7 +43,7 @@ fn same_thing(a: &FrameItem, b: &FrameItem) -> bool
 
 #[cycle(same)]
 fn same_frame(a: &Frame, b: &Frame) -> bool
-    ensures { IsTrue result ↔ (drawing_view a.now ≡ drawing_view b.now) }
+    ensures { IsTrue result ↔ (frame_view a.now ≡ frame_view b.now) }
 {
     a.picture == b.picture && same_items(&a.items, &b.items)
 }
@@ -51,7 +51,7 @@ fn same_frame(a: &Frame, b: &Frame) -> bool
 #[cycle(same)]
 #[tactic(auto, using(crate::proofs::Frames::same_items_length))]
 fn same_items(a: &[(Point, FrameItem)], b: &[(Point, FrameItem)]) -> bool
-    ensures { IsTrue result ↔ (items_view a.now ≡ items_view b.now) }
+    ensures { IsTrue result ↔ (frame_items_view a.now ≡ frame_items_view b.now) }
 {
     if a.len() != b.len() {
         return false;
@@ -90,7 +90,7 @@ fn same_anchors(a: &[(Point, String)], b: &[(Point, String)]) -> bool
 }
 
 pub(crate) fn same_html_frame(a: &HtmlFrame, b: &HtmlFrame) -> bool
-    ensures { IsTrue result ↔ (box_view a.now ≡ box_view b.now) }
+    ensures { IsTrue result ↔ (html_frame_view a.now ≡ html_frame_view b.now) }
 {
     same_frame(&a.inner, &b.inner)
         && a.text_size == b.text_size
@@ -103,12 +103,12 @@ pub(crate) fn same_html_frame(a: &HtmlFrame, b: &HtmlFrame) -> bool
 impl PartialEq for Frame {
     ghost use Rattle.std.specs.Cmp.{partial_equiv_from_equiv};
     ghost use Rattle.html_dom.specs.Equal.{same, same_equiv};
-    ghost use Rattle.html_dom.specs.FrameEqual.{drawing_discrete};
-    ghost use Rattle.html_dom.specs.FrameViews.{drawing_view};
+    ghost use Rattle.html_dom.specs.FrameEqual.{frame_discrete};
+    ghost use Rattle.html_dom.specs.FrameViews.{frame_view};
 
-    ghost eq = { same drawing_view drawing_discrete };
+    ghost eq = { same frame_view frame_discrete };
 
-    ghost laws = { partial_equiv_from_equiv (same_equiv drawing_view drawing_discrete) };
+    ghost laws = { partial_equiv_from_equiv (same_equiv frame_view frame_discrete) };
 
     fn eq(&self, other: &Frame) -> bool {
         same_frame(self, other)
@@ -117,21 +117,21 @@ impl PartialEq for Frame {
 
 impl Eq for Frame {
     ghost use Rattle.html_dom.specs.Equal.{same_equiv};
-    ghost use Rattle.html_dom.specs.FrameEqual.{drawing_discrete};
-    ghost use Rattle.html_dom.specs.FrameViews.{drawing_view};
+    ghost use Rattle.html_dom.specs.FrameEqual.{frame_discrete};
+    ghost use Rattle.html_dom.specs.FrameViews.{frame_view};
 
-    ghost laws = { same_equiv drawing_view drawing_discrete };
+    ghost laws = { same_equiv frame_view frame_discrete };
 }
 
 impl PartialEq for FrameItem {
     ghost use Rattle.std.specs.Cmp.{partial_equiv_from_equiv};
     ghost use Rattle.html_dom.specs.Equal.{same, same_equiv};
-    ghost use Rattle.html_dom.specs.FrameEqual.{thing_discrete};
-    ghost use Rattle.html_dom.specs.FrameViews.{thing_view};
+    ghost use Rattle.html_dom.specs.FrameEqual.{frame_item_discrete};
+    ghost use Rattle.html_dom.specs.FrameViews.{frame_item_view};
 
-    ghost eq = { same thing_view thing_discrete };
+    ghost eq = { same frame_item_view frame_item_discrete };
 
-    ghost laws = { partial_equiv_from_equiv (same_equiv thing_view thing_discrete) };
+    ghost laws = { partial_equiv_from_equiv (same_equiv frame_item_view frame_item_discrete) };
 
     fn eq(&self, other: &FrameItem) -> bool {
         same_thing(self, other)
@@ -140,21 +140,21 @@ impl PartialEq for FrameItem {
 
 impl Eq for FrameItem {
     ghost use Rattle.html_dom.specs.Equal.{same_equiv};
-    ghost use Rattle.html_dom.specs.FrameEqual.{thing_discrete};
-    ghost use Rattle.html_dom.specs.FrameViews.{thing_view};
+    ghost use Rattle.html_dom.specs.FrameEqual.{frame_item_discrete};
+    ghost use Rattle.html_dom.specs.FrameViews.{frame_item_view};
 
-    ghost laws = { same_equiv thing_view thing_discrete };
+    ghost laws = { same_equiv frame_item_view frame_item_discrete };
 }
 
 impl PartialEq for HtmlFrame {
     ghost use Rattle.std.specs.Cmp.{partial_equiv_from_equiv};
     ghost use Rattle.html_dom.specs.Equal.{same, same_equiv};
-    ghost use Rattle.html_dom.specs.FrameEqual.{box_discrete};
-    ghost use Rattle.html_dom.specs.FrameViews.{box_view};
+    ghost use Rattle.html_dom.specs.FrameEqual.{html_frame_discrete};
+    ghost use Rattle.html_dom.specs.FrameViews.{html_frame_view};
 
-    ghost eq = { same box_view box_discrete };
+    ghost eq = { same html_frame_view html_frame_discrete };
 
-    ghost laws = { partial_equiv_from_equiv (same_equiv box_view box_discrete) };
+    ghost laws = { partial_equiv_from_equiv (same_equiv html_frame_view html_frame_discrete) };
 
     fn eq(&self, other: &HtmlFrame) -> bool {
         same_html_frame(self, other)
@@ -163,8 +163,8 @@ impl PartialEq for HtmlFrame {
 
 impl Eq for HtmlFrame {
     ghost use Rattle.html_dom.specs.Equal.{same_equiv};
-    ghost use Rattle.html_dom.specs.FrameEqual.{box_discrete};
-    ghost use Rattle.html_dom.specs.FrameViews.{box_view};
+    ghost use Rattle.html_dom.specs.FrameEqual.{html_frame_discrete};
+    ghost use Rattle.html_dom.specs.FrameViews.{html_frame_view};
 
-    ghost laws = { same_equiv box_view box_discrete };
+    ghost laws = { same_equiv html_frame_view html_frame_discrete };
 }

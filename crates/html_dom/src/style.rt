@@ -2,7 +2,7 @@ ghost use Rattle.std.specs.Prelude.{◌≡◌, [], IfOk, OnOk, OnErr, codes};
 ghost use Rattle.html_css.specs.Properties.{inline_text};
 ghost use Rattle.html_dom.specs.Attributes.{first};
 ghost use Rattle.html_dom.specs.Views.{text_view, attrs_view, node_view, element_view, nodes_view};
-ghost use Rattle.html_dom.specs.Styled.{before_value, put_style, styled_attrs, styled, all_styled, styled_element};
+ghost use Rattle.html_dom.specs.Styled.{before_value, put_style, attrs_styled, node_styled, nodes_styled, element_styled};
 
 use crate::attrs::HtmlAttrs;
 use crate::node::{HtmlElement, HtmlNode};
@@ -14,29 +14,29 @@ use std::alloc::{AllocError, Global};
 /// of that name, with `; ` between unless that is empty, or as a last attribute. A refused call
 /// changes nothing.
 pub fn resolve_inline_styles(alloc: Global, element: &mut HtmlElement) -> Result<(), AllocError>
-    ensures ok { OnOk result (element_view element.new ≡ styled_element (element_view element.old)) }
+    ensures ok { OnOk result (element_view element.new ≡ element_styled (element_view element.old)) }
     ensures err { OnErr result (element.new ≡ element.old) }
 {
-    let made = styled_element(alloc, element)?;
+    let made = element_styled(alloc, element)?;
     *element = made;
     Ok(())
 }
 
 #[cycle(style)]
-#[tactic(auto, unfolding(crate::specs::Styled::styled))]
+#[tactic(auto, unfolding(crate::specs::Styled::node_styled))]
 fn styled_node(alloc: Global, node: &HtmlNode) -> Result<HtmlNode, AllocError>
-    ensures { IfOk result (λ made. node_view made ≡ styled (node_view node.now)) }
+    ensures { IfOk result (λ made. node_view made ≡ node_styled (node_view node.now)) }
 {
     match node {
-        HtmlNode::Element(element) => Ok(HtmlNode::Element(styled_element(alloc, element)?)),
+        HtmlNode::Element(element) => Ok(HtmlNode::Element(element_styled(alloc, element)?)),
         HtmlNode::Tag(_) | HtmlNode::Text(_, _) | HtmlNode::Frame(_) => node.try_clone(),
     }
 }
 
 #[cycle(style)]
-#[tactic(auto, unfolding(crate::specs::Styled::styled))]
+#[tactic(auto, unfolding(crate::specs::Styled::node_styled))]
 fn styled_nodes(alloc: Global, nodes: &[HtmlNode]) -> Result<Vec<HtmlNode>, AllocError>
-    ensures { IfOk result (λ made. nodes_view made.items ≡ all_styled (nodes_view nodes.now)) }
+    ensures { IfOk result (λ made. nodes_view made.items ≡ nodes_styled (nodes_view nodes.now)) }
 {
     let mut made = Vec::new(alloc);
     for node in nodes {
@@ -46,12 +46,12 @@ fn styled_nodes(alloc: Global, nodes: &[HtmlNode]) -> Result<Vec<HtmlNode>, Allo
 }
 
 #[cycle(style)]
-fn styled_element(alloc: Global, element: &HtmlElement) -> Result<HtmlElement, AllocError>
-    ensures { IfOk result (λ made. element_view made ≡ styled_element (element_view element.now)) }
+fn element_styled(alloc: Global, element: &HtmlElement) -> Result<HtmlElement, AllocError>
+    ensures { IfOk result (λ made. element_view made ≡ element_styled (element_view element.now)) }
 {
     Ok(HtmlElement {
         tag: element.tag.try_clone()?,
-        attrs: styled_attrs(alloc, &element.css, &element.attrs)?,
+        attrs: attrs_styled(alloc, &element.css, &element.attrs)?,
         css: element.css.try_clone()?,
         children: styled_nodes(alloc, &element.children)?,
         parent: element.parent,
@@ -61,8 +61,8 @@ fn styled_element(alloc: Global, element: &HtmlElement) -> Result<HtmlElement, A
 }
 
 /// The attributes with the css in them.
-fn styled_attrs(alloc: Global, css: &Properties, attrs: &HtmlAttrs) -> Result<HtmlAttrs, AllocError>
-    ensures { IfOk result (λ made. attrs_view made ≡ styled_attrs css.now (attrs_view attrs.now)) }
+fn attrs_styled(alloc: Global, css: &Properties, attrs: &HtmlAttrs) -> Result<HtmlAttrs, AllocError>
+    ensures { IfOk result (λ made. attrs_view made ≡ attrs_styled css.now (attrs_view attrs.now)) }
 {
     let mut made = attrs.try_clone()?;
     if css.as_slice().is_empty() {

@@ -1,8 +1,8 @@
 -- What a document flows: items as pure values, in which texts are lists of characters.
 use Rattle.std.specs.Prelude.{ℕ, ℤ, List, [], ◌∷◌, ◌++◌, Option, None, Some}
 use Rattle.html_names.specs.Texts.{Pair}
-use Rattle.html_dom.specs.Marks.{Marker}
-use Rattle.html_dom.specs.Drawings.{Drawing}
+use Rattle.html_dom.specs.Tags.{TagView}
+use Rattle.html_dom.specs.Frames.{FrameView}
 
 -- the role of an item: that of its list, its own, or none
 pub data Standing : Type 0 where
@@ -20,13 +20,13 @@ pub record ElemHead : Type 0 where
 
 -- a drawing, the size of the text around it in millionths of a point, and its place
 pub record Picture : Type 0 where
-  pub inner : Drawing
+  pub inner : FrameView
   pub text_size : ℤ
   pub span : ℕ
 
 mutual
   pub data Content : Type 0 where
-    tag_content : Marker → Content
+    tag_content : TagView → Content
     element_content : ElemHead → Body → Content
     space_content : (span : ℕ) → Content
     text_content : (text : List ℕ) (span : ℕ) → Content

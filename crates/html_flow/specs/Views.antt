@@ -3,7 +3,7 @@ use Rattle.std.specs.Prelude.{List, [], ◌∷◌, map, Option, None, Some, opti
 use Rattle.std.specs.declared.alloc.Global.{Global}
 use Rattle.html_names.specs.Texts.{text_view}
 use Rattle.html_dom.specs.Views.{attrs_view}
-use Rattle.html_dom.specs.FrameViews.{drawing_view, marker_view}
+use Rattle.html_dom.specs.FrameViews.{frame_view, tag_view}
 use Rattle.html_flow.specs.Items.{Standing, inherits, sets, unsets, ElemHead, Picture, Content, tag_content, element_content, space_content, text_content, hole_content, break_content, box_content, block_content, frame_content, Contents, no_contents, content, Body, absent, present, Elem}
 use Rattle.html_flow.specs.declared.item.Role.{Role}
 use Rattle.html_flow.specs.declared.item.Role.TheVariants.{Inherit, Set, Unset}
@@ -18,7 +18,7 @@ role_view (Set text) = sets (text_view text)
 role_view Unset = unsets
 
 abbrev pub picture_view : FrameElem → Picture
-picture_view f = record { inner = drawing_view f.frame; text_size = f.text_size; span = f.span.0 }
+picture_view f = record { inner = frame_view f.frame; text_size = f.text_size; span = f.span.0 }
 
 -- items, each already seen with its role
 abbrev pub contents_of : List (Content × Standing) → Contents
@@ -33,7 +33,7 @@ abbrev pub pair_step : Pair-F Content Elem (Content × Standing) → Content × 
 pair_step p = (p.item, role_view p.role)
 
 abbrev pub item_step : Item-F Content Elem (Content × Standing) → Content
-item_step (Item-F.Tag t) = tag_content (marker_view t)
+item_step (Item-F.Tag t) = tag_content (tag_view t)
 item_step (Item-F.Element e) = element_content e.0 e.1
 item_step (Item-F.Space span) = space_content span.0
 item_step (Item-F.Text s span) = text_content (text_view s) span.0

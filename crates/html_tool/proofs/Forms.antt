@@ -3,7 +3,7 @@ use Rattle.std.proofs.Common.{◌≡◌, ◌≢◌, ℕ, ◌+◌, List, [], ◌�
 use Rattle.std.proofs.lemmas.List.{map-append, drop_all}
 use Rattle.serde_json.specs.declared.value.Value.{Value}
 use Rattle.serde_json.specs.View.{view, items_view}
-use Rattle.html_dom.specs.Tree.{Node, element_node, Nodes, none, node}
+use Rattle.html_dom.specs.Tree.{NodeView, element_node, NodesView, none, node}
 use Rattle.html_dom.specs.Views.{nodes_of}
 use Rattle.html_tool.specs.Spelled.{text_at, pair_form, pairs_at, text_form, dest_form, end_form, element_form, element_from, list_at, spelled, spelled_all}
 use Rattle.html_tool.specs.Forms.{joined, form_view, forms_view, element_form_view, after_done}
@@ -46,15 +46,15 @@ element_form-three (v ∷ w ∷ []) n t a c h p q r = absurd (omega arith)
 element_form-three (v ∷ w ∷ x ∷ []) n t a c h p q r = rw (p, q, r)
 element_form-three (v ∷ w ∷ x ∷ y ∷ vs) n t a c h p q r = absurd (omega arith)
 
-pub joined-append : (ns : List Node) (n : Node) (others : Nodes) → joined (ns ++ n ∷ []) others ≡ joined ns (node n others)
+pub joined-append : (ns : List NodeView) (n : NodeView) (others : NodesView) → joined (ns ++ n ∷ []) others ≡ joined ns (node n others)
 joined-append [] n others = refl
 joined-append (x ∷ ns) n others = ap (node x) (joined-append ns n others)
 
-pub joined-none : (ns : List Node) → joined ns none ≡ nodes_of ns
+pub joined-none : (ns : List NodeView) → joined ns none ≡ nodes_of ns
 joined-none [] = refl
 joined-none (x ∷ ns) = ap (node x) (joined-none ns)
 
-option_step : (r : Option (Nodes × ℕ)) (ns : List Node) (n : Node)
+option_step : (r : Option (NodesView × ℕ)) (ns : List NodeView) (n : NodeView)
     → option_map (after_done ns) (option_map (after_done (n ∷ [])) r) ≡ option_map (after_done (ns ++ n ∷ [])) r
 option_step None ns n = refl
 option_step (Some q) ns n = rw joined-append

@@ -4,7 +4,7 @@ use Rattle.std.specs.declared.alloc.Global.{Global}
 use Rattle.std.specs.Io.KnownBytes.{Appends}
 use Rattle.std.specs.Fmt.{decimal}
 use lib.Utf8.{encodes}
-use Rattle.html_dom.specs.Tree.{Elem}
+use Rattle.html_dom.specs.Tree.{ElementView}
 use Rattle.typst_html.specs.Faults.{Fault, unencodable, void_children, raw_child, raw_closing, frame_refused, document_faults}
 use Rattle.typst_html.specs.Frames.{no_frames}
 use Rattle.typst_html.specs.Written.{document_written}
@@ -44,13 +44,13 @@ answer_by [] text = record { status = Done; line = encodes text }
 answer_by (r ∷ rs) text = record { status = Refused; line = refused_line r }
 
 -- names are refused before what is wrong with the tree
-abbrev pub tree_refusals : (pretty : Bool) → Elem → List Refusal
+abbrev pub tree_refusals : (pretty : Bool) → ElementView → List Refusal
 tree_refusals pretty e = element_refusals e ++ map refusal_of (document_faults no_frames pretty e)
 
-unfoldable pub tree_answer : (pretty : Bool) → Elem → Answer
+unfoldable pub tree_answer : (pretty : Bool) → ElementView → Answer
 tree_answer pretty e = answer_by (tree_refusals pretty e) (document_written no_frames pretty e)
 
-abbrev pub answer_for : (pretty : Bool) → Option Elem → Answer
+abbrev pub answer_for : (pretty : Bool) → Option ElementView → Answer
 answer_for pretty None = bad_input
 answer_for pretty (Some e) = tree_answer pretty e
 

@@ -2,8 +2,8 @@
 use Rattle.std.specs.Prelude.{◌≡◌, ℕ, List, [], ◌∷◌, map, false, Option, Some, None, option_map, Result, MatchResult, String, Vec}
 use Rattle.std.specs.declared.alloc.Global.{Global}
 use Rattle.html_dom.specs.declared.place.Location.{Location}
-use Rattle.html_dom.specs.Tree.{Pair, Node, tag_node, text_node, element_node, Nodes, node, Elem}
-use Rattle.html_dom.specs.Views.{text_view, marker_view, nodes_of}
+use Rattle.html_dom.specs.Tree.{Pair, NodeView, tag_node, text_node, element_node, NodesView, node, ElementView}
+use Rattle.html_dom.specs.Views.{text_view, tag_view, nodes_of}
 use Rattle.html_tool.specs.declared.form.Form.{Form, Form-F, fold-Form}
 use Rattle.html_tool.specs.declared.form.ElementForm.{ElementForm, ElementForm-F}
 use Rattle.html_tool.specs.declared.spell.SpellFault.{SpellFault}
@@ -12,7 +12,7 @@ use Rattle.html_tool.specs.declared.spell.SpellFault.TheVariants.{BadInput}
 abbrev pub form_pair_view : String Global × String Global → Pair
 form_pair_view p = (text_view p.0, text_view p.1)
 
-abbrev pub element_form_step : ElementForm-F Node Elem → Elem
+abbrev pub element_form_step : ElementForm-F NodeView ElementView → ElementView
 element_form_step e = (
   record {
     name = text_view e.tag;
@@ -25,18 +25,18 @@ element_form_step e = (
   nodes_of e.children.items,
 )
 
-abbrev pub form_step : Form-F Node Elem → Node
-form_step (Form-F.Tag t) = tag_node (marker_view t)
+abbrev pub form_step : Form-F NodeView ElementView → NodeView
+form_step (Form-F.Tag t) = tag_node (tag_view t)
 form_step (Form-F.Text s span) = text_node (text_view s) span.0
 form_step (Form-F.Element e) = element_node e.0 e.1
 
-abbrev pub form_view : Form → Node
-form_view = fold-Form Node Elem form_step element_form_step
+abbrev pub form_view : Form → NodeView
+form_view = fold-Form NodeView ElementView form_step element_form_step
 
-abbrev pub forms_view : List Form → Nodes
+abbrev pub forms_view : List Form → NodesView
 forms_view fs = nodes_of (map form_view fs)
 
-abbrev pub element_form_view : ElementForm → Elem
+abbrev pub element_form_view : ElementForm → ElementView
 element_form_view e = (
   record {
     name = text_view e.tag;
@@ -53,10 +53,10 @@ element_form_view e = (
 abbrev pub AnswersBy : {A B : Type 0} → (A → B) → Result A SpellFault → Option B → Type 0
 AnswersBy view r wanted = MatchResult r (λ a. wanted ≡ Some (view a)) (λ e. e ≡ BadInput → wanted ≡ None)
 
-abbrev pub AnswersForm : Result (Form × ℕ) SpellFault → Option (Node × ℕ) → Type 0
+abbrev pub AnswersForm : Result (Form × ℕ) SpellFault → Option (NodeView × ℕ) → Type 0
 AnswersForm = AnswersBy (λ p. (form_view p.0, p.1))
 
-abbrev pub AnswersForms : Result (Vec Form Global × ℕ) SpellFault → Option (Nodes × ℕ) → Type 0
+abbrev pub AnswersForms : Result (Vec Form Global × ℕ) SpellFault → Option (NodesView × ℕ) → Type 0
 AnswersForms = AnswersBy (λ p. (forms_view p.0.items, p.1))
 
 abbrev pub AnswersPairs : Result (Vec (String Global × String Global) Global) SpellFault → Option (List Pair) → Type 0
@@ -69,9 +69,9 @@ abbrev pub AnswersDest : Result (Option Location) SpellFault → Option (Option 
 AnswersDest = AnswersBy (option_map (λ l. l.0))
 
 -- the nodes, and then the others
-abbrev pub joined : List Node → Nodes → Nodes
+abbrev pub joined : List NodeView → NodesView → NodesView
 joined [] others = others
 joined (n ∷ ns) others = node n (joined ns others)
 
-abbrev pub after_done : List Node → Nodes × ℕ → Nodes × ℕ
+abbrev pub after_done : List NodeView → NodesView × ℕ → NodesView × ℕ
 after_done done p = (joined done p.0, p.1)

@@ -3,7 +3,7 @@ use Rattle.std.specs.Prelude.{ℕ, List, [], ◌∷◌, ◌++◌, Option, Some, 
 use Rattle.html_names.specs.Faults.{number_of}
 use Rattle.html_names.specs.Names.{tag_fault, attr_fault}
 use Rattle.html_names.specs.declared.fault.NameFault.{NameFault}
-use Rattle.html_dom.specs.Tree.{Pair, Head, Node, tag_node, text_node, element_node, frame_node, Nodes, none, node, Elem}
+use Rattle.html_dom.specs.Tree.{Pair, Head, NodeView, tag_node, text_node, element_node, frame_node, NodesView, none, node, ElementView}
 
 -- a refusal: its number and its place
 abbrev pub Refusal : Type 0
@@ -21,15 +21,15 @@ abbrev pub head_refusals : Head → List Refusal
 head_refusals h = refusals h.span (tag_fault h.name) ++ pairs_refusals h.span h.attrs
 
 unfoldable mutual
-  pub name_refusals : Node → List Refusal
+  pub name_refusals : NodeView → List Refusal
   name_refusals (tag_node t) = []
   name_refusals (text_node s span) = []
   name_refusals (element_node h kids) = head_refusals h ++ all_name_refusals kids
   name_refusals (frame_node b) = []
 
-  pub all_name_refusals : Nodes → List Refusal
+  pub all_name_refusals : NodesView → List Refusal
   all_name_refusals none = []
   all_name_refusals (node n ns) = name_refusals n ++ all_name_refusals ns
 
-abbrev pub element_refusals : Elem → List Refusal
+abbrev pub element_refusals : ElementView → List Refusal
 element_refusals e = name_refusals (element_node e.0 e.1)

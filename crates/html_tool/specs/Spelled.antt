@@ -4,7 +4,7 @@
 use Rattle.std.specs.Prelude.{ℕ, ◌+◌, List, [], ◌∷◌, false, chars, codes, bytes_eq, Option, Some, None, option_map, option_and_then, if◌then◌else◌}
 use Rattle.serde_json.specs.Data.{Data, array, Items, no_items, item}
 use Rattle.serde_json.specs.Find.{as_str, as_array, as_number, as_u64}
-use Rattle.html_dom.specs.Tree.{Pair, starts, ends, Node, tag_node, text_node, element_node, frame_node, Nodes, none, node, Elem}
+use Rattle.html_dom.specs.Tree.{Pair, starts, ends, NodeView, tag_node, text_node, element_node, frame_node, NodesView, none, node, ElementView}
 
 -- a text's characters
 abbrev pub text_at : Data → Option (List ℕ)
@@ -28,7 +28,7 @@ pairs_of (item d ds) = option_and_then (λ pair. option_map (λ pairs. pair ∷ 
 abbrev pub pairs_at : Data → Option (List Pair)
 pairs_at d = option_and_then pairs_of (as_array d)
 
-abbrev pub text_form : Items → ℕ → Option (Node × ℕ)
+abbrev pub text_form : Items → ℕ → Option (NodeView × ℕ)
 text_form (item d no_items) n = option_map (λ t. (text_node t n, n + 1)) (text_at d)
 text_form _ n = None
 
@@ -38,55 +38,55 @@ dest_form no_items = Some None
 dest_form (item d no_items) = option_map Some (whole_at d)
 dest_form _ = None
 
-abbrev pub start_form : Items → ℕ → Option (Node × ℕ)
+abbrev pub start_form : Items → ℕ → Option (NodeView × ℕ)
 start_form no_items n = None
 start_form (item l ds) n = option_and_then (λ d. option_map (λ l. (tag_node (starts l None d), n + 1)) (whole_at l)) (dest_form ds)
 
-abbrev pub end_form : Items → ℕ → Option (Node × ℕ)
+abbrev pub end_form : Items → ℕ → Option (NodeView × ℕ)
 end_form (item l no_items) n = option_map (λ l. (tag_node (ends l), n + 1)) (whole_at l)
 end_form _ n = None
 
-abbrev pub element_from : (tag : Option (List ℕ)) (pairs : Option (List Pair)) (children : Option (Nodes × ℕ)) → ℕ → Option (Node × ℕ)
+abbrev pub element_from : (tag : Option (List ℕ)) (pairs : Option (List Pair)) (children : Option (NodesView × ℕ)) → ℕ → Option (NodeView × ℕ)
 element_from tag pairs children n =
     option_and_then (λ t. option_and_then (λ ps. option_map (λ c. (element_node (record { name = t; attrs = ps; css = []; parent = None; span = n; pre_span = false }) c.0, c.1)) children) pairs) tag
 
-abbrev pub form_from : (kind : Option (List ℕ)) (as_text as_element as_start as_end : Option (Node × ℕ)) → Option (Node × ℕ)
+abbrev pub form_from : (kind : Option (List ℕ)) (as_text as_element as_start as_end : Option (NodeView × ℕ)) → Option (NodeView × ℕ)
 form_from kind as_text as_element as_start as_end = option_and_then (λ k.
     if bytes_eq k (codes "text") then as_text else (if bytes_eq k (codes "el") then as_element
     else (if bytes_eq k (codes "start") then as_start else (if bytes_eq k (codes "end") then as_end else None)))) kind
 
-abbrev pub node_then : Option (Node × ℕ) → (ℕ → Option (Nodes × ℕ)) → Option (Nodes × ℕ)
+abbrev pub node_then : Option (NodeView × ℕ) → (ℕ → Option (NodesView × ℕ)) → Option (NodesView × ℕ)
 node_then first rest = option_and_then (λ p. option_map (λ q. (node p.0 q.0, q.1)) (rest p.1)) first
 
 -- the node that a value spells, its lists numbered from n on, and the number of the next list
 abbrev mutual
-  pub spelled : Data → ℕ → Option (Node × ℕ)
+  pub spelled : Data → ℕ → Option (NodeView × ℕ)
   spelled (array items) n = form items n
   spelled _ n = None
 
-  pub form : Items → ℕ → Option (Node × ℕ)
+  pub form : Items → ℕ → Option (NodeView × ℕ)
   form no_items n = None
   form (item kind fields) n = form_from (as_str kind) (text_form fields n) (element_form fields n) (start_form fields n) (end_form fields n)
 
-  pub element_form : Items → ℕ → Option (Node × ℕ)
+  pub element_form : Items → ℕ → Option (NodeView × ℕ)
   element_form (item tag (item attrs (item children no_items))) n =
       element_from (text_at tag) (pairs_at attrs) (list_at children (n + 1)) n
   element_form _ n = None
 
-  pub list_at : Data → ℕ → Option (Nodes × ℕ)
+  pub list_at : Data → ℕ → Option (NodesView × ℕ)
   list_at (array items) n = spelled_all items n
   list_at _ n = None
 
-  pub spelled_all : Items → ℕ → Option (Nodes × ℕ)
+  pub spelled_all : Items → ℕ → Option (NodesView × ℕ)
   spelled_all no_items n = Some (none, n)
   spelled_all (item d ds) n = node_then (spelled d n) (spelled_all ds)
 
-abbrev pub element_of : Node × ℕ → Option Elem
+abbrev pub element_of : NodeView × ℕ → Option ElementView
 element_of (element_node h kids, n) = Some (h, kids)
 element_of (tag_node t, n) = None
 element_of (text_node s span, n) = None
 element_of (frame_node b, n) = None
 
 -- the element that a value spells
-abbrev pub element_spelled : Data → Option Elem
+abbrev pub element_spelled : Data → Option ElementView
 element_spelled d = option_and_then element_of (spelled d 1)

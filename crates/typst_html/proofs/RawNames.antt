@@ -5,7 +5,7 @@ use Rattle.std.proofs.lemmas.Slice.Eq.{bytes_eq-Decides}
 use Rattle.html_names.specs.Names.{stands_in}
 use Rattle.html_names.specs.Kinds.{is_raw, is_mathml, is_token}
 use Rattle.html_names.specs.Displays.{default_display}
-use Rattle.html_dom.specs.Tree.{Head, Nodes}
+use Rattle.html_dom.specs.Tree.{Head, NodesView}
 use Rattle.typst_html.specs.Layout.{allows_inside, opens}
 use Rattle.typst_html.specs.Reader.{drops_feed}
 
@@ -53,7 +53,7 @@ shuts : (name : List ℕ) → drops_feed name ≡ true → allows_inside name �
 unfolding drops_feed
 shuts name h = shuts_by (bytes_eq name (codes "pre")) (bytes_eq name (codes "textarea")) name refl refl h
 
-pub stays_shut : (pretty : Bool) (h : Head) (ns : Nodes) → drops_feed h.name ≡ true → (pretty && opens h ns) ≡ false
+pub stays_shut : (pretty : Bool) (h : Head) (ns : NodesView) → drops_feed h.name ≡ true → (pretty && opens h ns) ≡ false
 unfolding opens
 stays_shut false h ns d = refl
 stays_shut true h ns d = rw (shuts h.name d) refl

@@ -1,6 +1,6 @@
 -- Trees with the same text have the same normal form.
 use Rattle.std.proofs.Common.{◌≡◌, Some, sym, ap, ◌∙◌}
-use Rattle.html_dom.specs.PlainTree.{normal}
+use Rattle.html_dom.specs.PlainTree.{element_normal}
 use Rattle.typst_html.specs.Reader.{read}
 use Rattle.typst_html.specs.ReadingBack.{SameTextSameForm}
 use Rattle.typst_html.proofs.Contents.{plain_reads_back}
@@ -9,5 +9,5 @@ pub same_text : SameTextSameForm
 same_text frames d e n m x y f w same =
     let one = plain_reads_back frames d n x f in
     let two = plain_reads_back frames e m y w in
-    let both : Some (normal d) ≡ Some (normal e) = sym one ∙ (ap read same ∙ two) in
+    let both : Some (element_normal d) ≡ Some (element_normal e) = sym one ∙ (ap read same ∙ two) in
     cc

@@ -6,8 +6,8 @@ use Rattle.std.proofs.lemmas.Slice.Eq.{bytes_eq-Decides}
 use Rattle.html_names.specs.Displays.{default_display}
 use Rattle.html_names.specs.Names.{stands_in}
 use Rattle.html_names.specs.Kinds.{is_raw, is_escapable_raw, is_replaced, is_line_break}
-use Rattle.html_dom.specs.PlainTree.{words, branch, Plains, no_plains, plain, put_words, normal_nodes}
-use Rattle.html_dom.specs.Tree.{Pair, Head, Node, tag_node, text_node, element_node, frame_node, Nodes, none, node}
+use Rattle.html_dom.specs.PlainTree.{words, branch, Plains, no_plains, plain, put_words, nodes_normal}
+use Rattle.html_dom.specs.Tree.{Pair, Head, NodeView, tag_node, text_node, element_node, frame_node, NodesView, none, node}
 use Rattle.typst_html.specs.Collapsing.{Atom, visible, ignorable, collapsible, kept, object, break, border, Piece, char, edge, merged, text_atoms, preserves, has_border_display, has_border, element_atoms, atoms, is_supported_by, then_supports, seen, collapsed}
 use Rattle.typst_html.specs.Indented.{with_indent, laid, children_laid, content_laid}
 use Rattle.typst_html.specs.IndentsCollapse.{IsEdged, AreEdged, body_of, body_in, ContentCollapses, BodyCollapses}
@@ -100,11 +100,11 @@ with_indent_same false false level us vs s closed = (s.0, λ b e. s.1 b)
 
 -- elements
 
-open_allows : (h : Head) (ns : Nodes) → opens h ns ≡ true → allows_inside h.name ≡ true
+open_allows : (h : Head) (ns : NodesView) → opens h ns ≡ true → allows_inside h.name ≡ true
 unfolding opens
 open_allows h ns e = (and_parts (allows_inside h.name) (any_calls ns) e).0
 
-content_cases : (level : ℕ) (h : Head) (ns : Nodes) → is_raw h.name ≡ false
+content_cases : (level : ℕ) (h : Head) (ns : NodesView) → is_raw h.name ≡ false
     → (content_laid true level h ns ≡ ns) ⊎ ((opens h ns ≡ true) × (content_laid true level h ns ≡ children_laid true true level ns))
 content_cases level h ns r =
     elim (cases_Bool (ends_at_once h)) [
@@ -155,7 +155,7 @@ edged_closed : (name : List ℕ) (attrs : List Pair) (inner us : List Atom) → 
 edged_closed name attrs inner us e = rw (edged name attrs inner us e) (border_closed (cond (is_replaced name) (object name ∷ []) inner ++ border ∷ us))
 
 -- the same inside: what follows is the same, right after a border where the element wants indents
-same_inside : (h : Head) (ns : Nodes) (us vs : List Atom) → IsEdged h → SameAfter (wants_around h) us vs
+same_inside : (h : Head) (ns : NodesView) (us vs : List Atom) → IsEdged h → SameAfter (wants_around h) us vs
     → Same (node_atoms false (element_node h ns) ++ us) (node_atoms false (element_node h ns) ++ vs)
 same_inside h ns us vs c s =
     elim (cases_Bool (wants_around h)) [
@@ -171,7 +171,7 @@ moved : (due : Bool) (us us' vs vs' : List Atom) → us ≡ us' → vs ≡ vs' �
 moved due us us' vs vs' e f s = rw (e, f) s
 
 -- a child, and the indent before it
-step : (b : Bool) (level : ℕ) (n : Node) (ns : Nodes) (us : List Atom)
+step : (b : Bool) (level : ℕ) (n : NodeView) (ns : NodesView) (us : List Atom)
     → nodes_atoms false (with_indent b level (node n ns)) ++ us ≡ cond b (text_atoms false (indent level)) [] ++ (node_atoms false n ++ (nodes_atoms false ns ++ us))
 step true level n ns us = append_assoc (text_atoms false (indent level)) (node_atoms false n ++ nodes_atoms false ns) us ∙ ap (λ l. text_atoms false (indent level) ++ l) (append_assoc (node_atoms false n) (nodes_atoms false ns) us)
 step false level n ns us = append_assoc (node_atoms false n) (nodes_atoms false ns) us
@@ -181,12 +181,12 @@ text_same true level us vs s = with_indent_same true false level us vs s (λ e. 
 text_same false level us vs s = (s.0, λ b e. s.1 b)
 
 -- the rows before what is closed
-abbrev RowSame : (due : Bool) (level : ℕ) → Nodes → Type 0
+abbrev RowSame : (due : Bool) (level : ℕ) → NodesView → Type 0
 RowSame due level ns = (us vs : List Atom) → IsClosed us → IsClosed vs → seen false us ≡ seen false vs
     → SameAfter due (nodes_atoms false (children_laid true due level ns) ++ us) (nodes_atoms false ns ++ vs)
 
 -- an element and its content on a level
-one : (level : ℕ) (h : Head) (ns : Nodes) (us vs : List Atom) → IsEdged h → RowSame true level ns → SameAfter (wants_around h) us vs
+one : (level : ℕ) (h : Head) (ns : NodesView) (us vs : List Atom) → IsEdged h → RowSame true level ns → SameAfter (wants_around h) us vs
     → Same (node_atoms false (element_node h (content_laid true level h ns)) ++ us) (node_atoms false (element_node h ns) ++ vs)
 one level h ns us vs c row s =
     elim (content_cases level h ns c.0) [
@@ -199,7 +199,7 @@ one level h ns us vs c row s =
           (row (border ∷ us) (border ∷ vs) (border_closed us) (border_closed vs) (t.1 false)) t)
     ]
 
-row : (ns : Nodes) (due : Bool) (level : ℕ) → AreEdged ns → RowSame due level ns
+row : (ns : NodesView) (due : Bool) (level : ℕ) → AreEdged ns → RowSame due level ns
 unfolding laid children_laid
 row none due level c us vs cu cv e =
     rw (append-nil (text_atoms false (indent level)))
@@ -230,13 +230,13 @@ row (node (element_node h below) ns) due level c us vs cu cv e =
 pub content_collapses : ContentCollapses
 content_collapses level h ns r c =
     elim (content_cases level h ns r) [
-      | inl e ↦ ap (λ ms. collapsed (atoms false (normal_nodes ms))) e
+      | inl e ↦ ap (λ ms. collapsed (atoms false (nodes_normal ms))) e
       | inr e ↦
           let ms = children_laid true true level ns in
           let s = row ns true level c [] [] nothing_closed nothing_closed refl in
           let same : seen false (nodes_atoms false ms) ≡ seen false (nodes_atoms false ns) =
           ap (λ l. seen false l) (sym (append-nil (nodes_atoms false ms))) ∙ (s.1 false (λ f. refl) ∙ ap (λ l. seen false l) (append-nil (nodes_atoms false ns))) in
-          ap (λ ks. collapsed (atoms false (normal_nodes ks))) e.1
+          ap (λ ks. collapsed (atoms false (nodes_normal ks))) e.1
           ∙ (ap collapsed (normal_atoms ms false) ∙ (ap (λ ps. merged false ps) same ∙ ap collapsed (sym (normal_atoms ns false))))
     ]
 
@@ -248,9 +248,9 @@ past_words (c ∷ cs) no_plains = refl
 past_words (c ∷ cs) (plain (words t) ps) = refl
 past_words (c ∷ cs) (plain (branch name attrs kids) ps) = refl
 
-past_indent : (b : Bool) (level : ℕ) (ns : Nodes) → body_in (normal_nodes (with_indent b level ns)) ≡ body_in (normal_nodes ns)
-unfolding normal_nodes
-past_indent true level ns = past_words (indent level) (normal_nodes ns)
+past_indent : (b : Bool) (level : ℕ) (ns : NodesView) → body_in (nodes_normal (with_indent b level ns)) ≡ body_in (nodes_normal ns)
+unfolding nodes_normal
+past_indent true level ns = past_words (indent level) (nodes_normal ns)
 past_indent false level ns = refl
 
 body_is_not_raw : is_raw (codes "body") ≡ false
@@ -260,11 +260,11 @@ body_is_not_raw = refl
 is_body : (name : List ℕ) → bytes_eq name (codes "body") ≡ true → is_raw name ≡ false
 is_body name e = ap is_raw ((bytes_eq-Decides name (codes "body")).0 e) ∙ body_is_not_raw
 
-body_normal : (ns below : Nodes) → body_of ns ≡ Some below → body_in (normal_nodes ns) ≡ Some (normal_nodes below)
-unfolding normal_nodes
+body_normal : (ns below : NodesView) → body_of ns ≡ Some below → body_in (nodes_normal ns) ≡ Some (nodes_normal below)
+unfolding nodes_normal
 body_normal none below e = cc
 body_normal (node (tag_node t) ns) below e = body_normal ns below e
-body_normal (node (text_node s span) ns) below e = past_words s (normal_nodes ns) ∙ body_normal ns below e
+body_normal (node (text_node s span) ns) below e = past_words s (nodes_normal ns) ∙ body_normal ns below e
 body_normal (node (frame_node b) ns) below e = body_normal ns below e
 body_normal (node (element_node h kids) ns) below e =
     elim (cases_Bool (bytes_eq h.name (codes "body"))) [
@@ -273,16 +273,16 @@ body_normal (node (element_node h kids) ns) below e =
     ]
 
 -- the first body of the row collapses to the same
-abbrev HoldsBody : Nodes → Nodes → Type 0
-HoldsBody ms below = (inside : Plains) × (body_in (normal_nodes ms) ≡ Some inside) × (collapsed (atoms false inside) ≡ collapsed (atoms false (normal_nodes below)))
+abbrev HoldsBody : NodesView → NodesView → Type 0
+HoldsBody ms below = (inside : Plains) × (body_in (nodes_normal ms) ≡ Some inside) × (collapsed (atoms false inside) ≡ collapsed (atoms false (nodes_normal below)))
 
-row_body : (due : Bool) (level : ℕ) (ns below : Nodes) → body_of ns ≡ Some below → AreEdged below → HoldsBody (children_laid true due level ns) below
-unfolding laid children_laid normal_nodes
+row_body : (due : Bool) (level : ℕ) (ns below : NodesView) → body_of ns ≡ Some below → AreEdged below → HoldsBody (children_laid true due level ns) below
+unfolding laid children_laid nodes_normal
 row_body due level none below e c = absurd (cc)
 row_body due level (node (tag_node t) ns) below e c = row_body due level ns below e c
 row_body due level (node (text_node s span) ns) below e c =
     let r = row_body false level ns below e c in
-    (r.0, past_indent due (level + 1) (node (text_node s span) (children_laid true false level ns)) ∙ (past_words s (normal_nodes (children_laid true false level ns)) ∙ r.1), r.2)
+    (r.0, past_indent due (level + 1) (node (text_node s span) (children_laid true false level ns)) ∙ (past_words s (nodes_normal (children_laid true false level ns)) ∙ r.1), r.2)
 row_body due level (node (frame_node b) ns) below e c =
     let r = row_body false level ns below e c in
     (r.0, past_indent due (level + 1) (node (frame_node b) (children_laid true false level ns)) ∙ r.1, r.2)
@@ -294,7 +294,7 @@ row_body due level (node (element_node h kids) ns) below e c =
       | inl t ↦
           let f : Some kids ≡ Some below = rw t at e in
           let g : kids ≡ below = cc in
-          (normal_nodes inner, past ∙ rw t refl, rw g (content_collapses (level + 1) h below (is_body h.name t) c))
+          (nodes_normal inner, past ∙ rw t refl, rw g (content_collapses (level + 1) h below (is_body h.name t) c))
       | inr t ↦
           let f : body_of ns ≡ Some below = rw t at e in
           let r = row_body (wants_around h) level ns below f c in
@@ -304,6 +304,6 @@ row_body due level (node (element_node h kids) ns) below e c =
 pub body_collapses : BodyCollapses
 body_collapses e below r is c =
     elim (content_cases 0 e.0 e.1 r) [
-      | inl k ↦ rw k (normal_nodes below, body_normal e.1 below is, refl)
+      | inl k ↦ rw k (nodes_normal below, body_normal e.1 below is, refl)
       | inr k ↦ rw k.1 (row_body true 0 e.1 below is c)
     ]

@@ -3,7 +3,7 @@
 use Rattle.std.specs.Prelude.{◌≡◌, ℕ, Bool, true, false, not, ◌||◌, ◌&&◌, ◌==◌, List, [], ◌∷◌, ◌++◌, if◌then◌else◌, Option, Some, None}
 use Rattle.html_names.specs.Characters.{is_text_char}
 use Rattle.html_names.specs.Kinds.{is_raw, is_escapable_raw}
-use Rattle.html_dom.specs.Tree.{Pair, Head, Node, tag_node, text_node, element_node, frame_node, Nodes, none, node, Elem}
+use Rattle.html_dom.specs.Tree.{Pair, Head, NodeView, tag_node, text_node, element_node, frame_node, NodesView, none, node, ElementView}
 use Rattle.typst_html.specs.Closing.{holds_closing}
 use Rattle.typst_html.specs.Frames.{Frames}
 use Rattle.typst_html.specs.Layout.{opens}
@@ -41,22 +41,22 @@ pairs_faults span [] = []
 pairs_faults span (p ∷ ps) = text_faults escaping.Value span p.1 ++ pairs_faults span ps
 
 -- a void or a self-closing element has no child, not even a tag
-abbrev pub void_faults : (span : ℕ) → Nodes → List Fault
+abbrev pub void_faults : (span : ℕ) → NodesView → List Fault
 void_faults span none = []
 void_faults span (node n ns) = void_children span ∷ []
 
 -- children of a raw or an escapable raw element: texts and tags alone
-abbrev pub raw_one_faults : Escaping → Node → List Fault
+abbrev pub raw_one_faults : Escaping → NodeView → List Fault
 raw_one_faults e (tag_node t) = []
 raw_one_faults e (text_node s span) = text_faults e span s
 raw_one_faults e (element_node h kids) = raw_child h.span ∷ []
 raw_one_faults e (frame_node b) = raw_child b.span ∷ []
 
-abbrev pub raw_faults : Escaping → Nodes → List Fault
+abbrev pub raw_faults : Escaping → NodesView → List Fault
 raw_faults e none = []
 raw_faults e (node n ns) = raw_one_faults e n ++ raw_faults e ns
 
-abbrev pub closing_faults : Head → Nodes → List Fault
+abbrev pub closing_faults : Head → NodesView → List Fault
 closing_faults h ns = if holds_closing h.name (texts ns) then raw_closing h.span ∷ [] else []
 
 -- a frame that its writer refuses
@@ -65,7 +65,7 @@ frame_faults span (Some text) = []
 frame_faults span None = frame_refused span ∷ []
 
 unfoldable mutual
-  pub faults : Frames → (pre_span pretty : Bool) → Node → List Fault
+  pub faults : Frames → (pre_span pretty : Bool) → NodeView → List Fault
   faults frames pre_span pretty (tag_node t) = []
   faults frames pre_span pretty (text_node s span) = text_faults (escaping_of pre_span) span s
   faults frames pre_span pretty (element_node h ns) =
@@ -74,20 +74,20 @@ unfoldable mutual
       else (if is_escapable_raw h.name then raw_faults escaping.Text ns else all_faults frames h.pre_span (pretty && opens h ns) ns)))
   faults frames pre_span pretty (frame_node b) = frame_faults b.span (frames b pretty)
 
-  pub all_faults : Frames → (pre_span pretty : Bool) → Nodes → List Fault
+  pub all_faults : Frames → (pre_span pretty : Bool) → NodesView → List Fault
   all_faults frames pre_span pretty none = []
   all_faults frames pre_span pretty (node n ns) = faults frames pre_span pretty n ++ all_faults frames pre_span pretty ns
 
-abbrev pub raw_content_faults : Head → Nodes → List Fault
+abbrev pub raw_content_faults : Head → NodesView → List Fault
 raw_content_faults h ns = raw_faults escaping.Raw ns ++ closing_faults h ns
 
 -- those of what stands between the tags of an element
-abbrev pub content_faults : Frames → (pretty : Bool) → Elem → List Fault
+abbrev pub content_faults : Frames → (pretty : Bool) → ElementView → List Fault
 content_faults frames pretty e = if is_raw e.0.name then raw_content_faults e.0 e.1
     else (if is_escapable_raw e.0.name then raw_faults escaping.Text e.1 else all_faults frames e.0.pre_span (pretty && opens e.0 e.1) e.1)
 
 -- those of a document with this root
-abbrev pub document_faults : Frames → (pretty : Bool) → Elem → List Fault
+abbrev pub document_faults : Frames → (pretty : Bool) → ElementView → List Fault
 document_faults frames pretty e = faults frames false pretty (element_node e.0 e.1)
 
 -- the list begins with the fault

@@ -2,17 +2,17 @@
 use Rattle.std.specs.Prelude.{◌≡◌, ℕ, List, Bool, Option, Some, None, Result, Ok, Err, String}
 use Rattle.std.specs.declared.alloc.Global.{Global}
 use Rattle.html_names.specs.Texts.{text_view}
-use Rattle.html_dom.specs.Drawings.{Drawing, drawing, Box}
+use Rattle.html_dom.specs.Frames.{FrameView, frame, HtmlFrameView}
 use Rattle.typst_html.specs.declared.frame.FrameFault.{FrameFault}
 use Rattle.typst_html.specs.declared.frame.FrameFault.TheVariants.{OutOfMemory, Refused}
 
 -- the text of a frame where pretty writing is on or off, and nothing where it is refused
 abbrev pub Frames : Type 0
-Frames = Box → (pretty : Bool) → Option (List ℕ)
+Frames = HtmlFrameView → (pretty : Bool) → Option (List ℕ)
 
 -- the caller's number of a frame's picture
-abbrev pub number_of : Drawing → ℕ
-number_of (drawing picture items) = picture
+abbrev pub number_of : FrameView → ℕ
+number_of (frame picture items) = picture
 
 -- every frame is refused
 abbrev pub no_frames : Frames

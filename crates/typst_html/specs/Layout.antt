@@ -7,7 +7,7 @@ use Rattle.html_names.specs.Kinds.{is_mathml, is_token, is_metadata_content}
 use Rattle.html_names.specs.declared.property.Display.{Display}
 use Rattle.html_names.specs.declared.property.Display.TheVariants as display
 use Rattle.html_dom.specs.Attributes.{first}
-use Rattle.html_dom.specs.Tree.{Pair, Head, Node, tag_node, text_node, element_node, frame_node, Nodes, none, node}
+use Rattle.html_dom.specs.Tree.{Pair, Head, NodeView, tag_node, text_node, element_node, frame_node, NodesView, none, node}
 
 -- two spaces a level
 abbrev pub spaces : (level : ℕ) → List ℕ
@@ -46,29 +46,29 @@ wants_around h = if bytes_eq h.name (codes "math") then is_text (codes "block") 
     else (is_mathml h.name || (bytes_eq h.name (codes "pre") || (is_metadata_content h.name || allows_inside h.name)))
 
 -- a frame, or an element that wants lines of its own
-abbrev pub calls_for_lines : Node → Bool
+abbrev pub calls_for_lines : NodeView → Bool
 calls_for_lines (tag_node t) = false
 calls_for_lines (text_node s span) = false
 calls_for_lines (element_node h kids) = wants_around h
 calls_for_lines (frame_node b) = true
 
-abbrev pub any_calls : Nodes → Bool
+abbrev pub any_calls : NodesView → Bool
 any_calls none = false
 any_calls (node n ns) = calls_for_lines n || any_calls ns
 
 -- the children are written pretty where pretty writing is on; else it is off for all that stands inside
-unfoldable pub opens : Head → Nodes → Bool
+unfoldable pub opens : Head → NodesView → Bool
 opens h ns = allows_inside h.name && any_calls ns
 
 -- an indent stands before the child: one is due, or the child wants it
-abbrev pub has_indent : (due : Bool) → Node → Bool
+abbrev pub has_indent : (due : Bool) → NodeView → Bool
 has_indent due (tag_node t) = false
 has_indent due (text_node s span) = due
 has_indent due (element_node h kids) = due || wants_around h
 has_indent due (frame_node b) = due
 
 -- one is due before the next child, tags aside: this one wants lines of its own
-abbrev pub due_after : (due : Bool) → Node → Bool
+abbrev pub due_after : (due : Bool) → NodeView → Bool
 due_after due (tag_node t) = due
 due_after due (text_node s span) = false
 due_after due (element_node h kids) = wants_around h

@@ -1,7 +1,7 @@
 -- The text of a tree, plain and pretty: HTML Standard 13.1, with the choices of this project.
 use Rattle.std.specs.Prelude.{ℕ, ◌+◌, Bool, true, false, ◌||◌, ◌&&◌, ◌==◌, List, [], ◌∷◌, ◌++◌, if◌then◌else◌, codes}
 use Rattle.html_names.specs.Kinds.{is_void, is_foreign_self_closing, is_raw, is_escapable_raw}
-use Rattle.html_dom.specs.Tree.{Pair, Head, Node, tag_node, text_node, element_node, frame_node, Nodes, none, node, Elem}
+use Rattle.html_dom.specs.Tree.{Pair, Head, NodeView, tag_node, text_node, element_node, frame_node, NodesView, none, node, ElementView}
 use Rattle.typst_html.specs.References.{reference_to}
 use Rattle.typst_html.specs.Frames.{Frames}
 use Rattle.typst_html.specs.Layout.{indent_where, feed_where, opens, has_indent, due_after, raw_written, frame_written}
@@ -48,7 +48,7 @@ abbrev pub ends_at_once : Head → Bool
 ends_at_once h = is_foreign_self_closing h.name || is_void h.name
 
 -- the first child that is neither a tag nor an empty text begins with LF or CR
-abbrev pub begins_with_feed : Nodes → Bool
+abbrev pub begins_with_feed : NodesView → Bool
 begins_with_feed none = false
 begins_with_feed (node (tag_node t) ns) = begins_with_feed ns
 begins_with_feed (node (text_node [] span) ns) = begins_with_feed ns
@@ -57,23 +57,23 @@ begins_with_feed (node (element_node h kids) ns) = false
 begins_with_feed (node (frame_node b) ns) = false
 
 -- a line feed before a text that begins with one, where a reader would drop the text's own
-abbrev pub feed_written : Head → Nodes → List ℕ
+abbrev pub feed_written : Head → NodesView → List ℕ
 feed_written h ns = if drops_feed h.name && begins_with_feed ns then codes "\n" else []
 
 -- the texts among the nodes, joined
-abbrev pub one_text : Node → List ℕ
+abbrev pub one_text : NodeView → List ℕ
 one_text (tag_node t) = []
 one_text (text_node s span) = s
 one_text (element_node h kids) = []
 one_text (frame_node b) = []
 
-abbrev pub texts : Nodes → List ℕ
+abbrev pub texts : NodesView → List ℕ
 texts none = []
 texts (node n ns) = one_text n ++ texts ns
 
 unfoldable mutual
   -- a node on its level
-  pub written : Frames → (pre_span pretty : Bool) (level : ℕ) → Node → List ℕ
+  pub written : Frames → (pre_span pretty : Bool) (level : ℕ) → NodeView → List ℕ
   written frames pre_span pretty level (tag_node t) = []
   written frames pre_span pretty level (text_node s span) = escaped (escaping_of pre_span) s
   written frames pre_span pretty level (element_node h ns) =
@@ -84,20 +84,20 @@ unfoldable mutual
   written frames pre_span pretty level (frame_node b) = frame_written pretty level (frames b pretty)
 
   -- the children of an element of that level, and what stands before its end tag
-  pub children_written : Frames → (pre_span pretty due : Bool) (level : ℕ) → Nodes → List ℕ
+  pub children_written : Frames → (pre_span pretty due : Bool) (level : ℕ) → NodesView → List ℕ
   children_written frames pre_span pretty due level none = indent_where pretty level
   children_written frames pre_span pretty due level (node n ns) =
       indent_where (pretty && has_indent due n) (level + 1)
       ++ (written frames pre_span pretty (level + 1) n ++ children_written frames pre_span pretty (due_after due n) level ns)
 
 -- what stands between the tags of an element
-abbrev pub content_written : Frames → (pretty : Bool) (level : ℕ) → Elem → List ℕ
+abbrev pub content_written : Frames → (pretty : Bool) (level : ℕ) → ElementView → List ℕ
 content_written frames pretty level e = if is_raw e.0.name then raw_written pretty level e.0 (texts e.1)
     else (if is_escapable_raw e.0.name then escaped escaping.Text (texts e.1) else children_written frames e.0.pre_span (pretty && opens e.0 e.1) true level e.1)
 
-abbrev pub element_written : Frames → (pretty : Bool) (level : ℕ) → Elem → List ℕ
+abbrev pub element_written : Frames → (pretty : Bool) (level : ℕ) → ElementView → List ℕ
 element_written frames pretty level e = written frames false pretty level (element_node e.0 e.1)
 
 -- the whole text of a document with this root
-abbrev pub document_written : Frames → (pretty : Bool) → Elem → List ℕ
+abbrev pub document_written : Frames → (pretty : Bool) → ElementView → List ℕ
 document_written frames pretty e = codes "<!DOCTYPE html>" ++ (indent_where pretty 0 ++ (element_written frames pretty 0 e ++ feed_where pretty))

@@ -1,5 +1,5 @@
 ghost use Rattle.std.specs.Prelude.{◌≡◌, [], true, false, Some, OnOk, IfOk, IfErr};
-ghost use Rattle.html_dom.specs.PlainTree.{normal};
+ghost use Rattle.html_dom.specs.PlainTree.{element_normal};
 ghost use Rattle.html_dom.specs.Views.{text_view, element_view};
 ghost use Rattle.typst_html.specs.Faults.{document_faults, IsFirst};
 ghost use Rattle.typst_html.specs.Indented.{indented, IsWellEnded};
@@ -38,8 +38,8 @@ pub fn html_in_bundle<F: FrameWriter>(
 
     // The text, and what that of a tree without frames reads as.
     ensures text { IfOk result (λ text. text_view text ≡ document_written (F.drawing frames.now) options.now.pretty (element_view root.now)) }
-    ensures reads_back { options.now.pretty ≡ false → HasNoFrame (element_view root.now) → IfOk result (λ text. read (text_view text) ≡ Some (normal (element_view root.now))) }
-    ensures reads_indented { options.now.pretty ≡ true → HasNoFrame (element_view root.now) → IsWellEnded true (element_view root.now) → IfOk result (λ text. read (text_view text) ≡ Some (normal (indented (element_view root.now)))) }
+    ensures reads_back { options.now.pretty ≡ false → HasNoFrame (element_view root.now) → IfOk result (λ text. read (text_view text) ≡ Some (element_normal (element_view root.now))) }
+    ensures reads_indented { options.now.pretty ≡ true → HasNoFrame (element_view root.now) → IsWellEnded true (element_view root.now) → IfOk result (λ text. read (text_view text) ≡ Some (element_normal (indented (element_view root.now)))) }
 {
     let mut out = Output::new(alloc);
     out.push_ascii("<!DOCTYPE html>")?;

@@ -1,6 +1,6 @@
 ghost use Rattle.std.specs.Prelude.{◌≡◌, ℕ, List, Bool, Option};
-ghost use Rattle.html_dom.specs.Drawings.{Box};
-ghost use Rattle.html_dom.specs.FrameViews.{box_view};
+ghost use Rattle.html_dom.specs.Frames.{HtmlFrameView};
+ghost use Rattle.html_dom.specs.FrameViews.{html_frame_view};
 ghost use Rattle.typst_html.specs.Frames.{Draws};
 
 use html_dom::HtmlFrame;
@@ -23,9 +23,9 @@ pub enum FrameFault {
 /// aside.
 pub trait FrameWriter {
     /// The text of a frame where pretty writing is on or off; nothing where it is refused.
-    ghost drawing: { Self → Box → Bool → Option (List ℕ) };
+    ghost drawing: { Self → HtmlFrameView → Bool → Option (List ℕ) };
 
     /// The text of a frame. `pretty` says whether pretty writing is on at its place.
     fn write(&self, frame: &HtmlFrame, pretty: bool) -> Result<String, FrameFault>
-        ensures draws { Draws (drawing self.now (box_view frame.now) pretty) result };
+        ensures draws { Draws (drawing self.now (html_frame_view frame.now) pretty) result };
 }

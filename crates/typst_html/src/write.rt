@@ -4,7 +4,7 @@ ghost use Rattle.std.specs.Prelude.{◌≡◌, ◌++◌, [], IfErr, IfOk, OnOk, 
 ghost use Rattle.html_dom.specs.Views.{text_view, pair_view, attrs_view, head_of, node_view, element_view, nodes_view};
 ghost use Rattle.typst_html.specs.Faults.{text_faults, pairs_faults, void_faults, raw_content_faults, content_faults, frame_faults, faults, all_faults, document_faults, IsFirst};
 ghost use Rattle.typst_html.specs.Layout.{lines_written, raw_written, frame_written};
-ghost use Rattle.html_dom.specs.FrameViews.{box_view};
+ghost use Rattle.html_dom.specs.FrameViews.{html_frame_view};
 ghost use Rattle.typst_html.specs.ReadingBack.{ArePairs, IsHead, IsNamed, AreNamed, IsNamedElement};
 ghost use Rattle.typst_html.specs.Written.{value_written, pairs_written, tag_close, start_written, end_written, ends_at_once, begins_with_feed, feed_written, texts, content_written, written, children_written, element_written, escaping_of};
 ghost use Rattle.typst_html.specs.Reader.{drops_feed};
@@ -240,9 +240,9 @@ fn write_frame<F: FrameWriter>(
     place: Place,
     frames: &F,
 ) -> Result<(), ExportFault>
-    ensures text { OnOk result (out.new ≡ out.old ++ frame_written place.pretty place.level (F.drawing frames.now (box_view frame.now) place.pretty)) }
-    ensures clean { OnOk result (frame_faults frame.now.span.0 (F.drawing frames.now (box_view frame.now) place.pretty) ≡ []) }
-    ensures fault { IfErr result (λ e. IsFirst e (frame_faults frame.now.span.0 (F.drawing frames.now (box_view frame.now) place.pretty))) }
+    ensures text { OnOk result (out.new ≡ out.old ++ frame_written place.pretty place.level (F.drawing frames.now (html_frame_view frame.now) place.pretty)) }
+    ensures clean { OnOk result (frame_faults frame.now.span.0 (F.drawing frames.now (html_frame_view frame.now) place.pretty) ≡ []) }
+    ensures fault { IfErr result (λ e. IsFirst e (frame_faults frame.now.span.0 (F.drawing frames.now (html_frame_view frame.now) place.pretty))) }
 {
     match frames.write(frame, place.pretty) {
         Ok(text) => {

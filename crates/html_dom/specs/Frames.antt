@@ -1,0 +1,38 @@
+-- Drawings laid out in advance, as pure values.
+use Rattle.std.specs.Prelude.{ℕ, ℤ, List, [], Option, None}
+use Rattle.html_names.specs.Texts.{Pair}
+use Rattle.html_dom.specs.Tags.{TagView}
+
+-- millionths of a point to the right and down
+abbrev pub PointView : Type 0
+PointView = ℤ × ℤ
+
+mutual
+  pub data FrameView : Type 0 where
+    frame : (picture : ℕ) (items : FrameItemsView) → FrameView
+    deriving Discrete as FrameView-discrete
+
+  pub data FrameItemsView : Type 0 where
+    no_items : FrameItemsView
+    item : (place : PointView) (thing : FrameItemView) (rest : FrameItemsView) → FrameItemsView
+    deriving Discrete as FrameItemsView-discrete
+
+  pub data FrameItemView : Type 0 where
+    tag_item : TagView → FrameItemView
+    group_item : FrameView → FrameItemView
+    link_item : Option ℕ → FrameItemView
+    other_item : FrameItemView
+    deriving Discrete as FrameItemView-discrete
+
+-- a drawing in a tree
+pub record HtmlFrameView : Type 0 where
+  pub inner : FrameView
+  pub text_size : ℤ
+  pub id : Option (List ℕ)
+  pub css : List Pair
+  pub anchors : List (PointView × List ℕ)
+  pub span : ℕ
+
+-- a drawing in a tree and nothing else
+abbrev pub new_html_frame : FrameView → ℤ → ℕ → HtmlFrameView
+new_html_frame inner text_size span = record { inner = inner; text_size = text_size; id = None; css = []; anchors = []; span = span }

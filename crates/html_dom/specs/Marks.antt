@@ -1,8 +1,0 @@
--- Marks in the tree and in drawings.
-use Rattle.std.specs.Prelude.{ℕ, List, Option}
-
--- the start or the end of a place that can be linked to
-pub data Marker : Type 0 where
-  starts : (location : ℕ) (label : Option (List ℕ)) (dest : Option ℕ) → Marker
-  ends : (location : ℕ) → Marker
-  deriving Discrete as Marker-discrete

@@ -1,0 +1,8 @@
+-- Marks in the tree and in drawings.
+use Rattle.std.specs.Prelude.{ℕ, List, Option}
+
+-- the start or the end of a place that can be linked to
+pub data TagView : Type 0 where
+  starts : (location : ℕ) (label : Option (List ℕ)) (dest : Option ℕ) → TagView
+  ends : (location : ℕ) → TagView
+  deriving Discrete as TagView-discrete
