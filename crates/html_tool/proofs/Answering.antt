@@ -4,8 +4,8 @@ use Rattle.std.specs.Str.{IsUtf8}
 use Rattle.std.proofs.lemmas.Str.{encodes-chars}
 use lib.Utf8.{encodes}
 use Rattle.html_dom.specs.Tree.{ElementView}
-use Rattle.typst_html.specs.Frames.{no_frames}
-use Rattle.typst_html.specs.Written.{document_written}
+use Rattle.html_encode.specs.Frames.{no_frames}
+use Rattle.html_encode.specs.Written.{document_written}
 use Rattle.html_tool.specs.Answers.{refused_line, tree_refusals, tree_answer}
 use Rattle.html_tool.specs.Names.{Refusal}
 use Rattle.html_tool.specs.Replies.{IsReply}

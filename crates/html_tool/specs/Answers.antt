@@ -5,9 +5,9 @@ use Rattle.std.specs.Io.KnownBytes.{Appends}
 use Rattle.std.specs.Fmt.{decimal}
 use lib.Utf8.{encodes}
 use Rattle.html_dom.specs.Tree.{ElementView}
-use Rattle.typst_html.specs.Faults.{Fault, unencodable, void_children, raw_child, raw_closing, frame_refused, document_faults}
-use Rattle.typst_html.specs.Frames.{no_frames}
-use Rattle.typst_html.specs.Written.{document_written}
+use Rattle.html_encode.specs.Faults.{Fault, unencodable, void_children, raw_child, raw_closing, frame_refused, document_faults}
+use Rattle.html_encode.specs.Frames.{no_frames}
+use Rattle.html_encode.specs.Written.{document_written}
 use Rattle.html_tool.specs.Json.{json_of}
 use Rattle.html_tool.specs.Names.{Refusal, element_refusals}
 use Rattle.html_tool.specs.Spelled.{element_spelled}

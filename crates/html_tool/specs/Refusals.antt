@@ -3,8 +3,8 @@ use Rattle.std.specs.Prelude.{◌≡◌, ℕ, List, ◌∷◌}
 use Rattle.html_names.specs.declared.fault.NameFault.{NameFault}
 use Rattle.html_names.specs.declared.fault.NameFault.TheVariants as name
 use Rattle.html_dom.specs.declared.place.Span.{Span}
-use Rattle.typst_html.specs.declared.fault.ExportFault.{ExportFault}
-use Rattle.typst_html.specs.declared.fault.ExportFault.TheVariants as fault
+use Rattle.html_encode.specs.declared.fault.ExportFault.{ExportFault}
+use Rattle.html_encode.specs.declared.fault.ExportFault.TheVariants as fault
 use Rattle.html_tool.specs.Names as names
 use Rattle.html_tool.specs.declared.refusal.Refusal.{Refusal}
 use Rattle.html_tool.specs.declared.refusal.Refusal.TheVariants.{OutOfMemory, At}

@@ -1,6 +1,6 @@
 //! The program's writer of frames.
 
-ghost use Rattle.typst_html.specs.Frames.{no_frames};
+ghost use Rattle.html_encode.specs.Frames.{no_frames};
 
 use typst_html::{FrameFault, FrameWriter, HtmlFrame};
 

@@ -4,9 +4,9 @@ ghost use Rattle.std.specs.Prelude.{◌≡◌, ◌++◌, [], None, map, option_m
 ghost use Rattle.std.specs.Bool.{OnTrue};
 ghost use Rattle.std.specs.Io.KnownBytes.{Appends, Keeps};
 ghost use Rattle.html_dom.specs.Views.{text_view, element_view};
-ghost use Rattle.typst_html.specs.Faults.{document_faults};
-ghost use Rattle.typst_html.specs.Frames.{no_frames};
-ghost use Rattle.typst_html.specs.Written.{document_written};
+ghost use Rattle.html_encode.specs.Faults.{document_faults};
+ghost use Rattle.html_encode.specs.Frames.{no_frames};
+ghost use Rattle.html_encode.specs.Written.{document_written};
 ghost use Rattle.html_tool.specs.Answers.{AppendsBeginning, EndsAs, bad_input, answer_of, answer_to, wants_pretty, texts_of, refused_line, refusal_of, tree_refusals, tree_answer};
 ghost use Rattle.html_tool.specs.Forms.{element_form_view};
 ghost use Rattle.html_tool.specs.Json.{json_of};

@@ -1,26 +1,11 @@
-//! The exporter: HTML text of a tree, with the proof that it reads back.
+//! The HTML tree of a document and its exporter. All public names of the crates below stand here.
 #![tactic(auto)]
 
-mod escape;
-mod export;
-mod fault;
-mod frame;
-pub mod laws;
-mod layout;
-mod options;
-mod output;
-mod raw;
-#[cfg(test)]
-mod tests;
-mod write;
-
-pub use export::html_in_bundle;
-pub use fault::ExportFault;
-pub use frame::{FrameFault, FrameWriter};
 pub use html_dom::{
     Frame, FrameItem, HtmlAttrs, HtmlElement, HtmlFrame, HtmlNode, Location, Point, Span, Tag,
     resolve_inline_styles,
 };
+pub use html_encode::{ExportFault, FrameFault, FrameWriter, HtmlOptions, html_in_bundle, laws};
 pub use html_flow::{
     Arg, ArgValue, Args, ConstructFault, ElementInfo, FrameElem, HtmlElem, Item, Pair, Role,
     construct,
@@ -33,4 +18,3 @@ pub use html_values::{
     PropertiesBuilder, Property, Ratio, Rel, Rgba, Separator, Str, ToCss, TrueFalseBool, Value,
     Warning, WarningSink, YesNoBool,
 };
-pub use options::HtmlOptions;

@@ -1,0 +1,44 @@
+use Rattle.std.proofs.Common.{◌≡◌, ◌++◌, chars, sym, ◌∙◌, append_assoc}
+use Rattle.std.specs.Str.Iter.{chars_rest}
+use Rattle.std.proofs.lemmas.List.{append-nil}
+use Rattle.std.proofs.lemmas.Str.{IsUtf8-past_char, chars_past_char}
+use Rattle.std.proofs.lemmas.Result.{err_from_is_err_and}
+use Rattle.std.proofs.StrCases.{chars_of_empty}
+use Rattle.html_encode.specs.Faults.{char_faults, text_faults}
+use Rattle.html_encode.proofs.Firsts.{first_of_more}
+use Rattle.html_encode.proofs.escape.write_text.Goals as goal
+
+pub loop-c-preserved : goal.loop-c-preserved
+loop-c-preserved c =
+    let held = c.loop-c.invariant in
+    let parts = c.in-Some.ensures.steps.0 in
+    let step = chars_past_char _ _ c.in-Some.c held.utf8 parts in
+    let told = rw step at held.told in
+    let clean = rw (step, c.in_ok-write_char.ensures.clean) at held.clean in
+    record {
+      utf8 = IsUtf8-past_char _ _ c.in-Some.c held.utf8 parts;
+      told = rw (c.in_ok-write_char.ensures.text, append_assoc) told;
+      clean = clean;
+    }
+
+pub returns-in_err-write_char-clause-fault : goal.returns-in_err-write_char-clause-fault
+returns-in_err-write_char-clause-fault c =
+    let held = c.loop-c.invariant in
+    let step = chars_past_char _ _ c.in-Some.c held.utf8 c.in-Some.ensures.steps.0 in
+    let all : text_faults c.args.escaping c.args.span.0 (chars c.args.text.now)
+    ≡ char_faults c.args.escaping c.args.span.0 c.in-Some.c ++ text_faults c.args.escaping c.args.span.0 (chars (chars_rest c.next.new.self)) =
+    sym (rw step at held.clean) in
+    let p = err_from_is_err_and c.from_residual.result c.from_residual.ensures.1 in
+    rw (p.1, p.2, all) (first_of_more _ _ _ c.in_err-write_char.ensures.fault)
+
+pub returns-clause-text : goal.returns-clause-text
+returns-clause-text c =
+    let held = c.loop-c.invariant in
+    let empty = chars_of_empty _ c.in-None.ensures.steps.0.0 in
+    sym (append-nil _) ∙ rw empty at held.told
+
+pub returns-clause-clean : goal.returns-clause-clean
+returns-clause-clean c =
+    let held = c.loop-c.invariant in
+    let empty = chars_of_empty _ c.in-None.ensures.steps.0.0 in
+    sym (rw empty at held.clean)

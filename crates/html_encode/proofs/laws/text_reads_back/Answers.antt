@@ -1,0 +1,5 @@
+use Rattle.html_encode.proofs.Contents.{reads_back}
+use Rattle.html_encode.proofs.laws.text_reads_back.Goals as goal
+
+pub returns : goal.returns
+returns c = reads_back

@@ -1,0 +1,9 @@
+//! Tests of trees, items and writing, each over public calls.
+#![tactic(auto)]
+
+#[cfg(test)]
+mod dom;
+#[cfg(test)]
+mod encode;
+#[cfg(test)]
+mod flow;

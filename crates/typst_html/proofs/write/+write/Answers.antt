@@ -1,8 +1,0 @@
-use Rattle.std.proofs.lemmas.Result.{on_ok_weaker}
-use Rattle.html_dom.specs.Views.{head_of, nodes_view}
-use Rattle.typst_html.proofs.Named.{raw_content_named}
-use Rattle.typst_html.proofs.write.+write.Goals as goal
-
-pub write_content-returns-then-is_raw-clause-named : goal.write_content-returns-then-is_raw-clause-named
-write_content-returns-then-is_raw-clause-named t g c =
-    on_ok_weaker c.write_raw.result (raw_content_named (head_of c.args.element.now) (nodes_view c.args.element.now.children.items)) c.write_raw.ensures.clean

@@ -1,0 +1,1 @@
+//! Tests of css texts and property maps.
