@@ -28,7 +28,8 @@ pred_is : (k : ℕ) → suc k - 1 ≡ k
 pred_is k = omega arith
 
 -- the first digit of a fraction, and the others
-pub fraction_digits-step : (k n : ℕ) → 0 < k → 0 < n → fraction_digits k n ≡ (48 + n / 10 ^ (k - 1)) ∷ fraction_digits (k - 1) (n % 10 ^ (k - 1))
+pub fraction_digits-step : (k n : ℕ) → 0 < k → 0 < n → fraction_digits k n
+    ≡ (48 + n / 10 ^ (k - 1)) ∷ fraction_digits (k - 1) (n % 10 ^ (k - 1))
 fraction_digits-step zero n h p = absurd (omega arith)
 fraction_digits-step (suc k) zero h p = absurd (omega arith)
 fraction_digits-step (suc k) (suc n) h p = rw (pred_is k)
@@ -38,7 +39,8 @@ pub first_digit : (k n : ℕ) → 0 < k → n < 10 ^ k → n / 10 ^ (k - 1) < 10
 first_digit zero n h p = absurd (omega arith)
 first_digit (suc k) n h p =
     let tenfold : 10 ^ suc k ≡ 10 * 10 ^ k = simp unary_clauses (omega arith) in
-    rw (pred_is k) ((div-lt_iff_lt-mul {k = 10 ^ k} {x = n} {y = 10} (power_above k)).1 (rw tenfold at p))
+    rw (pred_is k) ((div-lt_iff_lt-mul {k = 10 ^ k} {x = n} {y = 10} (power_above k)).1
+    (rw tenfold at p))
 
 pub ruleset append_steps = (append_assoc, append-nil)
 
@@ -47,7 +49,8 @@ tenfold k = simp unary_clauses (omega arith)
 
 -- the first digit of a fraction of one more decimal
 pub leading_digit : (k n : ℕ) → n < 10 ^ suc k → n / 10 ^ k < 10
-leading_digit k n p = (div-lt_iff_lt-mul {k = 10 ^ k} {x = n} {y = 10} (power_above k)).1 (rw (tenfold k) at p)
+leading_digit k n p = (div-lt_iff_lt-mul {k = 10 ^ k} {x = n} {y = 10} (power_above k)).1
+    (rw (tenfold k) at p)
 
 fraction_ascii : (k n : ℕ) → n < 10 ^ k → IsAscii (fraction_digits k n)
 fraction_ascii zero n p = IsAscii-nil
@@ -55,7 +58,8 @@ fraction_ascii (suc k) zero p = IsAscii-nil
 fraction_ascii (suc k) (suc n) p =
     let digit = leading_digit k (suc n) p in
     let above = power_above k in
-    IsAscii-cons (48 + suc n / 10 ^ k) _ (omega arith) (fraction_ascii k (suc n % 10 ^ k) (omega arith))
+    IsAscii-cons (48 + suc n / 10 ^ k) _ (omega arith)
+    (fraction_ascii k (suc n % 10 ^ k) (omega arith))
 
 point_ascii : (k n : ℕ) → n < 10 ^ k → IsAscii (point_text k n)
 point_ascii k zero p = IsAscii-nil
@@ -75,5 +79,6 @@ fixed_chars k z q =
     let above = power_above k in
     chars-IsAscii (fixed_text k z)
     (IsAscii-append _ _
-    (IsAscii-append _ _ (sign_ascii z (rounded z)) (IsAscii-decimal (rounded z / 10 ^ k) (whole_fits k z q)))
+    (IsAscii-append _ _ (sign_ascii z (rounded z))
+    (IsAscii-decimal (rounded z / 10 ^ k) (whole_fits k z q)))
     (point_ascii k (rounded z % 10 ^ k) (omega arith)))

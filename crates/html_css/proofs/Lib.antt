@@ -1,7 +1,9 @@
+pub mod Beginnings
 pub mod Colors
 pub mod Digits
 pub mod Emitting
 pub mod Equals
+pub mod Giving
 pub mod Listing
 pub mod Names
 pub mod Places

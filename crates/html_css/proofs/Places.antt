@@ -1,5 +1,5 @@
 -- What stands before a place of a text that grows, and what stands after it.
-use Rattle.std.proofs.Common.{◌≡◌, ℕ, ◌≤◌, List, [], ◌++◌, length, take, drop, Bool, true, false, ◌||◌, Result, Ok, Err, refl, sym, ap, subst, ◌∙◌, append_assoc, codes, chars, IsUtf8, arith}
+use Rattle.std.proofs.Common.{◌≡◌, ℕ, ◌≤◌, List, [], ◌++◌, length, take, drop, Bool, true, false, ◌||◌, Result, Ok, Err, refl, sym, ap, subst, ◌∙◌, append_assoc, append-nil, codes, chars, IsUtf8, arith}
 use Rattle.std.proofs.lemmas.List.{take-append-drop, take-append-le, drop_all, append_cancel_left, length-append, length-take-le}
 use Rattle.std.proofs.Math.Seq.{drop-append_seam}
 use Rattle.std.proofs.lemmas.Str.{chars-nil, chars-append, encodes-chars, encodes-append}
@@ -7,17 +7,21 @@ use Rattle.std.specs.Result.{OnOk, OnErr}
 use Rattle.std.specs.declared.alloc.AllocError.{AllocError}
 use lib.Utf8.{encodes}
 use Rattle.html_names.proofs.Lists.{chars_ascii}
-use Rattle.html_css.specs.Calc.{opened}
-use Rattle.html_css.specs.Sums.{Parts, One}
-use Rattle.html_css.specs.Sink.{StartsWith}
-use Rattle.html_css.specs.Writer.{State, Emits, Adds}
-use Rattle.html_css.proofs.Emitting.{StartsWith-same, StartsWith-append, StartsWith-trans, rest_of}
+use Rattle.html_css.specs.Calc.{appended, opened}
+use Rattle.html_css.specs.Sums.{Part, Parts, Zero, One, More, with_part}
+use Rattle.html_css.specs.Sink.{StartsWith, Answers, Hands}
+use Rattle.html_css.specs.Writer.{State, Emits, Adds, fails}
+use Rattle.html_css.specs.declared.sink.Warning.{Warning}
+use Rattle.html_css.proofs.Giving.{hands_then}
+use Rattle.html_css.proofs.Beginnings.{StartsWith-append, StartsWith-trans, rest_of}
 
 -- a text whose characters begin with those of another begins with it
-grown : (b d : List ℕ) → IsUtf8 b → IsUtf8 d → StartsWith (chars d) (chars b) → d ≡ b ++ encodes (drop (length (chars b)) (chars d))
+grown : (b d : List ℕ) → IsUtf8 b → IsUtf8 d → StartsWith (chars d) (chars b) → d ≡ b
+    ++ encodes (drop (length (chars b)) (chars d))
 grown b d u v h =
     let more = drop (length (chars b)) (chars d) in
-    sym (encodes-chars d v) ∙ ap encodes (rest_of (chars d) (chars b) h) ∙ encodes-append (chars b) more ∙ ap (λ l. l ++ encodes more) (encodes-chars b u)
+    sym (encodes-chars d v) ∙ ap encodes (rest_of (chars d) (chars b) h)
+    ∙ encodes-append (chars b) more ∙ ap (λ l. l ++ encodes more) (encodes-chars b u)
 
 module _ (at : ℕ) (b d : List ℕ) (within : at ≤ length b) where
   pub kept_front : IsUtf8 b → IsUtf8 d → StartsWith (chars d) (chars b) → take at d ≡ take at b
@@ -29,35 +33,41 @@ module _ (at : ℕ) (b d : List ℕ) (within : at ≤ length b) where
       omega (arith, within, ap length (grown b d u v h), length-append b more)
 
 -- the characters before a place and after it
-parted : (at : ℕ) (b : List ℕ) → IsUtf8 (take at b) → chars b ≡ chars (take at b) ++ chars (drop at b)
+parted : (at : ℕ) (b : List ℕ) → IsUtf8 (take at b) → chars b ≡ chars (take at b)
+    ++ chars (drop at b)
 parted at b u = ap chars (sym (take-append-drop at b)) ∙ chars-append (take at b) (drop at b) u
 
 module _ (at : ℕ) (b d : List ℕ) (u : IsUtf8 (take at b)) (front : take at d ≡ take at b) where
   -- what is appended to the text is appended to what stands after the place
   from_grown : (t : List ℕ) → chars d ≡ chars b ++ t → chars (drop at d) ≡ chars (drop at b) ++ t
   from_grown t e =
-      let split_d : chars d ≡ chars (take at b) ++ chars (drop at d) = parted at d (rw front u) ∙ ap (λ f. chars f ++ chars (drop at d)) front in
-      let split_b : chars b ++ t ≡ chars (take at b) ++ (chars (drop at b) ++ t) = ap (λ l. l ++ t) (parted at b u) ∙ append_assoc (chars (take at b)) (chars (drop at b)) t in
+      let split_d : chars d ≡ chars (take at b) ++ chars (drop at d) =
+      parted at d (rw front u) ∙ ap (λ f. chars f ++ chars (drop at d)) front in
+      let split_b : chars b ++ t ≡ chars (take at b) ++ (chars (drop at b) ++ t) =
+      ap (λ l. l ++ t) (parted at b u) ∙ append_assoc (chars (take at b)) (chars (drop at b)) t
+      in
       append_cancel_left (chars (take at b)) _ _ (sym split_d ∙ e ∙ split_b)
 
   from_kept : StartsWith (chars d) (chars b) → StartsWith (chars (drop at d)) (chars (drop at b))
-  from_kept h = rw (from_grown _ (rest_of (chars d) (chars b) h)) (StartsWith-append (chars (drop at b)) _)
+  from_kept h = rw (from_grown _ (rest_of (chars d) (chars b) h))
+      (StartsWith-append (chars (drop at b)) _)
 
-  from_appended : (r : Result (Unit {0}) AllocError) (t : List ℕ) → OnOk r (chars d ≡ chars b ++ t) → OnOk r (chars (drop at d) ≡ chars (drop at b) ++ t)
+  from_appended : (r : Result (Unit {0}) AllocError) (t : List ℕ) → OnOk r (chars d ≡ chars b ++ t)
+      → OnOk r (chars (drop at d) ≡ chars (drop at b) ++ t)
   from_appended (Ok x) t e = from_grown t e
   from_appended (Err x) t e = tt
 
-  pub emits_from : (r : Result (Unit {0}) AllocError) (old new : State) (t : List ℕ) (f : Bool)
-      → Emits r (record old { text = chars b }) (record new { text = chars d }) t f
-      → Emits r (record old { text = chars (drop at b) }) (record new { text = chars (drop at d) }) t f
-  emits_from r old new t f e = record {
+  pub emits_from : {S : Type 0} {takes : Answers S} (r : Result (Unit {0}) AllocError)
+      (old new : State S) (t : List ℕ) (ws : List Warning)
+      → Emits takes r (record old { text = chars b }) (record new { text = chars d }) t ws
+      → Emits takes r (record old { text = chars (drop at b) })
+      (record new { text = chars (drop at d) }) t ws
+  emits_from r old new t ws e = record {
     appended = from_appended r t e.appended;
     kept = from_kept e.kept;
     failed = e.failed;
-    warned = e.warned;
-    silent = e.silent;
-    same_place = e.same_place;
     steady = e.steady;
+    given = e.given;
   }
 
 is_text : IsUtf8 (codes "calc(")
@@ -65,61 +75,74 @@ unfolding lib.Utf8.encode
 is_text = (codes "calc(", (refl, refl))
 
 -- what stands after a place where the opening was put
-pub after_opening : (at : ℕ) (b d : List ℕ) → at ≤ length b → d ≡ take at b ++ (codes "calc(" ++ drop at b) → chars (drop at d) ≡ codes "calc(" ++ chars (drop at b)
+pub after_opening : (at : ℕ) (b d : List ℕ) → at ≤ length b → d ≡ take at b
+    ++ (codes "calc(" ++ drop at b) → chars (drop at d) ≡ codes "calc(" ++ chars (drop at b)
 after_opening at b d within e =
     let t = codes "calc(" in
     let long : length (take at b) ≡ at = length-take-le at b within in
-    let rest : drop at d ≡ t ++ drop at b = subst (λ n. drop n d ≡ t ++ drop at b) long (rw e (drop-append_seam (take at b) (t ++ drop at b))) in
-    ap chars rest ∙ chars-append t (drop at b) is_text ∙ ap (λ l. l ++ chars (drop at b)) (chars_ascii t refl)
+    let rest : drop at d ≡ t ++ drop at b = subst (λ n. drop n d ≡ t ++ drop at b) long
+    (rw e (drop-append_seam (take at b) (t ++ drop at b))) in
+    ap chars rest ∙ chars-append t (drop at b) is_text
+    ∙ ap (λ l. l ++ chars (drop at b)) (chars_ascii t refl)
 
 either_false : (f : Bool) → f ≡ (f || false)
 either_false true = refl
 either_false false = refl
 
-then_failed : (r : Result (Unit {0}) AllocError) (a b d f : Bool) → b ≡ (a || f) → OnOk r (d ≡ (b || false)) → OnOk r (d ≡ (a || f))
+then_failed : (r : Result (Unit {0}) AllocError) (a b d f : Bool) → b ≡ (a || f)
+    → OnOk r (d ≡ (b || false)) → OnOk r (d ≡ (a || f))
 then_failed (Ok x) a b d f p q = q ∙ sym (either_false b) ∙ p
 then_failed (Err x) a b d f p q = tt
 
-then_kept : (r : Result (Unit {0}) AllocError) (a m d : List ℕ) → StartsWith m a → OnErr r (StartsWith d m) → OnErr r (StartsWith d a)
+then_kept : (r : Result (Unit {0}) AllocError) (a m d : List ℕ) → StartsWith m a
+    → OnErr r (StartsWith d m) → OnErr r (StartsWith d a)
 then_kept (Ok x) a m d p q = tt
 then_kept (Err x) a m d p q = StartsWith-trans d m a q p
 
 -- a part that is appended, and then the opening
-pub Adds-then : (r : Result (Unit {0}) AllocError) (a b d : State) (t : List ℕ) (opened : List ℕ → List ℕ) (f : Bool)
-    → Emits (Ok tt) a b t f → Adds r b d (opened b.text) false → Adds r a d (opened (a.text ++ t)) f
-Adds-then r a b d t opened f p q = record {
+pub Adds-then : {S : Type 0} {takes : Answers S} (r : Result (Unit {0}) AllocError)
+    (a b d : State S)
+    (t : List ℕ) (opened : List ℕ → List ℕ) (ws : List Warning)
+    → Emits takes (Ok tt) a b t ws → Adds takes r b d (opened b.text) []
+    → Adds takes r a d (opened (a.text ++ t)) ws
+Adds-then {S} {takes} r a b d t opened ws p q = record {
   written = subst (λ x. OnOk r (d.text ≡ opened x)) p.appended q.written;
   kept = then_kept r a.text b.text d.text p.kept q.kept;
-  failed = then_failed r a.failed b.failed d.failed f p.failed q.failed;
-  warned = rw (q.silent refl) p.warned;
-  silent = λ h. q.silent refl ∙ p.silent h;
-  same_place = q.same_place ∙ p.same_place;
-  steady = λ h. q.steady refl ∙ p.steady h;
+  failed = then_failed r a.failed b.failed d.failed (fails ws) p.failed q.failed;
+  steady = λ none. q.steady refl ∙ p.steady none;
+  given = subst (λ vs. Hands takes r a.sink vs d.sink) (append-nil ws)
+      (hands_then takes r a.sink b.sink d.sink ws [] p.given q.given);
 }
 
+-- what a part appends, behind the opening, is the sum with that part
+pub with_appended : (parts : Parts) (own : List ℕ) (p : Part)
+    → opened parts (own ++ appended parts p) ≡ with_part parts own p
+with_appended Zero own p = refl
+with_appended One own p = refl
+with_appended More own p = refl
+
 -- a refusal while the part is appended
-pub Adds-refused : (e e' : AllocError) (a b : State) (t s : List ℕ) (f : Bool) → Emits (Err e) a b t f → Adds (Err e') a b s f
-Adds-refused e e' a b t s f p = record {
+pub Adds-refused : {S : Type 0} {takes : Answers S} (e e' : AllocError) (a b : State S)
+    (t s : List ℕ) (ws : List Warning)
+    → Emits takes (Err e) a b t ws → Adds takes (Err e') a b s ws
+Adds-refused e e' a b t s ws p = record {
   written = tt;
   kept = p.kept;
   failed = tt;
-  warned = p.warned;
-  silent = p.silent;
-  same_place = p.same_place;
   steady = p.steady;
+  given = p.given;
 }
 
 -- the opening, at the second part
-pub opens : (parts : Parts) (a b : State) → parts ≡ One → b.text ≡ codes "calc(" ++ a.text → b.failed ≡ a.failed → b.warnings ≡ a.warnings → b.place ≡ a.place
-    → Adds (Ok tt) a b (opened parts a.text) false
-opens parts a b second text f w l = record {
+pub opens : {S : Type 0} {takes : Answers S} (parts : Parts) (a b : State S) → parts ≡ One
+    → b.text ≡ codes "calc(" ++ a.text → b.failed ≡ a.failed → b.sink ≡ a.sink
+    → Adds takes (Ok tt) a b (opened parts a.text) []
+opens parts a b second text f same = record {
   written = rw second text;
   kept = tt;
   failed = f ∙ either_false a.failed;
-  warned = StartsWith-same a.warnings b.warnings w;
-  silent = λ _. w;
-  same_place = l;
   steady = λ _. f;
+  given = same;
 }
 
 -- nothing stands after the end
@@ -127,22 +150,28 @@ pub nothing_after : (b : List ℕ) (n : ℕ) → n ≡ length b → chars (drop 
 nothing_after b n e = ap chars (drop_all n b (omega (arith, e))) ∙ chars-nil
 
 -- the text begins with what stands before the place
-pub begins_before : (at : ℕ) (b : List ℕ) → IsUtf8 (take at b) → StartsWith (chars b) (chars (take at b))
-begins_before at b u = rw (parted at b u) (StartsWith-append (chars (take at b)) (chars (drop at b)))
+pub begins_before : (at : ℕ) (b : List ℕ) → IsUtf8 (take at b)
+    → StartsWith (chars b) (chars (take at b))
+begins_before at b u = rw (parted at b u) (StartsWith-append (chars (take at b))
+    (chars (drop at b)))
 
-whole_text : (r : Result (Unit {0}) AllocError) (at : ℕ) (b new t : List ℕ) → IsUtf8 (take at b) → OnOk r (new ≡ chars b ++ t) → OnOk r (new ≡ chars (take at b) ++ (chars (drop at b) ++ t))
-whole_text (Ok x) at b new t u e = e ∙ ap (λ l. l ++ t) (parted at b u) ∙ append_assoc (chars (take at b)) (chars (drop at b)) t
+whole_text : (r : Result (Unit {0}) AllocError) (at : ℕ) (b new t : List ℕ) → IsUtf8 (take at b)
+    → OnOk r (new ≡ chars b ++ t) → OnOk r (new ≡ chars (take at b) ++ (chars (drop at b) ++ t))
+whole_text (Ok x) at b new t u e = e ∙ ap (λ l. l ++ t) (parted at b u)
+    ∙ append_assoc (chars (take at b)) (chars (drop at b)) t
 whole_text (Err x) at b new t u e = tt
 
--- what is appended at the end is appended, with all that was written from a place on, to what stood before the place
-pub emits_whole : (r : Result (Unit {0}) AllocError) (at : ℕ) (b : List ℕ) (old new : State) (t : List ℕ) (f : Bool) → IsUtf8 (take at b)
-    → Emits r (record old { text = chars b }) new t f → Emits r (record old { text = chars (take at b) }) new (chars (drop at b) ++ t) f
-emits_whole r at b old new t f u e = record {
+-- what is appended at the end is appended, with all that was written from a place on, to what stood
+-- before the place
+pub emits_whole : {S : Type 0} {takes : Answers S} (r : Result (Unit {0}) AllocError) (at : ℕ)
+    (b : List ℕ)
+    (old new : State S) (t : List ℕ) (ws : List Warning) → IsUtf8 (take at b)
+    → Emits takes r (record old { text = chars b }) new t ws
+    → Emits takes r (record old { text = chars (take at b) }) new (chars (drop at b) ++ t) ws
+emits_whole r at b old new t ws u e = record {
   appended = whole_text r at b new.text t u e.appended;
   kept = StartsWith-trans new.text (chars b) (chars (take at b)) e.kept (begins_before at b u);
   failed = e.failed;
-  warned = e.warned;
-  silent = e.silent;
-  same_place = e.same_place;
   steady = e.steady;
+  given = e.given;
 }

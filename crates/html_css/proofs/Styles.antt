@@ -39,11 +39,21 @@ declaration_is p =
 following_is : (ps : List Property) → encodes (following (list_view ps)) ≡ following_bytes ps
 following_is [] = refl
 following_is (p ∷ ps) =
-    rw (encodes-append (codes "; " ++ declaration (property_view p)) (following (list_view ps)), encodes-append (codes "; ") (declaration (property_view p)), semicolon, declaration_is p, following_is ps) refl
+    rw (
+      encodes-append (codes "; " ++ declaration (property_view p)) (following (list_view ps)),
+      encodes-append (codes "; ") (declaration (property_view p)),
+      semicolon,
+      declaration_is p,
+      following_is ps,
+    ) refl
 
 pub inline_is : (ps : List Property) → encodes (inline_text (list_view ps)) ≡ inline_bytes ps
 inline_is [] = refl
-inline_is (p ∷ ps) = rw (encodes-append (declaration (property_view p)) (following (list_view ps)), declaration_is p, following_is ps) refl
+inline_is (p ∷ ps) = rw (
+  encodes-append (declaration (property_view p)) (following (list_view ps)),
+  declaration_is p,
+  following_is ps,
+) refl
 
 colon_chars : chars (codes ": ") ≡ codes ": "
 colon_chars = chars_ascii (codes ": ") refl
@@ -60,26 +70,34 @@ unfolding lib.Utf8.encode
 semicolon_text = (codes "; ", (refl, refl))
 
 declaration_text : (p : Property) → IsUtf8 (declaration_bytes p)
-declaration_text p = IsUtf8-append _ _ (IsUtf8-append _ _ (IsUtf8-string_bytes p.name) colon_text) (IsUtf8-string_bytes p.value)
+declaration_text p = IsUtf8-append _ _ (IsUtf8-append _ _ (IsUtf8-string_bytes p.name) colon_text)
+    (IsUtf8-string_bytes p.value)
 
 declaration_chars : (p : Property) → chars (declaration_bytes p) ≡ declaration (property_view p)
 declaration_chars p =
-    chars-append (string_bytes p.name ++ codes ": ") (string_bytes p.value) (IsUtf8-append _ _ (IsUtf8-string_bytes p.name) colon_text)
-    ∙ ap (λ t. t ++ text_view p.value) (chars-append (string_bytes p.name) (codes ": ") (IsUtf8-string_bytes p.name) ∙ ap (λ t. text_view p.name ++ t) colon_chars)
+    chars-append (string_bytes p.name ++ codes ": ") (string_bytes p.value)
+    (IsUtf8-append _ _ (IsUtf8-string_bytes p.name) colon_text)
+    ∙ ap (λ t. t ++ text_view p.value) (chars-append (string_bytes p.name) (codes ": ")
+    (IsUtf8-string_bytes p.name) ∙ ap (λ t. text_view p.name ++ t) colon_chars)
 
 following_chars : (ps : List Property) → chars (following_bytes ps) ≡ following (list_view ps)
 following_chars [] = chars-nil
 following_chars (p ∷ ps) =
-    chars-append (codes "; " ++ declaration_bytes p) (following_bytes ps) (IsUtf8-append _ _ semicolon_text (declaration_text p))
-    ∙ ap (λ t. t ++ chars (following_bytes ps)) (chars-append (codes "; ") (declaration_bytes p) semicolon_text ∙ ap (λ t. t ++ chars (declaration_bytes p)) semicolon_chars ∙ ap (λ t. codes "; " ++ t) (declaration_chars p))
+    chars-append (codes "; " ++ declaration_bytes p) (following_bytes ps)
+    (IsUtf8-append _ _ semicolon_text (declaration_text p))
+    ∙ ap (λ t. t ++ chars (following_bytes ps)) (chars-append (codes "; ") (declaration_bytes p)
+    semicolon_text ∙ ap (λ t. t ++ chars (declaration_bytes p)) semicolon_chars
+    ∙ ap (λ t. codes "; " ++ t) (declaration_chars p))
     ∙ ap (λ t. (codes "; " ++ declaration (property_view p)) ++ t) (following_chars ps)
 
 inline_chars : (ps : List Property) → chars (inline_bytes ps) ≡ inline_text (list_view ps)
 inline_chars [] = chars-nil
 inline_chars (p ∷ ps) =
     chars-append (declaration_bytes p) (following_bytes ps) (declaration_text p)
-    ∙ ap (λ t. t ++ chars (following_bytes ps)) (declaration_chars p) ∙ ap (λ t. declaration (property_view p) ++ t) (following_chars ps)
+    ∙ ap (λ t. t ++ chars (following_bytes ps)) (declaration_chars p)
+    ∙ ap (λ t. declaration (property_view p) ++ t) (following_chars ps)
 
 -- the characters of the bytes are the text
-pub inline_characters : (ps : List Property) → chars (encodes (inline_text (list_view ps))) ≡ inline_text (list_view ps)
+pub inline_characters : (ps : List Property) → chars (encodes (inline_text (list_view ps)))
+    ≡ inline_text (list_view ps)
 inline_characters ps = ap chars (inline_is ps) ∙ inline_chars ps

@@ -19,16 +19,20 @@ Ends (c ∷ cs) = is_digit c ≡ false
 digit_test : (c : ℕ) → digit_value c < 10 → is_digit c ≡ true
 digit_test c h = grind (arith, nat_tests)
 
-run_of : (ds rest : List ℕ) → AllDigits 10 ds → Ends rest → prefix_len is_digit (ds ++ rest) ≡ length ds
+run_of : (ds rest : List ℕ) → AllDigits 10 ds → Ends rest → prefix_len is_digit (ds ++ rest)
+    ≡ length ds
 run_of [] [] a e = refl
 run_of [] (c ∷ cs) a e = rw e refl
 run_of (d ∷ ds) rest a e = rw (digit_test d a.0, run_of ds rest a.1 e) (omega arith)
 
 pub digits_first : (ds rest : List ℕ) → AllDigits 10 ds → Ends rest → digits_of (ds ++ rest) ≡ ds
-digits_first ds rest a e = ap (λ n. take n (ds ++ rest)) (run_of ds rest a e) ∙ take-append_seam ds rest
+digits_first ds rest a e = ap (λ n. take n (ds ++ rest)) (run_of ds rest a e)
+    ∙ take-append_seam ds rest
 
-pub digits_past : (ds rest : List ℕ) → AllDigits 10 ds → Ends rest → after_digits (ds ++ rest) ≡ rest
-digits_past ds rest a e = ap (λ n. drop n (ds ++ rest)) (run_of ds rest a e) ∙ drop-append_seam ds rest
+pub digits_past : (ds rest : List ℕ) → AllDigits 10 ds → Ends rest → after_digits (ds ++ rest)
+    ≡ rest
+digits_past ds rest a e = ap (λ n. drop n (ds ++ rest)) (run_of ds rest a e)
+    ∙ drop-append_seam ds rest
 
 digit_is : (q : ℕ) → q < 10 → digit_value (48 + q) ≡ q
 digit_is q h = grind (arith, nat_tests)
@@ -50,15 +54,27 @@ hundreds_1 (suc n) h = rw (digit_is (suc n / 1) (omega arith)) (omega arith)
 
 hundreds_2 : (n : ℕ) → n < 100 → decimals 1000 (fraction_digits 2 n) ≡ n * 100
 hundreds_2 zero h = refl
-hundreds_2 (suc n) h = rw (digit_is (suc n / 10) (omega arith), hundreds_1 (suc n % 10) (omega arith)) (omega arith)
+hundreds_2 (suc n) h = rw (
+  digit_is (suc n / 10) (omega arith),
+  hundreds_1 (suc n % 10)
+      (omega arith),
+) (omega arith)
 
 hundreds_3 : (n : ℕ) → n < 1000 → decimals 10000 (fraction_digits 3 n) ≡ n * 100
 hundreds_3 zero h = refl
-hundreds_3 (suc n) h = rw (digit_is (suc n / 100) (omega arith), hundreds_2 (suc n % 100) (omega arith)) (omega arith)
+hundreds_3 (suc n) h = rw (
+  digit_is (suc n / 100) (omega arith),
+  hundreds_2 (suc n % 100)
+      (omega arith),
+) (omega arith)
 
 pub hundreds_4 : (n : ℕ) → n < 10000 → decimals 100000 (fraction_digits 4 n) ≡ n * 100
 hundreds_4 zero h = refl
-hundreds_4 (suc n) h = rw (digit_is (suc n / 1000) (omega arith), hundreds_3 (suc n % 1000) (omega arith)) (omega arith)
+hundreds_4 (suc n) h = rw (
+  digit_is (suc n / 1000) (omega arith),
+  hundreds_3 (suc n % 1000)
+      (omega arith),
+) (omega arith)
 
 percents_1 : (n : ℕ) → n < 10 → decimals 10000 (fraction_digits 1 n) ≡ n * 10000
 percents_1 zero h = refl
@@ -66,15 +82,23 @@ percents_1 (suc n) h = rw (digit_is (suc n / 1) (omega arith)) (omega arith)
 
 pub percents_2 : (n : ℕ) → n < 100 → decimals 100000 (fraction_digits 2 n) ≡ n * 10000
 percents_2 zero h = refl
-percents_2 (suc n) h = rw (digit_is (suc n / 10) (omega arith), percents_1 (suc n % 10) (omega arith)) (omega arith)
+percents_2 (suc n) h = rw (
+  digit_is (suc n / 10) (omega arith),
+  percents_1 (suc n % 10)
+      (omega arith),
+) (omega arith)
 
 -- whole digits, and the text behind them
-unsigned_is : (ds rest : List ℕ) → 0 < length ds → AllDigits 10 ds → Ends rest → unsigned (digits_of (ds ++ rest)) (after_digits (ds ++ rest)) ≡ behind (digits_value 10 ds * 1000000) rest
+unsigned_is : (ds rest : List ℕ) → 0 < length ds → AllDigits 10 ds → Ends rest
+    → unsigned (digits_of (ds ++ rest)) (after_digits (ds ++ rest))
+    ≡ behind (digits_value 10 ds * 1000000) rest
 unsigned_is [] rest h a e = absurd (omega (arith, h))
-unsigned_is (d ∷ ds) rest h a e = rw (digits_first (d ∷ ds) rest a e, digits_past (d ∷ ds) rest a e) refl
+unsigned_is (d ∷ ds) rest h a e = rw (digits_first (d ∷ ds) rest a e, digits_past (d ∷ ds) rest a e)
+    refl
 
 -- what begins with a digit has no sign
-without_sign : (ds rest : List ℕ) → 0 < length ds → AllDigits 10 ds → part_value (ds ++ rest) ≡ unsigned (digits_of (ds ++ rest)) (after_digits (ds ++ rest))
+without_sign : (ds rest : List ℕ) → 0 < length ds → AllDigits 10 ds → part_value (ds ++ rest)
+    ≡ unsigned (digits_of (ds ++ rest)) (after_digits (ds ++ rest))
 without_sign [] rest h a = absurd (omega (arith, h))
 without_sign (d ∷ ds) rest h a = rw (no_minus d a.0) refl
   where
@@ -98,45 +122,65 @@ behind_unit : (n : ℕ) (u : List ℕ) → IsUnit u → behind n u ≡ in_unit u
 behind_unit n [] h = absurd h
 behind_unit n (c ∷ cs) h = rw h.1 refl
 
-behind_is : (k f m n : ℕ) (u : List ℕ) → f < 10 ^ k → IsUnit u → decimals 100000 (fraction_digits k f) ≡ f * m → behind n (point_text k f ++ u) ≡ in_unit u (n + f * m)
+behind_is : (k f m n : ℕ) (u : List ℕ) → f < 10 ^ k → IsUnit u
+    → decimals 100000 (fraction_digits k f) ≡ f * m → behind n (point_text k f ++ u)
+    ≡ in_unit u (n + f * m)
 behind_is k zero m n u h i e = behind_unit n u i ∙ ap (in_unit u) (omega arith)
 behind_is k (suc f) m n u h i e =
     let a = fraction_all k (suc f) h in
-    rw (digits_first (fraction_digits k (suc f)) u a (ends_unit u i), digits_past (fraction_digits k (suc f)) u a (ends_unit u i), e) refl
+    rw (
+      digits_first (fraction_digits k (suc f)) u a (ends_unit u i),
+      digits_past
+          (fraction_digits k (suc f)) u a (ends_unit u i),
+      e,
+    ) refl
 
 module _ (k m : ℕ) (u : List ℕ) (amount : ℤ → Amounts) (is_unit : IsUnit u)
     (places : (f : ℕ) → f < 10 ^ k → decimals 100000 (fraction_digits k f) ≡ f * m)
-    (reads : (r : ℕ) → in_unit u (r / 10 ^ k * 1000000 + r % 10 ^ k * m) ≡ Some (amount (pos (r * 100))))
+    (reads : (r : ℕ) → in_unit u (r / 10 ^ k * 1000000 + r % 10 ^ k * m)
+    ≡ Some (amount (pos (r * 100))))
     (turns : (a : ℤ) → negated (amount a) ≡ amount (neg_ℤ a)) where
   number : (r : ℕ) → List ℕ
   number r = decimal (r / 10 ^ k) ++ (point_text k (r % 10 ^ k) ++ u)
 
-  number_value : (r : ℕ) → r / 10 ^ k < 2 ^ 64 → unsigned (digits_of (number r)) (after_digits (number r)) ≡ Some (amount (pos (r * 100)))
+  number_value : (r : ℕ) → r / 10 ^ k < 2 ^ 64 → unsigned (digits_of (number r))
+      (after_digits (number r)) ≡ Some (amount (pos (r * 100)))
   unfolding number
   number_value r h =
       let above = power_above k in
       let whole = decimal_is_IsNumeral (r / 10 ^ k) h in
-      unsigned_is (decimal (r / 10 ^ k)) (point_text k (r % 10 ^ k) ++ u) whole.0.0 whole.0.1 (ends_point k (r % 10 ^ k) u is_unit)
+      unsigned_is (decimal (r / 10 ^ k)) (point_text k (r % 10 ^ k) ++ u) whole.0.0 whole.0.1
+      (ends_point k (r % 10 ^ k) u is_unit)
       ∙ ap (λ n. behind (n * 1000000) (point_text k (r % 10 ^ k) ++ u)) whole.1
-      ∙ behind_is k (r % 10 ^ k) m (r / 10 ^ k * 1000000) u (omega arith) is_unit (places (r % 10 ^ k) (omega arith))
+      ∙ behind_is k (r % 10 ^ k) m (r / 10 ^ k * 1000000) u (omega arith) is_unit
+      (places (r % 10 ^ k) (omega arith))
       ∙ reads r
 
-  plain_value : (r : ℕ) → r / 10 ^ k < 2 ^ 64 → part_value (number r) ≡ Some (amount (pos (r * 100)))
+  plain_value : (r : ℕ) → r / 10 ^ k < 2 ^ 64 → part_value (number r)
+      ≡ Some (amount (pos (r * 100)))
   unfolding number
   plain_value r h =
       let whole = decimal_is_IsNumeral (r / 10 ^ k) h in
-      without_sign (decimal (r / 10 ^ k)) (point_text k (r % 10 ^ k) ++ u) whole.0.0 whole.0.1 ∙ number_value r h
+      without_sign (decimal (r / 10 ^ k)) (point_text k (r % 10 ^ k) ++ u) whole.0.0 whole.0.1
+      ∙ number_value r h
 
-  below_zero : (n r : ℕ) → r / 10 ^ k < 2 ^ 64 → part_value (sign_text (negsuc n) r ++ decimal (r / 10 ^ k) ++ point_text k (r % 10 ^ k) ++ u) ≡ Some (amount (neg_ℤ (pos (r * 100))))
+  below_zero : (n r : ℕ) → r / 10 ^ k < 2 ^ 64 → part_value
+      (sign_text (negsuc n) r ++ decimal (r / 10 ^ k) ++ point_text k (r % 10 ^ k) ++ u)
+      ≡ Some (amount (neg_ℤ (pos (r * 100))))
   unfolding number
-  below_zero n zero h = ap part_value (append_assoc (decimal (0 / 10 ^ k)) (point_text k (0 % 10 ^ k)) u) ∙ plain_value 0 h
+  below_zero n zero h = ap part_value (append_assoc (decimal (0 / 10 ^ k))
+      (point_text k (0 % 10 ^ k)) u) ∙ plain_value 0 h
   below_zero n (suc r) h =
-      ap (λ t. option_map negated (unsigned (digits_of t) (after_digits t))) (append_assoc (decimal (suc r / 10 ^ k)) (point_text k (suc r % 10 ^ k)) u)
+      ap (λ t. option_map negated (unsigned (digits_of t) (after_digits t)))
+      (append_assoc (decimal (suc r / 10 ^ k)) (point_text k (suc r % 10 ^ k)) u)
       ∙ ap (option_map negated) (number_value (suc r) h) ∙ ap Some (turns (pos (suc r * 100)))
 
-  pub quantity_value : (z : ℤ) → IsQuantity z → part_value (fixed_text k z ++ u) ≡ Some (amount (round z))
+  pub quantity_value : (z : ℤ) → IsQuantity z → part_value (fixed_text k z ++ u)
+      ≡ Some (amount (round z))
   unfolding number
-  quantity_value (pos n) q = ap part_value (append_assoc (decimal (rounded (pos n) / 10 ^ k)) (point_text k (rounded (pos n) % 10 ^ k)) u) ∙ plain_value (rounded (pos n)) (whole_fits k (pos n) q)
+  quantity_value (pos n) q = ap part_value (append_assoc (decimal (rounded (pos n) / 10 ^ k))
+      (point_text k (rounded (pos n) % 10 ^ k)) u)
+      ∙ plain_value (rounded (pos n)) (whole_fits k (pos n) q)
   quantity_value (negsuc n) q = below_zero n (rounded (negsuc n)) (whole_fits k (negsuc n) q)
 
 abbrev pub of_abs : ℤ → Amounts
@@ -149,10 +193,13 @@ abbrev pub of_ratio : ℤ → Amounts
 of_ratio a = record nothing { ratio = a }
 
 pub abs_value : (z : ℤ) → IsQuantity z → part_value (abs_text z) ≡ Some (of_abs (round z))
-abs_value = quantity_value 4 100 (codes "pt") of_abs (refl, refl) hundreds_4 (λ r. ap (λ n. Some (of_abs (pos n))) (omega arith)) (λ a. refl)
+abs_value = quantity_value 4 100 (codes "pt") of_abs (refl, refl) hundreds_4
+    (λ r. ap (λ n. Some (of_abs (pos n))) (omega arith)) (λ a. refl)
 
 pub em_value : (z : ℤ) → IsQuantity z → part_value (em_text z) ≡ Some (of_em (round z))
-em_value = quantity_value 4 100 (codes "em") of_em (refl, refl) hundreds_4 (λ r. ap (λ n. Some (of_em (pos n))) (omega arith)) (λ a. refl)
+em_value = quantity_value 4 100 (codes "em") of_em (refl, refl) hundreds_4
+    (λ r. ap (λ n. Some (of_em (pos n))) (omega arith)) (λ a. refl)
 
 pub ratio_value : (z : ℤ) → IsQuantity z → part_value (ratio_text z) ≡ Some (of_ratio (round z))
-ratio_value = quantity_value 2 10000 (codes "%") of_ratio (refl, refl) percents_2 (λ r. ap (λ n. Some (of_ratio (pos n))) (omega arith)) (λ a. refl)
+ratio_value = quantity_value 2 10000 (codes "%") of_ratio (refl, refl) percents_2
+    (λ r. ap (λ n. Some (of_ratio (pos n))) (omega arith)) (λ a. refl)

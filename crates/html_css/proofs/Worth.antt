@@ -56,9 +56,17 @@ pub record IsPart (text : List ℕ) : Type 0 where
 
 two : (d u : ℕ) (ds us : List ℕ) → (d == 99) ≡ false → IsPart ((d ∷ ds) ++ u ∷ us)
 two d u [] us h = record { first = d; second = u; rest = us; is = refl; no_call = h }
-two d u (e ∷ ds) us h = record { first = d; second = e; rest = ds ++ u ∷ us; is = refl; no_call = h }
+two d u (e ∷ ds) us h = record {
+  first = d;
+  second = e;
+  rest = ds ++ u ∷ us;
+  is = refl;
+  no_call =
+      h;
+}
 
-begins_part : (ds rest : List ℕ) → 0 < length ds → AllDigits 10 ds → 0 < length rest → IsPart (ds ++ rest)
+begins_part : (ds rest : List ℕ) → 0 < length ds → AllDigits 10 ds → 0 < length rest
+    → IsPart (ds ++ rest)
 begins_part [] rest h a l = absurd (omega (arith, h))
 begins_part (d ∷ ds) [] h a l = absurd (omega (arith, l))
 begins_part (d ∷ ds) (u ∷ us) h a l = two d u ds us (no_call d a.0)
@@ -66,7 +74,8 @@ begins_part (d ∷ ds) (u ∷ us) h a l = two d u ds us (no_call d a.0)
     no_call : (d : ℕ) → digit_value d < 10 → (d == 99) ≡ false
     no_call d h = grind (arith, nat_tests)
 
-signed_part : (z : ℤ) (r : ℕ) (ds rest : List ℕ) → 0 < length ds → AllDigits 10 ds → 0 < length rest → IsPart (sign_text z r ++ (ds ++ rest))
+signed_part : (z : ℤ) (r : ℕ) (ds rest : List ℕ) → 0 < length ds → AllDigits 10 ds → 0 < length rest
+    → IsPart (sign_text z r ++ (ds ++ rest))
 signed_part (pos n) r ds rest h a l = begins_part ds rest h a l
 signed_part (negsuc n) zero ds rest h a l = begins_part ds rest h a l
 signed_part (negsuc n) (suc r) [] rest h a l = absurd (omega (arith, h))
@@ -76,7 +85,8 @@ longer : (a b : List ℕ) → 0 < length b → 0 < length (a ++ b)
 longer [] b h = h
 longer (c ∷ cs) b h = omega arith
 
-module _ (k : ℕ) (u : List ℕ) (unit_word : IsWord u) (some_unit : 0 < length u) (z : ℤ) (q : IsQuantity z) where
+module _ (k : ℕ) (u : List ℕ) (unit_word : IsWord u) (some_unit : 0 < length u) (z : ℤ)
+    (q : IsQuantity z) where
   whole : List ℕ
   whole = decimal (rounded z / 10 ^ k)
 
@@ -85,21 +95,25 @@ module _ (k : ℕ) (u : List ℕ) (unit_word : IsWord u) (some_unit : 0 < length
 
   parted : fixed_text k z ++ u ≡ sign_text z (rounded z) ++ (whole ++ (point ++ u))
   unfolding whole point
-  parted = append_assoc (sign_text z (rounded z) ++ whole) point u ∙ append_assoc (sign_text z (rounded z)) whole (point ++ u)
+  parted = append_assoc (sign_text z (rounded z) ++ whole) point u
+      ∙ append_assoc (sign_text z (rounded z)) whole (point ++ u)
 
   pub text_word : IsWord (fixed_text k z ++ u)
   unfolding whole point
   text_word =
       let above = power_above k in
       let numeral = decimal_is_IsNumeral (rounded z / 10 ^ k) (whole_fits k z q) in
-      rw parted (words_join (sign_text z (rounded z)) (whole ++ (point ++ u)) (sign_word z (rounded z))
-      (words_join whole (point ++ u) (digits_word whole numeral.0.1) (words_join point u (point_word k (rounded z % 10 ^ k) (omega arith)) unit_word)))
+      rw parted (words_join (sign_text z (rounded z)) (whole ++ (point ++ u))
+      (sign_word z (rounded z))
+      (words_join whole (point ++ u) (digits_word whole numeral.0.1)
+      (words_join point u (point_word k (rounded z % 10 ^ k) (omega arith)) unit_word)))
 
   pub text_part : IsPart (fixed_text k z ++ u)
   unfolding whole point
   text_part =
       let numeral = decimal_is_IsNumeral (rounded z / 10 ^ k) (whole_fits k z q) in
-      rw parted (signed_part z (rounded z) whole (point ++ u) numeral.0.0 numeral.0.1 (longer point u some_unit))
+      rw parted (signed_part z (rounded z) whole (point ++ u) numeral.0.0 numeral.0.1
+      (longer point u some_unit))
 
 -- a quantity in a sum, with what its text is worth
 pub record Term : Type 0 where
@@ -123,23 +137,37 @@ total (t ∷ ts) = added (t.amount (round t.z)) (total ts)
 
 abbrev words : List Term → List (List ℕ)
 words [] = []
-words (t ∷ ts) = (if is_negative t.z then codes "-" else codes "+") ∷ (if is_negative t.z then t.text (neg_ℤ t.z) else t.text t.z) ∷ words ts
+words (t ∷ ts) = (if is_negative t.z then codes "-" else codes "+") ∷
+    (if is_negative t.z then t.text (neg_ℤ t.z) else t.text t.z) ∷ words ts
 
-next_word : (b : Bool) (w x y rest : List ℕ) (ws : List (List ℕ)) → IsWord w → IsWord x → IsWord y → ((v : List ℕ) → IsWord v → listed (v ++ rest) ≡ v ∷ ws)
-    → listed (w ++ ((if b then codes " - " ++ x else codes " + " ++ y) ++ rest)) ≡ w ∷ (if b then codes "-" else codes "+") ∷ (if b then x else y) ∷ ws
-next_word true w x y rest ws p q r h = first_word w (codes "- " ++ x ++ rest) p ∙ ap (λ l. w ∷ l) (first_word (codes "-") (x ++ rest) (refl, tt) ∙ ap (λ l. codes "-" ∷ l) (h x q))
-next_word false w x y rest ws p q r h = first_word w (codes "+ " ++ y ++ rest) p ∙ ap (λ l. w ∷ l) (first_word (codes "+") (y ++ rest) (refl, tt) ∙ ap (λ l. codes "+" ∷ l) (h y r))
+next_word : (b : Bool) (w x y rest : List ℕ) (ws : List (List ℕ)) → IsWord w → IsWord x → IsWord y
+    → ((v : List ℕ) → IsWord v → listed (v ++ rest) ≡ v ∷ ws)
+    → listed (w ++ ((if b then codes " - " ++ x else codes " + " ++ y) ++ rest))
+    ≡ w ∷ (if b then codes "-" else codes "+") ∷ (if b then x else y) ∷ ws
+next_word true w x y rest ws p q r h = first_word w (codes "- " ++ x ++ rest) p
+    ∙ ap (λ l. w ∷ l) (first_word (codes "-") (x ++ rest) (refl, tt)
+    ∙ ap (λ l. codes "-" ∷ l) (h x q))
+next_word false w x y rest ws p q r h = first_word w (codes "+ " ++ y ++ rest) p
+    ∙ ap (λ l. w ∷ l) (first_word (codes "+") (y ++ rest) (refl, tt)
+    ∙ ap (λ l. codes "+" ∷ l) (h y r))
 
 -- the words of a sum
-listed_sum : (ts : List Term) (w : List ℕ) → IsWord w → listed (w ++ flat_map following (map as_part ts)) ≡ w ∷ words ts
+listed_sum : (ts : List Term) (w : List ℕ) → IsWord w
+    → listed (w ++ flat_map following (map as_part ts)) ≡ w ∷ words ts
 listed_sum [] w p = ap listed (append-nil w) ∙ one_word w p
-listed_sum (t ∷ ts) w p = next_word (is_negative t.z) w (t.text (neg_ℤ t.z)) (t.text t.z) (flat_map following (map as_part ts)) (words ts) p t.opposite_word t.word (listed_sum ts)
+listed_sum (t ∷ ts) w p = next_word (is_negative t.z) w (t.text (neg_ℤ t.z)) (t.text t.z)
+    (flat_map following (map as_part ts)) (words ts) p t.opposite_word t.word (listed_sum ts)
 
-signed_value : (t : Term) → signed (if is_negative t.z then codes "-" else codes "+") (part_value (if is_negative t.z then t.text (neg_ℤ t.z) else t.text t.z)) ≡ Some (t.amount (round t.z))
+signed_value : (t : Term) → signed (if is_negative t.z then codes "-" else codes "+")
+    (part_value (if is_negative t.z then t.text (neg_ℤ t.z) else t.text t.z))
+    ≡ Some (t.amount (round t.z))
 signed_value t = by t.z t.value t.opposite_value
   where
-    by : (z : ℤ) → part_value (t.text z) ≡ Some (t.amount (round z)) → part_value (t.text (neg_ℤ z)) ≡ Some (t.amount (round (neg_ℤ z)))
-        → signed (if is_negative z then codes "-" else codes "+") (part_value (if is_negative z then t.text (neg_ℤ z) else t.text z)) ≡ Some (t.amount (round z))
+    by : (z : ℤ) → part_value (t.text z) ≡ Some (t.amount (round z)) → part_value (t.text (neg_ℤ z))
+        ≡ Some (t.amount (round (neg_ℤ z)))
+        → signed (if is_negative z then codes "-" else codes "+")
+        (part_value (if is_negative z then t.text (neg_ℤ z) else t.text z))
+        ≡ Some (t.amount (round z))
     by (pos n) v o = v
     by (negsuc n) v o = ap (option_map negated) o ∙ ap Some (t.turns (round (pos (suc n))))
 
@@ -156,7 +184,11 @@ without_end (c ∷ d ∷ cs) = ap (option_map (λ body. c ∷ body)) (without_en
 alone : (text : List ℕ) → IsPart text → css_value text ≡ part_value text
 alone text p = rw p.is (by (p.first == 48) (p.first == 99) p.no_call)
   where
-    by : (a b : Bool) → b ≡ false → (if a && false then Some nothing else of_body (p.first ∷ p.second ∷ p.rest) (if b && bytes_eq (take 4 (p.second ∷ p.rest)) (codes "alc(") then unclosed (drop 5 (p.first ∷ p.second ∷ p.rest)) else None)) ≡ part_value (p.first ∷ p.second ∷ p.rest)
+    by : (a b : Bool) → b ≡ false → (if a && false then Some nothing
+        else of_body (p.first ∷ p.second ∷ p.rest)
+        (if b && bytes_eq (take 4 (p.second ∷ p.rest)) (codes "alc(")
+        then unclosed (drop 5 (p.first ∷ p.second ∷ p.rest)) else None))
+        ≡ part_value (p.first ∷ p.second ∷ p.rest)
     by true b h = rw h refl
     by false b h = rw h refl
 
@@ -169,12 +201,16 @@ nothing_added a = rw (+ℤ_idl a.ratio, +ℤ_idl a.em, +ℤ_idl a.abs) refl
 -- what is enclosed
 enclosed_value : (ts : List Term) → css_value (enclosed (map as_part ts)) ≡ Some (total ts)
 enclosed_value [] = refl
-enclosed_value (t ∷ []) = alone (t.text t.z) t.part ∙ t.value ∙ ap Some (sym (added_nothing (t.amount (round t.z))))
+enclosed_value (t ∷ []) = alone (t.text t.z) t.part ∙ t.value
+    ∙ ap Some (sym (added_nothing (t.amount (round t.z))))
 enclosed_value (t ∷ s ∷ ts) =
     let first = t.text t.z in
     let others = flat_map following (map as_part (s ∷ ts)) in
-    ap css_value (append_assoc (codes "calc(" ++ first) others (codes ")") ∙ append_assoc (codes "calc(") first (others ++ codes ")") ∙ ap (λ l. codes "calc(" ++ l) (sym (append_assoc first others (codes ")"))))
-    ∙ ap (of_body (codes "calc(" ++ ((first ++ others) ++ codes ")"))) (without_end (first ++ others))
+    ap css_value (append_assoc (codes "calc(" ++ first) others (codes ")")
+    ∙ append_assoc (codes "calc(") first (others ++ codes ")")
+    ∙ ap (λ l. codes "calc(" ++ l) (sym (append_assoc first others (codes ")"))))
+    ∙ ap (of_body (codes "calc(" ++ ((first ++ others) ++ codes ")")))
+    (without_end (first ++ others))
     ∙ ap sum_value (listed_sum (s ∷ ts) first t.word)
     ∙ ap (λ v. both v (terms (words (s ∷ ts)))) t.value
     ∙ ap (both (Some (t.amount (round t.z)))) (terms_value (s ∷ ts))
@@ -182,13 +218,16 @@ enclosed_value (t ∷ s ∷ ts) =
 live : List Term → List Term
 live ts = filter (λ t. not (is_zero t.z)) ts
 
-live_parts : (ts : List Term) → filter (λ p. not (is_zero p.number)) (map as_part ts) ≡ map as_part (live ts)
+live_parts : (ts : List Term) → filter (λ p. not (is_zero p.number)) (map as_part ts)
+    ≡ map as_part (live ts)
 unfolding live
 live_parts [] = refl
 live_parts (t ∷ ts) = by (is_zero t.z) (live_parts ts)
   where
     by : (b : Bool) → filter (λ p. not (is_zero p.number)) (map as_part ts) ≡ map as_part (live ts)
-        → cond (not b) (as_part t ∷ filter (λ p. not (is_zero p.number)) (map as_part ts)) (filter (λ p. not (is_zero p.number)) (map as_part ts)) ≡ map as_part (cond (not b) (t ∷ live ts) (live ts))
+        → cond (not b) (as_part t ∷ filter (λ p. not (is_zero p.number)) (map as_part ts))
+        (filter (λ p. not (is_zero p.number)) (map as_part ts))
+        ≡ map as_part (cond (not b) (t ∷ live ts) (live ts))
     by true h = h
     by false h = ap (λ l. as_part t ∷ l) h
 
@@ -197,16 +236,21 @@ unfolding live
 live_total [] = refl
 live_total (t ∷ ts) = by t.z refl (live_total ts)
   where
-    zero_part : t.z ≡ pos 0 → total (live ts) ≡ total ts → total (live ts) ≡ added (t.amount (round t.z)) (total ts)
-    zero_part e h = h ∙ sym (nothing_added (total ts)) ∙ ap (λ a. added a (total ts)) (sym (ap (λ z. t.amount (round z)) e ∙ t.zero_is))
+    zero_part : t.z ≡ pos 0 → total (live ts) ≡ total ts → total (live ts)
+        ≡ added (t.amount (round t.z)) (total ts)
+    zero_part e h = h ∙ sym (nothing_added (total ts))
+        ∙ ap (λ a. added a (total ts)) (sym (ap (λ z. t.amount (round z)) e ∙ t.zero_is))
 
-    by : (z : ℤ) → t.z ≡ z → total (live ts) ≡ total ts → total (cond (not (is_zero z)) (t ∷ live ts) (live ts)) ≡ added (t.amount (round t.z)) (total ts)
+    by : (z : ℤ) → t.z ≡ z → total (live ts) ≡ total ts
+        → total (cond (not (is_zero z)) (t ∷ live ts) (live ts))
+        ≡ added (t.amount (round t.z)) (total ts)
     by (pos zero) e h = zero_part e h
     by (pos (suc n)) e h = ap (added (t.amount (round t.z))) h
     by (negsuc n) e h = ap (added (t.amount (round t.z))) h
 
 pub sum_worth : (ts : List Term) → css_value (sum_text (map as_part ts)) ≡ Some (total ts)
-sum_worth ts = ap (λ ps. css_value (enclosed ps)) (live_parts ts) ∙ enclosed_value (live ts) ∙ ap Some (live_total ts)
+sum_worth ts = ap (λ ps. css_value (enclosed ps)) (live_parts ts) ∙ enclosed_value (live ts)
+    ∙ ap Some (live_total ts)
 
 -- a term of each unit
 opposite_fits : (z : ℤ) → IsQuantity z → IsQuantity (neg_ℤ z)
@@ -223,7 +267,8 @@ abs_term z q = record {
   word = text_word 4 (codes "pt") (refl, (refl, tt)) (omega arith) z q;
   part = text_part 4 (codes "pt") (refl, (refl, tt)) (omega arith) z q;
   opposite_value = abs_value (neg_ℤ z) (opposite_fits z q);
-  opposite_word = text_word 4 (codes "pt") (refl, (refl, tt)) (omega arith) (neg_ℤ z) (opposite_fits z q);
+  opposite_word = text_word 4 (codes "pt") (refl, (refl, tt)) (omega arith) (neg_ℤ z)
+      (opposite_fits z q);
   turns = λ a. refl;
   zero_is = refl;
 }
@@ -237,7 +282,8 @@ em_term z q = record {
   word = text_word 4 (codes "em") (refl, (refl, tt)) (omega arith) z q;
   part = text_part 4 (codes "em") (refl, (refl, tt)) (omega arith) z q;
   opposite_value = em_value (neg_ℤ z) (opposite_fits z q);
-  opposite_word = text_word 4 (codes "em") (refl, (refl, tt)) (omega arith) (neg_ℤ z) (opposite_fits z q);
+  opposite_word = text_word 4 (codes "em") (refl, (refl, tt)) (omega arith) (neg_ℤ z)
+      (opposite_fits z q);
   turns = λ a. refl;
   zero_is = refl;
 }
@@ -259,9 +305,18 @@ ratio_term z q = record {
 pub length_value : LengthValue
 length_value em abs p q =
     sum_worth (em_term em p ∷ abs_term abs q ∷ [])
-    ∙ ap Some (ap (added (of_em (round em))) (added_nothing (of_abs (round abs))) ∙ rw (+ℤ_idr (round em), +ℤ_idl (round abs)) refl)
+    ∙ ap Some (ap (added (of_em (round em))) (added_nothing (of_abs (round abs)))
+    ∙ rw (+ℤ_idr (round em), +ℤ_idl (round abs)) refl)
 
 pub rel_value : RelValue
 rel_value ratio em abs o p q =
     sum_worth (ratio_term ratio o ∷ em_term em p ∷ abs_term abs q ∷ [])
-    ∙ ap Some (ap (λ a. added (of_ratio (round ratio)) (added (of_em (round em)) a)) (added_nothing (of_abs (round abs))) ∙ rw (+ℤ_idr (round ratio), +ℤ_idr (round em), +ℤ_idl (round em), +ℤ_idl (round abs), +ℤ_idl (round abs)) refl)
+    ∙ ap Some (ap (λ a. added (of_ratio (round ratio)) (added (of_em (round em)) a))
+    (added_nothing (of_abs (round abs))) ∙ rw (
+      +ℤ_idr (round ratio),
+      +ℤ_idr (round em),
+      +ℤ_idl
+          (round em),
+      +ℤ_idl (round abs),
+      +ℤ_idl (round abs),
+    ) refl)

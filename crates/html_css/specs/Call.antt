@@ -1,9 +1,7 @@
 -- The parts of a call's text (CSS Values 4, functional notation).
-use Rattle.std.specs.Prelude.{◌≡◌, ℕ, List, [], Bool, if◌then◌else◌, codes, Result, Option}
-use base.Fml.{GName}
+use Rattle.std.specs.Prelude.{◌≡◌, ℕ, List, [], Bool, if◌then◌else◌, codes, Result}
 use Rattle.std.specs.Borrow.{Fml, RattleType, MutBor, RestsIfErr}
 use Rattle.std.specs.declared.alloc.AllocError.{AllocError}
-use Rattle.html_css.specs.declared.sink.Warning.{Warning}
 use Rattle.html_css.specs.declared.call.Separator.{Separator}
 use Rattle.html_css.specs.declared.call.Separator.TheVariants.{Space, Slash}
 use Rattle.html_css.specs.declared.call.Call.{Call}
@@ -21,8 +19,11 @@ abbrev pub before_argument : Bool → Separator → List ℕ
 before_argument has_argument separator = if has_argument then separator_text separator else []
 
 -- what a writer keeps through a refused call
-abbrev pub Keeps : State → State → Type 0
-Keeps old new = StartsWith new.text old.text × (new.failed ≡ old.failed) × (new.warnings ≡ old.warnings) × (new.place ≡ old.place)
+abbrev pub Keeps : {S : Type 0} → State S → State S → Type 0
+Keeps old new = StartsWith new.text old.text × (new.failed ≡ old.failed) × (new.sink ≡ old.sink)
 
-abbrev pub writer_rests : (S : RattleType) → (S.Denot → List Warning) → (S.Denot → Option GName) → MutBor (CssWriter S.Denot) → Result (Call S.Denot) AllocError → Fml
-writer_rests S warnings place w r = RestsIfErr (writer.the_row S) w (λ c. c.out.ghost_name) r (λ last. Keeps (state warnings place w.now) (state warnings place last))
+abbrev pub writer_rests : (S : RattleType) → MutBor (CssWriter S.Denot)
+    → Result (Call S.Denot) AllocError → Fml
+writer_rests S w r =
+    RestsIfErr (writer.the_row S) w (λ c. c.out.ghost_name) r
+    (λ last. Keeps (state w.now) (state last))

@@ -1,9 +1,10 @@
 -- Equal properties are hashed alike.
 use Rattle.std.specs.Prelude.{◌≡◌, List, true}
 use Rattle.std.proofs.Common.{ap}
-use Rattle.html_names.specs.Texts.{Pair}
+use Rattle.html_names.specs.Texts.{TextPair}
 use Rattle.html_names.specs.Hashes.{pairs_fed}
 use Rattle.html_names.specs.Equal.{same, same_decides, pairs_discrete}
 
-pub equal_fed : (x y : List Pair) → same (λ p. p) pairs_discrete x y ≡ true → pairs_fed x ≡ pairs_fed y
+pub equal_fed : (x y : List TextPair) → same (λ p. p) pairs_discrete x y ≡ true → pairs_fed x
+    ≡ pairs_fed y
 equal_fed x y h = ap pairs_fed ((same_decides (λ p. p) pairs_discrete x y).0 h)

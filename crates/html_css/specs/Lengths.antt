@@ -1,4 +1,5 @@
--- What the css text of a length is worth (CSS Values 4: dimensions, percentages and `calc()`), in whole millionths.
+-- What the css text of a length is worth (CSS Values 4: dimensions, percentages and `calc()`), in
+-- whole millionths.
 use Rattle.std.specs.Prelude.{◌≡◌, ℕ, suc, ◌≤◌, ◌<◌, ◌+◌, ◌*◌, ◌/◌, nat_lt, ◌==◌, ℤ, pos, negsuc, neg_ℤ, ◌+ℤ◌, List, [], ◌∷◌, codes, take, drop, bytes_eq, Bool, if◌then◌else◌, Option, Some, None, option_map}
 use Rattle.std.specs.List.{take_while, prefix_len}
 use Rattle.std.specs.Char.{digit_value}
@@ -39,20 +40,22 @@ after_digits text = drop (prefix_len is_digit text) text
 
 -- behind the point each digit is worth a tenth of the one before
 abbrev pub decimals : ℕ → List ℕ → ℕ
-decimals place [] = 0
-decimals place (d ∷ ds) = digit_value d * place + decimals (place / 10) ds
+decimals worth [] = 0
+decimals worth (d ∷ ds) = digit_value d * worth + decimals (worth / 10) ds
 
--- so many millionths of a unit
+-- n millionths of a unit
 abbrev pub in_unit : List ℕ → ℕ → Option Amounts
 in_unit unit n =
     if bytes_eq unit (codes "em") then Some (record nothing { em = pos n })
     else (if bytes_eq unit (codes "pt") then Some (record nothing { abs = pos n })
-    else (if bytes_eq unit (codes "%") then Some (record nothing { ratio = pos (n / 100) }) else None))
+    else (if bytes_eq unit (codes "%") then Some (record nothing { ratio = pos (n / 100) })
+    else None))
 
 -- whole units, and the text behind their digits
 abbrev pub behind : ℕ → List ℕ → Option Amounts
 behind n [] = None
-behind n (c ∷ cs) = if c == 46 then in_unit (after_digits cs) (n + decimals 100000 (digits_of cs)) else in_unit (c ∷ cs) n
+behind n (c ∷ cs) = if c == 46 then in_unit (after_digits cs) (n + decimals 100000 (digits_of cs))
+    else in_unit (c ∷ cs) n
 
 abbrev pub unsigned : List ℕ → List ℕ → Option Amounts
 unsigned [] rest = None
@@ -67,7 +70,8 @@ part_value (c ∷ cs) =
 
 -- the words of a sum: a part, and then signs and parts
 abbrev pub signed : List ℕ → Option Amounts → Option Amounts
-signed sign value = if bytes_eq sign (codes "+") then value else (if bytes_eq sign (codes "-") then option_map negated value else None)
+signed sign value = if bytes_eq sign (codes "+") then value
+    else (if bytes_eq sign (codes "-") then option_map negated value else None)
 
 abbrev pub terms : List (List ℕ) → Option Amounts
 terms [] = Some nothing
@@ -92,7 +96,8 @@ abbrev pub of_body : List ℕ → Option (List ℕ) → Option Amounts
 of_body text (Some body) = sum_value (listed body)
 of_body text None = part_value text
 
--- `0` is zero; a part has its own value; `calc(..)` is the signed sum of its parts, which spaces separate
+-- `0` is zero; a part has its own value; `calc(..)` is the signed sum of its parts, which spaces
+-- separate
 abbrev pub css_value : List ℕ → Option Amounts
 css_value text = if bytes_eq text (codes "0") then Some nothing else of_body text (calc_body text)
 
@@ -104,13 +109,16 @@ abbrev pub round : ℤ → ℤ
 round (pos n) = pos (nearest_hundred n)
 round (negsuc n) = neg_ℤ (pos (nearest_hundred (suc n)))
 
--- the text of a length is worth the sum of its parts, each rounded to the decimals that it is written with
+-- the text of a length is worth the sum of its parts, each rounded to the decimals that it is
+-- written with
 abbrev pub LengthValue : Type 0
-LengthValue = (em abs : ℤ) → IsQuantity em → IsQuantity abs → css_value (length_text em abs) ≡ Some (record { ratio = pos 0; em = round em; abs = round abs })
+LengthValue = (em abs : ℤ) → IsQuantity em → IsQuantity abs → css_value (length_text em abs)
+    ≡ Some (record { ratio = pos 0; em = round em; abs = round abs })
 
 abbrev pub RelValue : Type 0
 RelValue = (ratio em abs : ℤ) → IsQuantity ratio → IsQuantity em → IsQuantity abs
-    → css_value (rel_text ratio em abs) ≡ Some (record { ratio = round ratio; em = round em; abs = round abs })
+    → css_value (rel_text ratio em abs) ≡ Some (record
+    { ratio = round ratio; em = round em; abs = round abs })
 
 -- no multiple of 100 is nearer, and a half goes up
 abbrev pub Nearest : Type 0

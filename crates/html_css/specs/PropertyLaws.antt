@@ -3,27 +3,34 @@ use Rattle.std.specs.Prelude.{◌≡◌, ℕ, List, [], ◌∷◌, bytes_eq, Som
 use Rattle.std.specs.List.{IsDistinct}
 use Rattle.std.specs.List.Sorted.{IsPermutation}
 use Rattle.std.specs.Map.{keys_of}
-use Rattle.html_names.specs.Texts.{Pair}
+use Rattle.html_names.specs.Texts.{TextPair}
 use Rattle.html_css.specs.Properties.{IsListed, value_of, with_value, without, inline_text}
 
 -- the properties after these are pushed, one after another
-abbrev pub pushed : List Pair → List Pair → List Pair
+abbrev pub pushed : List TextPair → List TextPair → List TextPair
 pushed old [] = old
 pushed old (p ∷ ps) = pushed (with_value old p.0 p.1) ps
 
 -- pushed in any order, distinct names give the same properties, and so the same text
 abbrev pub AnyOrder : Type 0
-AnyOrder = (old first second : List Pair) → IsListed old → IsDistinct bytes_eq (keys_of first) → IsPermutation first second
-    → (pushed old first ≡ pushed old second) × (inline_text (pushed old first) ≡ inline_text (pushed old second))
+AnyOrder = (old first second : List TextPair) → IsListed old → IsDistinct bytes_eq (keys_of first)
+    → IsPermutation first second
+    → (pushed old first ≡ pushed old second) × (inline_text (pushed old first)
+    ≡ inline_text (pushed old second))
 
 -- a push gives that name its value, and no other name another
 abbrev pub PushSets : Type 0
-PushSets = (pairs : List Pair) (name value other : List ℕ) → value_of (with_value pairs name value) other ≡ (if bytes_eq other name then Some value else value_of pairs other)
+PushSets = (pairs : List TextPair) (name value other : List ℕ)
+    → value_of (with_value pairs name value) other
+    ≡ (if bytes_eq other name then Some value else value_of pairs other)
 
 -- after a remove that name has no value, and the others have theirs
 abbrev pub RemoveClears : Type 0
-RemoveClears = (pairs : List Pair) (name other : List ℕ) → IsListed pairs → value_of (without pairs name) other ≡ (if bytes_eq other name then None else value_of pairs other)
+RemoveClears = (pairs : List TextPair) (name other : List ℕ) → IsListed pairs
+    → value_of (without pairs name) other ≡ (if bytes_eq other name then None
+    else value_of pairs other)
 
 -- the values of the names decide the list
 abbrev pub ValuesDecide : Type 0
-ValuesDecide = (a b : List Pair) → IsListed a → IsListed b → ((name : List ℕ) → value_of a name ≡ value_of b name) → a ≡ b
+ValuesDecide = (a b : List TextPair) → IsListed a → IsListed b
+    → ((name : List ℕ) → value_of a name ≡ value_of b name) → a ≡ b

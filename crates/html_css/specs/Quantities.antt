@@ -35,9 +35,10 @@ abbrev pub point_text : ℕ → ℕ → List ℕ
 point_text k zero = []
 point_text k (suc n) = codes "." ++ fraction_digits k (suc n)
 
--- with at most k decimals, where 10^k hundreds of millionths are one
+-- hundreds of millionths, with the last k digits behind the point
 abbrev pub fixed_text : ℕ → ℤ → List ℕ
-fixed_text k z = sign_text z (rounded z) ++ decimal (rounded z / 10 ^ k) ++ point_text k (rounded z % 10 ^ k)
+fixed_text k z = sign_text z (rounded z) ++ decimal (rounded z / 10 ^ k)
+    ++ point_text k (rounded z % 10 ^ k)
 
 -- millionths of a point, of an em, of a degree, and of one
 abbrev pub abs_text : ℤ → List ℕ

@@ -11,7 +11,7 @@ module _ {A K : Type 0} (cmp : K → K → Ordering) (key : A → K) where
     pub before : AllWithin (λ a. cmp name (key a) ≡ Greater) list 0 at
     pub here : HoldsAt (λ a. cmp name (key a) ≡ Equal) list at
 
-  -- smaller names stand before that place, and greater ones from it on
+  -- smaller names stand before that index, and greater ones from it on
   pub record IsGap (list : List A) (name : K) (at : ℕ) : Type 0 where
     pub within : at ≤ length list
     pub before : AllWithin (λ a. cmp name (key a) ≡ Greater) list 0 at

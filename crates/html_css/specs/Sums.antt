@@ -1,17 +1,18 @@
 -- The css text of a sum (CSS Values 4, section 10.1, `calc()`).
-use Rattle.std.specs.Prelude.{◌≡◌, ℕ, ℤ, neg_ℤ, List, [], ◌∷◌, ◌++◌, codes, Bool, false, not, if◌then◌else◌}
+use Rattle.std.specs.Prelude.{◌≡◌, ℕ, ℤ, neg_ℤ, List, [], ◌∷◌, ◌++◌, codes, Bool, not, if◌then◌else◌}
 use Rattle.std.specs.List.{filter, flat_map}
 use Rattle.html_css.specs.Quantities.{is_zero, is_negative, abs_text, em_text, ratio_text}
+use Rattle.html_css.specs.declared.sink.Warning.{Warning}
 pub use Rattle.html_css.specs.declared.calc.Parts.{Parts}
 pub use Rattle.html_css.specs.declared.calc.Parts.TheVariants.{Zero, One, More}
 
--- a part: its number, its text, whether it fails, and the last two of the part negated
+-- a part: its number, its text, its warnings, and the last two of the part negated
 pub record Part : Type 0 where
   pub number : ℤ
   pub text : List ℕ
-  pub fails : Bool
+  pub warnings : List Warning
   pub opposite_text : List ℕ
-  pub opposite_fails : Bool
+  pub opposite_warnings : List Warning
 
 -- a part as one that follows others
 abbrev pub following : Part → List ℕ
@@ -29,13 +30,20 @@ sum_text parts = enclosed (filter (λ p. not (is_zero p.number)) parts)
 
 -- a quantity as a part
 abbrev pub quantity_part : (ℤ → List ℕ) → ℤ → Part
-quantity_part text z = record { number = z; text = text z; fails = false; opposite_text = text (neg_ℤ z); opposite_fails = false }
+quantity_part text z = record {
+  number = z;
+  text = text z;
+  warnings = [];
+  opposite_text = text (neg_ℤ z);
+  opposite_warnings = [];
+}
 
 abbrev pub length_text : (em abs : ℤ) → List ℕ
 length_text em abs = sum_text (quantity_part em_text em ∷ quantity_part abs_text abs ∷ [])
 
 abbrev pub rel_text : (ratio em abs : ℤ) → List ℕ
-rel_text ratio em abs = sum_text (quantity_part ratio_text ratio ∷ quantity_part em_text em ∷ quantity_part abs_text abs ∷ [])
+rel_text ratio em abs = sum_text (quantity_part ratio_text ratio ∷ quantity_part em_text em ∷
+    quantity_part abs_text abs ∷ [])
 
 -- What a sum has written so far, step by step. How many parts it has after one more:
 abbrev pub next : Parts → Parts
@@ -55,14 +63,14 @@ with_part More own p = own ++ following p
 abbrev pub next_text : Parts → List ℕ → Part → List ℕ
 next_text parts own p = if is_zero p.number then own else with_part parts own p
 
--- whether that part fails
-abbrev pub part_fails : Parts → Part → Bool
-part_fails Zero p = p.fails
-part_fails One p = if is_negative p.number then p.opposite_fails else p.fails
-part_fails More p = if is_negative p.number then p.opposite_fails else p.fails
+-- what that part warns of
+abbrev pub part_warnings : Parts → Part → List Warning
+part_warnings Zero p = p.warnings
+part_warnings One p = if is_negative p.number then p.opposite_warnings else p.warnings
+part_warnings More p = if is_negative p.number then p.opposite_warnings else p.warnings
 
-abbrev pub next_fails : Parts → Part → Bool
-next_fails parts p = if is_zero p.number then false else part_fails parts p
+abbrev pub next_warnings : Parts → Part → List Warning
+next_warnings parts p = if is_zero p.number then [] else part_warnings parts p
 
 -- what closes the sum
 abbrev pub closed : Parts → List ℕ

@@ -1,6 +1,7 @@
-ghost use Rattle.std.specs.Prelude.{◌≡◌, [], chars, false, if◌then◌else◌, OnOk, OnErr, IfOk, IfErr};
+ghost use Rattle.std.specs.Prelude.{◌≡◌, [], chars, if◌then◌else◌, OnOk, OnErr, IfOk, IfErr};
 ghost use Rattle.html_css.specs.Properties.{with_value};
-ghost use Rattle.html_css.specs.Sink.{StartsWith};
+ghost use Rattle.html_css.specs.Sink.{Takes, Hands, Given, Interrupted};
+ghost use Rattle.html_css.specs.Writer.{fails};
 
 use crate::properties::Properties;
 use crate::sink::{WarningSink, pass_on};
@@ -38,21 +39,21 @@ impl<S: WarningSink> PropertiesBuilder<S> {
         }
     }
 
-    /// Gives a name the css text of a value, unless the value fails. Where memory is refused, the
-    /// properties stay, and the warnings still begin as before.
+    /// Gives a name the css text of a value, unless the value fails. The value's warnings go to the
+    /// sink, in order. Where the sink refuses one, or an allocation fails, the properties stay, and
+    /// the sink was handed a beginning of the warnings.
     pub fn push<T: ToCss>(&mut self, name: &str, value: &T) -> Result<(), AllocError>
-        ensures ok { OnOk result (self.new.properties ≡
-            (if T.fails value.now then self.old.properties else with_value self.old.properties (chars name.now) (T.text value.now))) }
+        ensures ok { OnOk result (self.new.properties ≡ (if fails (T.warnings value.now)
+            then self.old.properties else with_value self.old.properties (chars name.now)
+            (T.text value.now))) }
         ensures err { OnErr result (self.new.properties ≡ self.old.properties) }
-        ensures warned { StartsWith (S.warnings self.new.sink) (S.warnings self.old.sink) }
-        ensures silent { T.fails value.now ≡ false → S.warnings self.new.sink ≡ S.warnings self.old.sink }
-        ensures same_place { S.place self.new.sink ≡ S.place self.old.sink }
+        ensures given { Hands (Takes S.warnings S.borrow S.emit_gives) result self.old.sink
+            (T.warnings value.now) self.new.sink }
     {
         let alloc = self.properties.allocator();
         let mut out = CssWriter::new(alloc, Vec::new(alloc));
-        let emitted = value.emit(&mut out);
+        value.emit(&mut out)?;
         pass_on(&out.sink, &mut self.sink)?;
-        emitted?;
         if out.failed {
             return Ok(());
         }
@@ -62,21 +63,21 @@ impl<S: WarningSink> PropertiesBuilder<S> {
         }
     }
 
-    /// The same builder after `push`. Where memory is refused, it comes back with the properties that
-    /// it had.
+    /// The same builder after `push`. Where `push` is refused, it comes back with the properties
+    /// that it had.
     pub fn with<T: ToCss>(
         mut self,
         name: &str,
         value: &T,
     ) -> Result<PropertiesBuilder<S>, Refused<PropertiesBuilder<S>>>
-        ensures ok { IfOk result (λ made. made.properties ≡
-            (if T.fails value.now then self.properties else with_value self.properties (chars name.now) (T.text value.now))) }
+        ensures ok { IfOk result (λ made. made.properties ≡ (if fails (T.warnings value.now)
+            then self.properties else with_value self.properties (chars name.now)
+            (T.text value.now))) }
         ensures back { IfErr result (λ refused. refused.back.properties ≡ self.properties) }
-        ensures warned { IfOk result (λ made. StartsWith (S.warnings made.sink) (S.warnings self.sink)) }
-        ensures warned_back { IfErr result (λ refused. StartsWith (S.warnings refused.back.sink) (S.warnings self.sink)) }
-        ensures silent { T.fails value.now ≡ false → IfOk result (λ made. S.warnings made.sink ≡ S.warnings self.sink) }
-        ensures same_place { IfOk result (λ made. S.place made.sink ≡ S.place self.sink) }
-        ensures same_place_back { IfErr result (λ refused. S.place refused.back.sink ≡ S.place self.sink) }
+        ensures given { IfOk result (λ made. Given (Takes S.warnings S.borrow S.emit_gives) self.sink
+            (T.warnings value.now) made.sink) }
+        ensures given_back { IfErr result (λ refused. Interrupted (Takes S.warnings S.borrow S.emit_gives) self.sink
+            (T.warnings value.now) refused.back.sink) }
     {
         match self.push(name, value) {
             Ok(()) => Ok(self),

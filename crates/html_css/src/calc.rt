@@ -79,14 +79,14 @@ impl<S: WarningSink> CssWriter<S> {
     ghost use Rattle.std.specs.Prelude.{[]};
     ghost use Rattle.html_css.specs.Calc.{text_before, written_from};
     ghost use Rattle.html_css.specs.Sums.{Zero};
-    ghost use Rattle.html_css.specs.Writer.{state, text_of, empty};
+    ghost use Rattle.html_css.specs.Writer.{state, text_of};
 
     /// Begins a sum: `calc(..)` around two parts or more, a single part alone, and `0` for none.
     /// Parts of exactly zero are dropped.
     pub fn calc(&mut self) -> Calc<'_, S>
         ensures same_writer { result.out.ghost_name ≡ self.entry.ghost_name }
         ensures before { text_before result.start result.out.now ≡ text_of self.old }
-        ensures nothing { written_from S.warnings S.place result.start result.out.now ≡ record (state S.warnings S.place self.old) { text = [] } }
+        ensures nothing { written_from result.start result.out.now ≡ record (state self.old) { text = [] } }
         ensures parts { result.parts ≡ Zero }
     {
         let start = self.text.as_str().len();
@@ -100,19 +100,24 @@ impl<S: WarningSink> CssWriter<S> {
 
 impl<S: WarningSink> Calc<'_, S> {
     ghost use Rattle.html_css.specs.Calc.{text_before, written_from, part_of};
-    ghost use Rattle.html_css.specs.Sums.{next_parts, next_text, next_fails, closed};
+    ghost use Rattle.html_css.specs.Sums.{next_parts, next_text, next_warnings, closed};
     ghost use Rattle.html_css.specs.Writer.{state, text_of, Emits, Adds};
-    ghost use Rattle.html_css.specs.Sink.{StartsWith};
-    ghost use Rattle.std.specs.Prelude.{false};
+    ghost use Rattle.html_css.specs.Sink.{StartsWith, Takes};
+    ghost use Rattle.std.specs.Prelude.{[]};
 
     /// Adds a part, unless it is exactly zero.
     pub fn sum<T: CalcPart>(&mut self, value: &T) -> Result<(), AllocError>
         ensures same_writer { self.new.out.ghost_name ≡ self.old.out.ghost_name }
-        ensures before { text_before self.new.start self.new.out.now ≡ text_before self.old.start self.old.out.now }
+        ensures before { text_before self.new.start self.new.out.now
+            ≡ text_before self.old.start self.old.out.now }
         ensures begins { StartsWith (text_of self.new.out.now) (text_before self.new.start self.new.out.now) }
-        ensures parts { OnOk result (self.new.parts ≡ next_parts self.old.parts (part_of T.number T.text T.fails T.opposite value.now)) }
-        ensures adds { let part = part_of T.number T.text T.fails T.opposite value.now in let old = written_from S.warnings S.place self.old.start self.old.out.now in
-            Adds result old (written_from S.warnings S.place self.new.start self.new.out.now) (next_text self.old.parts old.text part) (next_fails self.old.parts part) }
+        ensures parts { OnOk result (self.new.parts ≡ next_parts self.old.parts
+            (part_of T.number T.text T.warnings T.opposite value.now)) }
+        ensures adds { let part = part_of T.number T.text T.warnings T.opposite value.now in
+            let old = written_from self.old.start self.old.out.now in
+            Adds (Takes S.warnings S.borrow S.emit_gives) result old
+            (written_from self.new.start self.new.out.now)
+            (next_text self.old.parts old.text part) (next_warnings self.old.parts part) }
     {
         if value.is_zero() {
             return Ok(());
@@ -125,9 +130,12 @@ impl<S: WarningSink> Calc<'_, S> {
 
     /// Closes the sum: what it has written and its closing text follow what stood before it.
     pub fn finish(self) -> Result<(), AllocError>
-        ensures closing { Emits result (state S.warnings S.place self.entry.out.now) (state S.warnings S.place self.exit.0.now) (closed self.entry.parts) false }
-        ensures whole { let old = written_from S.warnings S.place self.entry.start self.entry.out.now in
-            Emits result (record old { text = text_before self.entry.start self.entry.out.now }) (state S.warnings S.place self.exit.0.now) (old.text ++ closed self.entry.parts) false }
+        ensures closing { Emits (Takes S.warnings S.borrow S.emit_gives) result (state self.entry.out.now)
+            (state self.exit.0.now) (closed self.entry.parts) [] }
+        ensures whole { let old = written_from self.entry.start self.entry.out.now in
+            Emits (Takes S.warnings S.borrow S.emit_gives) result
+            (record old { text = text_before self.entry.start self.entry.out.now })
+            (state self.exit.0.now) (old.text ++ closed self.entry.parts) [] }
     {
         let closing = self.parts.closing();
         self.out.write_ascii(closing)
@@ -136,46 +144,51 @@ impl<S: WarningSink> Calc<'_, S> {
 
 impl<S: WarningSink> CssWriter<S> {
     ghost use Rattle.html_css.specs.Calc.{written_from, Keeps, part_of, appended, opened};
-    ghost use Rattle.html_css.specs.Sums.{with_part, part_fails};
+    ghost use Rattle.html_css.specs.Sink.{Takes};
+    ghost use Rattle.html_css.specs.Sums.{with_part, part_warnings};
     ghost use Rattle.html_css.specs.Writer.{state, Emits, Adds};
-    ghost use Rattle.std.specs.Prelude.{false};
+    ghost use Rattle.std.specs.Prelude.{[]};
 
-    /// Adds a part that is not zero to the sum that begins at that place.
+    /// Adds a part that is not zero to the sum that begins at `start`.
     fn add_part<T: CalcPart>(
         &mut self,
-        at: usize,
+        start: usize,
         parts: Parts,
         value: &T,
     ) -> Result<(), AllocError>
-        requires seam { ∥ IsUtf8 (take at (string_bytes self.old.text)) ∥₁ }
-        requires within { at ≤ length (string_bytes self.old.text) }
-        ensures keeps { Keeps at self.old self.new }
-        ensures adds { let part = part_of T.number T.text T.fails T.opposite value.now in let old = written_from S.warnings S.place at self.old in
-            Adds result old (written_from S.warnings S.place at self.new) (with_part parts old.text part) (part_fails parts part) }
+        requires seam { ∥ IsUtf8 (take start (string_bytes self.old.text)) ∥₁ }
+        requires within { start ≤ length (string_bytes self.old.text) }
+        ensures keeps { Keeps start self.old self.new }
+        ensures adds { let part = part_of T.number T.text T.warnings T.opposite value.now in
+            let old = written_from start self.old in
+            Adds (Takes S.warnings S.borrow S.emit_gives) result old (written_from start self.new)
+            (with_part parts old.text part) (part_warnings parts part) }
     {
-        self.append_from(at, parts, value)?;
-        self.open_at(at, parts)
+        self.append_from(start, parts, value)?;
+        self.open_sum(start, parts)
     }
 
-    /// Appends a part, and shows it as what stands after a place.
+    /// Appends a part to the sum that begins at `start`.
     fn append_from<T: CalcPart>(
         &mut self,
-        at: usize,
+        start: usize,
         parts: Parts,
         value: &T,
     ) -> Result<(), AllocError>
-        requires seam { ∥ IsUtf8 (take at (string_bytes self.old.text)) ∥₁ }
-        requires within { at ≤ length (string_bytes self.old.text) }
-        ensures keeps { Keeps at self.old self.new }
-        ensures emits { let part = part_of T.number T.text T.fails T.opposite value.now in
-            Emits result (written_from S.warnings S.place at self.old) (written_from S.warnings S.place at self.new) (appended parts part) (part_fails parts part) }
+        requires seam { ∥ IsUtf8 (take start (string_bytes self.old.text)) ∥₁ }
+        requires within { start ≤ length (string_bytes self.old.text) }
+        ensures keeps { Keeps start self.old self.new }
+        ensures emits { let part = part_of T.number T.text T.warnings T.opposite value.now in
+            Emits (Takes S.warnings S.borrow S.emit_gives) result (written_from start self.old)
+            (written_from start self.new) (appended parts part) (part_warnings parts part) }
     {
         self.append_part(parts, value)
     }
 
     fn append_part<T: CalcPart>(&mut self, parts: Parts, value: &T) -> Result<(), AllocError>
-        ensures { let part = part_of T.number T.text T.fails T.opposite value.now in
-            Emits result (state S.warnings S.place self.old) (state S.warnings S.place self.new) (appended parts part) (part_fails parts part) }
+        ensures { let part = part_of T.number T.text T.warnings T.opposite value.now in
+            Emits (Takes S.warnings S.borrow S.emit_gives) result (state self.old) (state self.new)
+            (appended parts part) (part_warnings parts part) }
     {
         if parts == Parts::Zero {
             return value.emit(self);
@@ -188,16 +201,17 @@ impl<S: WarningSink> CssWriter<S> {
         value.emit(self)
     }
 
-    /// Puts the opening at that place, with the second part.
-    fn open_at(&mut self, at: usize, parts: Parts) -> Result<(), AllocError>
-        requires seam { ∥ IsUtf8 (take at (string_bytes self.old.text)) ∥₁ }
-        requires within { at ≤ length (string_bytes self.old.text) }
-        ensures keeps { Keeps at self.old self.new }
-        ensures adds { let old = written_from S.warnings S.place at self.old in
-            Adds result old (written_from S.warnings S.place at self.new) (opened parts old.text) false }
+    /// Puts the opening at the start of the sum, with the second part.
+    fn open_sum(&mut self, start: usize, parts: Parts) -> Result<(), AllocError>
+        requires seam { ∥ IsUtf8 (take start (string_bytes self.old.text)) ∥₁ }
+        requires within { start ≤ length (string_bytes self.old.text) }
+        ensures keeps { Keeps start self.old self.new }
+        ensures adds { let old = written_from start self.old in
+            Adds (Takes S.warnings S.borrow S.emit_gives) result old (written_from start self.new)
+            (opened parts old.text) [] }
     {
         if parts == Parts::One {
-            self.insert(at, "calc(")?;
+            self.insert(start, "calc(")?;
         }
         Ok(())
     }

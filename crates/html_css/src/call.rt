@@ -1,4 +1,5 @@
-ghost use Rattle.std.specs.Prelude.{◌≡◌, ◌++◌, codes, chars, true, false, IfOk, Ok};
+ghost use Rattle.std.specs.Prelude.{◌≡◌, ◌++◌, codes, chars, [], true, false, IfOk, Ok};
+ghost use Rattle.html_css.specs.Sink.{Takes};
 ghost use Rattle.std.specs.Borrow.{sem};
 ghost use Rattle.html_css.specs.Writer.{state, Emits};
 ghost use Rattle.html_css.specs.Call.{separator_text, before_argument, writer_rests};
@@ -38,12 +39,13 @@ pub struct Call<'a, S> {
 }
 
 impl<S: WarningSink> CssWriter<S> {
-    /// Begins the call of that name: its arguments are parted by the separator.
+    /// Begins the call of that name: its arguments are separated by `separator`.
     pub fn call(&mut self, name: &str, separator: Separator) -> Result<Call<'_, S>, AllocError>
         ensures same_writer { IfOk result (λ c. c.out.ghost_name ≡ self.entry.ghost_name) }
-        ensures opened { IfOk result (λ c. Emits (Ok tt) (state S.warnings S.place self.old) (state S.warnings S.place c.out.now) (chars name.now ++ codes "(") false
+        ensures opened { IfOk result (λ c. Emits (Takes S.warnings S.borrow S.emit_gives) (Ok tt)
+            (state self.old) (state c.out.now) (chars name.now ++ codes "(") []
             × (c.separator ≡ separator) × (c.has_argument ≡ false)) }
-        ensures* refused { sem 𝓛 (writer_rests S.row S.warnings S.place self.entry result) }
+        ensures* refused { sem 𝓛 (writer_rests S.row self.entry result) }
     {
         match self.open(name) {
             Ok(()) => Ok(Call {
@@ -56,7 +58,8 @@ impl<S: WarningSink> CssWriter<S> {
     }
 
     fn open(&mut self, name: &str) -> Result<(), AllocError>
-        ensures { Emits result (state S.warnings S.place self.old) (state S.warnings S.place self.new) (chars name.now ++ codes "(") false }
+        ensures { Emits (Takes S.warnings S.borrow S.emit_gives) result (state self.old) (state self.new)
+            (chars name.now ++ codes "(") [] }
     {
         self.write(name)?;
         self.write_ascii("(")
@@ -69,8 +72,9 @@ impl<S: WarningSink> Call<'_, S> {
         ensures same_writer { self.new.out.ghost_name ≡ self.old.out.ghost_name }
         ensures separator { self.new.separator ≡ self.old.separator }
         ensures begun { self.new.has_argument ≡ true }
-        ensures emits { Emits result (state S.warnings S.place self.old.out.now) (state S.warnings S.place self.new.out.now)
-            (before_argument self.old.has_argument self.old.separator ++ T.text value.now) (T.fails value.now) }
+        ensures emits { Emits (Takes S.warnings S.borrow S.emit_gives) result (state self.old.out.now)
+            (state self.new.out.now) (before_argument self.old.has_argument self.old.separator
+            ++ T.text value.now) (T.warnings value.now) }
     {
         self.arg_with(value, self.separator)
     }
@@ -80,8 +84,9 @@ impl<S: WarningSink> Call<'_, S> {
         ensures same_writer { self.new.out.ghost_name ≡ self.old.out.ghost_name }
         ensures separator { self.new.separator ≡ self.old.separator }
         ensures begun { self.new.has_argument ≡ true }
-        ensures emits { Emits result (state S.warnings S.place self.old.out.now) (state S.warnings S.place self.new.out.now)
-            (before_argument self.old.has_argument separator ++ T.text value.now) (T.fails value.now) }
+        ensures emits { Emits (Takes S.warnings S.borrow S.emit_gives) result (state self.old.out.now)
+            (state self.new.out.now) (before_argument self.old.has_argument separator
+            ++ T.text value.now) (T.warnings value.now) }
     {
         let had = self.has_argument;
         self.has_argument = true;
@@ -93,7 +98,8 @@ impl<S: WarningSink> Call<'_, S> {
 
     /// Closes the call.
     pub fn finish(self) -> Result<(), AllocError>
-        ensures { Emits result (state S.warnings S.place self.entry.out.now) (state S.warnings S.place self.exit.0.now) (codes ")") false }
+        ensures { Emits (Takes S.warnings S.borrow S.emit_gives) result (state self.entry.out.now)
+            (state self.exit.0.now) (codes ")") [] }
     {
         self.out.write_ascii(")")
     }

@@ -3,8 +3,8 @@ ghost use Rattle.html_css.specs.Quantities.{fixed_text, fraction_digits, sign_te
 
 use std::alloc::{AllocError, Global};
 
-/// The text of so many millionths, rounded half away from zero, with at most `decimals` decimals
-/// where 10 to the `decimals` hundreds are one.
+/// The decimal text of a number of millionths: a whole number of hundreds of them, rounded half away
+/// from zero, whose last `decimals` digits stand behind the point, without zeros at the end.
 #[tactic(auto, using(crate::proofs::Digits::append_steps))]
 pub(crate) fn fixed(alloc: Global, millionths: i64, decimals: u32) -> Result<String, AllocError>
     requires few { decimals < 5 }

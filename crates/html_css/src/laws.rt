@@ -3,11 +3,13 @@
 ghost use Rattle.html_css.specs.Lengths.{LengthValue, Nearest, RelValue};
 ghost use Rattle.html_css.specs.Properties.{property_view};
 ghost use Rattle.html_css.specs.PropertyLaws.{AnyOrder, PushSets, RemoveClears, ValuesDecide};
+ghost use Rattle.html_css.specs.Sink.{GivenVector, HandsBegin};
 ghost use Rattle.html_css.specs.Sums.{SumWritten};
 ghost use Rattle.std.specs.Prelude.{◌≡◌, ◌↔◌, IsTrue};
 
 use crate::{
     Abs, Angle, Dir, Em, Length, Paint, Properties, Property, Ratio, Rel, Rgba, Separator, Warning,
+    WarningSink,
 };
 
 /// A push gives its name that value, and no other name another.
@@ -49,6 +51,17 @@ pub fn rounds_to_nearest()
 /// What a sum writes part by part is its text.
 pub fn sum_is_written()
     ensures { SumWritten }
+{}
+
+/// A vector that is given warnings has them at its end, in order.
+pub fn given_vector()
+    ensures { GivenVector }
+{}
+
+/// After a call that hands warnings to a sink, the sink's list begins as before, and a sink that is
+/// a borrow is the same borrow.
+pub fn hands_begin<S: WarningSink>(_sink: &S)
+    ensures { HandsBegin S.warnings S.borrow S.emit_gives }
 {}
 
 /// Absolute lengths are equal where all their fields are.

@@ -1,15 +1,13 @@
-ghost use Rattle.std.specs.Prelude.{false};
+ghost use Rattle.std.specs.Prelude.{[]};
 ghost use Rattle.html_css.specs.Sums.{length_text, rel_text};
 
-use crate::abs::Abs;
-use crate::em::Em;
-use crate::ratio::Ratio;
+use crate::quantity::{Abs, Em, Ratio};
 use crate::sink::WarningSink;
 use crate::to_css::ToCss;
 use crate::writer::CssWriter;
 use std::alloc::AllocError;
 
-/// A length: so many ems and points. Its css text is their sum.
+/// A length of ems and points. Its css text is their sum.
 #[derive(Clone, Copy, Debug, PartialEq, Eq, Hash)]
 pub struct Length {
     /// The part relative to the font size.
@@ -31,7 +29,7 @@ pub struct Rel {
 impl ToCss for Length {
     ghost text = { λ l. length_text l.em l.abs };
 
-    ghost fails = { λ _. false };
+    ghost warnings = { λ _. [] };
 
     fn emit<S: WarningSink>(&self, out: &mut CssWriter<S>) -> Result<(), AllocError> {
         let mut sum = out.calc();
@@ -44,7 +42,7 @@ impl ToCss for Length {
 impl ToCss for Rel {
     ghost text = { λ r. rel_text r.rel r.abs.em r.abs.abs };
 
-    ghost fails = { λ _. false };
+    ghost warnings = { λ _. [] };
 
     fn emit<S: WarningSink>(&self, out: &mut CssWriter<S>) -> Result<(), AllocError> {
         let mut sum = out.calc();

@@ -1,15 +1,22 @@
 //! Values of css: quantities, colours, the texts that they have, and maps of properties.
 //!
 //! A contract sees a text as a list of characters, and a quantity as a whole number of millionths.
+//!
+//! ```text
+//! let width = Length {
+//!     em: Em::from_millionths(1_500_000),
+//!     abs: Abs::from_millionths(-2_000_000),
+//! };
+//! let mut warnings = Vec::new(alloc);
+//! let css = width.to_css(alloc, &mut warnings)?; // calc(1.5em - 2pt)
+//! let none = Paint::Gradient.to_css(alloc, &mut warnings)?; // empty, and one warning
+//! ```
 #![tactic(auto)]
 
-mod abs;
-mod angle;
 mod builder;
 mod calc;
 mod call;
 mod direction;
-mod em;
 mod fixed;
 mod inline;
 pub mod laws;
@@ -17,27 +24,22 @@ mod length;
 mod paint;
 mod properties;
 mod property;
-mod ratio;
+mod quantity;
 mod same;
 mod sink;
-#[cfg(test)]
-mod tests;
 mod to_css;
 mod writer;
 
-pub use abs::Abs;
-pub use angle::Angle;
 pub use builder::PropertiesBuilder;
 pub use calc::{Calc, CalcPart};
 pub use call::{Call, Separator};
 pub use direction::Dir;
-pub use em::Em;
 pub use inline::Inline;
 pub use length::{Length, Rel};
 pub use paint::{Paint, Rgba};
 pub use properties::Properties;
 pub use property::Property;
-pub use ratio::Ratio;
+pub use quantity::{Abs, Angle, Degrees, Em, Ems, Points, Quantity, Ratio, Unit, Whole};
 pub use sink::{Warning, WarningSink};
 pub use to_css::ToCss;
 pub use writer::CssWriter;

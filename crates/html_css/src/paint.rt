@@ -1,7 +1,7 @@
-ghost use Rattle.std.specs.Prelude.{◌≡◌, ℕ, List, Bool, [], true, false, IfOk, OnOk, ◌++◌, ◌<◌, string_bytes};
+ghost use Rattle.std.specs.Prelude.{◌≡◌, ℕ, [], IfOk, OnOk, ◌++◌, ◌<◌, string_bytes};
 ghost use Rattle.html_names.specs.Texts.{text_view};
 ghost use Rattle.html_css.specs.Colors.{hex_byte, alpha_text};
-ghost use Rattle.html_css.specs.Sink.{AddsAtMost};
+ghost use Rattle.html_css.specs.Sink.{Takes};
 ghost use Rattle.html_css.specs.Writer.{state, Emits};
 
 use crate::sink::{Warning, WarningSink};
@@ -66,7 +66,7 @@ impl ToCss for Rgba {
 
     ghost text = { color_text };
 
-    ghost fails = { λ _. false };
+    ghost warnings = { λ _. [] };
 
     #[tactic(auto, using(crate::proofs::Emitting::nothing_yet))]
     fn emit<S: WarningSink>(&self, out: &mut CssWriter<S>) -> Result<(), AllocError> {
@@ -90,14 +90,15 @@ pub enum Paint {
 }
 
 impl ToCss for Paint {
-    ghost use Rattle.html_css.specs.Paints.{paint_text, paint_fails, PaintWarns, PaintGives};
+    ghost use Rattle.html_css.specs.Paints.{paint_text, paint_warnings, PaintWarns, PaintGives};
 
     ghost text = { paint_text };
 
-    ghost fails = { paint_fails };
+    ghost warnings = { paint_warnings };
 
     fn emit<S: WarningSink>(&self, out: &mut CssWriter<S>) -> Result<(), AllocError>
-        ensures emits { Emits result (state S.warnings S.place out.old) (state S.warnings S.place out.new) (paint_text self.now) (paint_fails self.now) }
+        ensures emits { Emits (Takes S.warnings S.borrow S.emit_gives) result (state out.old) (state out.new)
+            (paint_text self.now) (paint_warnings self.now) }
         ensures warns { PaintWarns (S.warnings out.old.sink) (S.warnings out.new.sink) self.now }
         ensures gives { PaintGives S.emit_gives out.old.sink out.new.sink result self.now }
     {

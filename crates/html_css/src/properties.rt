@@ -14,6 +14,14 @@ use std::marker::Model;
 /// Css properties, listed by the byte order of their names. No name stands twice.
 ///
 /// A contract sees the list of names and values.
+///
+/// ```text
+/// let mut properties = Properties::new(alloc);
+/// properties.push("width", String::from_str(alloc, "1pt")?)?;
+/// properties.push("color", String::from_str(alloc, "red")?)?;
+/// properties.push("width", String::from_str(alloc, "2pt")?)?;
+/// let style = properties.to_inline().to_string(alloc)?; // color: red; width: 2pt
+/// ```
 #[derive(Debug, Drop)]
 pub struct Properties {
     list: Vec<Property>,
@@ -21,10 +29,10 @@ pub struct Properties {
 
 impl Model for Properties {
     ghost use Rattle.std.specs.Prelude.{List};
-    ghost use Rattle.html_names.specs.Texts.{Pair};
+    ghost use Rattle.html_names.specs.Texts.{TextPair};
     ghost use Rattle.html_css.specs.Properties.{list_view, IsListed};
 
-    ghost Value = { List Pair };
+    ghost Value = { List TextPair };
 
     ghost view = { λ p. list_view p.list.items };
 
@@ -41,7 +49,7 @@ impl Properties {
         }
     }
 
-    /// Gives a name that value, in place of the one that it had. Where memory is refused, the
+    /// Gives a name that value, instead of the one that it had. Where an allocation fails, the
     /// properties stay and the value comes back.
     pub fn push(&mut self, name: &str, value: String) -> Result<(), Refused<String>>
         ensures ok { OnOk result (self.new ≡ with_value self.old (chars name.now) (text_view value)) }
@@ -51,20 +59,21 @@ impl Properties {
         put(&mut self.list, name, value)
     }
 
-    /// Takes a name and its value out. It takes no memory.
+    /// Takes a name and its value out. It allocates nothing.
     pub fn remove(&mut self, name: &str)
         ensures { self.new ≡ without self.old (chars name.now) }
     {
         take_out(&mut self.list, name);
     }
 
-    /// These properties, with that value for a name. Where memory is refused, both come back.
+    /// These properties, with that value for a name. Where an allocation fails, both come back.
     pub fn with(
         mut self,
         name: &str,
         value: String,
     ) -> Result<Properties, Refused<(Properties, String)>>
-        ensures ok { IfOk result (λ properties. properties ≡ with_value self (chars name.now) (text_view value)) }
+        ensures ok { IfOk result (λ properties. properties ≡ with_value self (chars name.now)
+            (text_view value)) }
         ensures back { IfErr result (λ refused. (refused.back.0 ≡ self) × (refused.back.1 ≡ value)) }
     {
         match self.push(name, value) {
@@ -73,7 +82,7 @@ impl Properties {
         }
     }
 
-    /// Where the properties take their memory.
+    /// The allocator of the properties.
     pub(crate) fn allocator(&self) -> Global {
         *self.list.allocator()
     }
@@ -107,7 +116,8 @@ impl Properties {
 /// Where the property of that name stands, or where it would stand.
 fn search(list: &[Property], name: &str) -> Result<usize, usize>
     requires { IsListed (list_view list.now) }
-    ensures { MatchResult result (IsFound by_name name_of list.now (chars name.now)) (IsGap by_name name_of list.now (chars name.now)) }
+    ensures { MatchResult result (IsFound by_name name_of list.now (chars name.now))
+        (IsGap by_name name_of list.now (chars name.now)) }
 {
     list.binary_search_by(|property| compare(property, name))
 }
@@ -122,7 +132,8 @@ fn compare(property: &Property, name: &str) -> Ordering
 /// Gives a name that value.
 fn put(list: &mut Vec<Property>, name: &str, value: String) -> Result<(), Refused<String>>
     requires { IsListed (list_view list.old.items) }
-    ensures ok { OnOk result (list_view list.new.items ≡ with_value (list_view list.old.items) (chars name.now) (text_view value)) }
+    ensures ok { OnOk result (list_view list.new.items ≡ with_value (list_view list.old.items)
+        (chars name.now) (text_view value)) }
     ensures err { OnErr result (list_view list.new.items ≡ list_view list.old.items) }
     ensures back { IfErr result (λ refused. refused.back ≡ value) }
 {
@@ -135,7 +146,7 @@ fn put(list: &mut Vec<Property>, name: &str, value: String) -> Result<(), Refuse
     }
 }
 
-/// Gives a name that is new its value, at its place.
+/// Inserts a name that is new, with its value, at an index.
 fn put_at(
     list: &mut Vec<Property>,
     at: usize,
@@ -143,7 +154,8 @@ fn put_at(
     value: String,
 ) -> Result<(), Refused<String>>
     requires { IsGap by_name name_of list.old.items (chars name.now) at }
-    ensures ok { OnOk result (list_view list.new.items ≡ with_value (list_view list.old.items) (chars name.now) (text_view value)) }
+    ensures ok { OnOk result (list_view list.new.items ≡ with_value (list_view list.old.items)
+        (chars name.now) (text_view value)) }
     ensures err { OnErr result (list_view list.new.items ≡ list_view list.old.items) }
     ensures back { IfErr result (λ refused. refused.back ≡ value) }
 {

@@ -2,7 +2,7 @@ ghost use Rattle.std.specs.Prelude.{◌≡◌, List, [], ◌∷◌, Ok, Option, 
 ghost use base.Fml.{GName};
 ghost use Rattle.html_css.specs.declared.sink.Warning.{Warning};
 ghost use Rattle.std.specs.declared.alloc.AllocError.{AllocError};
-ghost use Rattle.html_css.specs.Sink.{AddsAtMost, Keeps, StartsWith};
+ghost use Rattle.html_css.specs.Sink.{AddsAtMost, Keeps, Takes, Hands};
 
 use std::alloc::AllocError;
 use thiserror::Error;
@@ -30,22 +30,22 @@ pub trait WarningSink {
     ghost emit_gives: { Self → Warning → Result (Unit {0}) AllocError → Self → Type 0 };
 
     /// Which borrow it is, where the sink is one.
-    ghost place: { Self → Option GName };
+    ghost borrow: { Self → Option GName };
 
     /// Takes a warning.
     fn emit(&mut self, warning: Warning) -> Result<(), AllocError>
         ensures adds { AddsAtMost (warnings self.old) (warnings self.new) warning }
         ensures gives { emit_gives self.old warning result self.new }
-        ensures same_place { place self.new ≡ place self.old };
+        ensures same_borrow { borrow self.new ≡ borrow self.old };
 }
 
-/// The warning is added, unless memory is refused.
+/// The warning is added, unless an allocation fails.
 impl WarningSink for Vec<Warning> {
     ghost warnings = { λ v. v.items };
 
     ghost emit_gives = { λ v warning result w. Keeps v.items warning result w.items };
 
-    ghost place = { λ _. None };
+    ghost borrow = { λ _. None };
 
     fn emit(&mut self, warning: Warning) -> Result<(), AllocError> {
         self.push(warning)?;
@@ -59,7 +59,7 @@ impl WarningSink for () {
 
     ghost emit_gives = { λ _ _ result _. result ≡ Ok tt };
 
-    ghost place = { λ _. None };
+    ghost borrow = { λ _. None };
 
     fn emit(&mut self, _warning: Warning) -> Result<(), AllocError> {
         Ok(())
@@ -72,7 +72,7 @@ impl<S: WarningSink> WarningSink for &mut S {
 
     ghost emit_gives = { λ s warning result t. S.emit_gives s.now warning result t.now };
 
-    ghost place = { λ s. Some s.ghost_name };
+    ghost borrow = { λ s. Some s.ghost_name };
 
     fn emit(&mut self, warning: Warning) -> Result<(), AllocError> {
         (**self).emit(warning)
@@ -81,9 +81,7 @@ impl<S: WarningSink> WarningSink for &mut S {
 
 /// Hands each warning to the sink.
 pub(crate) fn pass_on<S: WarningSink>(warnings: &[Warning], sink: &mut S) -> Result<(), AllocError>
-    ensures begun { StartsWith (S.warnings sink.new) (S.warnings sink.old) }
-    ensures none { warnings.now ≡ [] → S.warnings sink.new ≡ S.warnings sink.old }
-    ensures same_place { S.place sink.new ≡ S.place sink.old }
+    ensures { Hands (Takes S.warnings S.borrow S.emit_gives) result sink.old warnings.now sink.new }
 {
     for warning in warnings {
         sink.emit(*warning)?;

@@ -1,8 +1,9 @@
-ghost use Rattle.std.specs.Prelude.{◌≡◌, ℕ, List, Bool, false, IfOk, chars, codes, ◌++◌};
+ghost use Rattle.std.specs.Prelude.{◌≡◌, ℕ, List, [], IfOk, chars, codes, ◌++◌};
 ghost use Rattle.html_names.specs.Texts.{text_view};
 ghost use Rattle.html_names.specs.Displays.{text_of};
-ghost use Rattle.html_css.specs.Sink.{StartsWith};
+ghost use Rattle.html_css.specs.Sink.{Takes, Hands};
 ghost use Rattle.html_css.specs.Writer.{state, Emits};
+ghost use Rattle.html_css.specs.declared.sink.Warning.{Warning};
 
 use crate::sink::{Warning, WarningSink, pass_on};
 use crate::writer::CssWriter;
@@ -11,30 +12,31 @@ use std::alloc::{AllocError, Global};
 
 /// A value that has a text in css.
 ///
-/// Its law: the text, and whether the value fails, are decided by the value alone, and `emit`
-/// appends that text and nothing else.
+/// Its law: the text and the warnings are decided by the value alone; `emit` appends that text and
+/// nothing else, and hands those warnings to the writer's sink and no others. A value that warns
+/// fails: it has no proper text.
 pub trait ToCss {
     /// The value's text.
     ghost text: { Self → List ℕ };
 
-    /// Whether the value has no proper text, so that a warning tells of it.
-    ghost fails: { Self → Bool };
+    /// What the value warns of, in order. It is empty where the value has a proper text.
+    ghost warnings: { Self → List Warning };
 
-    /// Appends the value's text.
+    /// Appends the value's text, and hands its warnings to the writer's sink.
     fn emit<S: WarningSink>(&self, out: &mut CssWriter<S>) -> Result<(), AllocError>
-        ensures { Emits result (state S.warnings S.place out.old) (state S.warnings S.place out.new) (text self.now) (fails self.now) };
+        ensures { Emits (Takes S.warnings S.borrow S.emit_gives) result (state out.old) (state out.new)
+            (text self.now) (warnings self.now) };
 
-    /// The value's text. The warnings of a value that fails go to the sink; the list there still
-    /// begins as before, also where memory is refused.
+    /// The value's text. Its warnings go to the sink, in order. Where the sink refuses one, or an
+    /// allocation fails, the sink was handed a beginning of them.
     fn to_css<S: WarningSink>(&self, alloc: Global, sink: &mut S) -> Result<String, AllocError>
         ensures text { IfOk result (λ css. text_view css ≡ text self.now) }
-        ensures warned { StartsWith (S.warnings sink.new) (S.warnings sink.old) }
-        ensures silent { fails self.now ≡ false → S.warnings sink.new ≡ S.warnings sink.old }
+        ensures given { Hands (Takes S.warnings S.borrow S.emit_gives) result sink.old (warnings self.now)
+            sink.new }
     {
         let mut out = CssWriter::new(alloc, Vec::new(alloc));
-        let emitted = self.emit(&mut out);
+        self.emit(&mut out)?;
         pass_on(&out.sink, sink)?;
-        emitted?;
         Ok(out.text)
     }
 }
@@ -42,7 +44,7 @@ pub trait ToCss {
 impl ToCss for &str {
     ghost text = { λ s. chars s.now };
 
-    ghost fails = { λ _. false };
+    ghost warnings = { λ _. [] };
 
     fn emit<S: WarningSink>(&self, out: &mut CssWriter<S>) -> Result<(), AllocError> {
         out.write(self)
@@ -52,7 +54,7 @@ impl ToCss for &str {
 impl ToCss for Display {
     ghost text = { text_of };
 
-    ghost fails = { λ _. false };
+    ghost warnings = { λ _. [] };
 
     fn emit<S: WarningSink>(&self, out: &mut CssWriter<S>) -> Result<(), AllocError> {
         out.write_ascii(self.as_str())

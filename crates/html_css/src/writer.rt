@@ -1,9 +1,9 @@
-ghost use Rattle.std.specs.Prelude.{◌≡◌, ◌<◌, ◌≤◌, [], ◌++◌, OnOk, OnErr, true, false, IsTrue, chars, take, drop, length, string_bytes};
+ghost use Rattle.std.specs.Prelude.{◌≡◌, ◌<◌, ◌≤◌, [], ◌∷◌, ◌++◌, OnOk, OnErr, IsTrue, chars, take, drop, length, string_bytes};
 ghost use Rattle.std.specs.Str.{IsUtf8};
 ghost use Rattle.html_names.specs.Names.{is_ascii};
 ghost use Rattle.html_names.specs.Texts.{text_view};
 ghost use Rattle.html_css.specs.Quantities.{IsQuantity, fixed_text};
-ghost use Rattle.html_css.specs.Sink.{AddsAtMost};
+ghost use Rattle.html_css.specs.Sink.{AddsAtMost, Takes};
 ghost use Rattle.html_css.specs.Writer.{state, empty, Emits, text_of};
 
 use crate::fixed::fixed;
@@ -25,7 +25,7 @@ impl<S: WarningSink> CssWriter<S> {
     /// A writer with an empty text.
     #[tactic(auto, using(std::proofs::StrCases::chars_of_empty))]
     pub fn new(alloc: Global, sink: S) -> CssWriter<S>
-        ensures { state S.warnings S.place result ≡ empty (S.warnings sink) (S.place sink) }
+        ensures { state result ≡ empty sink }
     {
         CssWriter {
             text: String::new(alloc),
@@ -50,7 +50,8 @@ impl<S: WarningSink> CssWriter<S> {
 
     /// Appends a text as it is.
     pub fn write(&mut self, text: &str) -> Result<(), AllocError>
-        ensures { Emits result (state S.warnings S.place self.old) (state S.warnings S.place self.new) (chars text.now) false }
+        ensures { Emits (Takes S.warnings S.borrow S.emit_gives) result (state self.old) (state self.new)
+            (chars text.now) [] }
     {
         self.text.push_str(text)
     }
@@ -59,17 +60,19 @@ impl<S: WarningSink> CssWriter<S> {
     #[tactic(auto, using(html_names::proofs::Lists::chars_ascii))]
     pub(crate) fn write_ascii(&mut self, text: &str) -> Result<(), AllocError>
         requires { IsTrue (is_ascii text.now) }
-        ensures { Emits result (state S.warnings S.place self.old) (state S.warnings S.place self.new) text.now false }
+        ensures { Emits (Takes S.warnings S.borrow S.emit_gives) result (state self.old) (state self.new)
+            text.now [] }
     {
         self.write(text)
     }
 
-    /// Appends millionths with at most so many decimals, where 10 to the `decimals` hundreds are one.
+    /// Appends the text that `fixed` makes of a number of millionths.
     #[tactic(auto, using(crate::proofs::Emitting::nothing_yet))]
     pub(crate) fn write_fixed(&mut self, millionths: i64, decimals: u32) -> Result<(), AllocError>
         requires few { decimals < 5 }
         requires quantity { IsQuantity millionths }
-        ensures { Emits result (state S.warnings S.place self.old) (state S.warnings S.place self.new) (fixed_text decimals millionths) false }
+        ensures { Emits (Takes S.warnings S.borrow S.emit_gives) result (state self.old) (state self.new)
+            (fixed_text decimals millionths) [] }
     {
         let text = fixed(*self.text.allocator(), millionths, decimals)?;
         self.write(text.as_str())
@@ -77,14 +80,16 @@ impl<S: WarningSink> CssWriter<S> {
 
     /// Appends a value's text.
     pub fn emit<T: ToCss>(&mut self, value: &T) -> Result<(), AllocError>
-        ensures { Emits result (state S.warnings S.place self.old) (state S.warnings S.place self.new) (T.text value.now) (T.fails value.now) }
+        ensures { Emits (Takes S.warnings S.borrow S.emit_gives) result (state self.old) (state self.new)
+            (T.text value.now) (T.warnings value.now) }
     {
         value.emit(self)
     }
 
     /// Hands a warning to the sink, and sets `failed`.
     pub fn fail(&mut self, warning: Warning) -> Result<(), AllocError>
-        ensures emits { Emits result (state S.warnings S.place self.old) (state S.warnings S.place self.new) [] true }
+        ensures emits { Emits (Takes S.warnings S.borrow S.emit_gives) result (state self.old) (state self.new)
+            [] (warning ∷ []) }
         ensures warns { AddsAtMost (S.warnings self.old.sink) (S.warnings self.new.sink) warning }
         ensures gives { S.emit_gives self.old.sink warning result self.new.sink }
     {
@@ -93,14 +98,15 @@ impl<S: WarningSink> CssWriter<S> {
         Ok(())
     }
 
-    /// Puts a text at a place of the writer's own text.
+    /// Inserts a text into the writer's own text, at a byte's index.
     pub(crate) fn insert(&mut self, at: usize, text: &str) -> Result<(), AllocError>
         requires seam { ∥ IsUtf8 (take at (string_bytes self.old.text)) ∥₁ }
         requires within { at ≤ length (string_bytes self.old.text) }
-        ensures ok { OnOk result (string_bytes self.new.text ≡ take at (string_bytes self.old.text) ++ (text.now ++ drop at (string_bytes self.old.text))) }
+        ensures ok { OnOk result (string_bytes self.new.text ≡ take at (string_bytes self.old.text)
+            ++ (text.now ++ drop at (string_bytes self.old.text))) }
         ensures err { OnErr result (string_bytes self.new.text ≡ string_bytes self.old.text) }
         ensures failed { self.new.failed ≡ self.old.failed }
-        ensures sink { (S.warnings self.new.sink ≡ S.warnings self.old.sink) × (S.place self.new.sink ≡ S.place self.old.sink) }
+        ensures sink { self.new.sink ≡ self.old.sink }
     {
         let _ = self.text.as_str();
         self.text.insert_str(at, text)

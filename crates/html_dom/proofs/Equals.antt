@@ -1,4 +1,4 @@
--- Nodes with one view are equally many.
+-- Lists of nodes with one view are equally long.
 use Rattle.std.proofs.Common.{◌≡◌, ℕ, suc, List, [], ◌∷◌, length, ap, refl}
 use Rattle.html_dom.specs.Tree.{NodesView, none, node}
 use Rattle.html_dom.specs.Views.{nodes_view}

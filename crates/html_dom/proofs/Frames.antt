@@ -1,4 +1,4 @@
--- Equal lists of things are equally long.
+-- Lists of items with one view are equally long.
 use Rattle.std.proofs.Common.{◌≡◌, ℕ, suc, List, [], ◌∷◌, length, ap, refl}
 use Rattle.html_dom.specs.Frames.{FrameItemsView, no_items, item}
 use Rattle.html_dom.specs.FrameViews.{frame_items_view}
@@ -7,11 +7,12 @@ use Rattle.html_dom.specs.declared.frame.FrameItem.{FrameItem}
 
 abbrev count : FrameItemsView → ℕ
 count no_items = 0
-count (item p t rest) = suc (count rest)
+count (item position content rest) = suc (count rest)
 
 counted : (xs : List (Point × FrameItem)) → count (frame_items_view xs) ≡ length xs
 counted [] = refl
 counted (x ∷ xs) = ap suc (counted xs)
 
-pub same_items_length : (xs ys : List (Point × FrameItem)) → frame_items_view xs ≡ frame_items_view ys → length xs ≡ length ys
+pub same_items_length : (xs ys : List (Point × FrameItem)) →
+    frame_items_view xs ≡ frame_items_view ys → length xs ≡ length ys
 same_items_length xs ys e = let p = counted xs in let q = counted ys in let r = ap count e in cc

@@ -12,7 +12,10 @@ abbrev item_fed : Item → fed.HashWrites
 item_fed p = fed.str (encodes p.0) ++ fed.str (string_bytes p.1)
 
 one_fed : (p : Item) → item_fed p ≡ pair_fed (pair_view p)
-one_fed p = ap (λ s. fed.str (encodes p.0) ++ fed.str s) (sym (encodes-chars (string_bytes p.1) (IsUtf8-string_bytes p.1)))
+one_fed p =
+    let bytes = string_bytes p.1 in
+    ap (λ s. fed.str (encodes p.0) ++ fed.str s)
+    (sym (encodes-chars bytes (IsUtf8-string_bytes p.1)))
 
 pub hashed : (ps : List Item) → fed.slice item_fed ps ≡ pairs_fed (map pair_view ps)
 hashed ps = equals.hashed pair_view item_fed one_fed ps

@@ -1,21 +1,22 @@
--- The drawings that the program's frames stand for.
+-- The pure values of tags, points and frames.
 use Rattle.std.specs.Prelude.{ℕ, List, [], ◌∷◌, map, Option, option_map, String}
 use Rattle.std.specs.declared.alloc.Global.{Global}
 use Rattle.html_dom.specs.Frames.{PointView, FrameView, frame, FrameItemsView, no_items, item, FrameItemView, tag_item, group_item, link_item, other_item, HtmlFrameView}
 use Rattle.html_names.specs.Texts.{text_view}
 use Rattle.html_dom.specs.Tags.{TagView, starts, ends}
-use Rattle.html_dom.specs.declared.place.Tag.{Tag}
-use Rattle.html_dom.specs.declared.place.Tag.TheVariants.{Start, End}
+use Rattle.html_dom.specs.declared.introspection.Tag.{Tag}
+use Rattle.html_dom.specs.declared.introspection.Tag.TheVariants.{Start, End}
 use Rattle.html_dom.specs.declared.frame.Point.{Point}
 use Rattle.html_dom.specs.declared.frame.HtmlFrame.{HtmlFrame}
 use Rattle.html_dom.specs.declared.frame.Frame.{Frame, Frame-F}
 use Rattle.html_dom.specs.declared.frame.FrameItem.{FrameItem, FrameItem-F, fold-FrameItem}
 
-abbrev pub label_view : Option (String Global) → Option (List ℕ)
-label_view = option_map text_view
+abbrev pub optional_text_view : Option (String Global) → Option (List ℕ)
+optional_text_view = option_map text_view
 
 abbrev pub tag_view : Tag → TagView
-tag_view (Start location label dest) = starts location.0 (label_view label) (option_map (λ l. l.0) dest)
+tag_view (Start location label dest) =
+    starts location.0 (optional_text_view label) (option_map (λ l. l.0) dest)
 tag_view (End location) = ends location.0
 
 abbrev pub point_view : Point → PointView
@@ -24,7 +25,7 @@ point_view p = (p.x, p.y)
 abbrev pub anchor_view : Point × String Global → PointView × List ℕ
 anchor_view a = (point_view a.0, text_view a.1)
 
--- things of a frame, each already seen
+-- the items of a frame, from their positions and views
 abbrev pub frame_items_of : List (Point × FrameItemView) → FrameItemsView
 frame_items_of [] = no_items
 frame_items_of (x ∷ xs) = item (point_view x.0) x.1 (frame_items_of xs)
@@ -57,7 +58,7 @@ abbrev pub html_frame_view : HtmlFrame → HtmlFrameView
 html_frame_view f = record {
   inner = frame_view f.inner;
   text_size = f.text_size;
-  id = label_view f.id;
+  id = optional_text_view f.id;
   css = f.css;
   anchors = anchors_view f.anchors.items;
   span = f.span.0;

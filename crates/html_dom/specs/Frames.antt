@@ -1,9 +1,9 @@
--- Drawings laid out in advance, as pure values.
+-- Frames that were laid out in advance, as pure values.
 use Rattle.std.specs.Prelude.{ℕ, ℤ, List, [], Option, None}
-use Rattle.html_names.specs.Texts.{Pair}
+use Rattle.html_names.specs.Texts.{TextPair}
 use Rattle.html_dom.specs.Tags.{TagView}
 
--- millionths of a point to the right and down
+-- how far to the right and how far down, in millionths of a typographic point
 abbrev pub PointView : Type 0
 PointView = ℤ × ℤ
 
@@ -14,7 +14,7 @@ mutual
 
   pub data FrameItemsView : Type 0 where
     no_items : FrameItemsView
-    item : (place : PointView) (thing : FrameItemView) (rest : FrameItemsView) → FrameItemsView
+    item : (position : PointView) (content : FrameItemView) (rest : FrameItemsView) → FrameItemsView
     deriving Discrete as FrameItemsView-discrete
 
   pub data FrameItemView : Type 0 where
@@ -24,15 +24,22 @@ mutual
     other_item : FrameItemView
     deriving Discrete as FrameItemView-discrete
 
--- a drawing in a tree
+-- a frame in a tree
 pub record HtmlFrameView : Type 0 where
   pub inner : FrameView
   pub text_size : ℤ
   pub id : Option (List ℕ)
-  pub css : List Pair
+  pub css : List TextPair
   pub anchors : List (PointView × List ℕ)
   pub span : ℕ
 
--- a drawing in a tree and nothing else
-abbrev pub new_html_frame : FrameView → ℤ → ℕ → HtmlFrameView
-new_html_frame inner text_size span = record { inner = inner; text_size = text_size; id = None; css = []; anchors = []; span = span }
+-- a frame in a tree, with no `id`, css or anchor
+abbrev pub new_html_frame : FrameView → (text_size : ℤ) → (span : ℕ) → HtmlFrameView
+new_html_frame inner text_size span = record {
+  inner = inner;
+  text_size = text_size;
+  id = None;
+  css = [];
+  anchors = [];
+  span = span;
+}

@@ -6,5 +6,6 @@ use Rattle.html_dom.specs.Views.{attrs_view}
 use Rattle.html_dom.specs.Equal.{same, same_decides, pairs_discrete}
 use Rattle.html_dom.specs.declared.attrs.HtmlAttrs.{HtmlAttrs}
 
-pub equal_fed : (x y : HtmlAttrs) → same attrs_view pairs_discrete x y ≡ true → pairs_fed (attrs_view x) ≡ pairs_fed (attrs_view y)
-equal_fed x y h = ap pairs_fed ((same_decides attrs_view pairs_discrete x y).0 h)
+pub equal_fed : (a b : HtmlAttrs) → same attrs_view pairs_discrete a b ≡ true →
+    pairs_fed (attrs_view a) ≡ pairs_fed (attrs_view b)
+equal_fed a b equal = ap pairs_fed ((same_decides attrs_view pairs_discrete a b).0 equal)

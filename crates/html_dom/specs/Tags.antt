@@ -1,7 +1,7 @@
--- Marks in the tree and in drawings.
+-- Tags in the tree and in frames, as pure values.
 use Rattle.std.specs.Prelude.{ℕ, List, Option}
 
--- the start or the end of a place that can be linked to
+-- where a located element starts, or where it ends
 pub data TagView : Type 0 where
   starts : (location : ℕ) (label : Option (List ℕ)) (dest : Option ℕ) → TagView
   ends : (location : ℕ) → TagView

@@ -1,22 +1,22 @@
--- The trees that the program's values stand for.
+-- The pure values of attribute lists, nodes and elements.
 use Rattle.std.specs.Prelude.{List, [], ◌∷◌, map, option_map, String}
 use Rattle.std.specs.declared.alloc.Global.{Global}
 use Rattle.html_names.specs.declared.html_attr.HtmlAttr.{HtmlAttr}
 pub use Rattle.html_names.specs.Texts.{text_view}
-pub use Rattle.html_dom.specs.FrameViews.{label_view, tag_view}
+pub use Rattle.html_dom.specs.FrameViews.{optional_text_view, tag_view}
 use Rattle.html_dom.specs.FrameViews.{html_frame_view}
-use Rattle.html_dom.specs.Tree.{Pair, Head, NodeView, tag_node, text_node, element_node, frame_node, NodesView, none, node, ElementView}
+use Rattle.html_dom.specs.Tree.{TextPair, Head, NodeView, tag_node, text_node, element_node, frame_node, NodesView, none, node, ElementView}
 use Rattle.html_dom.specs.declared.attrs.HtmlAttrs.{HtmlAttrs}
 use Rattle.html_dom.specs.declared.node.HtmlElement.{HtmlElement, HtmlElement-F}
 use Rattle.html_dom.specs.declared.node.HtmlNode.{HtmlNode, HtmlNode-F, fold-HtmlNode}
 
-abbrev pub pair_view : HtmlAttr × String Global → Pair
+abbrev pub pair_view : HtmlAttr × String Global → TextPair
 pair_view p = (p.0, text_view p.1)
 
-abbrev pub attrs_view : HtmlAttrs → List Pair
+abbrev pub attrs_view : HtmlAttrs → List TextPair
 attrs_view a = map pair_view a.0.items
 
--- nodes, each already seen
+-- the nodes of a list, from their views
 abbrev pub nodes_of : List NodeView → NodesView
 nodes_of [] = none
 nodes_of (n ∷ ns) = node n (nodes_of ns)

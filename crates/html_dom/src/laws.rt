@@ -8,8 +8,9 @@ ghost use Rattle.html_dom.specs.Views.{attrs_view, node_view, element_view};
 
 use crate::attrs::HtmlAttrs;
 use crate::frame::{Frame, FrameItem, HtmlFrame, Point};
+use crate::introspection::{Location, Tag};
 use crate::node::{HtmlElement, HtmlNode};
-use crate::place::{Location, Span, Tag};
+use crate::span::Span;
 
 /// After a fold a name has its inner value where there is one, and else its outer value.
 #[tactic(auto, using(crate::proofs::Folds::finds_inner_first))]
@@ -56,28 +57,28 @@ pub fn equal_tags(a: &Tag, b: &Tag) -> bool
     a == b
 }
 
-/// Points are equal where both ways are.
+/// Points are equal where both coordinates are.
 pub fn equal_points(a: Point, b: Point) -> bool
     ensures { IsTrue result ↔ (point_view a ≡ point_view b) }
 {
     a == b
 }
 
-/// What stands in drawings is equal where all fields are, at any depth.
+/// Items of frames are equal where all their fields are, at any depth.
 pub fn equal_frame_items(a: &FrameItem, b: &FrameItem) -> bool
     ensures { IsTrue result ↔ (frame_item_view a.now ≡ frame_item_view b.now) }
 {
     a == b
 }
 
-/// Drawings are equal where all their fields are, at any depth.
+/// Frames are equal where all their fields are, at any depth.
 pub fn equal_frames(a: &Frame, b: &Frame) -> bool
     ensures { IsTrue result ↔ (frame_view a.now ≡ frame_view b.now) }
 {
     a == b
 }
 
-/// Drawings in a tree are equal where all their fields are, at any depth.
+/// Frames in a tree are equal where all their fields are, at any depth.
 pub fn equal_html_frames(a: &HtmlFrame, b: &HtmlFrame) -> bool
     ensures { IsTrue result ↔ (html_frame_view a.now ≡ html_frame_view b.now) }
 {

@@ -6,7 +6,8 @@ use Rattle.html_encode.specs.Layout.{spaces, by_lines}
 
 pub spaces_more : (n : ℕ) → spaces n ++ codes "  " ≡ spaces (n + 1)
 spaces_more zero = refl
-spaces_more (suc n) = simp unary_clauses (ap (λ s. codes "  " ++ s) (spaces_more n ∙ simp unary_clauses refl))
+spaces_more (suc n) = simp unary_clauses (ap (λ s. codes "  " ++ s)
+    (spaces_more n ∙ simp unary_clauses refl))
 
 -- there is a line
 abbrev pub begun : List (List ℕ) → Bool
@@ -14,13 +15,16 @@ begun [] = false
 begun (l ∷ ls) = true
 
 -- one line more
-pub by_lines_more : (b : Bool) (i : List ℕ) (ls : List (List ℕ)) (l : List ℕ) → by_lines b i (ls ++ l ∷ []) ≡ by_lines b i ls ++ ((if b || begun ls then i else []) ++ l)
+pub by_lines_more : (b : Bool) (i : List ℕ) (ls : List (List ℕ)) (l : List ℕ) →
+    by_lines b i (ls ++ l ∷ []) ≡ by_lines b i ls ++ ((if b || begun ls then i else []) ++ l)
 by_lines_more true i [] l = ap (λ s. i ++ s) (append-nil l)
 by_lines_more false i [] l = append-nil l
 by_lines_more true i (x ∷ xs) l =
     ap (λ s. i ++ (x ++ s)) (by_lines_more true i xs l)
-    ∙ sym (append_assoc i (x ++ by_lines true i xs) (i ++ l) ∙ ap (λ s. i ++ s) (append_assoc x (by_lines true i xs) (i ++ l)))
-by_lines_more false i (x ∷ xs) l = ap (λ s. x ++ s) (by_lines_more true i xs l) ∙ sym (append_assoc x (by_lines true i xs) (i ++ l))
+    ∙ sym (append_assoc i (x ++ by_lines true i xs) (i ++ l)
+    ∙ ap (λ s. i ++ s) (append_assoc x (by_lines true i xs) (i ++ l)))
+by_lines_more false i (x ∷ xs) l = ap (λ s. x ++ s) (by_lines_more true i xs l)
+    ∙ sym (append_assoc x (by_lines true i xs) (i ++ l))
 
 pub begun_more : (b : Bool) (ls : List (List ℕ)) (l : List ℕ) → true ≡ (b || begun (ls ++ l ∷ []))
 begun_more true ls l = refl

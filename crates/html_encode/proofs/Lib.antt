@@ -1,7 +1,6 @@
-pub mod Characters
-pub mod Contents
 pub mod Escapes
 pub mod Firsts
+pub mod IndentsCollapse
 pub mod Layouts
 pub mod Lines
 pub mod LinesEnd
@@ -11,9 +10,9 @@ pub mod Normals
 pub mod Plainly
 pub mod RawBack
 pub mod RawNames
+pub mod ReadingBack
 pub mod References
 pub mod Rows
 pub mod Runs
 pub mod Same
-pub mod Tags
-pub mod Unseen
+pub mod TagsBack

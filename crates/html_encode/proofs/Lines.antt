@@ -14,34 +14,48 @@ last_split : (l : List ℕ) (n : ℕ) → n + 1 ≡ length l → l ≡ take n l 
 last_split l n e = sym (take_all (n + 1) l (omega arith)) ∙ take_more l n 0 (omega arith)
 
 -- a text without its last carriage return
-last_return : (l : List ℕ) → (strip_carriage_return l ≡ l) ⊎ (l ≡ strip_carriage_return l ++ 13 ∷ [])
+last_return : (l : List ℕ) → (strip_carriage_return l ≡ l) ⊎
+    (l ≡ strip_carriage_return l ++ 13 ∷ [])
 last_return [] = inl refl
 last_return (c ∷ cs) =
     elim (cases_Bool (slice_index (c ∷ cs) (length (c ∷ cs) - 1) == 13)) [
       | inl e ↦ inr (rw e (last_split (c ∷ cs) (length (c ∷ cs) - 1) (omega arith)
-          ∙ ap (λ d. take (length (c ∷ cs) - 1) (c ∷ cs) ++ d ∷ []) (eqb-true (slice_index (c ∷ cs) (length (c ∷ cs) - 1)) 13 e)))
+          ∙ ap (λ d. take (length (c ∷ cs) - 1) (c ∷ cs) ++ d ∷ [])
+          (eqb-true (slice_index (c ∷ cs) (length (c ∷ cs) - 1)) 13 e)))
       | inr e ↦ inl (rw e refl)
     ]
 
 -- of parts joined by a carriage return or a line feed it holds just where it holds of each
 module _ (P : List ℕ → Type 0) (stripped : (q : List ℕ) → P (q ++ 13 ∷ []) → P q) where
   strip_keeps : (l : List ℕ) → P l → P (strip_carriage_return l)
-  strip_keeps l h = elim (last_return l) [ inl e ↦ rw e h | inr e ↦ stripped (strip_carriage_return l) (subst P e h) ]
+  strip_keeps l h = elim (last_return l) [
+    | inl e ↦ rw e h
+    | inr e ↦
+        stripped (strip_carriage_return l) (subst P e h)
+  ]
 
   of_parts : (ps : List (List ℕ)) → AllByRecursion P ps → AllByRecursion P (lines_of_parts ps)
   of_parts [] h = tt
   of_parts ([] ∷ []) h = tt
-  of_parts ((c ∷ cs) ∷ []) h = elim (cases_Bool (length (c ∷ cs) == 0)) [ inl e ↦ rw e tt | inr e ↦ rw e h ]
+  of_parts ((c ∷ cs) ∷ []) h = elim (cases_Bool (length (c ∷ cs) == 0)) [
+    | inl e ↦ rw e tt
+    | inr e ↦
+        rw e h
+  ]
   of_parts (x ∷ y ∷ more) h = (strip_keeps x h.0, of_parts (y ∷ more) h.1)
 
-  module _ (Q : List ℕ → Type 0) (whole : (q : List ℕ) → Q q → P q) (parted : (q r : List ℕ) → Q (q ++ 10 ∷ r) → P q × Q r) where
+  module _ (Q : List ℕ → Type 0) (whole : (q : List ℕ) → Q q → P q)
+      (parted : (q r : List ℕ) → Q (q ++ 10 ∷ r) → P q × Q r) where
     parts_are : (ps : List (List ℕ)) → Q (join_with_byte 10 ps) → AllByRecursion P ps
     parts_are [] h = tt
     parts_are (x ∷ []) h = (whole x h, tt)
-    parts_are (x ∷ y ∷ more) h = let k = parted x (join_with_byte 10 (y ∷ more)) h in (k.0, parts_are (y ∷ more) k.1)
+    parts_are (x ∷ y ∷ more) h = let k = parted x (join_with_byte 10 (y ∷ more)) h in
+        (k.0, parts_are (y ∷ more) k.1)
 
     pub lines_are : (s : List ℕ) → Q s → AllByRecursion P (lines s)
-    lines_are s h = of_parts (slice_split (λ b. b == 10) s) (parts_are (slice_split (λ b. b == 10) s) (subst Q (sym (join_with_byte-slice_split 10 s)) h))
+    lines_are s h = of_parts (slice_split (λ b. b == 10) s)
+        (parts_are (slice_split (λ b. b == 10) s)
+        (subst Q (sym (join_with_byte-slice_split 10 s)) h))
 
 -- a list before the first part
 abbrev onto : List ℕ → List (List ℕ) → List (List ℕ)
@@ -52,21 +66,28 @@ onto_none_first : (x : ℕ) (ps : List (List ℕ)) → onto [] (onto_first x ps)
 onto_none_first x [] = refl
 onto_none_first x (p ∷ ps) = refl
 
-onto_more : (x : ℕ) (xs : List ℕ) (ps : List (List ℕ)) → onto_first x (onto xs ps) ≡ onto (x ∷ xs) ps
+onto_more : (x : ℕ) (xs : List ℕ) (ps : List (List ℕ)) →
+    onto_first x (onto xs ps) ≡ onto (x ∷ xs) ps
 onto_more x xs [] = refl
 onto_more x xs (p ∷ ps) = refl
 
 onto_none : (r : List ℕ) → onto [] (slice_split (λ b. b == 10) r) ≡ slice_split (λ b. b == 10) r
 onto_none [] = refl
-onto_none (x ∷ xs) = elim (cases_Bool (x == 10)) [ inl e ↦ rw e refl | inr e ↦ rw e (onto_none_first x (slice_split (λ b. b == 10) xs)) ]
+onto_none (x ∷ xs) = elim (cases_Bool (x == 10)) [
+  | inl e ↦ rw e refl
+  | inr e ↦
+      rw e (onto_none_first x (slice_split (λ b. b == 10) xs))
+]
 
 -- no byte of a list is a line feed
 abbrev feedless : List ℕ → Type 0
 feedless = AllByRecursion (λ b. (b == 10) ≡ false)
 
-split_onto : (xs r : List ℕ) → feedless xs → slice_split (λ b. b == 10) (xs ++ r) ≡ onto xs (slice_split (λ b. b == 10) r)
+split_onto : (xs r : List ℕ) → feedless xs → slice_split (λ b. b == 10) (xs ++ r)
+    ≡ onto xs (slice_split (λ b. b == 10) r)
 split_onto [] r f = sym (onto_none r)
-split_onto (x ∷ xs) r f = rw (f.0, split_onto xs r f.1) (onto_more x xs (slice_split (λ b. b == 10) r))
+split_onto (x ∷ xs) r f = rw (f.0, split_onto xs r f.1)
+    (onto_more x xs (slice_split (λ b. b == 10) r))
 
 high : (n : ℕ) → 128 ≤ n → (n == 10) ≡ false
 high n h = ne_eqb n 10 (λ e. omega arith)
@@ -79,27 +100,40 @@ encode_feedless c f =
       | inr e ↦ elim (cases_Bool (ltb c 2048)) [
         | inl g ↦ rw (e, g) (high (192 + c / 64) (omega arith), (high (next c) (omega arith), tt))
         | inr g ↦ elim (cases_Bool (ltb c 65536)) [
-          | inl k ↦ rw (e, g, k) (high (224 + c / 4096) (omega arith), (high (next (c / 64)) (omega arith), (high (next c) (omega arith), tt)))
-          | inr k ↦ rw (e, g, k) (high (240 + c / 262144) (omega arith), (high (next (c / 4096)) (omega arith), (high (next (c / 64)) (omega arith), (high (next c) (omega arith), tt))))
+          | inl k ↦ rw (e, g, k) (
+            high (224 + c / 4096) (omega arith),
+            (high (next (c / 64)) (omega arith), (high (next c) (omega arith), tt)),
+          )
+          | inr k ↦ rw (e, g, k) (
+            high (240 + c / 262144) (omega arith),
+            (
+              high (next (c / 4096)) (omega arith),
+              (high (next (c / 64)) (omega arith), (high (next c) (omega arith), tt)),
+            ),
+          )
         ]
       ]
     ]
 
-onto_map : (c : ℕ) (ps : List (List ℕ)) → onto (encode c) (map encodes ps) ≡ map encodes (onto_first c ps)
+onto_map : (c : ℕ) (ps : List (List ℕ)) → onto (encode c) (map encodes ps)
+    ≡ map encodes (onto_first c ps)
 onto_map c [] = ap (λ l. l ∷ []) (sym (append-nil (encode c)))
 onto_map c (p ∷ ps) = refl
 
-split_encodes : (cs : List ℕ) → slice_split (λ b. b == 10) (encodes cs) ≡ map encodes (slice_split (λ b. b == 10) cs)
+split_encodes : (cs : List ℕ) → slice_split (λ b. b == 10) (encodes cs)
+    ≡ map encodes (slice_split (λ b. b == 10) cs)
 split_encodes [] = refl
 split_encodes (c ∷ cs) =
     elim (cases_Bool (c == 10)) [
       | inl e ↦ rw (e, eqb-true c 10 e, encode_ascii 10 (omega arith), split_encodes cs) refl
-      | inr e ↦ rw (split_onto (encode c) (encodes cs) (encode_feedless c e), split_encodes cs, e) (onto_map c (slice_split (λ b. b == 10) cs))
+      | inr e ↦ rw (split_onto (encode c) (encodes cs) (encode_feedless c e), split_encodes cs, e)
+          (onto_map c (slice_split (λ b. b == 10) cs))
     ]
 
 -- the last carriage return
 
-strip_last : (xs : List ℕ) (b : ℕ) → strip_carriage_return (xs ++ b ∷ []) ≡ cond (b == 13) xs (xs ++ b ∷ [])
+strip_last : (xs : List ℕ) (b : ℕ) → strip_carriage_return (xs ++ b ∷ [])
+    ≡ cond (b == 13) xs (xs ++ b ∷ [])
 strip_last xs b =
     let e : length (xs ++ b ∷ []) - 1 ≡ length xs = simp length-append (omega arith) in
     rw (e, get_or-append_seam xs b [] 0, take-append_seam xs (b ∷ [])) refl
@@ -120,10 +154,29 @@ encode_ends c f =
     elim (cases_Bool (ltb c 128)) [
       | inl e ↦ rw e (record { front = []; back = c; is = refl; else_back = f })
       | inr e ↦ elim (cases_Bool (ltb c 2048)) [
-        | inl g ↦ rw (e, g) (record { front = (192 + c / 64) ∷ []; back = next c; is = refl; else_back = high_back (next c) (omega arith) })
+        | inl g ↦ rw (e, g) (record {
+          front = (192 + c / 64) ∷ [];
+          back = next c;
+          is =
+              refl;
+          else_back = high_back (next c) (omega arith);
+        })
         | inr g ↦ elim (cases_Bool (ltb c 65536)) [
-          | inl k ↦ rw (e, g, k) (record { front = (224 + c / 4096) ∷ next (c / 64) ∷ []; back = next c; is = refl; else_back = high_back (next c) (omega arith) })
-          | inr k ↦ rw (e, g, k) (record { front = (240 + c / 262144) ∷ next (c / 4096) ∷ next (c / 64) ∷ []; back = next c; is = refl; else_back = high_back (next c) (omega arith) })
+          | inl k ↦ rw (e, g, k) (record {
+            front = (224 + c / 4096) ∷ next (c / 64) ∷ [];
+            back =
+                next c;
+            is = refl;
+            else_back = high_back (next c) (omega arith);
+          })
+          | inr k ↦ rw (e, g, k) (record {
+            front =
+                (240 + c / 262144) ∷ next (c / 4096) ∷ next (c / 64) ∷ [];
+            back = next c;
+            is =
+                refl;
+            else_back = high_back (next c) (omega arith);
+          })
         ]
       ]
     ]
@@ -135,34 +188,52 @@ encodes_last : (q : List ℕ) (d : ℕ) → encodes (q ++ d ∷ []) ≡ encodes 
 encodes_last q d = encodes-append q (d ∷ []) ∙ ap (λ l. encodes q ++ l) (append-nil (encode d))
 
 ends_after : (xs ys : List ℕ) → EndsElse ys → EndsElse (xs ++ ys)
-ends_after xs ys r = record { front = xs ++ r.front; back = r.back; is = ap (λ l. xs ++ l) r.is ∙ sym (append_assoc xs r.front (r.back ∷ [])); else_back = r.else_back }
+ends_after xs ys r = record {
+  front = xs ++ r.front;
+  back = r.back;
+  is = ap (λ l. xs ++ l) r.is
+      ∙ sym (append_assoc xs r.front (r.back ∷ []));
+  else_back = r.else_back;
+}
 
-strip_encodes_last : (q : List ℕ) (d : ℕ) → strip_carriage_return (encodes (q ++ d ∷ [])) ≡ encodes (strip_carriage_return (q ++ d ∷ []))
+strip_encodes_last : (q : List ℕ) (d : ℕ) → strip_carriage_return (encodes (q ++ d ∷ []))
+    ≡ encodes (strip_carriage_return (q ++ d ∷ []))
 strip_encodes_last q d =
     elim (cases_Bool (d == 13)) [
-      | inl e ↦ ap strip_carriage_return (encodes_last q d ∙ ap (λ l. encodes q ++ l) (ap encode (eqb-true d 13 e) ∙ encode_ascii 13 (omega arith)))
+      | inl e ↦ ap strip_carriage_return (encodes_last q d
+          ∙ ap (λ l. encodes q ++ l) (ap encode (eqb-true d 13 e) ∙ encode_ascii 13 (omega arith)))
           ∙ (strip_last (encodes q) 13 ∙ ap encodes (sym (strip_last q d ∙ rw e refl)))
-      | inr e ↦ strip_else (encodes (q ++ d ∷ [])) (rw (encodes_last q d) (ends_after (encodes q) (encode d) (encode_ends d e)))
+      | inr e ↦ strip_else (encodes (q ++ d ∷ []))
+          (rw (encodes_last q d) (ends_after (encodes q) (encode d) (encode_ends d e)))
           ∙ ap encodes (sym (strip_last q d ∙ rw e refl))
     ]
 
 strip_encodes : (l : List ℕ) → strip_carriage_return (encodes l) ≡ encodes (strip_carriage_return l)
 strip_encodes [] = refl
 strip_encodes (c ∷ cs) =
-    let e : c ∷ cs ≡ take (length cs) (c ∷ cs) ++ get_or (c ∷ cs) (length cs) 0 ∷ [] = last_split (c ∷ cs) (length cs) (omega arith) in
-    subst (λ l. strip_carriage_return (encodes l) ≡ encodes (strip_carriage_return l)) (sym e) (strip_encodes_last (take (length cs) (c ∷ cs)) (get_or (c ∷ cs) (length cs) 0))
+    let e : c ∷ cs ≡ take (length cs) (c ∷ cs) ++ get_or (c ∷ cs) (length cs) 0 ∷ [] =
+    last_split (c ∷ cs) (length cs) (omega arith) in
+    subst (λ l. strip_carriage_return (encodes l) ≡ encodes (strip_carriage_return l)) (sym e)
+    (strip_encodes_last (take (length cs) (c ∷ cs)) (get_or (c ∷ cs) (length cs) 0))
 
 not_empty : (c : ℕ) (cs : List ℕ) → (length (encodes (c ∷ cs)) == 0) ≡ false
-not_empty c cs = ne_eqb (length (encodes (c ∷ cs))) 0 (λ e. let h : suc (length cs) ≤ length (encodes (c ∷ cs)) = length-le-encodes (c ∷ cs) in omega arith)
+not_empty c cs = ne_eqb (length (encodes (c ∷ cs))) 0
+    (λ e. let h : suc (length cs) ≤ length (encodes (c ∷ cs)) =
+    length-le-encodes (c ∷ cs) in omega arith)
 
-parts_encodes : (ps : List (List ℕ)) → lines_of_parts (map encodes ps) ≡ map encodes (lines_of_parts ps)
+parts_encodes : (ps : List (List ℕ)) → lines_of_parts (map encodes ps)
+    ≡ map encodes (lines_of_parts ps)
 parts_encodes [] = refl
 parts_encodes ([] ∷ []) = refl
-parts_encodes ((c ∷ cs) ∷ []) = rw (not_empty c cs, ne_eqb (length (c ∷ cs)) 0 (λ e. omega arith)) refl
+parts_encodes ((c ∷ cs) ∷ []) = rw (
+  not_empty c cs,
+  ne_eqb (length (c ∷ cs)) 0 (λ e. omega arith),
+) refl
 parts_encodes (x ∷ y ∷ more) = rw (strip_encodes x, parts_encodes (y ∷ more)) refl
 
 lines_encodes : (cs : List ℕ) → lines (encodes cs) ≡ map encodes (lines cs)
-lines_encodes cs = ap lines_of_parts (split_encodes cs) ∙ parts_encodes (slice_split (λ b. b == 10) cs)
+lines_encodes cs = ap lines_of_parts (split_encodes cs)
+    ∙ parts_encodes (slice_split (λ b. b == 10) cs)
 
 -- lines of scalar values are lines of scalar values
 scalars_parts : (a b : List ℕ) → scalars (a ++ b) ≡ true → (scalars a ≡ true) × (scalars b ≡ true)
@@ -175,9 +246,11 @@ scalars_parts (c ∷ cs) b h =
 scalar_lines : (cs : List ℕ) → scalars cs ≡ true → AllByRecursion (λ l. scalars l ≡ true) (lines cs)
 scalar_lines cs h =
     lines_are (λ l. scalars l ≡ true) (λ q k. (scalars_parts q (13 ∷ []) k).0)
-    (λ l. scalars l ≡ true) (λ q k. k) (λ q r k. let p = scalars_parts q (10 ∷ r) k in (p.0, (and_parts true (scalars r) p.1).1)) cs h
+    (λ l. scalars l ≡ true) (λ q k. k) (λ q r k. let p =
+    scalars_parts q (10 ∷ r) k in (p.0, (and_parts true (scalars r) p.1).1)) cs h
 
-chars_of_each : (ls : List (List ℕ)) → AllByRecursion (λ l. scalars l ≡ true) ls → map chars (map encodes ls) ≡ ls
+chars_of_each : (ls : List (List ℕ)) → AllByRecursion (λ l. scalars l ≡ true) ls →
+    map chars (map encodes ls) ≡ ls
 chars_of_each [] h = refl
 chars_of_each (l ∷ ls) h = rw (chars-encodes l h.0, chars_of_each ls h.1) refl
 
@@ -185,4 +258,5 @@ chars_of_each (l ∷ ls) h = rw (chars-encodes l h.0, chars_of_each ls h.1) refl
 pub chars_of_lines : (bs : List ℕ) → IsUtf8 bs → map chars (lines bs) ≡ lines (chars bs)
 chars_of_lines bs u =
     ap (λ t. map chars (lines t)) (sym (encodes-chars bs u))
-    ∙ (ap (map chars) (lines_encodes (chars bs)) ∙ chars_of_each (lines (chars bs)) (scalar_lines (chars bs) (scalars-chars bs u)))
+    ∙ (ap (map chars) (lines_encodes (chars bs))
+    ∙ chars_of_each (lines (chars bs)) (scalar_lines (chars bs) (scalars-chars bs u)))

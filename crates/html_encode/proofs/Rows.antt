@@ -20,7 +20,8 @@ pub case : read (codes "<!DOCTYPE html><p></P>") ≡ None
 unfolding is_void is_raw is_escapable_raw is_foreign_self_closing stands_in drops_feed is_tag_end digits
 case = refl
 
-pub reference : read (codes "<!DOCTYPE html><p>&#x41;</p>") ≡ Some (paragraph_of (codes "p") (codes "A"))
+pub reference : read (codes "<!DOCTYPE html><p>&#x41;</p>")
+    ≡ Some (paragraph_of (codes "p") (codes "A"))
 unfolding is_void is_raw is_escapable_raw is_foreign_self_closing stands_in drops_feed is_tag_end digits
 reference = refl
 
@@ -104,22 +105,57 @@ pub blanks : read (codes "<!DOCTYPE html> \n\t\r<p></p>\n") ≡ Some (branch (co
 unfolding is_void is_raw is_escapable_raw is_foreign_self_closing stands_in drops_feed is_tag_end digits
 blanks = refl
 
-pub script : read (codes "<!DOCTYPE html><script></script</script>") ≡ Some (paragraph_of (codes "script") (codes "</script"))
+pub script : read (codes "<!DOCTYPE html><script></script</script>")
+    ≡ Some (paragraph_of (codes "script") (codes "</script"))
 unfolding is_void is_raw is_escapable_raw is_foreign_self_closing stands_in drops_feed is_tag_end digits
 script = refl
 
-pub title : read (codes "<!DOCTYPE html><title>a&amp;b</title>") ≡ Some (paragraph_of (codes "title") (codes "a&b"))
+pub title : read (codes "<!DOCTYPE html><title>a&amp;b</title>")
+    ≡ Some (paragraph_of (codes "title") (codes "a&b"))
 unfolding is_void is_raw is_escapable_raw is_foreign_self_closing stands_in drops_feed is_tag_end digits
 title = refl
 
-pub pre : read (codes "<!DOCTYPE html><pre>\n\nx</pre>") ≡ Some (paragraph_of (codes "pre") (codes "\nx"))
+pub pre : read (codes "<!DOCTYPE html><pre>\n\nx</pre>")
+    ≡ Some (paragraph_of (codes "pre") (codes "\nx"))
 unfolding is_void is_raw is_escapable_raw is_foreign_self_closing stands_in drops_feed is_tag_end digits
 pre = refl
 
-pub feed_kept : read (codes "<!DOCTYPE html><p>\nx</p>") ≡ Some (paragraph_of (codes "p") (codes "\nx"))
+pub feed_kept : read (codes "<!DOCTYPE html><p>\nx</p>")
+    ≡ Some (paragraph_of (codes "p") (codes "\nx"))
 unfolding is_void is_raw is_escapable_raw is_foreign_self_closing stands_in drops_feed is_tag_end digits
 feed_kept = refl
 
-pub feed_dropped : read (codes "<!DOCTYPE html><pre>\nx</pre>") ≡ Some (paragraph_of (codes "pre") (codes "x"))
+pub feed_dropped : read (codes "<!DOCTYPE html><pre>\nx</pre>")
+    ≡ Some (paragraph_of (codes "pre") (codes "x"))
 unfolding is_void is_raw is_escapable_raw is_foreign_self_closing stands_in drops_feed is_tag_end digits
 feed_dropped = refl
+
+pub ruleset exact_syntax = (
+  quotes,
+  case,
+  no_slash,
+  slash,
+  void_end,
+  two_roots,
+  text_after,
+  text_before,
+  left_open,
+  two_spaces,
+  no_element,
+  no_doctype,
+  blanks,
+)
+
+pub ruleset references = (
+  entity,
+  reference,
+  unclosed,
+  zeros,
+  capital_x,
+  capital_digit,
+  null,
+  surrogate,
+  too_large,
+)
+
+pub ruleset raw_texts = (script, script_case, title, title_element, pre, feed_kept, feed_dropped)

@@ -16,11 +16,14 @@ read_on s t u xs ys h k = run-append s xs ys ∙ (ap (λ r. run r ys) h ∙ k)
 
 -- a state that holds what it has read so far
 module _ (f : List ℕ → State) where
-  pub grows : (ok : ℕ → Bool) → ((xs : List ℕ) (c : ℕ) → ok c ≡ true → step (f xs) c ≡ f (xs ++ c ∷ [])) → (xs cs : List ℕ) → all ok cs ≡ true → run (f xs) cs ≡ f (xs ++ cs)
+  pub grows : (ok : ℕ → Bool) → ((xs : List ℕ) (c : ℕ) → ok c ≡ true →
+      step (f xs) c ≡ f (xs ++ c ∷ [])) → (xs cs : List ℕ) → all ok cs ≡ true →
+      run (f xs) cs ≡ f (xs ++ cs)
   grows ok one xs [] h = ap f (sym (append-nil xs))
   grows ok one xs (c ∷ cs) h =
       let both = and_parts (ok c) (all ok cs) h in
-      ap (λ s. run s cs) (one xs c both.0) ∙ (grows ok one (xs ++ c ∷ []) cs both.1 ∙ ap f (append_assoc xs (c ∷ []) cs))
+      ap (λ s. run s cs) (one xs c both.0) ∙ (grows ok one (xs ++ c ∷ []) cs both.1
+      ∙ ap f (append_assoc xs (c ∷ []) cs))
 
 pub all_of : (p : ℕ → Bool) (xs : List ℕ) → IsOf p xs → all p xs ≡ true
 all_of p [] h = absurd h

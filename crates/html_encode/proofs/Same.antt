@@ -3,7 +3,7 @@ use Rattle.std.proofs.Common.{◌≡◌, Some, sym, ap, ◌∙◌}
 use Rattle.html_dom.specs.PlainTree.{element_normal}
 use Rattle.html_encode.specs.Reader.{read}
 use Rattle.html_encode.specs.ReadingBack.{SameTextSameForm}
-use Rattle.html_encode.proofs.Contents.{plain_reads_back}
+use Rattle.html_encode.proofs.ReadingBack.{plain_reads_back}
 
 pub same_text : SameTextSameForm
 same_text frames d e n m x y f w same =

@@ -10,15 +10,19 @@ use Rattle.html_encode.specs.declared.frame.FrameFault.TheVariants.{OutOfMemory,
 abbrev pub Frames : Type 0
 Frames = HtmlFrameView → (pretty : Bool) → Option (List ℕ)
 
+abbrev pub frame_fault_number : FrameFault → ℕ
+frame_fault_number OutOfMemory = 0
+frame_fault_number Refused = 15
+
 -- the caller's number of a frame's picture
-abbrev pub number_of : FrameView → ℕ
-number_of (frame picture items) = picture
+abbrev pub picture_of : FrameView → ℕ
+picture_of (frame picture items) = picture
 
 -- every frame is refused
 abbrev pub no_frames : Frames
 no_frames b pretty = None
 
--- an answer is that text, or that refusal; want of memory may come before either
+-- an answer is that text, or that refusal; out of memory may come before either
 abbrev pub Draws : Option (List ℕ) → Result (String Global) FrameFault → Type 0
 Draws (Some text) (Ok s) = text_view s ≡ text
 Draws (Some text) (Err OutOfMemory) = Unit {0}

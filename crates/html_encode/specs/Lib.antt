@@ -1,13 +1,14 @@
 pub mod Closing
 pub mod Collapsing
+pub mod Content
 pub mod Faults
 pub mod Frames
 pub mod Indented
 pub mod IndentsCollapse
 pub mod Layout
-pub mod Numbers
 pub mod ReadingBack
 pub mod Reader
 pub mod References
 pub mod Rows
-pub mod Written
+pub mod Text
+pub mod Writes

@@ -1,10 +1,11 @@
--- A reader of HTML text, from left to right, with a stack of open elements and their children so far: the syntax of
--- HTML Standard 13.1 without a browser's repairs, narrowed by this project to values in double quotes, exact names, and
--- the references of `References`. Carriage returns and repeated attributes stay.
+-- A reader of HTML text, from left to right, with a stack of open elements and their children so
+-- far: the syntax of HTML Standard 13.1 without a browser's repairs, narrowed by this project to
+-- values in double quotes, exact names, and the references of `References`. Carriage returns and
+-- repeated attributes stay.
 use Rattle.std.specs.Prelude.{ℕ, Bool, false, not, ◌&&◌, ◌||◌, ◌==◌, List, [], ◌∷◌, ◌++◌, if◌then◌else◌, codes, Option, Some, None, bytes_eq, take, drop}
 use Rattle.html_names.specs.Characters.{is_tag_char, is_attr_char, is_blank}
 use Rattle.html_names.specs.Kinds.{is_void, is_foreign_self_closing, is_raw, is_escapable_raw}
-use Rattle.html_dom.specs.Tree.{Pair}
+use Rattle.html_dom.specs.Tree.{TextPair}
 use Rattle.html_dom.specs.PlainTree.{Plain, words, branch, Plains, no_plains, plain}
 use Rattle.html_encode.specs.References.{reference}
 use Rattle.html_encode.specs.Closing.{is_tag_end, ends_closing, ends_exact, before_closing}
@@ -21,7 +22,7 @@ no_plains then qs = qs
 -- an open element, and its children so far
 pub record Open : Type 0 where
   pub name : List ℕ
-  pub attrs : List Pair
+  pub attrs : List TextPair
   pub children : Plains
 
 pub data State : Type 0 where
@@ -34,21 +35,22 @@ pub data State : Type 0 where
   -- after `&`: the text before it, and what stands since
   Reference : (text since : List ℕ) (stack : List Open) → State
   -- within a raw element, which is not on the stack: all that stands since its start tag
-  Raw : (name : List ℕ) (attrs : List Pair) (text : List ℕ) (stack : List Open) → State
+  Raw : (name : List ℕ) (attrs : List TextPair) (text : List ℕ) (stack : List Open) → State
   -- after `<`
   Less : (stack : List Open) → State
   StartName : (name : List ℕ) (stack : List Open) → State
   -- after the space before an attribute
-  Space : (name : List ℕ) (attrs : List Pair) (stack : List Open) → State
-  AttrName : (name : List ℕ) (attrs : List Pair) (attr : List ℕ) (stack : List Open) → State
+  Space : (name : List ℕ) (attrs : List TextPair) (stack : List Open) → State
+  AttrName : (name : List ℕ) (attrs : List TextPair) (attr : List ℕ) (stack : List Open) → State
   -- after `=`
-  Equals : (name : List ℕ) (attrs : List Pair) (attr : List ℕ) (stack : List Open) → State
-  Value : (name : List ℕ) (attrs : List Pair) (attr value : List ℕ) (stack : List Open) → State
-  ValueReference : (name : List ℕ) (attrs : List Pair) (attr value since : List ℕ) (stack : List Open) → State
+  Equals : (name : List ℕ) (attrs : List TextPair) (attr : List ℕ) (stack : List Open) → State
+  Value : (name : List ℕ) (attrs : List TextPair) (attr value : List ℕ) (stack : List Open) → State
+  ValueReference : (name : List ℕ) (attrs : List TextPair) (attr value since : List ℕ)
+      (stack : List Open) → State
   -- after a value
-  Quoted : (name : List ℕ) (attrs : List Pair) (stack : List Open) → State
+  Quoted : (name : List ℕ) (attrs : List TextPair) (stack : List Open) → State
   -- after the `/` of a start tag
-  Slash : (name : List ℕ) (attrs : List Pair) (stack : List Open) → State
+  Slash : (name : List ℕ) (attrs : List TextPair) (stack : List Open) → State
   EndName : (name : List ℕ) (stack : List Open) → State
   Stop : State
 
@@ -63,9 +65,10 @@ add_text text [] = []
 add_text text (o ∷ os) = record o { children = with_text text o.children } ∷ os
 
 -- an element is complete
-abbrev pub complete : List ℕ → List Pair → Plains → List Open → State
+abbrev pub complete : List ℕ → List TextPair → Plains → List Open → State
 complete name attrs kids [] = Outside (Some (branch name attrs kids))
-complete name attrs kids (o ∷ os) = Content [] (record o { children = o.children then plain (branch name attrs kids) no_plains } ∷ os)
+complete name attrs kids (o ∷ os) = Content []
+    (record o { children = o.children then plain (branch name attrs kids) no_plains } ∷ os)
 
 -- the innermost element holds no elements
 abbrev pub holds_text_alone : List Open → Bool
@@ -73,14 +76,15 @@ holds_text_alone [] = false
 holds_text_alone (o ∷ os) = is_escapable_raw o.name
 
 -- a start tag without `/` is read
-abbrev pub opened : List ℕ → List Pair → List Open → State
+abbrev pub opened : List ℕ → List TextPair → List Open → State
 opened name attrs stack = if is_void name then complete name attrs no_plains stack
     else (if is_raw name then Raw name attrs [] stack
-    else (if drops_feed name then Fresh (record { name = name; attrs = attrs; children = no_plains } ∷ stack)
+    else (if drops_feed name then Fresh (record { name = name; attrs = attrs; children = no_plains }
+    ∷ stack)
     else Content [] (record { name = name; attrs = attrs; children = no_plains } ∷ stack)))
 
 -- what follows the name or an attribute in a start tag
-abbrev pub after : List ℕ → List Pair → List Open → ℕ → State
+abbrev pub after : List ℕ → List TextPair → List Open → ℕ → State
 after name attrs stack c = if c == 32 then Space name attrs stack
     else (if is_foreign_self_closing name then (if c == 47 then Slash name attrs stack else Stop)
     else (if c == 62 then opened name attrs stack else Stop))
@@ -95,7 +99,8 @@ or_stop (Some c) f = f c
 
 -- a character of a text
 abbrev pub in_content : List ℕ → List Open → ℕ → State
-in_content text stack c = if c == 60 then Less (add_text text stack) else (if c == 38 then Reference text [] stack else Content (text ++ c ∷ []) stack)
+in_content text stack c = if c == 60 then Less (add_text text stack)
+    else (if c == 38 then Reference text [] stack else Content (text ++ c ∷ []) stack)
 
 -- after `<` outside the root
 abbrev pub before_root : Option Plain → State
@@ -103,25 +108,39 @@ before_root None = Less []
 before_root (Some root) = Stop
 
 abbrev pub step : State → ℕ → State
-step (Outside root) c = if is_blank c then Outside root else (if c == 60 then before_root root else Stop)
+step (Outside root) c = if is_blank c then Outside root
+    else (if c == 60 then before_root root else Stop)
 step (Content text stack) c = in_content text stack c
 step (Fresh stack) c = if c == 10 then Content [] stack else in_content [] stack c
-step (Reference text since stack) c = if c == 59 then or_stop (reference since) (λ d. Content (text ++ d ∷ []) stack) else Reference text (since ++ c ∷ []) stack
+step (Reference text since stack) c = if c == 59
+    then or_stop (reference since) (λ d. Content (text ++ d ∷ []) stack)
+    else Reference text (since ++ c ∷ []) stack
 step (Raw name attrs text stack) c = if is_tag_end c && ends_closing name text
-    then (if (c == 62) && ends_exact name text then complete name attrs (with_text (before_closing name text) no_plains) stack else Stop)
+    then (if (c == 62) && ends_exact name text
+    then complete name attrs (with_text (before_closing name text) no_plains) stack else Stop)
     else Raw name attrs (text ++ c ∷ []) stack
-step (Less stack) c = if c == 47 then EndName [] stack else (if is_tag_char c && not (holds_text_alone stack) then StartName (c ∷ []) stack else Stop)
-step (StartName name stack) c = if is_tag_char c then StartName (name ++ c ∷ []) stack else after name [] stack c
-step (Space name attrs stack) c = if is_attr_char c then AttrName name attrs (c ∷ []) stack else Stop
-step (AttrName name attrs attr stack) c = if is_attr_char c then AttrName name attrs (attr ++ c ∷ []) stack
-    else (if c == 61 then Equals name attrs attr stack else after name (attrs ++ (attr, []) ∷ []) stack c)
+step (Less stack) c = if c == 47 then EndName [] stack
+    else (if is_tag_char c && not (holds_text_alone stack) then StartName (c ∷ []) stack else Stop)
+step (StartName name stack) c = if is_tag_char c then StartName (name ++ c ∷ []) stack
+    else after name [] stack c
+step (Space name attrs stack) c = if is_attr_char c then AttrName name attrs (c ∷ []) stack
+    else Stop
+step (AttrName name attrs attr stack) c = if is_attr_char c
+    then AttrName name attrs (attr ++ c ∷ []) stack
+    else (if c == 61 then Equals name attrs attr stack
+    else after name (attrs ++ (attr, []) ∷ []) stack c)
 step (Equals name attrs attr stack) c = if c == 34 then Value name attrs attr [] stack else Stop
-step (Value name attrs attr value stack) c = if c == 34 then Quoted name (attrs ++ (attr, value) ∷ []) stack
-    else (if c == 38 then ValueReference name attrs attr value [] stack else Value name attrs attr (value ++ c ∷ []) stack)
-step (ValueReference name attrs attr value since stack) c = if c == 59 then or_stop (reference since) (λ d. Value name attrs attr (value ++ d ∷ []) stack) else ValueReference name attrs attr value (since ++ c ∷ []) stack
+step (Value name attrs attr value stack) c = if c == 34
+    then Quoted name (attrs ++ (attr, value) ∷ []) stack
+    else (if c == 38 then ValueReference name attrs attr value [] stack
+    else Value name attrs attr (value ++ c ∷ []) stack)
+step (ValueReference name attrs attr value since stack) c = if c == 59
+    then or_stop (reference since) (λ d. Value name attrs attr (value ++ d ∷ []) stack)
+    else ValueReference name attrs attr value (since ++ c ∷ []) stack
 step (Quoted name attrs stack) c = after name attrs stack c
 step (Slash name attrs stack) c = if c == 62 then complete name attrs no_plains stack else Stop
-step (EndName name stack) c = if is_tag_char c then EndName (name ++ c ∷ []) stack else (if c == 62 then close name stack else Stop)
+step (EndName name stack) c = if is_tag_char c then EndName (name ++ c ∷ []) stack
+    else (if c == 62 then close name stack else Stop)
 step Stop c = Stop
 
 abbrev pub run : State → List ℕ → State
@@ -135,4 +154,5 @@ answer _ = None
 
 -- the element that the text spells
 abbrev pub read : List ℕ → Option Plain
-read text = if bytes_eq (take 15 text) (codes "<!DOCTYPE html>") then answer (run (Outside None) (drop 15 text)) else None
+read text = if bytes_eq (take 15 text) (codes "<!DOCTYPE html>")
+    then answer (run (Outside None) (drop 15 text)) else None

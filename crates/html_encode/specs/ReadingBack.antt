@@ -2,67 +2,76 @@
 use Rattle.std.specs.Prelude.{◌≡◌, true, false, List, [], Some}
 use Rattle.std.specs.List.{AllByRecursion}
 use Rattle.html_names.specs.Characters.{is_tag_char, is_attr_char, IsOf}
-use Rattle.html_dom.specs.Tree.{Pair, Head, NodeView, tag_node, text_node, element_node, frame_node, NodesView, none, node, ElementView}
+use Rattle.html_dom.specs.Tree.{TextPair, Head, NodeView, tag_node, text_node, element_node, frame_node, NodesView, none, node, ElementView}
 use Rattle.html_dom.specs.PlainTree.{element_normal}
 use Rattle.html_encode.specs.Faults.{document_faults}
 use Rattle.html_encode.specs.Frames.{Frames}
-use Rattle.html_encode.specs.Indented.{indented, IsWellEnded}
+use Rattle.html_encode.specs.Indented.{element_layout, ElementEndsWell}
 use Rattle.html_encode.specs.Reader.{read}
-use Rattle.html_encode.specs.Written.{document_written}
+use Rattle.html_encode.specs.Text.{plain_options, pretty_options, document_text}
 
 -- names as the program's types keep them
-abbrev pub IsPair : Pair → Type 0
-IsPair p = IsOf is_attr_char p.0
+abbrev pub PairIsNamed : TextPair → Type 0
+PairIsNamed p = IsOf is_attr_char p.0
 
-abbrev pub ArePairs : List Pair → Type 0
-ArePairs = AllByRecursion IsPair
+abbrev pub PairsAreNamed : List TextPair → Type 0
+PairsAreNamed = AllByRecursion PairIsNamed
 
-abbrev pub IsHead : Head → Type 0
-IsHead h = IsOf is_tag_char h.name × ArePairs h.attrs
+abbrev pub HeadIsNamed : Head → Type 0
+HeadIsNamed h = IsOf is_tag_char h.name × PairsAreNamed h.attrs
 
 -- each name at any depth is valid
 unfoldable mutual
-  pub IsNamed : NodeView → Type 0
-  IsNamed (tag_node t) = Unit {0}
-  IsNamed (text_node s span) = Unit {0}
-  IsNamed (element_node h kids) = IsHead h × AreNamed kids
-  IsNamed (frame_node b) = Unit {0}
+  pub NodeIsNamed : NodeView → Type 0
+  NodeIsNamed (tag_node t) = Unit {0}
+  NodeIsNamed (text_node s span) = Unit {0}
+  NodeIsNamed (element_node h kids) = HeadIsNamed h × NodesAreNamed kids
+  NodeIsNamed (frame_node b) = Unit {0}
 
-  pub AreNamed : NodesView → Type 0
-  AreNamed none = Unit {0}
-  AreNamed (node n ns) = IsNamed n × AreNamed ns
+  pub NodesAreNamed : NodesView → Type 0
+  NodesAreNamed none = Unit {0}
+  NodesAreNamed (node n ns) = NodeIsNamed n × NodesAreNamed ns
 
-abbrev pub IsNamedElement : ElementView → Type 0
-IsNamedElement e = IsNamed (element_node e.0 e.1)
+abbrev pub ElementIsNamed : ElementView → Type 0
+ElementIsNamed e = NodeIsNamed (element_node e.0 e.1)
 
 -- no frame at any depth
 unfoldable mutual
-  pub IsFrameFree : NodeView → Type 0
-  IsFrameFree (tag_node t) = Unit {0}
-  IsFrameFree (text_node s span) = Unit {0}
-  IsFrameFree (element_node h kids) = AreFrameFree kids
-  IsFrameFree (frame_node b) = ⊥
+  pub NodeIsFrameFree : NodeView → Type 0
+  NodeIsFrameFree (tag_node t) = Unit {0}
+  NodeIsFrameFree (text_node s span) = Unit {0}
+  NodeIsFrameFree (element_node h kids) = NodesAreFrameFree kids
+  NodeIsFrameFree (frame_node b) = ⊥
 
-  pub AreFrameFree : NodesView → Type 0
-  AreFrameFree none = Unit {0}
-  AreFrameFree (node n ns) = IsFrameFree n × AreFrameFree ns
+  pub NodesAreFrameFree : NodesView → Type 0
+  NodesAreFrameFree none = Unit {0}
+  NodesAreFrameFree (node n ns) = NodeIsFrameFree n × NodesAreFrameFree ns
 
-abbrev pub HasNoFrame : ElementView → Type 0
-HasNoFrame e = AreFrameFree e.1
+abbrev pub ElementIsFrameFree : ElementView → Type 0
+ElementIsFrameFree e = NodesAreFrameFree e.1
 
 -- the plain text of a frame-free tree without a fault reads as the tree's normal form
 abbrev pub PlainReadsBack : Frames → Type 0
-PlainReadsBack frames = (e : ElementView) → IsNamedElement e → HasNoFrame e → document_faults frames false e ≡ [] → read (document_written frames false e) ≡ Some (element_normal e)
+PlainReadsBack frames =
+    (e : ElementView) → ElementIsNamed e → ElementIsFrameFree e →
+    document_faults frames plain_options e ≡ [] →
+    read (document_text frames plain_options e) ≡ Some (element_normal e)
 
 -- its pretty text reads as that of the indented tree
 abbrev pub PrettyReadsBack : Frames → Type 0
-PrettyReadsBack frames = (e : ElementView) → IsNamedElement e → HasNoFrame e → IsWellEnded true e → document_faults frames true e ≡ [] →
-    read (document_written frames true e) ≡ Some (element_normal (indented e))
+PrettyReadsBack frames =
+    (e : ElementView) → ElementIsNamed e → ElementIsFrameFree e → ElementEndsWell true e →
+    document_faults frames pretty_options e ≡ [] →
+    read (document_text frames pretty_options e) ≡ Some (element_normal (element_layout e))
 
 abbrev pub ReadsBack : Type 0
 ReadsBack = (frames : Frames) → PlainReadsBack frames × PrettyReadsBack frames
 
 -- frame-free trees with the same plain text have the same normal form
 abbrev pub SameTextSameForm : Type 0
-SameTextSameForm = (frames : Frames) (d e : ElementView) → IsNamedElement d → IsNamedElement e → HasNoFrame d → HasNoFrame e → document_faults frames false d ≡ [] → document_faults frames false e ≡ [] →
-    document_written frames false d ≡ document_written frames false e → element_normal d ≡ element_normal e
+SameTextSameForm =
+    (frames : Frames) (d e : ElementView) → ElementIsNamed d → ElementIsNamed e →
+    ElementIsFrameFree d → ElementIsFrameFree e →
+    document_faults frames plain_options d ≡ [] → document_faults frames plain_options e ≡ [] →
+    document_text frames plain_options d ≡ document_text frames plain_options e →
+    element_normal d ≡ element_normal e

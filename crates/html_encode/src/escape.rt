@@ -1,24 +1,27 @@
 //! How texts are written.
 
-ghost use Rattle.std.specs.Prelude.{◌≡◌, ◌++◌, [], OnOk, IfErr, chars};
+ghost use Rattle.std.specs.Prelude.{◌≡◌, ◌++◌, OnOk, chars};
+ghost use Rattle.html_encode.specs.Faults.{is_bad, char_faults, text_faults};
 ghost use Rattle.html_encode.specs.References.{reference_to};
-ghost use Rattle.html_encode.specs.Written.{char_written, escaped};
-ghost use Rattle.html_encode.specs.Faults.{is_bad, char_faults, text_faults, IsFirst};
+ghost use Rattle.html_encode.specs.Text.{stands_as_is, char_text, escaped_text};
+ghost use Rattle.html_encode.specs.Writes.{Writes};
 
 use crate::fault::ExportFault;
-use crate::output::Output;
 use html_dom::Span;
-use html_names::charsets::is_w3c_text_char;
+use html_names::Output;
+use html_names::charsets::{
+    is_valid_in_attribute_value, is_valid_in_normal_element_text, is_w3c_text_char,
+};
 use std::alloc::AllocError;
 
 /// How the characters of a text are written.
 #[derive(Clone, Copy, PartialEq, Eq)]
 pub(crate) enum Escaping {
-    /// In an ordinary text `&` and `<` are references.
+    /// An ordinary text: what can't stand in one is a reference.
     Text,
     /// Each character is a reference, and there is no carriage return.
     Reference,
-    /// In a value `&` and `"` are references.
+    /// The value of an attribute: what can't stand in one is a reference.
     Value,
     /// Raw text is written as it is.
     Raw,
@@ -50,24 +53,32 @@ fn write_reference(out: &mut Output, c: char) -> Result<(), AllocError>
     }
 }
 
+/// Whether the character stands as it is; the others are written as references.
+fn stands_as_is(escaping: Escaping, c: char) -> bool
+    ensures { result ≡ stands_as_is escaping c }
+{
+    match escaping {
+        Escaping::Text => is_valid_in_normal_element_text(c),
+        Escaping::Reference => false,
+        Escaping::Value => is_valid_in_attribute_value(c),
+        Escaping::Raw => true,
+    }
+}
+
 /// Writes a character that can be written.
 fn write_good(out: &mut Output, escaping: Escaping, c: char) -> Result<(), AllocError>
-    ensures { OnOk result (out.new ≡ out.old ++ char_written escaping c) }
+    ensures { OnOk result (out.new ≡ out.old ++ char_text escaping c) }
 {
-    match (escaping, c) {
-        (Escaping::Reference, _) => write_reference(out, c),
-        (Escaping::Text | Escaping::Value, '&') => out.push_ascii("&amp;"),
-        (Escaping::Text, '<') => out.push_ascii("&lt;"),
-        (Escaping::Value, '"') => out.push_ascii("&quot;"),
-        _ => out.push(c),
+    if stands_as_is(escaping, c) {
+        out.push(c)
+    } else {
+        write_reference(out, c)
     }
 }
 
 /// Writes a character, or says that it can't be written.
 fn write_char(out: &mut Output, escaping: Escaping, c: char, span: Span) -> Result<(), ExportFault>
-    ensures text { OnOk result (out.new ≡ out.old ++ char_written escaping c) }
-    ensures clean { OnOk result (char_faults escaping span.0 c ≡ []) }
-    ensures fault { IfErr result (λ e. IsFirst e (char_faults escaping span.0 c)) }
+    ensures { Writes result out.old out.new (char_text escaping c) (char_faults escaping span.0 c) }
 {
     if is_bad(escaping, c) {
         return Err(ExportFault::Unencodable { c, span });
@@ -83,9 +94,9 @@ pub(crate) fn write_text(
     text: &str,
     span: Span,
 ) -> Result<(), ExportFault>
-    ensures text { OnOk result (out.new ≡ out.old ++ escaped escaping (chars text.now)) }
-    ensures clean { OnOk result (text_faults escaping span.0 (chars text.now) ≡ []) }
-    ensures fault { IfErr result (λ e. IsFirst e (text_faults escaping span.0 (chars text.now))) }
+    ensures { Writes result out.old out.new
+        (escaped_text escaping (chars text.now))
+        (text_faults escaping span.0 (chars text.now)) }
 {
     for c in text.chars() {
         write_char(out, escaping, c, span)?;

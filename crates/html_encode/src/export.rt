@@ -1,54 +1,70 @@
-ghost use Rattle.std.specs.Prelude.{◌≡◌, [], true, false, Some, OnOk, IfOk, IfErr};
+ghost use Rattle.std.specs.Prelude.{◌≡◌, true, false, Some, IfOk};
 ghost use Rattle.html_dom.specs.PlainTree.{element_normal};
 ghost use Rattle.html_dom.specs.Views.{text_view, element_view};
-ghost use Rattle.html_encode.specs.Faults.{document_faults, IsFirst};
-ghost use Rattle.html_encode.specs.Indented.{indented, IsWellEnded};
+ghost use Rattle.html_encode.specs.Faults.{document_faults};
+ghost use Rattle.html_encode.specs.Indented.{element_layout, ElementEndsWell};
 ghost use Rattle.html_encode.specs.Reader.{read};
-ghost use Rattle.html_encode.specs.ReadingBack.{HasNoFrame};
-ghost use Rattle.html_encode.specs.Written.{document_written};
+ghost use Rattle.html_encode.specs.ReadingBack.{ElementIsFrameFree};
+ghost use Rattle.html_encode.specs.Text.{document_text};
+ghost use Rattle.html_encode.specs.Writes.{Makes};
 
 use crate::fault::ExportFault;
 use crate::frame::FrameWriter;
-use crate::layout::Place;
+use crate::indent::{push_feed_if, push_indent_if};
+use crate::layout::Margin;
 use crate::options::HtmlOptions;
-use crate::output::Output;
 use crate::write::write_element;
 use html_dom::HtmlElement;
+use html_names::Output;
 use std::alloc::Global;
 
 /// The HTML text of a tree: the document type and the element, plain or pretty.
 ///
 /// It succeeds exactly where nothing is wrong with the tree, and answers the first fault otherwise;
-/// want of memory may come before that. Frames are written by their writer, which is told whether
-/// pretty writing is on at their place.
+/// out of memory may come before that. Frames are written by their writer, which is told whether
+/// pretty writing is on where the frame stands.
 ///
 /// The plain text of a tree without frames reads back, by HTML Standard 13.1 without a browser's
 /// repairs, as the tree with its tags dropped and neighbouring texts joined. So does the pretty text,
 /// with texts where indents stand, unless a raw text on lines of its own ends in a closing tag that
 /// lacks its last character.
+///
+/// # Example
+///
+/// ```
+/// let content = String::from_str(alloc, "a < b")?;
+/// let mut paragraph = HtmlElement::new(alloc, tag::p);
+/// paragraph.children.push(HtmlNode::text(content, Span(0)))?;
+/// let text = html_in_bundle(alloc, &paragraph, &HtmlOptions::default(), &NoFrames)?;
+/// assert_eq!(rt; text.as_str(), "<!DOCTYPE html><p>a &lt; b</p>");
+/// ```
 pub fn html_in_bundle<F: FrameWriter>(
     alloc: Global,
     root: &HtmlElement,
     options: &HtmlOptions,
     frames: &F,
 ) -> Result<String, ExportFault>
-    // Which trees have a text, and what is answered for the others.
-    ensures clean { OnOk result (document_faults (F.drawing frames.now) options.now.pretty (element_view root.now) ≡ []) }
-    ensures fault { IfErr result (λ e. IsFirst e (document_faults (F.drawing frames.now) options.now.pretty (element_view root.now))) }
+    // The text, or the first fault.
+    ensures makes { Makes result
+        (document_text (F.drawing frames.now) options.now (element_view root.now))
+        (document_faults (F.drawing frames.now) options.now (element_view root.now)) }
 
-    // The text, and what that of a tree without frames reads as.
-    ensures text { IfOk result (λ text. text_view text ≡ document_written (F.drawing frames.now) options.now.pretty (element_view root.now)) }
-    ensures reads_back { options.now.pretty ≡ false → HasNoFrame (element_view root.now) → IfOk result (λ text. read (text_view text) ≡ Some (element_normal (element_view root.now))) }
-    ensures reads_indented { options.now.pretty ≡ true → HasNoFrame (element_view root.now) → IsWellEnded true (element_view root.now) → IfOk result (λ text. read (text_view text) ≡ Some (element_normal (indented (element_view root.now)))) }
+    // What the text of a tree without frames reads as.
+    ensures reads_back { options.now.pretty ≡ false → ElementIsFrameFree (element_view root.now) →
+        IfOk result (λ text. read (text_view text) ≡ Some (element_normal (element_view root.now))) }
+    ensures reads_indented { options.now.pretty ≡ true → ElementIsFrameFree (element_view root.now) →
+        ElementEndsWell true (element_view root.now) →
+        IfOk result (λ text.
+        read (text_view text) ≡ Some (element_normal (element_layout (element_view root.now)))) }
 {
     let mut out = Output::new(alloc);
-    out.push_ascii("<!DOCTYPE html>")?;
-    out.push_indent_if(options.pretty, 0)?;
-    let place = Place {
+    let margin = Margin {
         pretty: options.pretty,
         level: 0,
     };
-    write_element(alloc, &mut out, root, place, frames)?;
-    out.push_feed_if(options.pretty)?;
+    out.push_ascii("<!DOCTYPE html>")?;
+    push_indent_if(&mut out, options.pretty, 0)?;
+    write_element(&mut out, root, margin, frames)?;
+    push_feed_if(&mut out, options.pretty)?;
     Ok(out.into_string())
 }

@@ -1,13 +1,14 @@
 ghost use Rattle.std.specs.Prelude.{◌≡◌};
 
 use html_dom::Span;
+use html_names::Refused;
 use std::alloc::{AllocError, AllocFailed};
 use thiserror::Error;
 
 /// Why a tree has no HTML text.
 #[derive(Debug, Drop, PartialEq, Eq, Error)]
 pub enum ExportFault {
-    /// A growth of memory was refused.
+    /// An allocation failed.
     #[error("out of memory")]
     OutOfMemory,
     /// A character of a text or a value is none that HTML can hold, or a carriage return in a text
@@ -16,39 +17,39 @@ pub enum ExportFault {
     Unencodable {
         /// The character.
         c: char,
-        /// The text's place, or that of the element with the value.
+        /// The text's span, or that of the element with the value.
         span: Span,
     },
     /// A void element, or a foreign one that is written self-closing, has a child.
     #[error("HTML void elements must not have children")]
     VoidChildren {
-        /// The element's place.
+        /// The element's span.
         span: Span,
     },
     /// A raw or escapable raw element has an element or a frame as its child.
     #[error("HTML raw text element cannot have non-text children")]
     RawChild {
-        /// The child's place.
+        /// The child's span.
         span: Span,
     },
     /// The text of a raw element would end the element.
     #[error("HTML raw text element cannot contain its own closing tag")]
     RawClosing {
-        /// The element's place.
+        /// The element's span.
         span: Span,
     },
     /// The writer of frames refused a frame.
     #[error("a frame was refused by its writer")]
     FrameRefused {
-        /// The frame's place.
+        /// The frame's span.
         span: Span,
     },
 }
 
 impl ExportFault {
-    ghost use Rattle.html_encode.specs.Numbers.{number_of, span_of};
+    ghost use Rattle.html_encode.specs.Faults.{number_of, span_of};
 
-    /// The fault's number: 0 for want of memory, and from 11 on in the order of the variants.
+    /// The fault's number: 0 for out of memory, and from 11 on in the order of the variants.
     pub fn number(&self) -> u8
         ensures { result ≡ number_of self.now }
     {
@@ -62,7 +63,7 @@ impl ExportFault {
         }
     }
 
-    /// Where the fault lies: 0 for want of memory.
+    /// Where the fault lies: 0 for out of memory.
     pub fn span(&self) -> Span
         ensures { result.0 ≡ span_of self.now }
     {
@@ -93,6 +94,16 @@ impl<T: Drop> From<AllocFailed<T>> for ExportFault {
     ghost from_gives = { λ _ e. e ≡ OutOfMemory };
 
     fn from(_refused: AllocFailed<T>) -> ExportFault {
+        ExportFault::OutOfMemory
+    }
+}
+
+impl<T: Drop> From<Refused<T>> for ExportFault {
+    ghost use Rattle.html_encode.specs.declared.fault.ExportFault.TheVariants.{OutOfMemory};
+
+    ghost from_gives = { λ _ e. e ≡ OutOfMemory };
+
+    fn from(_refused: Refused<T>) -> ExportFault {
         ExportFault::OutOfMemory
     }
 }

@@ -1,19 +1,22 @@
 //! Laws of this crate's definitions and types. Each function has laws as its contract; those that need
 //! no value do nothing.
 
-ghost use Rattle.std.specs.Prelude.{◌≡◌, ◌↔◌, [], codes, IsTrue, Some, None};
+ghost use Rattle.std.specs.Prelude.{◌≡◌, ◌↔◌, [], codes, IsTrue, Some, None, IfOk, false};
 ghost use Rattle.html_dom.specs.PlainTree.{branch, no_plains};
 ghost use Rattle.html_encode.specs.IndentsCollapse.{BodyCollapses, ContentCollapses};
 ghost use Rattle.html_encode.specs.ReadingBack.{ReadsBack, SameTextSameForm};
 ghost use Rattle.html_encode.specs.Reader.{read};
 ghost use Rattle.html_encode.specs.Rows.{paragraph_of};
 
+use crate::fault::ExportFault;
+use crate::frame::FrameFault;
 use crate::options::HtmlOptions;
+use std::alloc::AllocError;
 
 /// The plain text of a frame-free tree without a fault reads as the tree's normal form, and its pretty
-/// text as that of the indented tree, unless a raw text that is put on lines of its own ends in a
-/// closing tag that lacks its last character.
-#[tactic(auto, using(crate::proofs::Contents::reads_back))]
+/// text as that of the indented tree, unless a raw text on lines of its own ends in a closing tag
+/// that lacks its last character.
+#[tactic(auto, using(crate::proofs::ReadingBack::reads_back))]
 pub fn text_reads_back()
     ensures { ReadsBack }
 {}
@@ -26,7 +29,7 @@ pub fn same_text_same_form()
 
 /// Values stand in double quotes, end tags are exact, and there is one element with nothing but blanks
 /// around it.
-#[tactic(auto, using(crate::proofs::Rows::quotes, crate::proofs::Rows::case, crate::proofs::Rows::no_slash, crate::proofs::Rows::slash, crate::proofs::Rows::void_end, crate::proofs::Rows::two_roots, crate::proofs::Rows::text_after, crate::proofs::Rows::text_before, crate::proofs::Rows::left_open, crate::proofs::Rows::two_spaces, crate::proofs::Rows::no_element, crate::proofs::Rows::no_doctype, crate::proofs::Rows::blanks))]
+#[tactic(auto, using(crate::proofs::Rows::exact_syntax))]
 pub fn reads_exact_syntax()
     ensures quotes { read (codes "<!DOCTYPE html><p title='x'></p>") ≡ None }
     ensures case { read (codes "<!DOCTYPE html><p></P>") ≡ None }
@@ -44,7 +47,7 @@ pub fn reads_exact_syntax()
 {}
 
 /// A reference is one of five names, or the one spelling of a scalar value in lower hexadecimal.
-#[tactic(auto, using(crate::proofs::Rows::entity, crate::proofs::Rows::reference, crate::proofs::Rows::unclosed, crate::proofs::Rows::zeros, crate::proofs::Rows::capital_x, crate::proofs::Rows::capital_digit, crate::proofs::Rows::null, crate::proofs::Rows::surrogate, crate::proofs::Rows::too_large))]
+#[tactic(auto, using(crate::proofs::Rows::references))]
 pub fn reads_references()
     ensures entity { read (codes "<!DOCTYPE html><p>&nbsp;</p>") ≡ None }
     ensures reference { read (codes "<!DOCTYPE html><p>&#x41;</p>") ≡ Some (paragraph_of (codes "p") (codes "A")) }
@@ -59,13 +62,16 @@ pub fn reads_references()
 
 /// Raw text ends before its closing tag, escapable raw text holds no element, and after the start tag
 /// of `pre` and `textarea` one line feed is dropped.
-#[tactic(auto, using(crate::proofs::Rows::script, crate::proofs::Rows::script_case, crate::proofs::Rows::title, crate::proofs::Rows::title_element, crate::proofs::Rows::pre, crate::proofs::Rows::feed_kept, crate::proofs::Rows::feed_dropped))]
+#[tactic(auto, using(crate::proofs::Rows::raw_texts))]
 pub fn reads_raw_text()
-    ensures script { read (codes "<!DOCTYPE html><script></script</script>") ≡ Some (paragraph_of (codes "script") (codes "</script")) }
+    ensures script { read (codes "<!DOCTYPE html><script></script</script>")
+        ≡ Some (paragraph_of (codes "script") (codes "</script")) }
     ensures script_case { read (codes "<!DOCTYPE html><script></SCRIPT></script>") ≡ None }
-    ensures title { read (codes "<!DOCTYPE html><title>a&amp;b</title>") ≡ Some (paragraph_of (codes "title") (codes "a&b")) }
+    ensures title { read (codes "<!DOCTYPE html><title>a&amp;b</title>")
+        ≡ Some (paragraph_of (codes "title") (codes "a&b")) }
     ensures title_element { read (codes "<!DOCTYPE html><title>a<b></b></title>") ≡ None }
-    ensures pre { read (codes "<!DOCTYPE html><pre>\n\nx</pre>") ≡ Some (paragraph_of (codes "pre") (codes "\nx")) }
+    ensures pre { read (codes "<!DOCTYPE html><pre>\n\nx</pre>")
+        ≡ Some (paragraph_of (codes "pre") (codes "\nx")) }
     ensures feed_kept { read (codes "<!DOCTYPE html><p>\nx</p>") ≡ Some (paragraph_of (codes "p") (codes "\nx")) }
     ensures feed_dropped { read (codes "<!DOCTYPE html><pre>\nx</pre>") ≡ Some (paragraph_of (codes "pre") (codes "x")) }
 {}
@@ -77,7 +83,35 @@ pub fn equal_options(a: &HtmlOptions, b: &HtmlOptions) -> bool
     a == b
 }
 
-/// Indents are not seen once white space has collapsed: each touches a border.
+/// A copy of options is equal to them.
+pub fn cloned_options(options: &HtmlOptions) -> Result<HtmlOptions, AllocError>
+    ensures { IfOk result (λ copy. copy ≡ options.now) }
+{
+    options.clone()
+}
+
+/// By default the text is plain.
+pub fn default_options() -> HtmlOptions
+    ensures { result.pretty ≡ false }
+{
+    HtmlOptions::default()
+}
+
+/// Faults are equal where their kinds are, and their characters and spans.
+pub fn equal_export_faults(a: &ExportFault, b: &ExportFault) -> bool
+    ensures { IsTrue result ↔ (a.now ≡ b.now) }
+{
+    a == b
+}
+
+/// Faults of frames are equal where their kinds are.
+pub fn equal_frame_faults(a: &FrameFault, b: &FrameFault) -> bool
+    ensures { IsTrue result ↔ (a.now ≡ b.now) }
+{
+    a == b
+}
+
+/// Indents do not show once white space has collapsed: each touches a border.
 pub fn indents_collapse()
     ensures content { ContentCollapses }
     ensures body { BodyCollapses }

@@ -1,40 +1,54 @@
 //! Where pretty writing puts indents. The rules are this project's; the CSS defaults they go by are
 //! those of HTML Standard 15.3.
 
-ghost use Rattle.std.specs.Prelude.{◌≡◌, ◌+◌, ◌==◌, IfOk, IsTrue, bytes_eq, chars, codes};
+ghost use Rattle.std.specs.Prelude.{◌≡◌, ◌==◌, IfOk, IsTrue, bytes_eq, chars, codes};
 ghost use Rattle.std.specs.List.{list_any};
 ghost use Rattle.html_names.specs.Names.{is_ascii};
 ghost use Rattle.html_dom.specs.Attributes.{first};
 ghost use Rattle.html_dom.specs.Views.{attrs_view, head_of, node_view, nodes_view, text_view};
-ghost use Rattle.html_encode.specs.Layout.{is_of_lines, allows_inside, is_text, wants_around, calls_for_lines, any_calls, opens, has_indent, due_after, has_other_type, is_by_lines, keeps_lines};
+ghost use Rattle.html_encode.specs.Layout.{deeper, margin_inside, is_of_lines};
+ghost use Rattle.html_encode.specs.Layout.{allows_pretty_inside, wants_pretty_around};
+ghost use Rattle.html_encode.specs.Layout.{node_wants_pretty, nodes_want_pretty, is_pretty_inside};
+ghost use Rattle.html_encode.specs.Layout.{is_text, has_indent, due_after};
+ghost use Rattle.html_encode.specs.Layout.{has_other_type, is_by_lines, keeps_lines};
 
 use html_dom::{HtmlAttrs, HtmlElement, HtmlNode};
 use html_names::property::Display;
 use html_names::{HtmlTag, attr, tag};
 use std::alloc::AllocError;
 
-/// Where a node is written.
+/// How far in a node stands.
 #[derive(Clone, Copy)]
-pub(crate) struct Place {
+pub(crate) struct Margin {
     /// Whether pretty writing is on.
     pub(crate) pretty: bool,
-    /// How deep it stands, the root on level 0.
+    /// How many levels deep the node stands, the root on level 0.
     pub(crate) level: usize,
 }
 
-impl Place {
-    /// The place of the children. A level that no number counts is refused: so deep a tree would not
-    /// fit into memory.
-    pub(crate) fn deeper(self) -> Result<Place, AllocError>
-        ensures pretty { IfOk result (λ place. place.pretty ≡ self.pretty) }
-        ensures level { IfOk result (λ place. place.level ≡ self.level + 1) }
+impl Margin {
+    /// The margin of the children. A level that no number counts is refused: so deep a tree would
+    /// not fit into memory.
+    pub(crate) fn deeper(self) -> Result<Margin, AllocError>
+        ensures { IfOk result (λ margin. margin ≡ deeper self) }
     {
         match self.level.checked_add(1) {
-            Some(level) => Ok(Place {
+            Some(level) => Ok(Margin {
                 pretty: self.pretty,
                 level,
             }),
             None => Err(AllocError),
+        }
+    }
+
+    /// The margin of an element with the mode of its children.
+    pub(crate) fn inside(self, element: &HtmlElement) -> Margin
+        ensures { result ≡
+            margin_inside self (head_of element.now) (nodes_view element.now.children.items) }
+    {
+        Margin {
+            pretty: self.pretty && is_pretty_inside(element),
+            level: self.level,
         }
     }
 }
@@ -51,9 +65,9 @@ fn is_of_lines(display: Option<Display>) -> bool
 }
 
 /// Whether pretty writing is allowed inside elements of that name.
-#[tactic(auto, unfolding(crate::specs::Layout::allows_inside))]
-fn allows_inside(tag: &HtmlTag) -> bool
-    ensures { result ≡ allows_inside tag.now }
+#[tactic(auto, unfolding(html_names::specs::Tables::known_tags, crate::specs::Layout::allows_pretty_inside))]
+fn allows_pretty_inside(tag: &HtmlTag) -> bool
+    ensures { result ≡ allows_pretty_inside tag.now }
 {
     (tag::mathml::is_mathml(tag) && !tag::mathml::is_token(tag))
         || (is_of_lines(Display::default_for(tag)) && *tag != tag::pre)
@@ -69,6 +83,7 @@ fn is_text(text: &String, expected: &'static str) -> bool
 }
 
 /// Whether the first value of `display` is `block`.
+#[tactic(auto, unfolding(html_names::specs::Tables::known_attrs))]
 fn shows_as_block(attrs: &HtmlAttrs) -> bool
     ensures { result ≡ is_text (codes "block") (first (attrs_view attrs.now) (codes "display")) }
 {
@@ -79,9 +94,9 @@ fn shows_as_block(attrs: &HtmlAttrs) -> bool
 }
 
 /// Whether the element wants lines of its own.
-#[tactic(auto, unfolding(crate::specs::Layout::wants_around))]
-fn wants_around(element: &HtmlElement) -> bool
-    ensures { result ≡ wants_around (head_of element.now) }
+#[tactic(auto, unfolding(html_names::specs::Tables::known_tags, crate::specs::Layout::wants_pretty_around))]
+fn wants_pretty_around(element: &HtmlElement) -> bool
+    ensures { result ≡ wants_pretty_around (head_of element.now) }
 {
     if element.tag == tag::mathml::math {
         return shows_as_block(&element.attrs);
@@ -89,26 +104,26 @@ fn wants_around(element: &HtmlElement) -> bool
     tag::mathml::is_mathml(&element.tag)
         || element.tag == tag::pre
         || tag::is_metadata_content(&element.tag)
-        || allows_inside(&element.tag)
+        || allows_pretty_inside(&element.tag)
 }
 
-/// Whether a child calls for pretty writing: a frame, or an element that wants lines of its own.
-fn calls_for_lines(node: &HtmlNode) -> bool
-    ensures { result ≡ calls_for_lines (node_view node.now) }
+/// Whether a child wants pretty writing: a frame, or an element that wants lines of its own.
+fn node_wants_pretty(node: &HtmlNode) -> bool
+    ensures { result ≡ node_wants_pretty (node_view node.now) }
 {
     match node {
         HtmlNode::Tag(_) | HtmlNode::Text(_, _) => false,
-        HtmlNode::Element(element) => wants_around(element),
+        HtmlNode::Element(element) => wants_pretty_around(element),
         HtmlNode::Frame(_) => true,
     }
 }
 
-/// Whether a node among them calls for pretty writing.
-fn any_calls(nodes: &[HtmlNode]) -> bool
-    ensures { result ≡ any_calls (nodes_view nodes.now) }
+/// Whether a node among them wants pretty writing.
+fn nodes_want_pretty(nodes: &[HtmlNode]) -> bool
+    ensures { result ≡ nodes_want_pretty (nodes_view nodes.now) }
 {
     for node in nodes {
-        if calls_for_lines(node) {
+        if node_wants_pretty(node) {
             return true;
         }
     }
@@ -116,11 +131,11 @@ fn any_calls(nodes: &[HtmlNode]) -> bool
 }
 
 /// Whether the children are written pretty where pretty writing is on.
-#[tactic(auto, unfolding(crate::specs::Layout::opens))]
-pub(crate) fn opens(element: &HtmlElement) -> bool
-    ensures { result ≡ opens (head_of element.now) (nodes_view element.now.children.items) }
+#[tactic(auto, unfolding(crate::specs::Layout::is_pretty_inside))]
+fn is_pretty_inside(element: &HtmlElement) -> bool
+    ensures { result ≡ is_pretty_inside (head_of element.now) (nodes_view element.now.children.items) }
 {
-    allows_inside(&element.tag) && any_calls(&element.children)
+    allows_pretty_inside(&element.tag) && nodes_want_pretty(&element.children)
 }
 
 /// Whether an indent stands before the child: one is due, or the child wants it.
@@ -130,7 +145,7 @@ pub(crate) fn has_indent(due: bool, child: &HtmlNode) -> bool
     match child {
         HtmlNode::Tag(_) => false,
         HtmlNode::Text(_, _) | HtmlNode::Frame(_) => due,
-        HtmlNode::Element(element) => due || wants_around(element),
+        HtmlNode::Element(element) => due || wants_pretty_around(element),
     }
 }
 
@@ -141,11 +156,12 @@ pub(crate) fn due_after(due: bool, child: &HtmlNode) -> bool
     match child {
         HtmlNode::Tag(_) => due,
         HtmlNode::Text(_, _) | HtmlNode::Frame(_) => false,
-        HtmlNode::Element(element) => wants_around(element),
+        HtmlNode::Element(element) => wants_pretty_around(element),
     }
 }
 
 /// Whether a script is of another type than JavaScript.
+#[tactic(auto, unfolding(html_names::specs::Tables::known_attrs))]
 fn has_other_type(attrs: &HtmlAttrs) -> bool
     ensures { result ≡ has_other_type (attrs_view attrs.now) }
 {
@@ -158,7 +174,7 @@ fn has_other_type(attrs: &HtmlAttrs) -> bool
 }
 
 /// Whether pretty writing puts the text of a raw element on lines of its own.
-#[tactic(auto, unfolding(crate::specs::Layout::is_by_lines))]
+#[tactic(auto, unfolding(html_names::specs::Tables::known_tags, crate::specs::Layout::is_by_lines))]
 pub(crate) fn is_by_lines(element: &HtmlElement) -> bool
     ensures { result ≡ is_by_lines (head_of element.now) }
 {
@@ -173,7 +189,7 @@ fn holds_backquote(text: &str) -> bool
 }
 
 /// Whether a raw text keeps its lines as they are: that of a script with a template literal.
-#[tactic(auto, unfolding(crate::specs::Layout::keeps_lines))]
+#[tactic(auto, unfolding(html_names::specs::Tables::known_tags, crate::specs::Layout::keeps_lines))]
 pub(crate) fn keeps_lines(tag: &HtmlTag, text: &str) -> bool
     ensures { result ≡ keeps_lines tag.now (chars text.now) }
 {

@@ -1,17 +1,45 @@
-//! Writing: HTML text of a tree, with the proof that it reads back.
+//! Writing: the HTML text of a tree, with the proof that it reads back.
+//!
+//! # Example
+//!
+//! A list in pretty text, by a writer of frames that refuses each:
+//!
+//! ```
+//! struct NoFrames;
+//!
+//! impl FrameWriter for NoFrames {
+//!     ghost drawing = { λ _. no_frames };
+//!
+//!     fn write(&self, _frame: &HtmlFrame, _pretty: bool) -> Result<String, FrameFault> {
+//!         Err(FrameFault::Refused)
+//!     }
+//! }
+//!
+//! let mut list = HtmlElement::new(alloc, tag::ul);
+//! for content in ["one", "two"] {
+//!     let mut item = HtmlElement::new(alloc, tag::li);
+//!     item.children.push(HtmlNode::text(String::from_str(alloc, content)?, Span(0)))?;
+//!     list.children.push(HtmlNode::from(item))?;
+//! }
+//! let text = html_in_bundle(alloc, &list, &HtmlOptions { pretty: true }, &NoFrames)?;
+//! assert_eq!(rt;
+//!     text.as_str(),
+//!     "<!DOCTYPE html>\n<ul>\n  <li>one</li>\n  <li>two</li>\n</ul>\n"
+//! );
+//! ```
 #![tactic(auto)]
 
+mod content;
 mod escape;
 mod export;
 mod fault;
 mod frame;
+mod indent;
 pub mod laws;
 mod layout;
 mod options;
-mod output;
 mod raw;
-#[cfg(test)]
-mod tests;
+mod tags;
 mod write;
 
 pub use export::html_in_bundle;

@@ -1,1 +1,3 @@
+pub mod Equals
+pub mod Others
 pub mod Unnamed

@@ -6,16 +6,18 @@ use Rattle.std.proofs.lemmas.Option.{none-some, same_Some}
 use Rattle.html_names.specs.Kinds.{is_void, is_raw}
 use Rattle.html_flow.specs.declared.fault.ConstructFault.{ConstructFault}
 use Rattle.html_flow.specs.declared.fault.ConstructFault.TheVariants.{OutOfMemory, Casts, BodyKind}
-use Rattle.html_flow.specs.Construct.{Argument, arg_view, args_view, as_body, fails, keeping, taken, taken_as, taken_first, takes}
-use Rattle.html_flow.specs.Pieces.{IsBodyRefusal, IsTakenRefusal, arg_at, unnamed_at}
-use Rattle.html_flow.specs.Items.{Body, absent}
+use Rattle.html_flow.specs.Construct.{ArgView, BodyChoice, arg_view, args_view, arg_body, fails, choice_after, body_choice, choice_from, first_choice, takes}
+use Rattle.html_flow.specs.Pieces.{IsBodyRefusal, IsChoiceRefusal, arg_at, unnamed_at}
+use Rattle.html_flow.specs.Items.{BodyView, absent}
 use Rattle.html_flow.specs.declared.args.Arg.{Arg}
 
-keeping-as : (a : Argument) (body : Option Body) (span : ℕ) (left : List Argument) → keeping a (taken_as body span left) ≡ taken_as body span (a ∷ left)
-keeping-as a None span left = refl
-keeping-as a (Some body) span left = refl
+after-from : (a : ArgView) (body : Option BodyView) (span : ℕ) (left : List ArgView)
+    → choice_after a (choice_from body span left) ≡ choice_from body span (a ∷ left)
+after-from a None span left = refl
+after-from a (Some body) span left = refl
 
-pub arg_at_is : (args : List Arg) (k : ℕ) (d : Arg) → k < length args → arg_at (args_view args) k ≡ arg_view (get_or args k d)
+pub arg_at_is : (args : List Arg) (k : ℕ) (d : Arg) → k < length args
+    → arg_at (args_view args) k ≡ arg_view (get_or args k d)
 arg_at_is [] k d h = absurd (omega arith)
 arg_at_is (a ∷ more) zero d h = refl
 arg_at_is (a ∷ more) (suc k) d h = arg_at_is more k d (omega arith)
@@ -27,8 +29,9 @@ removed_view (a ∷ more) zero = refl
 removed_view (a ∷ more) (suc k) = ap (λ l. arg_view a ∷ l) (removed_view more k)
 
 -- where the rest has one
-module _ (a : Argument) (more : List Argument) (named : is_some a.name ≡ true) where
-  rest_at : (k : ℕ) → unnamed_at (a ∷ more) ≡ Some k → option_map (λ j. suc j) (unnamed_at more) ≡ Some k
+module _ (a : ArgView) (more : List ArgView) (named : is_some a.name ≡ true) where
+  rest_at : (k : ℕ) → unnamed_at (a ∷ more) ≡ Some k
+      → option_map (λ j. suc j) (unnamed_at more) ≡ Some k
   rest_at k h = rw named at h
 
   rest_none : unnamed_at (a ∷ more) ≡ None → option_map (λ j. suc j) (unnamed_at more) ≡ None
@@ -39,42 +42,64 @@ still_none None h = refl
 still_none (Some j) h = absurd (none-some (suc j) (sym h))
 
 module _ (raw : Bool) where
-  pub none_taken : (args : List Argument) → unnamed_at args ≡ None → taken_first raw args ≡ takes absent args
-  none_taken [] h = refl
-  none_taken (a ∷ more) h =
+  -- the body that the argument at a place gives
+  abbrev pub body_at : List ArgView → ℕ → Option BodyView
+  body_at args k = arg_body raw (arg_at args k).value (arg_at args k).span
+
+  -- the choice of that argument
+  abbrev pub choice_at : List ArgView → ℕ → BodyChoice
+  choice_at args k = choice_from (body_at args k) (arg_at args k).span (remove args k)
+
+  pub none_chosen : (args : List ArgView) → unnamed_at args ≡ None
+      → first_choice raw args ≡ takes absent args
+  none_chosen [] h = refl
+  none_chosen (a ∷ more) h =
       elim (cases_Bool (is_some a.name)) [
-        | inl e ↦ rw e (ap (keeping a) (none_taken more (still_none (unnamed_at more) (rest_none a more e h))))
+        | inl e ↦
+            let none = still_none (unnamed_at more) (rest_none a more e h) in
+            rw e (ap (choice_after a) (none_chosen more none))
         | inr e ↦ absurd (none-some 0 (sym (rw e at h)))
       ]
 
-  after_one : (a : Argument) (more : List Argument) (o : Option ℕ) (k : ℕ) → unnamed_at more ≡ o → option_map (λ j. suc j) o ≡ Some k
-      → ((j : ℕ) → unnamed_at more ≡ Some j → taken_first raw more ≡ taken_as (as_body raw (arg_at more j).given (arg_at more j).span) (arg_at more j).span (remove more j))
-      → keeping a (taken_first raw more) ≡ taken_as (as_body raw (arg_at (a ∷ more) k).given (arg_at (a ∷ more) k).span) (arg_at (a ∷ more) k).span (remove (a ∷ more) k)
+  after_one : (a : ArgView) (more : List ArgView) (o : Option ℕ) (k : ℕ) → unnamed_at more ≡ o
+      → option_map (λ j. suc j) o ≡ Some k
+      → ((j : ℕ) → unnamed_at more ≡ Some j → first_choice raw more ≡ choice_at more j)
+      → choice_after a (first_choice raw more) ≡ choice_at (a ∷ more) k
   after_one a more None k u h rest = absurd (none-some k h)
   after_one a more (Some j) k u h rest =
-      rw (sym (same_Some (suc j) k h)) (ap (keeping a) (rest j u) ∙ keeping-as a (as_body raw (arg_at more j).given (arg_at more j).span) (arg_at more j).span (remove more j))
+      let after = after-from a (body_at more j) (arg_at more j).span (remove more j) in
+      rw (sym (same_Some (suc j) k h)) (ap (choice_after a) (rest j u) ∙ after)
 
-  pub some_taken : (args : List Argument) (k : ℕ) → unnamed_at args ≡ Some k → taken_first raw args ≡ taken_as (as_body raw (arg_at args k).given (arg_at args k).span) (arg_at args k).span (remove args k)
-  some_taken [] k h = absurd (none-some k h)
-  some_taken (a ∷ more) k h =
+  pub some_chosen : (args : List ArgView) (k : ℕ) → unnamed_at args ≡ Some k
+      → first_choice raw args ≡ choice_at args k
+  some_chosen [] k h = absurd (none-some k h)
+  some_chosen (a ∷ more) k h =
       elim (cases_Bool (is_some a.name)) [
-        | inl e ↦ rw e (after_one a more (unnamed_at more) k refl (rest_at a more e k h) (some_taken more))
+        | inl e ↦
+            rw e (after_one a more (unnamed_at more) k refl (rest_at a more e k h) (some_chosen more))
         | inr e ↦ rw (e, sym (same_Some 0 k (rw e at h))) refl
       ]
 
 -- what becomes of the arguments of an element that is not void
-module _ (name : List ℕ) (args : List Argument) (plain : is_void name ≡ false) where
-  pub no_body : unnamed_at args ≡ None → taken name args ≡ takes absent args
-  no_body h = rw plain (none_taken (is_raw name) args h)
+module _ (name : List ℕ) (args : List ArgView) (plain : is_void name ≡ false) where
+  pub no_body : unnamed_at args ≡ None → body_choice name args ≡ takes absent args
+  no_body h = rw plain (none_chosen (is_raw name) args h)
 
   module _ (k : ℕ) (found : unnamed_at args ≡ Some k) where
-    first_is : taken name args ≡ taken_as (as_body (is_raw name) (arg_at args k).given (arg_at args k).span) (arg_at args k).span (remove args k)
-    first_is = rw plain (some_taken (is_raw name) args k found)
+    first_is : body_choice name args ≡ choice_at (is_raw name) args k
+    first_is = rw plain (some_chosen (is_raw name) args k found)
 
-    pub a_body : (body : Body) → as_body (is_raw name) (arg_at args k).given (arg_at args k).span ≡ Some body → taken name args ≡ takes body (remove args k)
-    a_body body h = first_is ∙ ap (λ o. taken_as o (arg_at args k).span (remove args k)) h
+    by_body : (body : Option BodyView) → body_at (is_raw name) args k ≡ body
+        → body_choice name args ≡ choice_from body (arg_at args k).span (remove args k)
+    by_body body h = first_is ∙ ap (λ o. choice_from o (arg_at args k).span (remove args k)) h
 
-    pub a_refusal : (fault : ConstructFault) → IsBodyRefusal (as_body (is_raw name) (arg_at args k).given (arg_at args k).span) (arg_at args k).span fault → IsTakenRefusal (taken name args) fault
+    pub a_body : (body : BodyView) → body_at (is_raw name) args k ≡ Some body
+        → body_choice name args ≡ takes body (remove args k)
+    a_body body h = by_body (Some body) h
+
+    pub a_refusal : (fault : ConstructFault)
+        → IsBodyRefusal (body_at (is_raw name) args k) (arg_at args k).span fault
+        → IsChoiceRefusal (body_choice name args) fault
     a_refusal OutOfMemory h = tt
     a_refusal (Casts fs) h = absurd h
-    a_refusal (BodyKind span) h = first_is ∙ ap (λ o. taken_as o (arg_at args k).span (remove args k)) h.0 ∙ ap fails (sym h.1)
+    a_refusal (BodyKind span) h = by_body None h.0 ∙ ap fails (sym h.1)

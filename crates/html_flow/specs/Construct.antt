@@ -1,18 +1,19 @@
--- An element that is constructed of arguments: attributes of its typed arguments, and a body of the first
--- argument without a name.
-use Rattle.std.specs.Prelude.{ℕ, List, [], ◌∷◌, ◌++◌, map, Bool, false, if◌then◌else◌, Option, None, Some, option_map, is_some, bytes_eq, ◌≡◌}
+-- An element that is constructed of arguments: attributes of its typed arguments, and a body of the
+-- first argument without a name.
+use Rattle.std.specs.Prelude.{ℕ, List, [], ◌∷◌, ◌++◌, map, Bool, false, if◌then◌else◌, Option, None, Some, option_map, is_some, bytes_eq, Result, Ok, Err, ◌≡◌}
 use Rattle.html_names.specs.Kinds.{is_void, is_raw}
-use Rattle.html_names.specs.Texts.{Pair, text_view}
+use Rattle.html_names.specs.Texts.{TextPair, text_view}
 use Rattle.html_names.specs.declared.html_attr.HtmlAttr.{HtmlAttr}
-use Rattle.html_dom.specs.declared.place.Span.{Span}
-use Rattle.html_values.specs.Casts.{Answer, gives, nothing, refuses, cast}
-use Rattle.html_values.specs.Types.{Kind, type_view}
-use Rattle.html_values.specs.Values.{Val, none_val, str_val, value_view}
+use Rattle.html_dom.specs.declared.span.Span.{Span}
+use Rattle.html_values.specs.Casts.{CastAnswer, gives, nothing, refuses, cast}
+use Rattle.html_values.specs.Types.{AttrTypeView, attr_type_view}
+use Rattle.html_values.specs.Values.{ValueView, none_value, str_value, value_view}
 use Rattle.html_values.specs.declared.attr_type.AttrType.{AttrType}
 use Rattle.html_values.specs.declared.cast_fault.CastFault.{CastFault}
 use Rattle.html_values.specs.declared.cast_fault.CastFault.TheVariants.{WrongKind}
-use Rattle.html_flow.specs.Items.{Elem, Contents, no_contents, content, text_content, inherits, Body, absent, present, new_head}
-use Rattle.html_flow.specs.Views.{contents_view}
+use Rattle.html_flow.specs.Items.{ElemView, ItemsView, no_items, item, text_item, inherits, BodyView, absent, present, new_head}
+use Rattle.html_flow.specs.Views.{elem_view, items_view}
+use Rattle.html_flow.specs.declared.item.HtmlElem.{HtmlElem}
 use Rattle.html_flow.specs.declared.args.ArgValue.{ArgValue}
 use Rattle.html_flow.specs.declared.args.ArgValue.TheVariants.{Plain, Body as Items}
 use Rattle.html_flow.specs.declared.args.Arg.{Arg}
@@ -21,31 +22,35 @@ use Rattle.html_flow.specs.declared.fault.ConstructFault.{ConstructFault}
 use Rattle.html_flow.specs.declared.fault.ConstructFault.TheVariants.{OutOfMemory, Casts, BodyKind}
 
 -- what an argument has: a value, or items
-pub data Given : Type 0 where
-  plain : Val → Given
-  items : Contents → Given
+pub data ArgValueView : Type 0 where
+  plain : ValueView → ArgValueView
+  items : ItemsView → ArgValueView
 
-pub record Argument : Type 0 where
+pub record ArgView : Type 0 where
   pub name : Option (List ℕ)
   pub span : ℕ
-  pub given : Given
+  pub value : ArgValueView
 
 -- a name with its type
 abbrev pub Entry : Type 0
-Entry = List ℕ × Kind
+Entry = List ℕ × AttrTypeView
 
-abbrev pub given_view : ArgValue → Given
-given_view (Plain v) = plain (value_view v)
-given_view (Items ps) = items (contents_view ps.items)
+abbrev pub arg_value_view : ArgValue → ArgValueView
+arg_value_view (Plain v) = plain (value_view v)
+arg_value_view (Items ps) = items (items_view ps.items)
 
-abbrev pub arg_view : Arg → Argument
-arg_view a = record { name = option_map text_view a.name; span = a.span.0; given = given_view a.value }
+abbrev pub arg_view : Arg → ArgView
+arg_view a = record {
+  name = option_map text_view a.name;
+  span = a.span.0;
+  value = arg_value_view a.value;
+}
 
-abbrev pub args_view : List Arg → List Argument
+abbrev pub args_view : List Arg → List ArgView
 args_view = map arg_view
 
 abbrev pub entry_view : HtmlAttr × AttrType → Entry
-entry_view e = (e.0, type_view e.1)
+entry_view e = (e.0, attr_type_view e.1)
 
 abbrev pub entries_view : List (HtmlAttr × AttrType) → List Entry
 entries_view = map entry_view
@@ -61,104 +66,115 @@ entry_for es None = None
 entry_for es (Some name) = entry_of es name
 
 -- items are of the wrong kind for every type
-abbrev pub answer : Kind → Given → Answer
-answer k (plain v) = cast k v
-answer k (items c) = refuses WrongKind
+abbrev pub cast_answer : AttrTypeView → ArgValueView → CastAnswer
+cast_answer k (plain v) = cast k v
+cast_answer k (items c) = refuses WrongKind
 
--- a text becomes an attribute, nothing is left away
-abbrev pub attr_of : List ℕ → Answer → List Pair
+-- a text becomes an attribute, nothing is omitted
+abbrev pub attr_of : List ℕ → CastAnswer → List TextPair
 attr_of name (gives t) = (name, t) ∷ []
 attr_of name nothing = []
 attr_of name (refuses f) = []
 
-abbrev pub fault_of : ℕ → Answer → List (CastFault × ℕ)
+abbrev pub fault_of : ℕ → CastAnswer → List (CastFault × ℕ)
 fault_of span (gives t) = []
 fault_of span nothing = []
 fault_of span (refuses f) = (f, span) ∷ []
 
-abbrev pub attrs_from : Option Entry → Given → List Pair
+abbrev pub attrs_from : Option Entry → ArgValueView → List TextPair
 attrs_from None given = []
-attrs_from (Some e) given = attr_of e.0 (answer e.1 given)
+attrs_from (Some e) given = attr_of e.0 (cast_answer e.1 given)
 
-abbrev pub faults_from : ℕ → Option Entry → Given → List (CastFault × ℕ)
+abbrev pub faults_from : ℕ → Option Entry → ArgValueView → List (CastFault × ℕ)
 faults_from span None given = []
-faults_from span (Some e) given = fault_of span (answer e.1 given)
+faults_from span (Some e) given = fault_of span (cast_answer e.1 given)
 
 -- the attributes, in the arguments' order
-abbrev pub attrs : List Entry → List Argument → List Pair
+abbrev pub attrs : List Entry → List ArgView → List TextPair
 attrs es [] = []
-attrs es (a ∷ more) = attrs_from (entry_for es a.name) a.given ++ attrs es more
+attrs es (a ∷ more) = attrs_from (entry_for es a.name) a.value ++ attrs es more
 
 -- all faults of casts, in the arguments' order
-abbrev pub faults : List Entry → List Argument → List (CastFault × ℕ)
+abbrev pub faults : List Entry → List ArgView → List (CastFault × ℕ)
 faults es [] = []
-faults es (a ∷ more) = faults_from a.span (entry_for es a.name) a.given ++ faults es more
+faults es (a ∷ more) = faults_from a.span (entry_for es a.name) a.value ++ faults es more
 
 -- the arguments that are no attributes of the element
-abbrev pub others : List Entry → List Argument → List Argument
-others es [] = []
-others es (a ∷ more) = if is_some (entry_for es a.name) then others es more else a ∷ others es more
+abbrev pub other_args : List Entry → List ArgView → List ArgView
+other_args es [] = []
+other_args es (a ∷ more) =
+    if is_some (entry_for es a.name) then other_args es more else a ∷ other_args es more
 
 -- one text with the role of its list
-abbrev pub text_contents : List ℕ → ℕ → Contents
-text_contents s span = content (text_content s span) inherits no_contents
+abbrev pub text_items : List ℕ → ℕ → ItemsView
+text_items s span = item (text_item s span) inherits no_items
 
 -- the body that an argument gives: of a raw element a text, else items, a text, or none
-abbrev pub as_body : Bool → Given → ℕ → Option Body
-as_body raw (plain (str_val s)) span = Some (present (text_contents s span))
-as_body false (plain none_val) span = Some (present no_contents)
-as_body false (items c) span = Some (present c)
-as_body raw given span = None
+abbrev pub arg_body : Bool → ArgValueView → ℕ → Option BodyView
+arg_body raw (plain (str_value s)) span = Some (present (text_items s span))
+arg_body false (plain none_value) span = Some (present no_items)
+arg_body false (items c) span = Some (present c)
+arg_body raw given span = None
 
--- a body and the arguments that are left, or the place of an argument of the wrong kind
-pub data Taken : Type 0 where
-  takes : Body → List Argument → Taken
-  fails : (span : ℕ) → Taken
+-- a body and the arguments that are left, or the span of an argument of the wrong kind
+pub data BodyChoice : Type 0 where
+  takes : BodyView → List ArgView → BodyChoice
+  fails : (span : ℕ) → BodyChoice
 
-abbrev pub taken_as : Option Body → ℕ → List Argument → Taken
-taken_as None span left = fails span
-taken_as (Some body) span left = takes body left
+abbrev pub choice_from : Option BodyView → ℕ → List ArgView → BodyChoice
+choice_from None span left = fails span
+choice_from (Some body) span left = takes body left
 
-abbrev pub keeping : Argument → Taken → Taken
-keeping a (takes body left) = takes body (a ∷ left)
-keeping a (fails span) = fails span
+-- an argument with a name stays before the others
+abbrev pub choice_after : ArgView → BodyChoice → BodyChoice
+choice_after a (takes body left) = takes body (a ∷ left)
+choice_after a (fails span) = fails span
 
 -- the first argument without a name is the body
-abbrev pub taken_first : Bool → List Argument → Taken
-taken_first raw [] = takes absent []
-taken_first raw (a ∷ more) = if is_some a.name then keeping a (taken_first raw more) else taken_as (as_body raw a.given a.span) a.span more
+abbrev pub first_choice : Bool → List ArgView → BodyChoice
+first_choice raw [] = takes absent []
+first_choice raw (a ∷ more) =
+    if is_some a.name then choice_after a (first_choice raw more)
+    else choice_from (arg_body raw a.value a.span) a.span more
 
 -- a void element has no body
-abbrev pub taken : List ℕ → List Argument → Taken
-taken name args = if is_void name then takes absent args else taken_first (is_raw name) args
+abbrev pub body_choice : List ℕ → List ArgView → BodyChoice
+body_choice name args = if is_void name then takes absent args else first_choice (is_raw name) args
 
 pub data Outcome : Type 0 where
-  makes : Elem → List Argument → Outcome
+  makes : ElemView → List ArgView → Outcome
   casts_fail : List (CastFault × ℕ) → Outcome
   body_fails : (span : ℕ) → Outcome
 
-abbrev pub element_of : List ℕ → List Pair → Body → Elem
+abbrev pub element_of : List ℕ → List TextPair → BodyView → ElemView
 element_of name pairs body = (record (new_head name) { attrs = pairs }, body)
 
-abbrev pub with_body : List ℕ → List Entry → List Pair → Taken → Outcome
-with_body name es pairs (takes body left) = makes (element_of name pairs body) (others es left)
+abbrev pub with_body : List ℕ → List Entry → List TextPair → BodyChoice → Outcome
+with_body name es pairs (takes body left) = makes (element_of name pairs body) (other_args es left)
 with_body name es pairs (fails span) = body_fails span
 
 abbrev pub unless_faults : List (CastFault × ℕ) → Outcome → Outcome
 unless_faults [] outcome = outcome
 unless_faults (f ∷ fs) outcome = casts_fail (f ∷ fs)
 
--- all faults of casts, else the wrong kind of body, else the element and the arguments that it has not used
-abbrev pub constructed : ElementInfo → List Argument → Outcome
-constructed info args =
+-- all faults of casts, else the wrong kind of body, else the element and the arguments that it has
+-- not used
+abbrev pub construct_outcome : ElementInfo → List ArgView → Outcome
+construct_outcome info args =
     let es = entries_view info.attrs.items in
-    unless_faults (faults es args) (with_body info.tag es (attrs es args) (taken info.tag args))
+    unless_faults (faults es args)
+    (with_body info.tag es (attrs es args) (body_choice info.tag args))
 
 abbrev pub faults_view : List (CastFault × Span) → List (CastFault × ℕ)
 faults_view = map (λ f. (f.0, f.1.0))
 
--- a refusal is the right one, or want of memory
+-- a refusal has the right faults, or is out of memory
 abbrev pub IsRefusal : Outcome → ConstructFault → Type 0
 IsRefusal outcome OutOfMemory = Unit
 IsRefusal outcome (Casts fs) = outcome ≡ casts_fail (faults_view fs.items)
 IsRefusal outcome (BodyKind span) = outcome ≡ body_fails span.0
+
+-- how constructing ends: with the element and these arguments left, else refused
+abbrev pub Constructs : Result HtmlElem ConstructFault → List ArgView → Outcome → Type 0
+Constructs (Ok element) left outcome = outcome ≡ makes (elem_view element) left
+Constructs (Err fault) left outcome = IsRefusal outcome fault

@@ -1,5 +1,5 @@
 pub mod Construct
+pub mod Faults
 pub mod Items
-pub mod Numbers
 pub mod Pieces
 pub mod Views

@@ -36,7 +36,7 @@ pub struct Args {
 pub struct Arg {
     /// The name, where it has one.
     pub name: Option<String>,
-    /// The place that it comes from.
+    /// Where it comes from.
     pub span: Span,
     /// What is given.
     pub value: ArgValue,

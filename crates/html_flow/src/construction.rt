@@ -3,13 +3,13 @@ ghost use Rattle.std.specs.List.{remove};
 ghost use Rattle.html_names.specs.Kinds.{is_raw};
 ghost use Rattle.html_names.specs.Texts.{text_view};
 ghost use Rattle.html_dom.specs.Views.{attrs_view};
-ghost use Rattle.html_flow.specs.Construct.{IsRefusal, answer, args_view, as_body, attrs, constructed, entries_view, entry_for, entry_view, faults, faults_view, given_view, makes, others, taken, takes, text_contents};
-ghost use Rattle.html_flow.specs.Pieces.{AreFaults, IsBodyRefusal, IsTakenRefusal, arg_at, or_own, unnamed_at};
-ghost use Rattle.html_values.specs.Casts.{answered, IsRefusal as IsCastRefusal};
-ghost use Rattle.html_values.specs.Types.{type_view};
+ghost use Rattle.html_flow.specs.Construct.{Constructs, cast_answer, args_view, arg_body, attrs, construct_outcome, entries_view, entry_for, entry_view, faults, faults_view, arg_value_view, makes, other_args, body_choice, takes, text_items};
+ghost use Rattle.html_flow.specs.Pieces.{CastsArgs, Chooses, MakesBody, arg_at, or_own, unnamed_at};
+ghost use Rattle.html_values.specs.Casts.{Casts, option_answer};
+ghost use Rattle.html_values.specs.Types.{attr_type_view};
 ghost use Rattle.html_flow.specs.declared.fault.ConstructFault.TheVariants.{OutOfMemory};
 ghost use Rattle.html_flow.specs.Items.{present};
-ghost use Rattle.html_flow.specs.Views.{body_view, contents_view, elem_view};
+ghost use Rattle.html_flow.specs.Views.{body_view, items_view, elem_view};
 
 use crate::args::{Arg, ArgValue, Args, ElementInfo};
 use crate::fault::ConstructFault;
@@ -23,19 +23,37 @@ use std::alloc::{AllocError, Global};
 /// The element that arguments construct.
 ///
 /// Each argument with a name that the element knows is cast to the type of that attribute; a text
-/// becomes an attribute, in the arguments' order, nothing is left away. Unless the element is void, the
-/// first argument without a name is its body: of a raw element a text, of another items, a text, or
-/// none, which is an empty body. What was used is taken out of the arguments, the others stay in order.
+/// becomes an attribute, in the arguments' order, and nothing is omitted. Unless the element is
+/// void, the first argument without a name is its body: of a raw element a text, of another items,
+/// a text, or none, which is an empty body. What was used is taken out of the arguments, the others
+/// stay in order.
 ///
-/// Refused with all faults of casts (`Casts`, items in place of a value are of the wrong kind), else with
-/// `BodyKind`. After a refusal all arguments are as they were.
+/// Refused with all faults of casts (`Casts`, items in place of a value are of the wrong kind),
+/// else with `BodyKind`. After a refusal all arguments are as they were.
+///
+/// ```
+/// let mut attrs = Vec::new(alloc);
+/// attrs.push((attr::href, AttrType::Native(NativeType::Str)))?;
+/// let info = ElementInfo::new(tag::a, attrs);
+/// let mut items = Vec::new(alloc);
+/// items.push(Arg {
+///     name: Some(String::from_str(alloc, "href")?),
+///     span: Span(1),
+///     value: ArgValue::Plain(Value::Str(String::from_str(alloc, "x")?)),
+/// })?;
+/// let mut args = Args { items };
+/// let element = construct(alloc, &info, &mut args)?;
+/// assert_eq!(element.attrs.0.len(), 1);
+/// assert!(element.body.is_none());
+/// assert!(args.items.is_empty());
+/// ```
 pub fn construct(
     alloc: Global,
     info: &ElementInfo,
     args: &mut Args,
 ) -> Result<HtmlElem, ConstructFault>
-    ensures ok { IfOk result (λ element. constructed info.now (args_view args.old.items.items) ≡ makes (elem_view element) (args_view args.new.items.items)) }
-    ensures err { IfErr result (IsRefusal (constructed info.now (args_view args.old.items.items))) }
+    ensures ends { Constructs result (args_view args.new.items.items)
+        (construct_outcome info.now (args_view args.old.items.items)) }
     ensures stays { OnErr result (args.new ≡ args.old) }
 {
     let attrs = cast_args(alloc, &info.attrs, &args.items)?;
@@ -65,7 +83,8 @@ fn entry_for<'a>(
     entries: &'a [(HtmlAttr, AttrType)],
     name: &Option<String>,
 ) -> Option<&'a (HtmlAttr, AttrType)>
-    ensures { option_map (λ e. entry_view e.now) result ≡ entry_for (entries_view entries.now) (option_map text_view name.now) }
+    ensures { option_map (λ e. entry_view e.now) result
+        ≡ entry_for (entries_view entries.now) (option_map text_view name.now) }
 {
     let Some(name) = name else {
         return None;
@@ -79,12 +98,16 @@ fn entry_for<'a>(
 }
 
 /// What an argument becomes as an attribute of that type.
-fn cast_arg(alloc: Global, kind: &AttrType, value: &ArgValue) -> Result<Option<String>, CastFault>
-    ensures ok { IfOk result (λ made. answer (type_view kind.now) (given_view value.now) ≡ answered made) }
-    ensures err { IfErr result (IsCastRefusal (answer (type_view kind.now) (given_view value.now))) }
+fn cast_arg(
+    alloc: Global,
+    attr_type: &AttrType,
+    value: &ArgValue,
+) -> Result<Option<String>, CastFault>
+    ensures { Casts option_answer result
+        (cast_answer (attr_type_view attr_type.now) (arg_value_view value.now)) }
 {
     match value {
-        ArgValue::Plain(value) => kind.cast(alloc, value),
+        ArgValue::Plain(value) => attr_type.cast(alloc, value),
         ArgValue::Body(_) => Err(CastFault::WrongKind),
     }
 }
@@ -95,8 +118,8 @@ fn cast_args(
     entries: &[(HtmlAttr, AttrType)],
     args: &[Arg],
 ) -> Result<HtmlAttrs, ConstructFault>
-    ensures ok { IfOk result (λ made. (attrs_view made ≡ attrs (entries_view entries.now) (args_view args.now)) × (faults (entries_view entries.now) (args_view args.now) ≡ [])) }
-    ensures err { IfErr result (AreFaults (faults (entries_view entries.now) (args_view args.now))) }
+    ensures { CastsArgs result (attrs (entries_view entries.now) (args_view args.now))
+        (faults (entries_view entries.now) (args_view args.now)) }
 {
     let mut made = HtmlAttrs::new(alloc);
     let mut wrong = Vec::new(alloc);
@@ -117,7 +140,7 @@ fn cast_args(
     }
 }
 
-/// Where the first argument without a name stands.
+/// The place of the first argument without a name.
 fn unnamed_at(args: &[Arg]) -> Option<usize>
     ensures place { result ≡ unnamed_at (args_view args.now) }
     ensures within { IfSome result (λ place. place < length args.now) }
@@ -132,7 +155,8 @@ fn unnamed_at(args: &[Arg]) -> Option<usize>
 
 /// A body of one text.
 fn text_body(alloc: Global, text: &String, span: Span) -> Result<Vec<Pair>, ConstructFault>
-    ensures ok { IfOk result (λ made. contents_view made.items ≡ text_contents (text_view text.now) span.0) }
+    ensures ok { IfOk result
+        (λ made. items_view made.items ≡ text_items (text_view text.now) span.0) }
     ensures err { IfErr result (λ fault. fault ≡ OutOfMemory) }
 {
     let mut body = Vec::new(alloc);
@@ -150,8 +174,8 @@ fn plain_body(
     value: &ArgValue,
     span: Span,
 ) -> Result<Vec<Pair>, ConstructFault>
-    ensures ok { IfOk result (λ made. as_body raw (given_view value.now) span.0 ≡ Some (present (or_own (given_view value.now) (contents_view made.items)))) }
-    ensures err { IfErr result (IsBodyRefusal (as_body raw (given_view value.now) span.0) span.0) }
+    ensures { MakesBody (or_own (arg_value_view value.now)) result span.0
+        (arg_body raw (arg_value_view value.now) span.0) }
 {
     match value {
         ArgValue::Plain(Value::Str(text)) => text_body(alloc, text, span),
@@ -163,7 +187,8 @@ fn plain_body(
 
 /// The items that are a body of their own, or the body that was made of a value.
 fn own_or(value: ArgValue, plain: Vec<Pair>) -> Vec<Pair>
-    ensures { contents_view result.items ≡ or_own (given_view value) (contents_view plain.items) }
+    ensures { items_view result.items
+        ≡ or_own (arg_value_view value) (items_view plain.items) }
 {
     match value {
         ArgValue::Body(pairs) => pairs,
@@ -179,9 +204,9 @@ fn take_at(
     place: usize,
 ) -> Result<Vec<Pair>, ConstructFault>
     requires { place < length args.old.items }
-    ensures ok { IfOk result (λ body. as_body raw (arg_at (args_view args.old.items) place).given (arg_at (args_view args.old.items) place).span ≡ Some (present (contents_view body.items))) }
-    ensures err { IfErr result (IsBodyRefusal (as_body raw (arg_at (args_view args.old.items) place).given (arg_at (args_view args.old.items) place).span) (arg_at (args_view args.old.items) place).span) }
-    ensures taken { OnOk result (args.new.items ≡ remove args.old.items place) }
+    ensures ends { let arg = arg_at (args_view args.old.items) place in
+        MakesBody (λ body. body) result arg.span (arg_body raw arg.value arg.span) }
+    ensures removed { OnOk result (args.new.items ≡ remove args.old.items place) }
     ensures stays { OnErr result (args.new ≡ args.old) }
 {
     let plain = plain_body(alloc, raw, &args[place].value, args[place].span)?;
@@ -195,8 +220,8 @@ fn take_body(
     tag: &HtmlTag,
     args: &mut Vec<Arg>,
 ) -> Result<Option<Vec<Pair>>, ConstructFault>
-    ensures ok { IfOk result (λ body. taken tag.now (args_view args.old.items) ≡ takes (body_view body) (args_view args.new.items)) }
-    ensures err { IfErr result (IsTakenRefusal (taken tag.now (args_view args.old.items))) }
+    ensures ends { Chooses result (args_view args.new.items)
+        (body_choice tag.now (args_view args.old.items)) }
     ensures stays { OnErr result (args.new ≡ args.old) }
 {
     if tag::is_void(tag) {
@@ -211,16 +236,10 @@ fn take_body(
     }
 }
 
-/// Takes the arguments that are attributes of the element out of the arguments.
+/// Drops the arguments that are attributes of the element, in one pass; the others stay in order.
 fn drop_known(entries: &[(HtmlAttr, AttrType)], args: &mut Vec<Arg>)
-    ensures { args_view args.new.items ≡ others (entries_view entries.now) (args_view args.old.items) }
+    ensures { args_view args.new.items
+        ≡ other_args (entries_view entries.now) (args_view args.old.items) }
 {
-    let mut place = 0;
-    while place < args.len() {
-        if entry_for(entries, &args[place].name).is_some() {
-            args.remove(place);
-        } else {
-            place += 1;
-        }
-    }
+    args.retain(|arg| entry_for(entries, &arg.name).is_none());
 }

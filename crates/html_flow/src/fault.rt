@@ -1,5 +1,5 @@
 ghost use Rattle.std.specs.Prelude.{◌≡◌};
-ghost use Rattle.html_flow.specs.Numbers.{number_of};
+ghost use Rattle.html_flow.specs.Faults.{number_of};
 
 use html_dom::Span;
 use html_names::{HtmlAttr, Refused};
@@ -10,7 +10,7 @@ use thiserror::Error;
 /// Why no element could be constructed of its arguments.
 #[derive(Debug, Drop, PartialEq, Eq, Error)]
 pub enum ConstructFault {
-    /// A growth of memory was refused.
+    /// An allocation failed.
     #[error("out of memory")]
     OutOfMemory,
     /// These arguments could not be cast to their attributes' types.
@@ -19,14 +19,14 @@ pub enum ConstructFault {
     /// The first argument without a name can be no body of the element.
     #[error("the body has the wrong kind")]
     BodyKind {
-        /// The argument's place.
+        /// Where the argument comes from.
         span: Span,
     },
 }
 
 impl ConstructFault {
-    /// The fault's number: 0 for want of memory, 24 for a body of the wrong kind, and for casts that of
-    /// the first of them (0 where there is none).
+    /// The fault's number: 0 for out of memory, 24 for a body of the wrong kind, and for casts that
+    /// of the first of them (0 where there is none).
     pub fn number(&self) -> u8
         ensures { result ≡ number_of self.now }
     {

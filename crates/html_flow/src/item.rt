@@ -1,12 +1,12 @@
 ghost use Rattle.std.specs.Prelude.{◌≡◌, IfOk, IfErr, option_map};
 ghost use Rattle.html_names.specs.Texts.{text_view};
-ghost use Rattle.html_flow.specs.Items.{absent, content_span, new_head, with_optional_pair, with_pair};
-ghost use Rattle.html_flow.specs.Views.{elem_view, item_view};
+ghost use Rattle.html_flow.specs.Items.{absent, item_span, new_head, with_optional_pair, with_pair};
+ghost use Rattle.html_flow.specs.Views.{body_view, elem_view, item_view, pair_view, frame_elem_view, role_view};
 
 use html_css::{Abs, Properties};
 use html_dom::{Frame, HtmlAttrs, Location, Span, Tag};
 use html_names::{HtmlAttr, HtmlTag, Refused};
-use std::alloc::Global;
+use std::alloc::{AllocError, Global};
 
 /// An item and its role.
 #[derive(Debug, Drop)]
@@ -33,7 +33,7 @@ pub enum Role {
 #[derive(Debug, Drop)]
 #[cycle(items)]
 pub enum Item {
-    /// A mark, for which nothing is written.
+    /// A tag, for which nothing is written.
     Tag(Tag),
     /// An element of HTML.
     Element(HtmlElem),
@@ -67,7 +67,7 @@ pub struct HtmlElem {
     pub body: Option<Vec<Pair>>,
     /// The location of the element's parent in the source, where it stands elsewhere in the tree.
     pub parent: Option<Location>,
-    /// The place that the element comes from.
+    /// Where the element comes from.
     pub span: Span,
 }
 
@@ -78,14 +78,71 @@ pub struct FrameElem {
     pub frame: Frame,
     /// The size of the text around it.
     pub text_size: Abs,
-    /// The place that it comes from.
+    /// Where it comes from.
     pub span: Span,
 }
 
+impl Pair {
+    /// A copy of the item with its role, and all inside.
+    #[cycle(copy)]
+    pub fn try_clone(&self) -> Result<Pair, AllocError>
+        ensures { IfOk result (λ copy. pair_view copy ≡ pair_view self.now) }
+    {
+        Ok(Pair {
+            item: self.item.try_clone()?,
+            role: self.role.try_clone()?,
+        })
+    }
+}
+
+impl Role {
+    /// A copy.
+    pub fn try_clone(&self) -> Result<Role, AllocError>
+        ensures { IfOk result (λ copy. role_view copy ≡ role_view self.now) }
+    {
+        match self {
+            Role::Inherit => Ok(Role::Inherit),
+            Role::Set(text) => Ok(Role::Set(text.clone()?)),
+            Role::Unset => Ok(Role::Unset),
+        }
+    }
+}
+
+impl FrameElem {
+    /// A copy.
+    pub fn try_clone(&self) -> Result<FrameElem, AllocError>
+        ensures { IfOk result (λ copy. frame_elem_view copy ≡ frame_elem_view self.now) }
+    {
+        Ok(FrameElem {
+            frame: self.frame.try_clone()?,
+            text_size: self.text_size,
+            span: self.span,
+        })
+    }
+}
+
 impl Item {
-    /// The place that the item comes from: 0 for a tag and a hole.
+    /// A copy of the item and all inside.
+    #[cycle(copy)]
+    pub fn try_clone(&self) -> Result<Item, AllocError>
+        ensures { IfOk result (λ copy. item_view copy ≡ item_view self.now) }
+    {
+        match self {
+            Item::Tag(tag) => Ok(Item::Tag(tag.try_clone()?)),
+            Item::Element(element) => Ok(Item::Element(element.try_clone()?)),
+            Item::Space(span) => Ok(Item::Space(*span)),
+            Item::Text(text, span) => Ok(Item::Text(text.clone()?, *span)),
+            Item::Hole => Ok(Item::Hole),
+            Item::LineBreak(span) => Ok(Item::LineBreak(*span)),
+            Item::Box(body, span) => Ok(Item::Box(copy_body(body)?, *span)),
+            Item::Block(body, span) => Ok(Item::Block(copy_body(body)?, *span)),
+            Item::Frame(frame) => Ok(Item::Frame(frame.try_clone()?)),
+        }
+    }
+
+    /// Where the item comes from: 0 for a tag and a hole.
     pub fn span(&self) -> Span
-        ensures { result.0 ≡ content_span (item_view self.now) }
+        ensures { result.0 ≡ item_span (item_view self.now) }
     {
         match self {
             Item::Tag(_) | Item::Hole => Span(0),
@@ -101,7 +158,22 @@ impl Item {
 }
 
 impl HtmlElem {
-    /// An element of that name, with nothing else: no attribute, no css, no body, no parent, span 0.
+    /// A copy of the element and all inside.
+    #[cycle(copy)]
+    pub fn try_clone(&self) -> Result<HtmlElem, AllocError>
+        ensures { IfOk result (λ copy. elem_view copy ≡ elem_view self.now) }
+    {
+        Ok(HtmlElem {
+            tag: self.tag.try_clone()?,
+            attrs: self.attrs.try_clone()?,
+            css: self.css.try_clone()?,
+            body: copy_body(&self.body)?,
+            parent: self.parent,
+            span: self.span,
+        })
+    }
+
+    /// An element of that name, with nothing else: no attribute, css, body or parent, and span 0.
     pub fn new(alloc: Global, tag: HtmlTag) -> HtmlElem
         ensures { elem_view result ≡ (new_head tag, absent) }
     {
@@ -115,14 +187,17 @@ impl HtmlElem {
         }
     }
 
-    /// The element with a pair added as its last attribute. Where memory is refused, all comes back.
+    /// The element with a pair added as its last attribute. Where an allocation fails, all comes
+    /// back.
     pub fn with_attr(
         mut self,
         attr: HtmlAttr,
         value: String,
     ) -> Result<HtmlElem, Refused<(HtmlElem, HtmlAttr, String)>>
-        ensures ok { IfOk result (λ element. elem_view element ≡ with_pair (attr, text_view value) (elem_view self)) }
-        ensures err { IfErr result (λ refused. (elem_view refused.back.0 ≡ elem_view self) × (refused.back.1 ≡ attr) × (refused.back.2 ≡ value)) }
+        ensures ok { IfOk result
+            (λ element. elem_view element ≡ with_pair (attr, text_view value) (elem_view self)) }
+        ensures err { IfErr result (λ refused. (elem_view refused.back.0 ≡ elem_view self)
+            × (refused.back.1 ≡ attr) × (refused.back.2 ≡ value)) }
     {
         match self.attrs.push(attr, value) {
             Ok(()) => Ok(self),
@@ -135,15 +210,17 @@ impl HtmlElem {
         }
     }
 
-    /// The element with a pair added as its last attribute where there is a value, and else as it was.
-    /// Where memory is refused, all comes back.
+    /// The element with a pair added as its last attribute where there is a value, else as it was.
+    /// Where an allocation fails, all comes back.
     pub fn with_optional_attr(
         self,
         attr: HtmlAttr,
         value: Option<String>,
     ) -> Result<HtmlElem, Refused<(HtmlElem, HtmlAttr, Option<String>)>>
-        ensures ok { IfOk result (λ element. elem_view element ≡ with_optional_pair attr (option_map text_view value) (elem_view self)) }
-        ensures err { IfErr result (λ refused. (elem_view refused.back.0 ≡ elem_view self) × (refused.back.1 ≡ attr) × (refused.back.2 ≡ value)) }
+        ensures ok { IfOk result (λ element. elem_view element
+            ≡ with_optional_pair attr (option_map text_view value) (elem_view self)) }
+        ensures err { IfErr result (λ refused. (elem_view refused.back.0 ≡ elem_view self)
+            × (refused.back.1 ≡ attr) × (refused.back.2 ≡ value)) }
     {
         let Some(value) = value else {
             return Ok(self);
@@ -158,4 +235,19 @@ impl HtmlElem {
             }
         }
     }
+}
+
+/// A copy of a body and all inside.
+#[cycle(copy)]
+fn copy_body(body: &Option<Vec<Pair>>) -> Result<Option<Vec<Pair>>, AllocError>
+    ensures { IfOk result (λ copy. body_view copy ≡ body_view body.now) }
+{
+    let Some(pairs) = body else {
+        return Ok(None);
+    };
+    let mut copies = Vec::new(*pairs.allocator());
+    for pair in pairs {
+        copies.push(pair.try_clone()?)?;
+    }
+    Ok(Some(copies))
 }

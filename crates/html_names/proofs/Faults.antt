@@ -19,31 +19,40 @@ length_zero t h = nil_from_length t (eqb-true (length t) 0 h)
 pub tag_fault-empty : (t : List ℕ) → eqb (length t) 0 ≡ true → tag_fault (chars t) ≡ Some EmptyTag
 tag_fault-empty t h = ap (λ b. tag_fault (chars b)) (length_zero t h) ∙ ap tag_fault chars-nil
 
-pub attr_fault-empty : (t : List ℕ) → eqb (length t) 0 ≡ true → attr_fault (chars t) ≡ Some EmptyAttr
+pub attr_fault-empty : (t : List ℕ) → eqb (length t) 0 ≡ true →
+    attr_fault (chars t) ≡ Some EmptyAttr
 attr_fault-empty t h = ap (λ b. attr_fault (chars b)) (length_zero t h) ∙ ap attr_fault chars-nil
 
-tag_by : (cs t : List ℕ) → encodes cs ≡ t → eqb (length t) 0 ≡ false → tag_fault cs ≡ fault_after cs (find (λ c. not (is_tag_char c)) cs)
+tag_by : (cs t : List ℕ) → encodes cs ≡ t → eqb (length t) 0 ≡ false →
+    tag_fault cs ≡ fault_after cs (find (λ c. not (is_tag_char c)) cs)
 tag_by [] t e h = absurd (false≢true (sym h ∙ ap (λ l. eqb (length l) 0) (sym e)))
 tag_by (c ∷ cs) t e h = refl
 
-pub tag_fault-more : (t : List ℕ) → IsUtf8 t → eqb (length t) 0 ≡ false → tag_fault (chars t) ≡ fault_after (chars t) (find (λ c. not (is_tag_char c)) (chars t))
+pub tag_fault-more : (t : List ℕ) → IsUtf8 t → eqb (length t) 0 ≡ false →
+    tag_fault (chars t) ≡ fault_after (chars t) (find (λ c. not (is_tag_char c)) (chars t))
 tag_fault-more t u h = tag_by (chars t) t (encodes-chars t u) h
 
-attr_by : (cs t : List ℕ) → encodes cs ≡ t → eqb (length t) 0 ≡ false → attr_fault cs ≡ bad_attr_char (find (λ c. not (is_attr_char c)) cs)
+attr_by : (cs t : List ℕ) → encodes cs ≡ t → eqb (length t) 0 ≡ false →
+    attr_fault cs ≡ bad_attr_char (find (λ c. not (is_attr_char c)) cs)
 attr_by [] t e h = absurd (false≢true (sym h ∙ ap (λ l. eqb (length l) 0) (sym e)))
 attr_by (c ∷ cs) t e h = refl
 
-pub attr_fault-more : (t : List ℕ) → IsUtf8 t → eqb (length t) 0 ≡ false → attr_fault (chars t) ≡ bad_attr_char (find (λ c. not (is_attr_char c)) (chars t))
+pub attr_fault-more : (t : List ℕ) → IsUtf8 t → eqb (length t) 0 ≡ false →
+    attr_fault (chars t) ≡ bad_attr_char (find (λ c. not (is_attr_char c)) (chars t))
 attr_fault-more t u h = attr_by (chars t) t (encodes-chars t u) h
 
 module _ (p : ℕ → Bool) where
-  valid_by : (b : Bool) (c : ℕ) (cs : List ℕ) → p c ≡ b → ((find (λ d. not (p d)) cs ≡ None) → all p cs ≡ true) → find (λ d. not (p d)) (c ∷ cs) ≡ None → (p c ≡ true) × (all p cs ≡ true)
+  valid_by : (b : Bool) (c : ℕ) (cs : List ℕ) → p c ≡ b →
+      ((find (λ d. not (p d)) cs ≡ None) → all p cs ≡ true) →
+      find (λ d. not (p d)) (c ∷ cs) ≡ None → (p c ≡ true) × (all p cs ≡ true)
   valid_by true c cs e ih h = (e, ih (rw e at h))
   valid_by false c cs e ih h = let w = rw e at h in cc
 
   pub all_valid : (cs : List ℕ) → find (λ d. not (p d)) cs ≡ None → all p cs ≡ true
   all_valid [] h = refl
-  all_valid (c ∷ cs) h = let both = valid_by (p c) c cs refl (all_valid cs) h in rw (both.0, both.1) refl
+  all_valid (c ∷ cs) h =
+      let both = valid_by (p c) c cs refl (all_valid cs) h in
+      rw (both.0, both.1) refl
 
   pub valid : (c : ℕ) (cs : List ℕ) → find (λ d. not (p d)) (c ∷ cs) ≡ None → IsOf p (c ∷ cs)
   valid c cs h = valid_by (p c) c cs refl (all_valid cs) h
@@ -74,11 +83,14 @@ tag_char_ascii c h = grind (arith, nat_tests)
 
 all_tag_ascii : (cs : List ℕ) → all is_tag_char cs ≡ true → is_ascii cs ≡ true
 all_tag_ascii [] h = refl
-all_tag_ascii (c ∷ cs) h = let both = and_parts (is_tag_char c) (all is_tag_char cs) h in and_from (nat_lt c 128) (is_ascii cs) (tag_char_ascii c both.0) (all_tag_ascii cs both.1)
+all_tag_ascii (c ∷ cs) h =
+    let both = and_parts (is_tag_char c) (all is_tag_char cs) h in
+    and_from (nat_lt c 128) (is_ascii cs) (tag_char_ascii c both.0) (all_tag_ascii cs both.1)
 
 tag_ascii : (t : List ℕ) → IsOf is_tag_char t → is_ascii t ≡ true
 tag_ascii [] h = absurd h
-tag_ascii (c ∷ cs) h = and_from (nat_lt c 128) (is_ascii cs) (tag_char_ascii c h.0) (all_tag_ascii cs h.1)
+tag_ascii (c ∷ cs) h =
+    and_from (nat_lt c 128) (is_ascii cs) (tag_char_ascii c h.0) (all_tag_ascii cs h.1)
 
 pub chars-tag : (t : List ℕ) → IsOf is_tag_char t → chars t ≡ t
 chars-tag t h = chars_ascii t (tag_ascii t h)

@@ -1,4 +1,9 @@
+pub mod ByTable
+pub mod Digits
 pub mod Equals
 pub mod Faults
+pub mod Held
 pub mod Lists
+pub mod Same
+pub mod Search
 pub mod Texts

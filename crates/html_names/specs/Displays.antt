@@ -1,5 +1,6 @@
--- The css property `display`: its defaults by tag (this project's profile of HTML Standard 15.3), and its texts.
-use Rattle.std.specs.Prelude.{ℕ, Bool, true, false, List, [], ◌∷◌, codes, Option, Some, None}
+-- The css property `display`: its defaults by tag (this project's profile of HTML Standard 15.3),
+-- and its texts.
+use Rattle.std.specs.Prelude.{◌++◌, ℕ, Bool, true, false, List, [], ◌∷◌, codes, Option, Some, None}
 use Rattle.html_names.specs.Names.{listed, stands_in}
 use Rattle.html_names.specs.declared.property.Display.{Display}
 use Rattle.html_names.specs.declared.property.Display.TheVariants as display
@@ -13,10 +14,18 @@ abbrev pub first_row : List Row → List ℕ → Option Display
 first_row [] name = None
 first_row (r ∷ rs) name = elim (stands_in r.1 name) [ true ↦ Some r.0 | false ↦ first_row rs name ]
 
-unfoldable pub default_display : List ℕ → Option Display
-default_display name = first_row
-    ((display.None, listed (codes "area base datalist head link meta rp script style template title"))
-    ∷ (display.Block, listed (codes "html body address blockquote dialog div figure figcaption footer form header hr legend main p pre search article aside h1 h2 h3 h4 h5 h6 hgroup nav section dd dl dt menu ol ul fieldset details summary option optgroup"))
+abbrev pub rows : List Row
+rows = (
+  display.None,
+  listed (codes "area base datalist head link meta rp script style template title"),
+)
+    ∷ (
+      display.Block,
+      listed (codes "html body address blockquote dialog div figure figcaption footer form")
+          ++ listed (codes "header hr legend main p pre search article aside h1 h2 h3 h4 h5 h6")
+          ++ listed (codes "hgroup nav section dd dl dt menu ol ul fieldset details summary option")
+          ++ listed (codes "optgroup"),
+    )
     ∷ (display.Contents, listed (codes "slot"))
     ∷ (display.Ruby, listed (codes "ruby"))
     ∷ (display.RubyText, listed (codes "rt"))
@@ -31,10 +40,18 @@ default_display name = first_row
     ∷ (display.TableColumn, listed (codes "col"))
     ∷ (display.TableColumnGroup, listed (codes "colgroup"))
     ∷ (display.InlineBlock, listed (codes "input button meter progress select textarea"))
-    ∷ (display.Inline, listed (codes "a abbr audio b bdi bdo br canvas cite code data del dfn em embed i iframe img ins kbd label map mark noscript object output picture q s samp small source span strong sub sup time track u var video wbr"))
+    ∷ (
+      display.Inline,
+      listed (codes "a abbr audio b bdi bdo br canvas cite code data del dfn em embed i")
+          ++ listed (codes "iframe img ins kbd label map mark noscript object output picture q s")
+          ++ listed (codes "samp small source span strong sub sup time track u var video wbr"),
+    )
     ∷ (display.InlineMath, listed (codes "math"))
     ∷ (display.InlineTable, listed (codes "mtable"))
-    ∷ []) name
+    ∷ []
+
+unfoldable pub default_display : List ℕ → Option Display
+default_display name = first_row rows name
 
 -- a table or a part of one
 abbrev pub is_tabular : Display → Bool

@@ -6,7 +6,7 @@ use mathlib.Core.HLevel.{×_discrete}
 use Rattle.std.proofs.Common.{sym, ◌∙◌, ap, true≢false}
 use Rattle.std.specs.Bool.{Decides, one_answer}
 use Rattle.std.specs.Cmp.{IsEquivalence}
-use Rattle.html_names.specs.Texts.{Pair}
+use Rattle.html_names.specs.Texts.{TextPair}
 
 abbrev is_yes : {P : Type 0} → Dec P → Bool
 is_yes (yes p) = true
@@ -20,25 +20,30 @@ decided : {P : Type 0} (d : Dec P) → Decides (is_yes d) P
 decided (yes p) = (λ _. p, λ _. refl)
 decided (no n) = (λ e. absurd (true≢false (sym e)), λ p. absurd (n p))
 
-pub same_decides : {A B : Type 0} (v : B → A) (d : Discrete A) (x y : B) → Decides (same v d x y) (v x ≡ v y)
+pub same_decides : {A B : Type 0} (v : B → A) (d : Discrete A) (x y : B) →
+    Decides (same v d x y) (v x ≡ v y)
 unfolding same
 same_decides v d x y = decided (d (v x) (v y))
 
 pub same_equiv : {A B : Type 0} (v : B → A) (d : Discrete A) → IsEquivalence (same v d)
 same_equiv v d = record {
   refl = λ x. (same_decides v d x x).1 refl;
-  symm = λ x y. one_answer (same v d x y) (same v d y x) (same_decides v d x y) (λ e. sym ((same_decides v d y x).0 e), λ e. (same_decides v d y x).1 (sym e));
-  congr = λ x y z e. let p = (same_decides v d x y).0 e in one_answer (same v d x z) (same v d y z) (same_decides v d x z) (λ q. p ∙ (same_decides v d y z).0 q, λ q. (same_decides v d y z).1 (sym p ∙ q));
+  symm = λ x y. one_answer (same v d x y) (same v d y x) (same_decides v d x y)
+      (λ e. sym ((same_decides v d y x).0 e), λ e. (same_decides v d y x).1 (sym e));
+  congr = λ x y z e. let p = (same_decides v d x y).0 e in
+      one_answer (same v d x z) (same v d y z) (same_decides v d x z)
+      (λ q. p ∙ (same_decides v d y z).0 q, λ q. (same_decides v d y z).1 (sym p ∙ q));
 }
 
 pub option_discrete : {A : Type 0} → Discrete A → Discrete (Option A)
 option_discrete d None None = yes refl
 option_discrete d None (Some y) = no (λ e. cc)
 option_discrete d (Some x) None = no (λ e. cc)
-option_discrete d (Some x) (Some y) = elim (d x y) [ yes p ↦ yes (ap Some p) | no n ↦ no (λ e. n cc) ]
+option_discrete d (Some x) (Some y) =
+    elim (d x y) [ yes p ↦ yes (ap Some p) | no n ↦ no (λ e. n cc) ]
 
 pub text_discrete : Discrete (List ℕ)
 text_discrete = List-discrete ℕ_discrete
 
-pub pairs_discrete : Discrete (List Pair)
+pub pairs_discrete : Discrete (List TextPair)
 pairs_discrete = List-discrete (×_discrete text_discrete text_discrete)

@@ -2,10 +2,10 @@
 use Rattle.std.specs.Prelude.{List, ◌++◌}
 use Rattle.std.specs.Hash as fed
 use lib.Utf8.{encodes}
-use Rattle.html_names.specs.Texts.{Pair}
+use Rattle.html_names.specs.Texts.{TextPair}
 
-abbrev pub pair_fed : Pair → fed.HashWrites
+abbrev pub pair_fed : TextPair → fed.HashWrites
 pair_fed p = fed.str (encodes p.0) ++ fed.str (encodes p.1)
 
-abbrev pub pairs_fed : List Pair → fed.HashWrites
+abbrev pub pairs_fed : List TextPair → fed.HashWrites
 pairs_fed = fed.slice pair_fed

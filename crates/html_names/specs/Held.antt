@@ -1,30 +1,45 @@
--- A name as it is held; `text` gives the texts of the known names, which are ASCII.
-use Rattle.std.specs.Prelude.{◌≡◌, ℕ, Bool, false, List, chars, string_bytes}
+-- A name as it is held: by its place in the table of known names, or by its text.
+use Rattle.std.specs.Prelude.{◌≡◌, ℕ, ◌<◌, Bool, false, List, [], chars, string_bytes, slice_index_or, bytes_eq, ◌==◌}
 use Rattle.html_names.specs.declared.name.Name.{Name}
 use Rattle.html_names.specs.declared.name.Name.TheVariants.{Known, Own}
 use Rattle.html_names.specs.Characters.{IsOf}
+use Rattle.html_names.specs.Names.{stands_in, IsPlace}
 
 -- the name's characters
-abbrev pub name_of : {K : Type 0} → (K → List ℕ) → Name K → List ℕ
-name_of text (Known k) = text k
-name_of text (Own s) = chars (string_bytes s)
+abbrev pub name_of : List (List ℕ) → Name → List ℕ
+name_of table (Known n) = slice_index_or table n []
+name_of table (Own s) = chars (string_bytes s)
 
--- an own text is no known name
-abbrev pub IsUnknown : {K : Type 0} → (List ℕ → Bool) → Name K → Type 0
-IsUnknown is_known (Known k) = Unit {0}
-IsUnknown is_known (Own s) = is_known (chars (string_bytes s)) ≡ false
+-- a place in a table of that length, or a text of valid characters that is not in the table
+abbrev pub IsHeld : (count : ℕ) (table : List (List ℕ)) (is_valid : ℕ → Bool) → Name → Type 0
+IsHeld count table is_valid (Known n) = n < count
+IsHeld count table is_valid (Own s) =
+    IsOf is_valid (chars (string_bytes s)) × (stands_in table (chars (string_bytes s)) ≡ false)
 
--- a text of valid characters, and not empty, which is no known name unless it is held as one
-abbrev pub IsHeld : {K : Type 0} → (K → List ℕ) → (is_valid : ℕ → Bool) → (is_known : List ℕ → Bool) → Name K → Type 0
-IsHeld text is_valid is_known n = IsOf is_valid (name_of text n) × IsUnknown is_known n
+-- held by its place where the text stands in the table, else by the text
+abbrev pub IsNameOf : (table : List (List ℕ)) (text : List ℕ) → Name → Type 0
+IsNameOf table text (Known n) = IsPlace table text n
+IsNameOf table text (Own s) = (chars (string_bytes s) ≡ text) × (stands_in table text ≡ false)
 
-abbrev pub IsOwn : {K : Type 0} → Name K → Type 0
-IsOwn (Known k) = ⊥
+-- a place is within a table of that length
+abbrev pub IsWithin : ℕ → Name → Type 0
+IsWithin count (Known n) = n < count
+IsWithin count (Own s) = Unit {0}
+
+-- both are held by one place, or by equal texts
+abbrev pub same_held : Name → Name → Bool
+same_held (Known m) (Known n) = m == n
+same_held (Own s) (Own t) = bytes_eq (string_bytes s) (string_bytes t)
+same_held (Known m) (Own t) = false
+same_held (Own s) (Known n) = false
+
+abbrev pub IsOwn : Name → Type 0
+IsOwn (Known n) = ⊥
 IsOwn (Own s) = Unit {0}
 
 -- one is a copy of the other
-abbrev pub IsCopy : {K : Type 0} → Name K → Name K → Type 0
-IsCopy (Known j) (Known k) = j ≡ k
+abbrev pub IsCopy : Name → Name → Type 0
+IsCopy (Known m) (Known n) = m ≡ n
 IsCopy (Own s) (Own t) = string_bytes s ≡ string_bytes t
-IsCopy (Known j) (Own t) = ⊥
-IsCopy (Own s) (Known k) = ⊥
+IsCopy (Known m) (Own t) = ⊥
+IsCopy (Own s) (Known n) = ⊥

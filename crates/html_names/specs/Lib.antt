@@ -1,3 +1,4 @@
+pub mod ByNumber
 pub mod Characters
 pub mod Displays
 pub mod Equal
@@ -5,9 +6,6 @@ pub mod Faults
 pub mod Hashes
 pub mod Held
 pub mod Kinds
-pub mod Known
-pub mod KnownAttrs
-pub mod KnownTags
 pub mod Names
-pub mod Rows
+pub mod Tables
 pub mod Texts

@@ -1,5 +1,7 @@
 -- Lists of names, and what is wrong with a text as a name. Texts are lists of characters.
-use Rattle.std.specs.Prelude.{◌≡◌, ℕ, Bool, false, not, ◌||◌, ◌==◌, nat_lt, List, [], ◌∷◌, bytes_eq, codes, map, slice_index, if◌then◌else◌, Option, Some, None, Result, Ok, Err}
+use Rattle.std.specs.Cmp.Lexicographic.{slice_cmp}
+use Rattle.std.specs.Ordering.{nat_cmp, is_lt}
+use Rattle.std.specs.Prelude.{◌++◌, ◌≡◌, ◌<◌, ℕ, Bool, true, false, not, ◌||◌, ◌&&◌, ◌==◌, length, slice_index_or, nat_lt, List, [], ◌∷◌, bytes_eq, codes, map, slice_index, if◌then◌else◌, Option, Some, None, Result, Ok, Err}
 use Rattle.std.specs.Borrow.{Bor}
 use Rattle.std.specs.List.{find, list_any, list_all}
 use Rattle.html_names.specs.Characters.{is_tag_char, is_attr_char, is_lower, is_capital, is_hyphen}
@@ -30,19 +32,43 @@ is_ascii = list_all (λ c. nat_lt c 128)
 abbrev pub are_ascii : List (List ℕ) → Bool
 are_ascii = list_all is_ascii
 
+-- a text is below the first of a list
+abbrev pub is_below_first : List ℕ → List (List ℕ) → Bool
+is_below_first n [] = true
+is_below_first n (m ∷ ms) = is_lt (slice_cmp nat_cmp n m)
+
+-- each text is below the next, by their bytes
+abbrev pub rises : List (List ℕ) → Bool
+rises [] = true
+rises (n ∷ ns) = is_below_first n ns && rises ns
+
+-- the text stands there in the list
+abbrev pub IsPlace : List (List ℕ) → List ℕ → ℕ → Type 0
+IsPlace names text n = (n < length names) × (slice_index_or names n [] ≡ text)
+
+-- the names that HTML keeps for SVG and MathML
+abbrev pub reserved_names : List (List ℕ)
+reserved_names =
+    listed (codes "annotation-xml color-profile font-face font-face-src font-face-uri")
+    ++ listed (codes "font-face-format font-face-name missing-glyph")
+
 unfoldable pub is_reserved : List ℕ → Bool
-is_reserved name = stands_in (listed (codes "annotation-xml color-profile font-face font-face-src font-face-uri font-face-format font-face-name missing-glyph")) name
+is_reserved name = stands_in reserved_names name
 
 -- what is wrong with a name that has a hyphen, as a custom element's name has
 abbrev pub custom_fault : List ℕ → Option NameFault
-custom_fault name = if is_lower (slice_index name 0) then (if list_any is_capital name then Some CustomCapital else (if is_reserved name then Some Reserved else None)) else Some CustomStart
+custom_fault name =
+    if is_lower (slice_index name 0)
+    then (if list_any is_capital name then Some CustomCapital
+    else (if is_reserved name then Some Reserved else None))
+    else Some CustomStart
 
 abbrev pub fault_after : List ℕ → Option ℕ → Option NameFault
 fault_after name (Some c) = Some (BadTagChar c)
 fault_after name None = if list_any is_hyphen name then custom_fault name else None
 
--- the first that is wrong with a text as a tag name, in this order: it is empty, a character is not valid,
--- and of a name with a hyphen the start, a capital, and that it is reserved
+-- the first that is wrong with a text as a tag name, in this order: it is empty, a character is
+-- not valid, and of a name with a hyphen the start, a capital, and that it is reserved
 abbrev pub tag_fault : List ℕ → Option NameFault
 tag_fault [] = Some EmptyTag
 tag_fault (c ∷ cs) = fault_after (c ∷ cs) (find (λ d. not (is_tag_char d)) (c ∷ cs))
@@ -51,13 +77,16 @@ abbrev pub bad_attr_char : Option ℕ → Option NameFault
 bad_attr_char (Some c) = Some (BadAttrChar c)
 bad_attr_char None = None
 
--- the first that is wrong with a text as an attribute name: it is empty, or a character is not valid
+-- the first that is wrong with a text as an attribute name: it is empty, or has a character that
+-- is not valid
 abbrev pub attr_fault : List ℕ → Option NameFault
 attr_fault [] = Some EmptyAttr
 attr_fault (c ∷ cs) = bad_attr_char (find (λ d. not (is_attr_char d)) (c ∷ cs))
 
--- a call makes the name of that text, or answers what is wrong with it, or that a name which is not known got no memory
-abbrev pub Interns : (fault : Option NameFault) (is_known : Bool) (name : List ℕ) → Result (List ℕ) NameFault → Type 0
+-- a call makes the name of that text, or answers what is wrong with it, or that an allocation
+-- failed for a name that is not known
+abbrev pub Interns : (fault : Option NameFault) (is_known : Bool) (name : List ℕ) →
+    Result (List ℕ) NameFault → Type 0
 Interns fault is_known name (Ok t) = (fault ≡ None) × (t ≡ name)
 Interns fault is_known name (Err OutOfMemory) = (fault ≡ None) × (is_known ≡ false)
 Interns fault is_known name (Err f) = fault ≡ Some f

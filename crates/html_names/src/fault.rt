@@ -6,7 +6,7 @@ use thiserror::Error;
 /// Why a text is no name of a tag or of an attribute.
 #[derive(Debug, Drop, PartialEq, Eq, Error)]
 pub enum NameFault {
-    /// A growth of memory was refused.
+    /// An allocation failed.
     #[error("out of memory")]
     OutOfMemory,
     /// The tag name is empty.

@@ -1,18 +1,16 @@
-ghost use Rattle.std.specs.Prelude.{◌≡◌, ℕ, List, bytes_eq, chars, IfOk, IfErr, OnErr, IfSome, IsTrue, is_some, false, map, not};
-ghost use Rattle.std.specs.Bool.{OnTrue};
-ghost use Rattle.std.specs.List.{find};
-ghost use Rattle.html_names.specs.Characters.{IsOf, is_attr_char};
+ghost use Rattle.std.specs.Prelude.{◌≡◌, bytes_eq, chars, IfOk, OnErr, IfSome, IsTrue, is_some, false, not};
+ghost use Rattle.std.specs.List.{find, list_any};
 ghost use Rattle.html_names.specs.Names.{Interns, attr_fault, is_ascii};
-ghost use Rattle.html_names.specs.KnownAttrs.{text_of};
-ghost use Rattle.html_names.specs.Known.{is_known_attr, is_aria_attr, is_html_attr, is_mathml_attr};
 ghost use Rattle.std.specs.Cmp as cmp;
 ghost use Rattle.std.specs.Cmp.{on_equiv, on_per};
 ghost use Rattle.std.specs.Cmp.Lexicographic.{nat_list_eq_equiv};
+ghost use Rattle.html_names.specs.Tables.{is_known_attr};
+ghost use Rattle.html_names.specs.Characters.{IsOf, is_attr_char};
 
 use crate::charsets::is_valid_in_attribute_name;
 use crate::fault::NameFault;
-use crate::known_attr::{ARIA, HTML, KnownAttr, MATHML};
-use crate::name::{Name, known_in};
+use crate::name::Name;
+use crate::table::ATTRS;
 use std::alloc::{AllocError, Global};
 use std::fmt;
 use std::hash::{Hash, Hasher};
@@ -23,7 +21,7 @@ use std::marker::Model;
 /// A contract sees it as its text, a list of characters.
 #[derive(Drop)]
 pub struct HtmlAttr {
-    pub(crate) name: Name<KnownAttr>,
+    pub(crate) name: Name,
 }
 
 impl Model for HtmlAttr {
@@ -31,14 +29,13 @@ impl Model for HtmlAttr {
 
     ghost Value = { List ℕ };
 
-    ghost use Rattle.html_names.specs.KnownAttrs.{text_of};
     ghost use Rattle.html_names.specs.Held.{name_of, IsHeld};
+    ghost use Rattle.html_names.specs.Tables.{known_attrs, attr_count};
     ghost use Rattle.html_names.specs.Characters.{is_attr_char};
-    ghost use Rattle.html_names.specs.Known.{is_known_attr};
 
-    ghost view = { λ t. name_of text_of t.name };
+    ghost view = { λ t. name_of known_attrs t.name };
 
-    ghost invariant = { λ t. IsHeld text_of is_attr_char is_known_attr t.name };
+    ghost invariant = { λ t. IsHeld attr_count known_attrs is_attr_char t.name };
 }
 
 /// The first character that may not stand in an attribute name.
@@ -62,55 +59,15 @@ fn fault_of(text: &str) -> Option<NameFault>
     None
 }
 
-/// The name of ARIA that has this text.
-#[tactic(auto, unfolding(crate::specs::Known::is_aria_attr))]
-fn known_in_aria(text: &str) -> Option<KnownAttr>
-    ensures found { IfSome result (λ known. text_of known ≡ chars text.now) }
-    ensures test { is_some result ≡ is_aria_attr (chars text.now) }
-{
-    known_in(&ARIA, text)
-}
-
-/// The other name of HTML that has this text.
-#[tactic(auto, unfolding(crate::specs::Known::is_html_attr))]
-fn known_in_html(text: &str) -> Option<KnownAttr>
-    ensures found { IfSome result (λ known. text_of known ≡ chars text.now) }
-    ensures test { is_some result ≡ is_html_attr (chars text.now) }
-{
-    known_in(&HTML, text)
-}
-
-/// The name of MathML that has this text.
-#[tactic(auto, unfolding(crate::specs::Known::is_mathml_attr))]
-fn known_in_mathml(text: &str) -> Option<KnownAttr>
-    ensures found { IfSome result (λ known. text_of known ≡ chars text.now) }
-    ensures test { is_some result ≡ is_mathml_attr (chars text.now) }
-{
-    known_in(&MATHML, text)
-}
-
-/// The known name of this text.
-fn known(text: &str) -> Option<KnownAttr>
-    ensures found { IfSome result (λ known. text_of known ≡ chars text.now) }
-    ensures test { is_some result ≡ is_known_attr (chars text.now) }
-{
-    if let Some(known) = known_in_aria(text) {
-        return Some(known);
-    }
-    if let Some(known) = known_in_html(text) {
-        return Some(known);
-    }
-    known_in_mathml(text)
-}
-
 impl HtmlAttr {
-    /// The name of this text, or the first that is wrong with it: it is empty, or a character is not
-    /// valid in an attribute name (HTML Standard 13.1.2.3).
+    /// The name of this text, or the first that is wrong with it: it is empty, or a character is
+    /// not valid in an attribute name (HTML Standard 13.1.2.3).
     ///
     /// A known name takes no memory.
     #[tactic(auto, using(crate::proofs::Faults::valid_attr))]
     pub fn intern(alloc: Global, text: &str) -> Result<HtmlAttr, NameFault>
-        ensures { let name = chars text.now in Interns (attr_fault name) (is_known_attr name) name result }
+        ensures { let name = chars text.now in
+            Interns (attr_fault name) (is_known_attr name) name result }
     {
         if let Some(fault) = fault_of(text) {
             return Err(fault);
@@ -118,7 +75,8 @@ impl HtmlAttr {
         Ok(HtmlAttr::make(alloc, text)?)
     }
 
-    /// The name of a text that the caller knows to be one: not empty, and of valid ASCII characters.
+    /// The name of a text that the caller knows to be one: not empty, and of valid ASCII
+    /// characters.
     ///
     /// A known name takes no memory.
     #[tactic(auto, using(crate::proofs::Faults::constants))]
@@ -137,13 +95,8 @@ impl HtmlAttr {
         ensures name { IfOk result (λ attr. attr ≡ chars text.now) }
         ensures memory { OnErr result (is_known_attr (chars text.now) ≡ false) }
     {
-        if let Some(known) = known(text) {
-            return Ok(HtmlAttr {
-                name: Name::Known(known),
-            });
-        }
         Ok(HtmlAttr {
-            name: Name::Own(String::from_str(alloc, text)?),
+            name: Name::make(alloc, &ATTRS, text)?,
         })
     }
 
@@ -162,18 +115,17 @@ impl HtmlAttr {
         ensures text { chars result.now ≡ self.now }
         ensures valid { IsOf is_attr_char self.now }
     {
-        self.name.as_str()
+        self.name.as_str(&ATTRS)
     }
 }
 
-#[tactic(auto, using(crate::proofs::Lists::in_characters))]
 impl PartialEq for HtmlAttr {
     ghost eq = { λ x y. bytes_eq x y };
 
     ghost laws = { on_per (λ x. x) (cmp.partial_equiv_from_equiv nat_list_eq_equiv) };
 
     fn eq(&self, other: &Self) -> bool {
-        self.resolve() == other.resolve()
+        self.name.is_same(&other.name)
     }
 }
 

@@ -1,18 +1,16 @@
-ghost use Rattle.std.specs.Prelude.{◌≡◌, ℕ, List, bytes_eq, chars, IfOk, IfErr, OnErr, IfSome, IsTrue, is_some, false, map, not, slice_index};
-ghost use Rattle.std.specs.Bool.{OnTrue};
+ghost use Rattle.std.specs.Prelude.{◌≡◌, ◌<◌, bytes_eq, chars, IfOk, IfErr, OnErr, IfSome, is_some, false, not, slice_index};
 ghost use Rattle.std.specs.List.{find, list_any};
-ghost use Rattle.html_names.specs.Characters.{IsOf, is_tag_char, is_hyphen, is_lower, is_capital};
-ghost use Rattle.html_names.specs.Names.{Interns, tag_fault, custom_fault, is_reserved, stands_in, texts, are_ascii};
-ghost use Rattle.html_names.specs.KnownTags.{text_of};
-ghost use Rattle.html_names.specs.Known.{is_known_tag};
+ghost use Rattle.html_names.specs.Names.{Interns, tag_fault, custom_fault, is_reserved};
 ghost use Rattle.std.specs.Cmp as cmp;
 ghost use Rattle.std.specs.Cmp.{on_equiv, on_per};
 ghost use Rattle.std.specs.Cmp.Lexicographic.{nat_list_eq_equiv};
+ghost use Rattle.html_names.specs.Tables.{is_known_tag};
+ghost use Rattle.html_names.specs.Characters.{IsOf, is_tag_char, is_hyphen, is_lower, is_capital};
 
 use crate::charsets::is_valid_in_tag_name;
 use crate::fault::NameFault;
-use crate::known_tag::{KnownTag, TAGS};
-use crate::name::{Name, is_one_of, known_in};
+use crate::name::{Name, is_one_of};
+use crate::table::TAGS;
 use std::alloc::{AllocError, Global};
 use std::fmt;
 use std::hash::{Hash, Hasher};
@@ -23,7 +21,7 @@ use std::marker::Model;
 /// A contract sees it as its text, a list of characters.
 #[derive(Drop)]
 pub struct HtmlTag {
-    pub(crate) name: Name<KnownTag>,
+    pub(crate) name: Name,
 }
 
 impl Model for HtmlTag {
@@ -31,14 +29,13 @@ impl Model for HtmlTag {
 
     ghost Value = { List ℕ };
 
-    ghost use Rattle.html_names.specs.KnownTags.{text_of};
     ghost use Rattle.html_names.specs.Held.{name_of, IsHeld};
+    ghost use Rattle.html_names.specs.Tables.{known_tags, tag_count};
     ghost use Rattle.html_names.specs.Characters.{is_tag_char};
-    ghost use Rattle.html_names.specs.Known.{is_known_tag};
 
-    ghost view = { λ t. name_of text_of t.name };
+    ghost view = { λ t. name_of known_tags t.name };
 
-    ghost invariant = { λ t. IsHeld text_of is_tag_char is_known_tag t.name };
+    ghost invariant = { λ t. IsHeld tag_count known_tags is_tag_char t.name };
 }
 
 /// The names that HTML keeps for SVG and MathML, and that no custom element may have.
@@ -125,24 +122,16 @@ fn fault_of(text: &str) -> Option<NameFault>
     None
 }
 
-/// The known name of this text.
-#[tactic(auto, unfolding(crate::specs::Known::is_known_tag))]
-fn known(text: &str) -> Option<KnownTag>
-    ensures found { IfSome result (λ known. text_of known ≡ chars text.now) }
-    ensures test { is_some result ≡ is_known_tag (chars text.now) }
-{
-    known_in(&TAGS, text)
-}
-
 impl HtmlTag {
     /// The name of this text, or the first that is wrong with it: it is empty, a character is not
-    /// valid in a tag name (HTML Standard 13.1.2), or a name with a hyphen begins with something else
-    /// than a small ASCII letter, has an ASCII capital or is reserved (HTML Standard 4.13.2).
+    /// valid in a tag name (HTML Standard 13.1.2), or a name with a hyphen does not begin with a
+    /// small ASCII letter, has an ASCII capital or is reserved (HTML Standard 4.13.2).
     ///
     /// A known name takes no memory.
     #[tactic(auto, using(crate::proofs::Faults::valid_tag))]
     pub fn intern(alloc: Global, text: &str) -> Result<HtmlTag, NameFault>
-        ensures { let name = chars text.now in Interns (tag_fault name) (is_known_tag name) name result }
+        ensures { let name = chars text.now in
+            Interns (tag_fault name) (is_known_tag name) name result }
     {
         if let Some(fault) = fault_of(text) {
             return Err(fault);
@@ -150,7 +139,8 @@ impl HtmlTag {
         Ok(HtmlTag::make(alloc, text)?)
     }
 
-    /// The name of a text that the caller knows to be one: not empty, and of valid ASCII characters.
+    /// The name of a text that the caller knows to be one: not empty, and of valid ASCII
+    /// characters.
     /// Unlike `intern` it takes reserved names and any name with a hyphen.
     ///
     /// A known name takes no memory.
@@ -169,13 +159,8 @@ impl HtmlTag {
         ensures name { IfOk result (λ tag. tag ≡ chars text.now) }
         ensures memory { OnErr result (is_known_tag (chars text.now) ≡ false) }
     {
-        if let Some(known) = known(text) {
-            return Ok(HtmlTag {
-                name: Name::Known(known),
-            });
-        }
         Ok(HtmlTag {
-            name: Name::Own(String::from_str(alloc, text)?),
+            name: Name::make(alloc, &TAGS, text)?,
         })
     }
 
@@ -194,26 +179,17 @@ impl HtmlTag {
         ensures text { chars result.now ≡ self.now }
         ensures valid { IsOf is_tag_char self.now }
     {
-        self.name.as_str()
-    }
-
-    /// Whether the name is one of the list.
-    pub(crate) fn is_one_of(&self, names: &[&'static str]) -> bool
-        requires { IsTrue (are_ascii (texts names.now)) }
-        ensures { result ≡ stands_in (texts names.now) self.now }
-    {
-        is_one_of(names, self.resolve())
+        self.name.as_str(&TAGS)
     }
 }
 
-#[tactic(auto, using(crate::proofs::Lists::in_characters))]
 impl PartialEq for HtmlTag {
     ghost eq = { λ x y. bytes_eq x y };
 
     ghost laws = { on_per (λ x. x) (cmp.partial_equiv_from_equiv nat_list_eq_equiv) };
 
     fn eq(&self, other: &Self) -> bool {
-        self.resolve() == other.resolve()
+        self.name.is_same(&other.name)
     }
 }
 

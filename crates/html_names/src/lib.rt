@@ -2,6 +2,17 @@
 //! the characters of which names, values and texts are made.
 //!
 //! A contract sees a name as its text, a list of characters.
+//!
+//! ```
+//! use html_names::{HtmlTag, NameFault, attr, tag};
+//!
+//! let heading = HtmlTag::intern(alloc, "h2")?;
+//! assert!(rt; heading == tag::h2);
+//! assert!(rt; tag::is_heading_content(&heading));
+//! assert_eq!(rt; heading.resolve(), "h2");
+//! assert_eq!(rt; attr::class.resolve(), "class");
+//! assert!(rt; matches!(HtmlTag::intern(alloc, "a_b"), Err(NameFault::BadTagChar('_'))));
+//! ```
 #![tactic(auto)]
 
 pub mod attr;
@@ -9,17 +20,16 @@ pub mod charsets;
 mod fault;
 mod html_attr;
 mod html_tag;
-mod known_attr;
-mod known_tag;
 pub mod laws;
 mod name;
+mod output;
 pub mod property;
 mod refused;
+mod table;
 pub mod tag;
-#[cfg(test)]
-mod tests;
 
 pub use fault::NameFault;
 pub use html_attr::HtmlAttr;
 pub use html_tag::HtmlTag;
+pub use output::Output;
 pub use refused::Refused;

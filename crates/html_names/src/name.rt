@@ -1,72 +1,115 @@
-ghost use Rattle.std.specs.Prelude.{◌≡◌, List, ℕ, IfSome, IfOk, OnErr, chars, is_some, IsTrue, true, map};
-ghost use Rattle.html_names.specs.Names.{stands_in, texts, is_ascii, are_ascii};
+ghost use Rattle.std.specs.Prelude.{◌≡◌, ◌≤◌, OnErr, IfOk, length, chars, IsTrue, IfSome, is_some, false};
+ghost use Rattle.html_names.specs.Names.{texts, are_ascii, rises, IsPlace, stands_in};
+ghost use Rattle.html_names.specs.Tables.{tag_count};
 
-use std::alloc::AllocError;
-
-/// A set of names that take no memory.
-pub(crate) trait Known: Copy {
-    /// The name's text.
-    ghost text: { Self → List ℕ };
-
-    fn as_str(self) -> &'static str
-        ensures { result.now ≡ text self };
-
-    ghost ascii: { (name : Self) → is_ascii (text name) ≡ true };
-}
+use crate::property::Display;
+use crate::table::{DISPLAYS, KINDS};
+use std::alloc::{AllocError, Global};
 
 /// A name as it is held.
 #[derive(Drop)]
-pub(crate) enum Name<K> {
-    Known(K),
+pub(crate) enum Name {
+    /// The place of a known name in its table.
+    Known(u8),
+    /// The text of another name.
     Own(String),
 }
 
-impl<K: Known> Name<K> {
-    ghost use Rattle.html_names.specs.Held.{name_of, IsOwn, IsCopy};
+impl Name {
+    ghost use Rattle.html_names.specs.Held.{name_of, IsWithin};
+    ghost use Rattle.html_names.specs.ByNumber.{name_has, name_display};
+    ghost use Rattle.html_names.specs.Held.{IsNameOf, same_held, IsOwn, IsCopy};
 
-    pub(crate) fn as_str(&self) -> &str
-        ensures { chars result.now ≡ name_of K.text self.now }
+    /// The name's text.
+    pub(crate) fn as_str(&self, table: &'static [&'static str]) -> &str
+        requires ascii { IsTrue (are_ascii (texts table.now)) }
+        requires within { IsWithin (length table.now) self.now }
+        ensures { chars result.now ≡ name_of (texts table.now) self.now }
     {
         match self {
-            Name::Known(known) => known.as_str(),
+            Name::Known(place) => table[*place as usize],
             Name::Own(text) => text.as_str(),
         }
     }
 
+    /// The name of that text: its place where the table has it, else the text itself.
+    ///
+    /// A name of the table takes no memory.
+    pub(crate) fn make(
+        alloc: Global,
+        table: &[&'static str],
+        text: &str,
+    ) -> Result<Name, AllocError>
+        requires ascii { IsTrue (are_ascii (texts table.now)) }
+        requires ascending { IsTrue (rises (texts table.now)) }
+        requires short { length table.now ≤ 256 }
+        ensures name { IfOk result (IsNameOf (texts table.now) (chars text.now)) }
+        ensures memory { OnErr result (stands_in (texts table.now) (chars text.now) ≡ false) }
+    {
+        if let Some(place) = place_in(table, text) {
+            return Ok(Name::Known(place));
+        }
+        Ok(Name::Own(String::from_str(alloc, text)?))
+    }
+
+    /// Whether both are held by one place, or by equal texts.
+    pub(crate) fn is_same(&self, other: &Name) -> bool
+        ensures { result ≡ same_held self.now other.now }
+    {
+        match (self, other) {
+            (Name::Known(place), Name::Known(other_place)) => *place == *other_place,
+            (Name::Own(text), Name::Own(other_text)) => text.as_str() == other_text.as_str(),
+            (Name::Known(_), Name::Own(_)) => false,
+            (Name::Own(_), Name::Known(_)) => false,
+        }
+    }
+
     /// A copy. One of a known name takes no memory.
-    pub(crate) fn try_clone(&self) -> Result<Name<K>, AllocError>
+    pub(crate) fn try_clone(&self) -> Result<Name, AllocError>
         ensures copy { IfOk result (λ name. IsCopy name self.now) }
         ensures memory { OnErr result (IsOwn self.now) }
     {
         match self {
-            Name::Known(known) => Ok(Name::Known(*known)),
+            Name::Known(place) => Ok(Name::Known(*place)),
             Name::Own(text) => Ok(Name::Own(text.clone()?)),
         }
     }
-}
 
-/// The name of the list that has this text.
-#[tactic(auto, unfolding(crate::specs::Names::stands_in))]
-fn found_in<K: Known>(names: &[K], text: &str) -> Option<K>
-    ensures found { IfSome result (λ known. K.text known ≡ text.now) }
-    ensures test { is_some result ≡ stands_in (map K.text names.now) text.now }
-{
-    for known in names {
-        if known.as_str() == text {
-            return Some(*known);
+    /// Whether it is the name of a known tag of that kind.
+    pub(crate) fn is_of(&self, kind: u32) -> bool
+        requires { IsWithin tag_count self.now }
+        ensures { result ≡ name_has kind self.now }
+    {
+        match self {
+            Name::Known(place) => KINDS[*place as usize] & kind != 0,
+            Name::Own(_) => false,
         }
     }
-    None
+
+    /// The default display of the known tag of that name.
+    pub(crate) fn display(&self) -> Option<Display>
+        requires { IsWithin tag_count self.now }
+        ensures { result ≡ name_display self.now }
+    {
+        match self {
+            Name::Known(place) => DISPLAYS[*place as usize],
+            Name::Own(_) => None,
+        }
+    }
 }
 
-/// The name of the list that has this text, in characters.
-#[tactic(auto, using(crate::proofs::Lists::in_characters))]
-pub(crate) fn known_in<K: Known>(names: &[K], text: &str) -> Option<K>
-    requires { IsTrue (are_ascii (map K.text names.now)) }
-    ensures found { IfSome result (λ known. K.text known ≡ chars text.now) }
-    ensures test { is_some result ≡ stands_in (map K.text names.now) (chars text.now) }
+/// The place of the text in an ascending table, in characters.
+fn place_in(table: &[&'static str], text: &str) -> Option<u8>
+    requires ascii { IsTrue (are_ascii (texts table.now)) }
+    requires ascending { IsTrue (rises (texts table.now)) }
+    requires short { length table.now ≤ 256 }
+    ensures found { IfSome result (IsPlace (texts table.now) (chars text.now)) }
+    ensures test { is_some result ≡ stands_in (texts table.now) (chars text.now) }
 {
-    found_in(names, text)
+    match table.binary_search(&text) {
+        Ok(place) => Some(place as u8),
+        Err(_) => None,
+    }
 }
 
 /// Whether the text is one of the list.

@@ -1,8 +1,6 @@
 //! The css property `display` and its defaults by tag.
 
-ghost use Rattle.std.specs.Prelude.{◌≡◌, IsTrue};
-ghost use Rattle.html_names.specs.Displays.{first_row};
-ghost use Rattle.html_names.specs.Rows.{rows_of, are_ascii_rows};
+ghost use Rattle.std.specs.Prelude.{◌≡◌};
 
 use crate::html_tag::HtmlTag;
 
@@ -67,162 +65,16 @@ pub enum Display {
     BlockMath,
 }
 
-/// The tags of one default display.
-struct Row {
-    display: Display,
-    names: &'static [&'static str],
-}
-
-/// The default display of each tag that has one: this project's profile of HTML Standard 15.3.
-const DEFAULTS: [Row; 19] = [
-    Row {
-        display: Display::None,
-        names: &[
-            "area", "base", "datalist", "head", "link", "meta", "rp", "script", "style",
-            "template", "title",
-        ],
-    },
-    Row {
-        display: Display::Block,
-        names: &[
-            "html",
-            "body",
-            "address",
-            "blockquote",
-            "dialog",
-            "div",
-            "figure",
-            "figcaption",
-            "footer",
-            "form",
-            "header",
-            "hr",
-            "legend",
-            "main",
-            "p",
-            "pre",
-            "search",
-            "article",
-            "aside",
-            "h1",
-            "h2",
-            "h3",
-            "h4",
-            "h5",
-            "h6",
-            "hgroup",
-            "nav",
-            "section",
-            "dd",
-            "dl",
-            "dt",
-            "menu",
-            "ol",
-            "ul",
-            "fieldset",
-            "details",
-            "summary",
-            "option",
-            "optgroup",
-        ],
-    },
-    Row {
-        display: Display::Contents,
-        names: &["slot"],
-    },
-    Row {
-        display: Display::Ruby,
-        names: &["ruby"],
-    },
-    Row {
-        display: Display::RubyText,
-        names: &["rt"],
-    },
-    Row {
-        display: Display::ListItem,
-        names: &["li"],
-    },
-    Row {
-        display: Display::Table,
-        names: &["table"],
-    },
-    Row {
-        display: Display::TableCaption,
-        names: &["caption"],
-    },
-    Row {
-        display: Display::TableHeaderGroup,
-        names: &["thead"],
-    },
-    Row {
-        display: Display::TableRowGroup,
-        names: &["tbody"],
-    },
-    Row {
-        display: Display::TableFooterGroup,
-        names: &["tfoot"],
-    },
-    Row {
-        display: Display::TableRow,
-        names: &["tr", "mtr"],
-    },
-    Row {
-        display: Display::TableCell,
-        names: &["th", "td", "mtd"],
-    },
-    Row {
-        display: Display::TableColumn,
-        names: &["col"],
-    },
-    Row {
-        display: Display::TableColumnGroup,
-        names: &["colgroup"],
-    },
-    Row {
-        display: Display::InlineBlock,
-        names: &["input", "button", "meter", "progress", "select", "textarea"],
-    },
-    Row {
-        display: Display::Inline,
-        names: &[
-            "a", "abbr", "audio", "b", "bdi", "bdo", "br", "canvas", "cite", "code", "data", "del",
-            "dfn", "em", "embed", "i", "iframe", "img", "ins", "kbd", "label", "map", "mark",
-            "noscript", "object", "output", "picture", "q", "s", "samp", "small", "source", "span",
-            "strong", "sub", "sup", "time", "track", "u", "var", "video", "wbr",
-        ],
-    },
-    Row {
-        display: Display::InlineMath,
-        names: &["math"],
-    },
-    Row {
-        display: Display::InlineTable,
-        names: &["mtable"],
-    },
-];
-
-/// The display of the first row that holds the tag.
-fn display_in(rows: &[Row], tag: &HtmlTag) -> Option<Display>
-    requires { IsTrue (are_ascii_rows (rows_of rows.now)) }
-    ensures { result ≡ first_row (rows_of rows.now) tag.now }
-{
-    for row in rows {
-        if tag.is_one_of(row.names) {
-            return Some(row.display);
-        }
-    }
-    None
-}
-
 impl Display {
     ghost use Rattle.html_names.specs.Displays.{default_display, is_tabular, is_border, text_of};
 
-    /// The display that a tag has without a style sheet, where it has one.
-    #[tactic(auto, unfolding(crate::specs::Displays::default_display))]
+    /// The display that a tag has without a style sheet, where it has one: this project's profile
+    /// of HTML Standard 15.3.
+    #[tactic(auto, using(crate::proofs::ByTable::display_by_table))]
     pub fn default_for(tag: &HtmlTag) -> Option<Display>
         ensures { result ≡ default_display tag.now }
     {
-        display_in(&DEFAULTS, tag)
+        tag.name.display()
     }
 
     /// Whether it is a table or a part of one.

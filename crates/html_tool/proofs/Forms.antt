@@ -20,7 +20,8 @@ end_form-other [] n h = refl
 end_form-other (v ∷ []) n h = absurd (h refl)
 end_form-other (v ∷ w ∷ vs) n h = refl
 
-pub dest_form-other : (vs : List Value) → length vs ≢ 0 → length vs ≢ 1 → dest_form (items_view vs) ≡ None
+pub dest_form-other : (vs : List Value) → length vs ≢ 0 → length vs ≢ 1
+    → dest_form (items_view vs) ≡ None
 dest_form-other [] g h = absurd (g refl)
 dest_form-other (v ∷ []) g h = absurd (h refl)
 dest_form-other (v ∷ w ∷ vs) g h = refl
@@ -31,22 +32,26 @@ pair_form-other (v ∷ []) h = refl
 pair_form-other (v ∷ w ∷ []) h = absurd (h refl)
 pair_form-other (v ∷ w ∷ x ∷ vs) h = refl
 
-pub element_form-other : (vs : List Value) (n : ℕ) → length vs ≢ 3 → element_form (items_view vs) n ≡ None
+pub element_form-other : (vs : List Value) (n : ℕ) → length vs ≢ 3
+    → element_form (items_view vs) n ≡ None
 element_form-other [] n h = refl
 element_form-other (v ∷ []) n h = refl
 element_form-other (v ∷ w ∷ []) n h = refl
 element_form-other (v ∷ w ∷ x ∷ []) n h = absurd (h refl)
 element_form-other (v ∷ w ∷ x ∷ y ∷ vs) n h = refl
 
-pub element_form-three : (vs : List Value) (n : ℕ) (t a c : Value) → length vs ≡ 3 → t ≡ get_or vs 0 t → a ≡ get_or vs 1 a → c ≡ get_or vs 2 c
-    → element_form (items_view vs) n ≡ element_from (text_at (view t)) (pairs_at (view a)) (list_at (view c) (n + 1)) n
+pub element_form-three : (vs : List Value) (n : ℕ) (t a c : Value) → length vs ≡ 3
+    → t ≡ get_or vs 0 t → a ≡ get_or vs 1 a → c ≡ get_or vs 2 c
+    → element_form (items_view vs) n
+    ≡ element_from (text_at (view t)) (pairs_at (view a)) (list_at (view c) (n + 1)) n
 element_form-three [] n t a c h p q r = absurd (omega arith)
 element_form-three (v ∷ []) n t a c h p q r = absurd (omega arith)
 element_form-three (v ∷ w ∷ []) n t a c h p q r = absurd (omega arith)
 element_form-three (v ∷ w ∷ x ∷ []) n t a c h p q r = rw (p, q, r)
 element_form-three (v ∷ w ∷ x ∷ y ∷ vs) n t a c h p q r = absurd (omega arith)
 
-pub joined-append : (ns : List NodeView) (n : NodeView) (others : NodesView) → joined (ns ++ n ∷ []) others ≡ joined ns (node n others)
+pub joined-append : (ns : List NodeView) (n : NodeView) (others : NodesView)
+    → joined (ns ++ n ∷ []) others ≡ joined ns (node n others)
 joined-append [] n others = refl
 joined-append (x ∷ ns) n others = ap (node x) (joined-append ns n others)
 
@@ -55,30 +60,46 @@ joined-none [] = refl
 joined-none (x ∷ ns) = ap (node x) (joined-none ns)
 
 option_step : (r : Option (NodesView × ℕ)) (ns : List NodeView) (n : NodeView)
-    → option_map (after_done ns) (option_map (after_done (n ∷ [])) r) ≡ option_map (after_done (ns ++ n ∷ [])) r
+    → option_map (after_done ns) (option_map (after_done (n ∷ [])) r)
+    ≡ option_map (after_done (ns ++ n ∷ [])) r
 option_step None ns n = refl
 option_step (Some q) ns n = rw joined-append
 
 -- one more value was spelled
-pub spelled_more : (vs : List Value) (i : ℕ) (v : Value) (done : List Form) (form : Form) (n next after : ℕ)
+pub spelled_more : (vs : List Value) (i : ℕ) (v : Value) (done : List Form) (form : Form)
+    (n next after : ℕ)
     → i < length vs → v ≡ get_or vs i v → spelled (view v) next ≡ Some (form_view form, after)
-    → spelled_all (items_view vs) n ≡ option_map (after_done (map form_view done)) (spelled_all (items_view (drop i vs)) next)
-    → spelled_all (items_view vs) n ≡ option_map (after_done (map form_view (done ++ form ∷ []))) (spelled_all (items_view (drop (i + 1) vs)) after)
+    → spelled_all (items_view vs) n ≡ option_map (after_done (map form_view done))
+    (spelled_all (items_view (drop i vs)) next)
+    → spelled_all (items_view vs) n ≡ option_map (after_done (map form_view (done ++ form ∷ [])))
+    (spelled_all (items_view (drop (i + 1) vs)) after)
 spelled_more vs i v done form n next after h is made so_far =
-    let cut : drop i vs ≡ v ∷ drop (suc i) vs = drop-cons vs i v h ∙ ap (λ x. x ∷ drop (suc i) vs) (sym is) in
-    so_far ∙ rw (cut, add-one, map-append, made) (option_step (spelled_all (items_view (drop (suc i) vs)) after) (map form_view done) (form_view form))
+    let cut : drop i vs ≡ v ∷ drop (suc i) vs =
+    drop-cons vs i v h ∙ ap (λ x. x ∷ drop (suc i) vs) (sym is) in
+    so_far ∙ rw (cut, add-one, map-append, made)
+    (option_step (spelled_all (items_view (drop (suc i) vs)) after) (map form_view done)
+    (form_view form))
 
 spelled_all-end : (vs : List Value) (i : ℕ) (done : List Form) (next : ℕ) → length vs ≤ i
-    → option_map (after_done (map form_view done)) (spelled_all (items_view (drop i vs)) next) ≡ Some (forms_view done, next)
+    → option_map (after_done (map form_view done)) (spelled_all (items_view (drop i vs)) next)
+    ≡ Some (forms_view done, next)
 spelled_all-end vs i done next h = rw (drop_all i vs h, joined-none)
 
 -- every value was spelled
 pub spelled_whole : (vs : List Value) (i : ℕ) (done : List Form) (n next : ℕ) → length vs ≤ i
-    → spelled_all (items_view vs) n ≡ option_map (after_done (map form_view done)) (spelled_all (items_view (drop i vs)) next)
+    → spelled_all (items_view vs) n ≡ option_map (after_done (map form_view done))
+    (spelled_all (items_view (drop i vs)) next)
     → spelled_all (items_view vs) n ≡ Some (forms_view done, next)
 spelled_whole vs i done n next h so_far = so_far ∙ spelled_all-end vs i done next h
 
-pub form_view-Element : (e : ElementForm) → form_view (Element e) ≡ element_node (element_form_view e).0 (element_form_view e).1
+pub form_view-Element : (e : ElementForm)
+    → form_view (Element e) ≡ element_node (element_form_view e).0 (element_form_view e).1
 form_view-Element e = search (rules, the_lemmas)
 
-pub ruleset forms = (text_form-other, dest_form-other, end_form-other, pair_form-other, element_form-other)
+pub ruleset forms = (
+  text_form-other,
+  dest_form-other,
+  end_form-other,
+  pair_form-other,
+  element_form-other,
+)

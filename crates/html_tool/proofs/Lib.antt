@@ -2,3 +2,4 @@ pub mod Answering
 pub mod Bytes
 pub mod Firsts
 pub mod Forms
+pub mod Inputs

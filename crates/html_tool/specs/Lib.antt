@@ -5,3 +5,5 @@ pub mod Names
 pub mod Refusals
 pub mod Replies
 pub mod Spelled
+pub mod Words
+pub mod Writing

@@ -1,11 +1,12 @@
--- What is wrong with the names of a tree, in order: of each element its tag, its attributes, its children.
+-- What is wrong with the names of a tree, in order: of each element its tag, its attributes, its
+-- children.
 use Rattle.std.specs.Prelude.{ℕ, List, [], ◌∷◌, ◌++◌, Option, Some, None}
 use Rattle.html_names.specs.Faults.{number_of}
 use Rattle.html_names.specs.Names.{tag_fault, attr_fault}
 use Rattle.html_names.specs.declared.fault.NameFault.{NameFault}
-use Rattle.html_dom.specs.Tree.{Pair, Head, NodeView, tag_node, text_node, element_node, frame_node, NodesView, none, node, ElementView}
+use Rattle.html_dom.specs.Tree.{TextPair, Head, NodeView, tag_node, text_node, element_node, frame_node, NodesView, none, node, ElementView}
 
--- a refusal: its number and its place
+-- a refusal: its number and its span
 abbrev pub Refusal : Type 0
 Refusal = ℕ × ℕ
 
@@ -13,7 +14,7 @@ abbrev pub refusals : (span : ℕ) → Option NameFault → List Refusal
 refusals span None = []
 refusals span (Some f) = (number_of f, span) ∷ []
 
-abbrev pub pairs_refusals : (span : ℕ) → List Pair → List Refusal
+abbrev pub pairs_refusals : (span : ℕ) → List TextPair → List Refusal
 pairs_refusals span [] = []
 pairs_refusals span (p ∷ ps) = refusals span (attr_fault p.0) ++ pairs_refusals span ps
 

@@ -1,6 +1,6 @@
 -- A reply as an answer.
-use Rattle.std.specs.Prelude.{◌≡◌}
-use Rattle.html_tool.specs.Answers.{Answer}
+use Rattle.std.specs.Prelude.{◌≡◌, ℕ, List, Option}
+use Rattle.html_tool.specs.Answers.{Answer, IsAll, words_answer}
 use Rattle.html_tool.specs.declared.run.Reply.{Reply}
 
 abbrev pub shown : Reply → Answer
@@ -8,3 +8,8 @@ shown r = record { status = r.status; line = r.text.items }
 
 abbrev pub IsReply : Reply → Answer → Type 0
 IsReply r a = shown r ≡ a
+
+-- the reply is the answer to some input, which is all that the reader has
+abbrev pub RepliesOn : (words : List (List ℕ)) (remaining : Option (List ℕ)) → Reply → Type 0
+RepliesOn words remaining reply =
+    (input : List ℕ) × IsAll input remaining × IsReply reply (words_answer words input)

@@ -2,7 +2,8 @@
 
 ghost use Rattle.html_encode.specs.Frames.{no_frames};
 
-use typst_html::{FrameFault, FrameWriter, HtmlFrame};
+use html_dom::HtmlFrame;
+use typst_html::{FrameFault, FrameWriter};
 
 /// Refuses every frame. The program's input spells none.
 pub(crate) struct NoFrames;

@@ -5,15 +5,19 @@ mod form;
 mod frames;
 mod json;
 mod names;
+mod recorded;
 mod refusal;
 mod run;
 mod spell;
 mod status;
 #[cfg(test)]
 mod tests;
+mod words;
 
+use crate::recorded::Recorded;
 use crate::run::run;
 use crate::status::Status;
+use crate::words::words_of;
 use std::env;
 use std::io::ErrorKind;
 use std::process::ExitCode;
@@ -23,15 +27,13 @@ fn main(rt: HostRuntime) -> ExitCode {
 }
 
 /// What `run` makes of the process's arguments, standard input and standard output. Arguments that
-/// are no UTF-8 are wrong words.
+/// are no UTF-8 count as wrong words, as none at all do.
 fn outcome(rt: &HostRuntime) -> Status {
-    let mut words = Vec::new(rt.alloc());
+    let mut args = Vec::new(rt.alloc());
     match env::args(rt) {
-        Ok(args) => {
-            for word in args.skip(1) {
-                if words.push(word).is_err() {
-                    return Status::Failed;
-                }
+        Ok(given) => {
+            if args.extend(given).is_err() {
+                return Status::Failed;
             }
         }
         Err(fault) => {
@@ -40,5 +42,6 @@ fn outcome(rt: &HostRuntime) -> Status {
             }
         }
     }
-    run(rt.alloc(), &mut rt.stdin(), &mut rt.stdout(), &words)
+    let mut writer = Recorded::new(rt.stdout());
+    run(rt.alloc(), &mut rt.stdin(), &mut writer, words_of(&args))
 }

@@ -5,7 +5,7 @@ ghost use Rattle.html_names.specs.Names.{tag_fault, attr_fault};
 ghost use Rattle.html_dom.specs.Views.{text_view, pair_view, attrs_view, node_view, element_view, nodes_view};
 ghost use Rattle.html_tool.specs.Forms.{form_pair_view, form_view, forms_view, element_form_view};
 ghost use Rattle.html_tool.specs.Names.{refusals, pairs_refusals, name_refusals, all_name_refusals, element_refusals};
-ghost use Rattle.html_tool.specs.Refusals.{IsFirst, of_name};
+ghost use Rattle.html_tool.specs.Refusals.{IsFirst, name_refusal};
 
 use crate::form::{ElementForm, Form};
 use crate::refusal::Refusal;
@@ -14,9 +14,9 @@ use html_dom::{HtmlAttrs, HtmlElement, HtmlNode, Span};
 use html_names::{HtmlAttr, HtmlTag, NameFault};
 use std::alloc::Global;
 
-/// The refusal of a name of the element at that place.
+/// The refusal of a name of the element with that span.
 fn refused(fault: &NameFault, span: Span) -> Refusal
-    ensures { result ≡ of_name fault.now span }
+    ensures { result ≡ name_refusal fault.now span }
 {
     match fault {
         NameFault::OutOfMemory => Refusal::OutOfMemory,
@@ -28,7 +28,8 @@ fn refused(fault: &NameFault, span: Span) -> Refusal
 fn tag_of(alloc: Global, text: &String, span: Span) -> Result<HtmlTag, Refusal>
     ensures ok { IfOk result (λ tag. tag ≡ text_view text.now) }
     ensures clean { OnOk result (refusals span.0 (tag_fault (text_view text.now)) ≡ []) }
-    ensures refused { IfErr result (λ e. IsFirst e (refusals span.0 (tag_fault (text_view text.now)))) }
+    ensures refused { IfErr result (λ e.
+        IsFirst e (refusals span.0 (tag_fault (text_view text.now)))) }
 {
     match HtmlTag::intern(alloc, text.as_str()) {
         Ok(tag) => Ok(tag),
@@ -40,7 +41,8 @@ fn tag_of(alloc: Global, text: &String, span: Span) -> Result<HtmlTag, Refusal>
 fn attr_of(alloc: Global, text: &String, span: Span) -> Result<HtmlAttr, Refusal>
     ensures ok { IfOk result (λ attr. attr ≡ text_view text.now) }
     ensures clean { OnOk result (refusals span.0 (attr_fault (text_view text.now)) ≡ []) }
-    ensures refused { IfErr result (λ e. IsFirst e (refusals span.0 (attr_fault (text_view text.now)))) }
+    ensures refused { IfErr result (λ e.
+        IsFirst e (refusals span.0 (attr_fault (text_view text.now)))) }
 {
     match HtmlAttr::intern(alloc, text.as_str()) {
         Ok(attr) => Ok(attr),
@@ -53,7 +55,8 @@ fn attr_of(alloc: Global, text: &String, span: Span) -> Result<HtmlAttr, Refusal
 fn attrs_of(alloc: Global, pairs: &[(String, String)], span: Span) -> Result<HtmlAttrs, Refusal>
     ensures ok { IfOk result (λ attrs. attrs_view attrs ≡ map form_pair_view pairs.now) }
     ensures clean { OnOk result (pairs_refusals span.0 (map form_pair_view pairs.now) ≡ []) }
-    ensures refused { IfErr result (λ e. IsFirst e (pairs_refusals span.0 (map form_pair_view pairs.now))) }
+    ensures refused { IfErr result (λ e.
+        IsFirst e (pairs_refusals span.0 (map form_pair_view pairs.now))) }
 {
     let mut list = Vec::new(alloc);
     for (name, value) in pairs {
@@ -83,7 +86,8 @@ fn node_of(alloc: Global, form: &Form) -> Result<HtmlNode, Refusal>
 pub(crate) fn element_of(alloc: Global, form: &ElementForm) -> Result<HtmlElement, Refusal>
     ensures ok { IfOk result (λ element. element_view element ≡ element_form_view form.now) }
     ensures clean { OnOk result (element_refusals (element_form_view form.now) ≡ []) }
-    ensures refused { IfErr result (λ e. IsFirst e (element_refusals (element_form_view form.now))) }
+    ensures refused { IfErr result (λ e.
+        IsFirst e (element_refusals (element_form_view form.now))) }
 {
     Ok(HtmlElement {
         tag: tag_of(alloc, &form.tag, form.span)?,

@@ -8,7 +8,7 @@ use typst_html::ExportFault;
 #[derive(Clone, Copy, Debug, PartialEq, Eq)]
 pub(crate) enum Refusal {
     OutOfMemory,
-    /// The number of a fault, and its place.
+    /// The number of a fault, and its span.
     At(u8, Span),
 }
 
@@ -17,7 +17,7 @@ impl From<AllocError> for Refusal {
 
     ghost from_gives = { λ _ e. e ≡ OutOfMemory };
 
-    fn from(_refused: AllocError) -> Refusal {
+    fn from(_error: AllocError) -> Refusal {
         Refusal::OutOfMemory
     }
 }
@@ -27,15 +27,15 @@ impl<T: Drop> From<AllocFailed<T>> for Refusal {
 
     ghost from_gives = { λ _ e. e ≡ OutOfMemory };
 
-    fn from(_refused: AllocFailed<T>) -> Refusal {
+    fn from(_failed: AllocFailed<T>) -> Refusal {
         Refusal::OutOfMemory
     }
 }
 
 impl From<ExportFault> for Refusal {
-    ghost use Rattle.html_tool.specs.Refusals.{of_export};
+    ghost use Rattle.html_tool.specs.Refusals.{tree_refusal};
 
-    ghost from_gives = { λ fault e. e ≡ of_export fault };
+    ghost from_gives = { λ fault e. e ≡ tree_refusal fault };
 
     fn from(fault: ExportFault) -> Refusal {
         match fault {

@@ -1,11 +1,15 @@
+use crate::recorded::Recorded;
 use crate::run::run;
 use crate::status::Status;
 use std::alloc::{AllocError, Global};
 use std::test::Fail;
 
 mod devices;
+mod examples;
 mod pretty;
+mod refused;
 mod rows;
+mod wrong;
 
 fn words(alloc: Global, list: &[&str]) -> Result<Vec<String>, AllocError> {
     let mut words = Vec::new(alloc);
@@ -13,6 +17,29 @@ fn words(alloc: Global, list: &[&str]) -> Result<Vec<String>, AllocError> {
         words.push(String::from_str(alloc, word)?)?;
     }
     Ok(words)
+}
+
+/// How many rows from the first on a run with those words answers with that status and with what
+/// stands beside the input, between the two texts of `around`.
+fn first_right(
+    alloc: Global,
+    list: &[&str],
+    status: Status,
+    around: (&str, &str),
+    rows: &[(&str, &str)],
+) -> Result<usize, Fail> {
+    let words = words(alloc, list)?;
+    let (before, after) = around;
+    for (number, (input, text)) in rows.iter().enumerate() {
+        let mut out = Vec::new(alloc);
+        let mut bytes = input.as_bytes();
+        let told = run(alloc, &mut bytes, &mut Recorded::new(&mut out), &words);
+        let wanted = format!(in alloc; "{before}{text}{after}")?;
+        if told != status || out.as_slice() != wanted.as_bytes() {
+            return Ok(number);
+        }
+    }
+    Ok(rows.len())
 }
 
 #[test]
@@ -26,30 +53,4 @@ fn codes(rt: HostRuntime) {
     for (code, status) in statuses.iter().enumerate() {
         assert_eq!(rt; usize::from(status.code()), code);
     }
-}
-
-/// Wrong words are told before anything is read.
-#[test]
-fn wrong_words(rt: HostRuntime) -> Result<(), Fail> {
-    let alloc = rt.alloc();
-    let wrong: [&[&str]; 9] = [
-        &[],
-        &["doc"],
-        &["tree", "tree"],
-        &["Tree"],
-        &["--pretty"],
-        &["--pretty", "tree"],
-        &["tree", "pretty"],
-        &["tree", "--Pretty"],
-        &["tree", "--pretty", "--pretty"],
-    ];
-    for list in wrong {
-        let mut out = Vec::new(alloc);
-        let mut input = b"[\"el\",\"p\",[],[]]".as_slice();
-        let status = run(alloc, &mut input, &mut out, &words(alloc, list)?);
-        assert_eq!(rt; status, Status::BadInput);
-        assert_eq!(rt; out.as_slice(), b"bad input\n".as_slice());
-        assert_eq!(rt; input, b"[\"el\",\"p\",[],[]]".as_slice());
-    }
-    Ok(())
 }

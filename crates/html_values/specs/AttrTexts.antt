@@ -1,6 +1,10 @@
--- The texts of typed values in attributes, each a list of characters (this project's table of values).
-use Rattle.std.specs.Prelude.{ℕ, ℤ, pos, negsuc, unsigned_abs, zero, suc, ltb, ◌&&◌, ◌/◌, ◌%◌, ◌+◌, ◌==◌, List, [], ◌∷◌, ◌++◌, codes, Bool, true, false, if◌then◌else◌, Option, None, Some}
+-- The texts of typed values in attributes, each a list of characters (this project's table of
+-- values).
+use Rattle.std.specs.Prelude.{ℕ, ℤ, pos, negsuc, unsigned_abs, zero, suc, ltb, ◌&&◌, ◌/◌, ◌%◌, ◌+◌, ◌==◌, List, [], ◌∷◌, ◌++◌, codes, Bool, true, false, if◌then◌else◌, Option, None, Some, option_map}
 use Rattle.std.specs.Fmt.{decimal}
+use Rattle.std.specs.Int.NonZero.{non_zero_u64_get}
+use Rattle.html_names.specs.Texts.{text_view, two_digits}
+use Rattle.html_values.specs.declared.image.ImageCandidate.{ImageCandidate}
 use Rattle.html_css.specs.declared.direction.Dir.{Dir}
 use Rattle.html_css.specs.declared.direction.Dir.TheVariants.{LTR, RTL, TTB, BTT}
 use Rattle.html_values.specs.declared.words.HorizontalDir.{HorizontalDir}
@@ -9,7 +13,7 @@ use Rattle.jiff_core.specs.declared.civil.time.Time.{Time as CivilTime}
 use Rattle.html_values.specs.declared.moment.Moment.{Moment}
 use Rattle.html_values.specs.declared.moment.Moment.TheVariants.{Date, Time, DateTime}
 
--- the words of a truth
+-- the words of a Boolean
 abbrev pub word_of : List ℕ → List ℕ → Bool → List ℕ
 word_of one other true = one
 word_of one other false = other
@@ -20,14 +24,14 @@ dir_text RTL = codes "rtl"
 dir_text TTB = codes "ttb"
 dir_text BTT = codes "btt"
 
+abbrev pub horizontal_dir : HorizontalDir → Dir
+horizontal_dir HorizontalDir.LTR = LTR
+horizontal_dir HorizontalDir.RTL = RTL
+
 abbrev pub horizontal_text : HorizontalDir → List ℕ
-horizontal_text HorizontalDir.LTR = dir_text LTR
-horizontal_text HorizontalDir.RTL = dir_text RTL
+horizontal_text dir = dir_text (horizontal_dir dir)
 
--- a number below a hundred in two digits, and one below ten thousand in four
-abbrev pub two_digits : ℕ → List ℕ
-two_digits n = (48 + n / 10) ∷ (48 + n % 10) ∷ []
-
+-- a number below ten thousand in four digits
 abbrev pub four_digits : ℕ → List ℕ
 four_digits n = two_digits (n / 100) ++ two_digits (n % 100)
 
@@ -44,9 +48,11 @@ has_year (DateTime b) = year_fits b.date.year
 
 -- HTML Standard 2.3.5, valid date string
 abbrev pub date_text : CivilDate → List ℕ
-date_text d = four_digits (unsigned_abs d.year) ++ codes "-" ++ two_digits d.month ++ codes "-" ++ two_digits d.day
+date_text d =
+    four_digits (unsigned_abs d.year) ++ codes "-" ++ two_digits d.month
+    ++ codes "-" ++ two_digits d.day
 
--- seconds are left away where they are zero
+-- seconds are omitted where they are zero
 abbrev pub seconds_text : ℕ → List ℕ
 seconds_text n = if n == 0 then [] else codes ":" ++ two_digits n
 
@@ -88,6 +94,9 @@ duration_text s = if s == 0 then codes "0s" else counts_text s
 -- HTML Standard 4.2.4, a keyword of `sizes`
 abbrev pub size_text : ℕ → ℕ → List ℕ
 size_text width height = decimal width ++ codes "x" ++ decimal height
+
+abbrev pub image_candidate_view : ImageCandidate → List ℕ × Option ℕ
+image_candidate_view image = (text_view image.src, option_map non_zero_u64_get image.width)
 
 -- HTML Standard 4.8.4.2.1, an image candidate string
 abbrev pub candidate_text : List ℕ → Option ℕ → List ℕ

@@ -8,42 +8,42 @@ use Rattle.html_values.specs.declared.attr_type.AttrType.{AttrType, AttrType-F, 
 use Rattle.html_values.specs.declared.attr_type.ListType.{ListType, ListType-F}
 
 mutual
-  pub data Kind : Type 0 where
-    presence : Kind
-    native : NativeType → Kind
-    strings : List (List ℕ) → Kind
-    union : Kinds → Kind
-    list : (inner : Kind) (separator : ℕ) (shorthand : Bool) → Kind
+  pub data AttrTypeView : Type 0 where
+    presence : AttrTypeView
+    native : NativeType → AttrTypeView
+    strings : List (List ℕ) → AttrTypeView
+    union : AttrTypesView → AttrTypeView
+    list : (inner : AttrTypeView) (separator : ℕ) (shorthand : Bool) → AttrTypeView
 
-  pub data Kinds : Type 0 where
-    no_kinds : Kinds
-    kind : Kind → Kinds → Kinds
+  pub data AttrTypesView : Type 0 where
+    no_attr_types : AttrTypesView
+    attr_type : AttrTypeView → AttrTypesView → AttrTypesView
 
-abbrev pub kinds_of : List Kind → Kinds
-kinds_of [] = no_kinds
-kinds_of (k ∷ ks) = kind k (kinds_of ks)
+abbrev pub attr_types_of : List AttrTypeView → AttrTypesView
+attr_types_of [] = no_attr_types
+attr_types_of (k ∷ ks) = attr_type k (attr_types_of ks)
 
 abbrev pub texts_view : List (String Global) → List (List ℕ)
 texts_view = map text_view
 
-abbrev pub list_step : ListType-F Kind Kind → Kind
-list_step l = list (box_value l.inner) l.separator l.shorthand
+abbrev pub list_type_step : ListType-F AttrTypeView AttrTypeView → AttrTypeView
+list_type_step l = list (box_value l.inner) l.separator l.shorthand
 
-abbrev pub type_step : AttrType-F Kind Kind → Kind
-type_step AttrType-F.Presence = presence
-type_step (AttrType-F.Native t) = native t
-type_step (AttrType-F.Strings texts) = strings (texts_view texts.items)
-type_step (AttrType-F.Union members) = union (kinds_of members.items)
-type_step (AttrType-F.List l) = l
+abbrev pub attr_type_step : AttrType-F AttrTypeView AttrTypeView → AttrTypeView
+attr_type_step AttrType-F.Presence = presence
+attr_type_step (AttrType-F.Native t) = native t
+attr_type_step (AttrType-F.Strings texts) = strings (texts_view texts.items)
+attr_type_step (AttrType-F.Union members) = union (attr_types_of members.items)
+attr_type_step (AttrType-F.List l) = l
 
-abbrev pub type_view : AttrType → Kind
-type_view = fold-AttrType Kind Kind type_step list_step
+abbrev pub attr_type_view : AttrType → AttrTypeView
+attr_type_view = fold-AttrType AttrTypeView AttrTypeView attr_type_step list_type_step
 
-abbrev pub inner_view : ListType → Kind
-inner_view l = type_view (box_value l.inner)
+abbrev pub inner_view : ListType → AttrTypeView
+inner_view l = attr_type_view (box_value l.inner)
 
-abbrev pub listed_view : ListType → Kind
-listed_view l = list (inner_view l) l.separator l.shorthand
+abbrev pub list_type_view : ListType → AttrTypeView
+list_type_view l = list (inner_view l) l.separator l.shorthand
 
-abbrev pub types_view : List AttrType → Kinds
-types_view ts = kinds_of (map type_view ts)
+abbrev pub attr_types_view : List AttrType → AttrTypesView
+attr_types_view ts = attr_types_of (map attr_type_view ts)

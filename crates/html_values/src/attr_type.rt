@@ -1,10 +1,10 @@
 ghost use Rattle.std.specs.Prelude.{◌≡◌, ◌&&◌, false, IfOk, IfErr, Ok};
 ghost use Rattle.html_names.specs.Texts.{text_view};
-ghost use Rattle.html_values.specs.Casts.{IsRefusal, alone, answered, cast, castable, castable_by_any, first_cast, gives, has_presence, item_texts, joined, presence_in, takes};
-ghost use Rattle.html_values.specs.Types.{inner_view, list, listed_view, texts_view, type_view, types_view};
+ghost use Rattle.html_values.specs.Casts.{Casts, MakesTexts, shorthand_answer, option_answer, cast, castable, castable_by_any, first_cast, has_presence, item_texts, presence_in, text_answer};
+ghost use Rattle.html_values.specs.Types.{inner_view, list, list_type_view, texts_view, attr_type_view, attr_types_view};
 ghost use Rattle.html_values.specs.Values.{value_view, values_view};
 
-use crate::cast::{allowed, counted, is_among, joined, unparted};
+use crate::cast::{allowed_text, is_among, join, text_or_empty, without_separator};
 use crate::cast_fault::CastFault;
 use crate::native_type::NativeType;
 use crate::text::empty;
@@ -16,7 +16,7 @@ use std::alloc::{AllocFailed, Global};
 #[derive(Debug, Drop)]
 #[cycle(attr_type)]
 pub enum AttrType {
-    /// A truth: an attribute that is there or not.
+    /// A Boolean: an attribute that is there or not.
     Presence,
     /// Values of one kind.
     Native(NativeType),
@@ -41,16 +41,17 @@ impl ListType {
     /// A list of such items, separated by that character, and by a space after a comma. With
     /// `shorthand` a value that the inner type takes may stand for an array of itself.
     ///
-    /// An item has a text: `inner` does not hold the type of presence. Where memory is refused,
-    /// `inner` comes back.
+    /// An item has a text: `inner` does not hold the type of presence. Where an allocation
+    /// fails, `inner` comes back.
     pub fn new(
         alloc: Global,
         inner: AttrType,
         separator: char,
         shorthand: bool,
     ) -> Result<ListType, Refused<AttrType>>
-        requires { has_presence (type_view inner) ≡ false }
-        ensures ok { IfOk result (λ made. listed_view made ≡ list (type_view inner) separator shorthand) }
+        requires { has_presence (attr_type_view inner) ≡ false }
+        ensures ok { IfOk result
+            (λ made. list_type_view made ≡ list (attr_type_view inner) separator shorthand) }
         ensures err { IfErr result (λ refused. refused.back ≡ inner) }
     {
         match Box::new(alloc, inner) {
@@ -64,42 +65,15 @@ impl ListType {
     }
 }
 
-impl NativeType {
-    /// Whether the type is for values of this kind.
-    fn takes(self, value: &Value) -> bool
-        ensures { result ≡ takes self (value_view value.now) }
-    {
-        match self {
-            NativeType::NoValue | NativeType::NoneEmpty | NativeType::NoneUndefined => {
-                matches!(value, Value::None)
-            }
-            NativeType::Auto => matches!(value, Value::Auto),
-            NativeType::TrueFalse | NativeType::YesNo | NativeType::OnOff => {
-                matches!(value, Value::Bool(_))
-            }
-            NativeType::Int | NativeType::NonNegativeInt | NativeType::PositiveInt => {
-                matches!(value, Value::Int(_))
-            }
-            NativeType::Str | NativeType::Char => matches!(value, Value::Str(_)),
-            NativeType::Datetime => matches!(value, Value::Datetime(_)),
-            NativeType::Duration => matches!(value, Value::Duration(_)),
-            NativeType::Color => matches!(value, Value::Color(_)),
-            NativeType::HorizontalDir => matches!(value, Value::Dir(_)),
-            NativeType::IconSize => matches!(value, Value::Array(_)),
-            NativeType::ImageCandidate => matches!(value, Value::Image { .. }),
-        }
-    }
-}
-
 impl AttrType {
     /// Whether the type is for a value: by its kind, and for a list of texts by the text itself.
     #[cycle(castable)]
     pub fn castable(&self, value: &Value) -> bool
-        ensures { result ≡ castable (type_view self.now) (value_view value.now) }
+        ensures { result ≡ castable (attr_type_view self.now) (value_view value.now) }
     {
         match self {
             AttrType::Presence => matches!(value, Value::Bool(_)),
-            AttrType::Native(native) => native.takes(value),
+            AttrType::Native(native) => native.castable(value),
             AttrType::Strings(texts) => match value {
                 Value::Str(text) => is_among(text.as_str(), texts),
                 _ => false,
@@ -112,7 +86,7 @@ impl AttrType {
     /// Whether the type is that of presence, or a union that holds it.
     #[cycle(presence)]
     pub fn has_presence(&self) -> bool
-        ensures { result ≡ has_presence (type_view self.now) }
+        ensures { result ≡ has_presence (attr_type_view self.now) }
     {
         match self {
             AttrType::Presence => true,
@@ -125,7 +99,7 @@ impl AttrType {
 impl ListType {
     #[cycle(castable)]
     fn castable(&self, value: &Value) -> bool
-        ensures { result ≡ castable (listed_view self.now) (value_view value.now) }
+        ensures { result ≡ castable (list_type_view self.now) (value_view value.now) }
     {
         match value {
             Value::Array(_) => true,
@@ -136,7 +110,7 @@ impl ListType {
 
 #[cycle(castable)]
 fn is_castable_by_any(members: &[AttrType], value: &Value) -> bool
-    ensures { result ≡ castable_by_any (types_view members.now) (value_view value.now) }
+    ensures { result ≡ castable_by_any (attr_types_view members.now) (value_view value.now) }
 {
     for member in members {
         if member.castable(value) {
@@ -148,7 +122,7 @@ fn is_castable_by_any(members: &[AttrType], value: &Value) -> bool
 
 #[cycle(presence)]
 fn is_presence_in(members: &[AttrType]) -> bool
-    ensures { result ≡ presence_in (types_view members.now) }
+    ensures { result ≡ presence_in (attr_types_view members.now) }
 {
     for member in members {
         if member.has_presence() {
@@ -160,15 +134,23 @@ fn is_presence_in(members: &[AttrType]) -> bool
 
 impl AttrType {
     /// What a value becomes as an attribute of this type: its text, or nothing where the attribute
-    /// is left away.
+    /// is omitted.
     ///
-    /// A type that is not for the value refuses it with `WrongKind`, or with `NotInStrings` where it
-    /// lists other texts; so does a value that a type is for but that has no text there. A union casts
-    /// by its first type that is `castable` for the value. A list joins the texts of its items.
+    /// A type that is not for the value refuses it with `WrongKind`, or with `NotInStrings` where
+    /// it lists other texts. A value that the type is for, but that has no text there, is refused
+    /// with the fault that says why. A union casts by its first type that is `castable` for the
+    /// value. A list joins the texts of its items.
+    ///
+    /// ```
+    /// let id = Value::Int(7);
+    /// assert_eq!(AttrType::Native(NativeType::Int).cast(alloc, &id)?.as_deref(), Some("7"));
+    /// assert!(AttrType::Presence.cast(alloc, &Value::Bool(false))?.is_none());
+    /// assert_eq!(AttrType::Presence.cast(alloc, &id).err(), Some(CastFault::WrongKind));
+    /// ```
     #[cycle(cast)]
     pub fn cast(&self, alloc: Global, value: &Value) -> Result<Option<String>, CastFault>
-        ensures ok { IfOk result (λ made. cast (type_view self.now) (value_view value.now) ≡ answered made) }
-        ensures err { IfErr result (IsRefusal (cast (type_view self.now) (value_view value.now))) }
+        ensures { Casts option_answer result
+            (cast (attr_type_view self.now) (value_view value.now)) }
     {
         match self {
             AttrType::Presence => match value {
@@ -177,7 +159,7 @@ impl AttrType {
                 _ => Err(CastFault::WrongKind),
             },
             AttrType::Native(native) => Ok(Some(native.cast(alloc, value)?)),
-            AttrType::Strings(texts) => Ok(Some(allowed(texts, value)?)),
+            AttrType::Strings(texts) => Ok(Some(allowed_text(texts, value)?)),
             AttrType::Union(members) => cast_by_first(alloc, members, value),
             AttrType::List(list) => Ok(Some(list.cast(alloc, value)?)),
         }
@@ -188,27 +170,27 @@ impl ListType {
     /// The text of an array, or of a value that stands for an array of itself.
     #[cycle(cast)]
     fn cast(&self, alloc: Global, value: &Value) -> Result<String, CastFault>
-        ensures ok { IfOk result (λ made. cast (listed_view self.now) (value_view value.now) ≡ gives (text_view made)) }
-        ensures err { IfErr result (IsRefusal (cast (listed_view self.now) (value_view value.now))) }
+        ensures { Casts text_answer result (cast (list_type_view self.now) (value_view value.now)) }
     {
         match value {
             Value::Array(items) => {
                 let texts = self.texts(alloc, items)?;
-                Ok(joined(alloc, &texts, self.separator)?)
+                Ok(join(alloc, &texts, self.separator)?)
             }
-            _ => self.cast_alone(alloc, value),
+            _ => self.cast_shorthand(alloc, value),
         }
     }
 
     /// The text of a value that stands for an array of itself.
     #[cycle(cast)]
-    #[tactic(auto, using(crate::proofs::Joined::counted_refusal))]
-    fn cast_alone(&self, alloc: Global, value: &Value) -> Result<String, CastFault>
-        ensures ok { IfOk result (λ made. alone (self.now.shorthand && castable (inner_view self.now) (value_view value.now)) (cast (inner_view self.now) (value_view value.now)) ≡ gives (text_view made)) }
-        ensures err { IfErr result (IsRefusal (alone (self.now.shorthand && castable (inner_view self.now) (value_view value.now)) (cast (inner_view self.now) (value_view value.now)))) }
+    #[tactic(auto, using(crate::proofs::Joined::item_refusal))]
+    fn cast_shorthand(&self, alloc: Global, value: &Value) -> Result<String, CastFault>
+        ensures { Casts text_answer result (shorthand_answer
+            (self.now.shorthand && castable (inner_view self.now) (value_view value.now))
+            (cast (inner_view self.now) (value_view value.now))) }
     {
         if self.shorthand && self.inner.castable(value) {
-            Ok(counted(alloc, self.inner.cast(alloc, value)?))
+            Ok(text_or_empty(alloc, self.inner.cast(alloc, value)?))
         } else {
             Err(CastFault::WrongKind)
         }
@@ -217,13 +199,13 @@ impl ListType {
     /// The texts of an array's items.
     #[cycle(cast)]
     fn texts(&self, alloc: Global, items: &[Value]) -> Result<Vec<String>, CastFault>
-        ensures ok { IfOk result (λ made. item_texts (cast (inner_view self.now)) self.now.separator (values_view items.now) ≡ Ok (texts_view made.items)) }
-        ensures err { IfErr result (IsRefusal (joined self.now.separator (item_texts (cast (inner_view self.now)) self.now.separator (values_view items.now)))) }
+        ensures { MakesTexts result self.now.separator
+            (item_texts (cast (inner_view self.now)) self.now.separator (values_view items.now)) }
     {
         let mut texts = Vec::new(alloc);
         for item in items {
             let made = self.inner.cast(alloc, item)?;
-            texts.push(unparted(counted(alloc, made), self.separator)?)?;
+            texts.push(without_separator(text_or_empty(alloc, made), self.separator)?)?;
         }
         Ok(texts)
     }
@@ -236,8 +218,8 @@ fn cast_by_first(
     members: &[AttrType],
     value: &Value,
 ) -> Result<Option<String>, CastFault>
-    ensures ok { IfOk result (λ made. first_cast (types_view members.now) (value_view value.now) ≡ answered made) }
-    ensures err { IfErr result (IsRefusal (first_cast (types_view members.now) (value_view value.now))) }
+    ensures { Casts option_answer result
+        (first_cast (attr_types_view members.now) (value_view value.now)) }
 {
     for kind in members {
         if kind.castable(value) {

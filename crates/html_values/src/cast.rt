@@ -6,13 +6,14 @@ ghost use Rattle.std.specs.Str.{bytes_eq};
 ghost use Rattle.html_names.specs.Names.{stands_in};
 ghost use Rattle.html_names.specs.Texts.{text_view};
 ghost use Rattle.html_values.specs.Attributes.{IsText};
-ghost use Rattle.html_values.specs.Casts.{IsRefusal, answered, between, counted, gives, item_text, strings_cast};
+ghost use Rattle.html_values.specs.Casts.{option_answer, separator_text, item_answer, gives, Casts, text_answer, text_result, item_text, strings_cast};
 ghost use Rattle.html_values.specs.Types.{texts_view};
 ghost use Rattle.html_values.specs.Values.{value_view};
 
 use crate::cast_fault::CastFault;
-use crate::text::{empty, push_char, push_text};
+use crate::text::empty;
 use crate::value::Value;
+use html_names::Output;
 use std::alloc::{AllocError, Global};
 
 /// Whether a text is one of these.
@@ -36,9 +37,9 @@ fn is_same(a: &str, b: &str) -> bool
 }
 
 /// A text that is one of these.
-pub(crate) fn allowed(texts: &[String], value: &Value) -> Result<String, CastFault>
-    ensures ok { IfOk result (λ made. strings_cast (texts_view texts.now) (value_view value.now) ≡ gives (text_view made)) }
-    ensures err { IfErr result (IsRefusal (strings_cast (texts_view texts.now) (value_view value.now))) }
+pub(crate) fn allowed_text(texts: &[String], value: &Value) -> Result<String, CastFault>
+    ensures { Casts text_answer result
+        (strings_cast (texts_view texts.now) (value_view value.now)) }
 {
     match value {
         Value::Str(text) => {
@@ -52,9 +53,9 @@ pub(crate) fn allowed(texts: &[String], value: &Value) -> Result<String, CastFau
     }
 }
 
-/// A text, empty for nothing.
-pub(crate) fn counted(alloc: Global, made: Option<String>) -> String
-    ensures { counted (answered made) ≡ gives (text_view result) }
+/// The text that was made, or the empty one.
+pub(crate) fn text_or_empty(alloc: Global, made: Option<String>) -> String
+    ensures { item_answer (option_answer made) ≡ text_answer result }
 {
     match made {
         Some(text) => text,
@@ -70,9 +71,8 @@ fn holds(text: &str, separator: char) -> bool
 }
 
 /// A text that does not hold the separator.
-pub(crate) fn unparted(text: String, separator: char) -> Result<String, CastFault>
-    ensures ok { IfOk result (λ made. item_text separator (gives (text_view text)) ≡ Ok (text_view made)) }
-    ensures err { IfErr result (λ fault. item_text separator (gives (text_view text)) ≡ Err fault) }
+pub(crate) fn without_separator(text: String, separator: char) -> Result<String, CastFault>
+    ensures { item_text separator (text_answer text) ≡ text_result result }
 {
     if holds(text.as_str(), separator) {
         return Err(CastFault::SeparatorInItem);
@@ -81,35 +81,36 @@ pub(crate) fn unparted(text: String, separator: char) -> Result<String, CastFaul
 }
 
 /// Adds the separator, and a space after a comma.
-fn push_between(text: &mut String, separator: char) -> Result<(), AllocError>
-    ensures { OnOk result (text_view text.new ≡ text_view text.old ++ between separator) }
+fn push_separator(text: &mut Output, separator: char) -> Result<(), AllocError>
+    ensures { OnOk result (text.new ≡ text.old ++ separator_text separator) }
 {
-    push_char(text, separator)?;
+    text.push(separator)?;
     if separator == ',' {
-        push_char(text, ' ')?;
+        text.push(' ')?;
     }
     Ok(())
 }
 
 /// Texts with the separator between them.
-pub(crate) fn joined(alloc: Global, texts: &[String], separator: char) -> Result<String, AllocError>
-    ensures { IsText result (join_by (λ t. t) (between separator) (texts_view texts.now)) }
+pub(crate) fn join(alloc: Global, texts: &[String], separator: char) -> Result<String, AllocError>
+    ensures { IsText result (join_by (λ t. t) (separator_text separator) (texts_view texts.now)) }
 {
-    let mut text = empty(alloc);
+    let mut text = Output::new(alloc);
     if let [first, others @ ..] = texts {
-        push_text(&mut text, first.as_str())?;
+        text.push_str(first.as_str())?;
         push_others(&mut text, others, separator)?;
     }
-    Ok(text)
+    Ok(text.into_string())
 }
 
 /// Adds texts, each after the separator.
-fn push_others(text: &mut String, others: &[String], separator: char) -> Result<(), AllocError>
-    ensures { OnOk result (text_view text.new ≡ text_view text.old ++ flat_map (λ t. between separator ++ t) (texts_view others.now)) }
+fn push_others(text: &mut Output, others: &[String], separator: char) -> Result<(), AllocError>
+    ensures { OnOk result (text.new ≡ text.old
+        ++ flat_map (λ t. separator_text separator ++ t) (texts_view others.now)) }
 {
     for other in others {
-        push_between(text, separator)?;
-        push_text(text, other.as_str())?;
+        push_separator(text, separator)?;
+        text.push_str(other.as_str())?;
     }
     Ok(())
 }

@@ -6,7 +6,7 @@ use thiserror::Error;
 /// Why a value has no text as an attribute of a type.
 #[derive(Clone, Copy, Debug, PartialEq, Eq, Error)]
 pub enum CastFault {
-    /// A growth of memory was refused.
+    /// An allocation failed.
     #[error("out of memory")]
     OutOfMemory,
     /// The type is not for values of this kind.
@@ -38,7 +38,7 @@ pub enum CastFault {
 impl CastFault {
     ghost use Rattle.html_values.specs.CastFaults.{number_of};
 
-    /// The fault's number: 0 for want of memory, and from 16 on in the order of the variants.
+    /// The fault's number: 0 for out of memory, and from 16 on in the order of the variants.
     pub fn number(&self) -> u8
         ensures { result ≡ number_of self.now }
     {

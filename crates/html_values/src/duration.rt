@@ -5,7 +5,8 @@ ghost use Rattle.html_values.specs.AttrTexts.{counts_text, count_text, gap_after
 ghost use Rattle.html_values.specs.Attributes.{IsText};
 
 use crate::into_attr::IntoAttr;
-use crate::text::{ascii, empty, push_ascii, push_number};
+use crate::text::ascii;
+use html_names::Output;
 use std::alloc::{AllocError, Global};
 
 const MINUTE: u64 = 60;
@@ -24,39 +25,40 @@ const WEEK: u64 = 7 * DAY;
 pub struct Duration(pub u64);
 
 /// Adds a space, unless the text is empty.
-fn push_gap(text: &mut String) -> Result<(), AllocError>
-    ensures { OnOk result (text_view text.new ≡ gap_after (text_view text.old)) }
+fn push_gap(text: &mut Output) -> Result<(), AllocError>
+    ensures { OnOk result (text.new ≡ gap_after text.old) }
 {
-    if text.as_str().is_empty() {
-        return Ok(());
+    match text.as_str().chars().next() {
+        None => Ok(()),
+        Some(_) => text.push(' '),
     }
-    push_ascii(text, " ")
 }
 
 /// Adds a count with its unit, unless it is zero, and a space before it, unless it is the first.
-fn push_count(text: &mut String, count: u64, unit: &str) -> Result<(), AllocError>
+fn push_count(text: &mut Output, count: u64, unit: &str) -> Result<(), AllocError>
     requires { IsTrue (is_ascii unit.now) }
-    ensures { OnOk result (text_view text.new ≡ spaced (text_view text.old) (count_text count unit.now)) }
+    ensures { OnOk result
+        (text.new ≡ spaced text.old (count_text count unit.now)) }
 {
     if count == 0 {
         return Ok(());
     }
     push_gap(text)?;
-    push_number(text, count)?;
-    push_ascii(text, unit)
+    text.push_decimal(count)?;
+    text.push_ascii(unit)
 }
 
 /// The counts that are above zero.
 fn counts(alloc: Global, seconds: u64) -> Result<String, AllocError>
     ensures { IsText result (counts_text seconds) }
 {
-    let mut text = empty(alloc);
+    let mut text = Output::new(alloc);
     push_count(&mut text, seconds / WEEK, "w")?;
     push_count(&mut text, seconds / DAY % 7, "d")?;
     push_count(&mut text, seconds / HOUR % 24, "h")?;
     push_count(&mut text, seconds / MINUTE % 60, "m")?;
     push_count(&mut text, seconds % 60, "s")?;
-    Ok(text)
+    Ok(text.into_string())
 }
 
 impl IntoAttr for Duration {

@@ -4,7 +4,7 @@ ghost use Rattle.html_names.specs.Texts.{text_view};
 ghost use Rattle.html_values.specs.AttrTexts.{size_text, candidate_text};
 
 use crate::into_attr::IntoAttr;
-use crate::text::{empty, push_ascii, push_number};
+use html_names::Output;
 use std::alloc::{AllocError, Global};
 use std::num::NonZeroU64;
 
@@ -31,24 +31,26 @@ impl IntoAttr for IconSize {
     ghost attr_text = { λ size. size_text size.width size.height };
 
     fn into_attr(&self, alloc: Global) -> Result<String, AllocError> {
-        let mut text = empty(alloc);
-        push_number(&mut text, self.width)?;
-        push_ascii(&mut text, "x")?;
-        push_number(&mut text, self.height)?;
-        Ok(text)
+        let mut text = Output::new(alloc);
+        text.push_decimal(self.width)?;
+        text.push_ascii("x")?;
+        text.push_decimal(self.height)?;
+        Ok(text.into_string())
     }
 }
 
 impl IntoAttr for ImageCandidate {
-    ghost attr_text = { λ image. candidate_text (text_view image.src) (option_map non_zero_u64_get image.width) };
+    ghost attr_text = { λ image. candidate_text (text_view image.src)
+        (option_map non_zero_u64_get image.width) };
 
-    fn into_attr(&self, _alloc: Global) -> Result<String, AllocError> {
-        let mut text = self.src.clone()?;
+    fn into_attr(&self, alloc: Global) -> Result<String, AllocError> {
+        let mut text = Output::new(alloc);
+        text.push_str(self.src.as_str())?;
         if let Some(width) = self.width {
-            push_ascii(&mut text, " ")?;
-            push_number(&mut text, width.get())?;
-            push_ascii(&mut text, "w")?;
+            text.push_ascii(" ")?;
+            text.push_decimal(width.get())?;
+            text.push_ascii("w")?;
         }
-        Ok(text)
+        Ok(text.into_string())
     }
 }

@@ -6,8 +6,9 @@ ghost use Rattle.html_css.specs.Colors.{color_text};
 ghost use Rattle.html_values.specs.AttrTexts.{dir_text};
 ghost use Rattle.html_values.specs.Attributes.{IsText};
 
-use crate::text::{ascii, empty, push_char, push_number};
+use crate::text::ascii;
 use html_css::{Dir, Rgba, ToCss};
+use html_names::Output;
 use std::alloc::{AllocError, Global};
 use std::num::{NonZeroI64, NonZeroU64};
 
@@ -37,9 +38,9 @@ impl IntoAttr for char {
     ghost attr_text = { λ c. c ∷ [] };
 
     fn into_attr(&self, alloc: Global) -> Result<String, AllocError> {
-        let mut text = empty(alloc);
-        push_char(&mut text, *self)?;
-        Ok(text)
+        let mut text = Output::new(alloc);
+        text.push(*self)?;
+        Ok(text.into_string())
     }
 }
 
@@ -47,9 +48,9 @@ impl IntoAttr for u64 {
     ghost attr_text = { decimal };
 
     fn into_attr(&self, alloc: Global) -> Result<String, AllocError> {
-        let mut text = empty(alloc);
-        push_number(&mut text, *self)?;
-        Ok(text)
+        let mut text = Output::new(alloc);
+        text.push_decimal(*self)?;
+        Ok(text.into_string())
     }
 }
 
@@ -65,12 +66,12 @@ impl IntoAttr for i64 {
     ghost attr_text = { signed_decimal };
 
     fn into_attr(&self, alloc: Global) -> Result<String, AllocError> {
-        let mut text = empty(alloc);
+        let mut text = Output::new(alloc);
         if *self < 0 {
-            push_char(&mut text, '-')?;
+            text.push('-')?;
         }
-        push_number(&mut text, self.unsigned_abs())?;
-        Ok(text)
+        text.push_decimal(self.unsigned_abs())?;
+        Ok(text.into_string())
     }
 }
 

@@ -1,5 +1,12 @@
-//! Typed values of attributes: the texts that they have, and the types of attributes that cast values
-//! of a document to texts. With the css values of `html_css`.
+//! Typed values of attributes: the texts that they have, and the types of attributes that cast
+//! values of a document to texts. With the css values of `html_css`, and with the civil dates and
+//! times that a [`Moment`] is made of, as [`civil`].
+//!
+//! ```
+//! let day = Moment::Date(civil::date(2024, 2, 9));
+//! assert_eq!(Datetime::new(day)?.into_attr(alloc)?.as_str(), "2024-02-09");
+//! assert_eq!(Duration(694_861).into_attr(alloc)?.as_str(), "1w 1d 1h 1m 1s");
+//! ```
 //!
 //! A contract sees a text as a list of characters.
 #![tactic(auto)]
@@ -10,11 +17,9 @@ mod cast_fault;
 mod duration;
 mod image;
 mod into_attr;
+pub mod laws;
 mod moment;
-mod native_cast;
 mod native_type;
-#[cfg(test)]
-mod tests;
 mod text;
 mod value;
 mod words;
@@ -23,11 +28,13 @@ pub use attr_type::{AttrType, ListType};
 pub use cast_fault::CastFault;
 pub use duration::Duration;
 pub use html_css::{
-    Abs, Angle, Calc, CalcPart, Call, CssWriter, Dir, Em, Inline, Length, Paint, Properties,
-    PropertiesBuilder, Property, Ratio, Rel, Rgba, Separator, ToCss, Warning, WarningSink, laws,
+    Abs, Angle, Calc, CalcPart, Call, CssWriter, Degrees, Dir, Em, Ems, Inline, Length, Paint,
+    Points, Properties, PropertiesBuilder, Property, Quantity, Ratio, Rel, Rgba, Separator, ToCss,
+    Unit, Warning, WarningSink, Whole, laws as css_laws,
 };
 pub use image::{IconSize, ImageCandidate};
 pub use into_attr::{IntoAttr, Str};
+pub use jiff::civil;
 pub use moment::{Datetime, Moment};
 pub use native_type::NativeType;
 pub use value::Value;

@@ -5,7 +5,7 @@ ghost use Rattle.html_values.specs.declared.cast_fault.CastFault.TheVariants.{Ye
 
 use crate::cast_fault::CastFault;
 use crate::into_attr::IntoAttr;
-use crate::text::{empty, push_ascii, push_two_digits};
+use html_names::Output;
 use jiff::civil::{Date, DateTime, Time};
 use std::alloc::{AllocError, Global};
 
@@ -22,8 +22,8 @@ pub enum Moment {
 
 /// A moment that has a text: where it has a year, that is one from 1 to 9999.
 ///
-/// The text is `2024-02-09`, `08:05`, `08:05:30` where there are seconds, or both with a `T` between
-/// them (HTML Standard 2.3.5); parts of a second are left away.
+/// The text is `2024-02-09`, `08:05`, `08:05:30` where there are seconds, or both with a `T`
+/// between them (HTML Standard 2.3.5); parts of a second are omitted.
 #[derive(Clone, Copy, Debug, PartialEq, Eq)]
 pub struct Datetime {
     moment: Moment,
@@ -65,39 +65,39 @@ fn is_year(year: i16) -> bool
 }
 
 /// Adds a date.
-fn push_date(text: &mut String, date: &Date) -> Result<(), AllocError>
+fn push_date(text: &mut Output, date: &Date) -> Result<(), AllocError>
     requires { IsTrue (year_fits date.now.year) }
-    ensures { OnOk result (text_view text.new ≡ text_view text.old ++ date_text date.now) }
+    ensures { OnOk result (text.new ≡ text.old ++ date_text date.now) }
 {
     let year = date.year().unsigned_abs();
-    push_two_digits(text, (year / 100) as u8)?;
-    push_two_digits(text, (year % 100) as u8)?;
-    push_ascii(text, "-")?;
-    push_two_digits(text, date.month().unsigned_abs())?;
-    push_ascii(text, "-")?;
-    push_two_digits(text, date.day().unsigned_abs())
+    text.push_two_digits((year / 100) as u8)?;
+    text.push_two_digits((year % 100) as u8)?;
+    text.push_ascii("-")?;
+    text.push_two_digits(date.month().unsigned_abs())?;
+    text.push_ascii("-")?;
+    text.push_two_digits(date.day().unsigned_abs())
 }
 
 /// Adds a time.
-fn push_time(text: &mut String, time: &Time) -> Result<(), AllocError>
-    ensures { OnOk result (text_view text.new ≡ text_view text.old ++ time_text time.now) }
+fn push_time(text: &mut Output, time: &Time) -> Result<(), AllocError>
+    ensures { OnOk result (text.new ≡ text.old ++ time_text time.now) }
 {
-    push_two_digits(text, time.hour().unsigned_abs())?;
-    push_ascii(text, ":")?;
-    push_two_digits(text, time.minute().unsigned_abs())?;
+    text.push_two_digits(time.hour().unsigned_abs())?;
+    text.push_ascii(":")?;
+    text.push_two_digits(time.minute().unsigned_abs())?;
     push_seconds(text, time.second().unsigned_abs())
 }
 
 /// Adds seconds, unless they are zero.
-fn push_seconds(text: &mut String, seconds: u8) -> Result<(), AllocError>
+fn push_seconds(text: &mut Output, seconds: u8) -> Result<(), AllocError>
     requires { seconds < 100 }
-    ensures { OnOk result (text_view text.new ≡ text_view text.old ++ seconds_text seconds) }
+    ensures { OnOk result (text.new ≡ text.old ++ seconds_text seconds) }
 {
     if seconds == 0 {
         return Ok(());
     }
-    push_ascii(text, ":")?;
-    push_two_digits(text, seconds)
+    text.push_ascii(":")?;
+    text.push_two_digits(seconds)
 }
 
 impl IntoAttr for Datetime {
@@ -106,16 +106,16 @@ impl IntoAttr for Datetime {
     ghost attr_text = { λ d. moment_text d.moment };
 
     fn into_attr(&self, alloc: Global) -> Result<String, AllocError> {
-        let mut text = empty(alloc);
+        let mut text = Output::new(alloc);
         match &self.moment {
             Moment::Date(date) => push_date(&mut text, date)?,
             Moment::Time(time) => push_time(&mut text, time)?,
             Moment::DateTime(both) => {
                 push_date(&mut text, &both.date())?;
-                push_ascii(&mut text, "T")?;
+                text.push_ascii("T")?;
                 push_time(&mut text, &both.time())?;
             }
         }
-        Ok(text)
+        Ok(text.into_string())
     }
 }

@@ -1,3 +1,25 @@
+ghost use Rattle.std.specs.Prelude.{◌≡◌, IfOk, IfErr, None, Some, length, slice_index, ◌-◌, ◌==◌, [], ◌∷◌, chars, option_map};
+ghost use Rattle.std.specs.Int.NonZero.{non_zero_u64_get};
+ghost use Rattle.html_names.specs.Texts.{text_view};
+ghost use Rattle.html_values.specs.AttrTexts.{horizontal_text, size_text};
+ghost use Rattle.html_values.specs.Casts.{candidate_answer, Casts, Finds, horizontal, icon_size, image, int_of, is_bad_source, native_cast, native_castable, natural, one_char, positive, text_answer, gives};
+ghost use Rattle.html_values.specs.Values.{array_value, auto_value, bool_value, color_value, datetime_value, dir_value, duration_value, image_value, int_value, none_value, str_value, value_view, values_view};
+ghost use Rattle.html_values.specs.declared.cast_fault.CastFault.TheVariants.{NumberRange, WrongKind};
+
+use crate::cast_fault::CastFault;
+use crate::duration::Duration;
+use crate::image::{IconSize, ImageCandidate};
+use crate::into_attr::IntoAttr;
+use crate::moment::{Datetime, Moment};
+use crate::value::Value;
+use crate::words::{
+    AutoValue, HorizontalDir, NoneEmpty, NoneUndefined, NoneValue, OnOffBool, TrueFalseBool,
+    YesNoBool,
+};
+use html_css::Dir;
+use std::alloc::Global;
+use std::num::NonZeroU64;
+
 /// A type of attribute whose values have one kind each.
 #[derive(Clone, Copy, Debug, PartialEq, Eq)]
 pub enum NativeType {
@@ -9,11 +31,11 @@ pub enum NativeType {
     NoneUndefined,
     /// Auto, written `auto`.
     Auto,
-    /// A truth, written `true` or `false`.
+    /// A Boolean, written `true` or `false`.
     TrueFalse,
-    /// A truth, written `yes` or `no`.
+    /// A Boolean, written `yes` or `no`.
     YesNo,
-    /// A truth, written `on` or `off`.
+    /// A Boolean, written `on` or `off`.
     OnOff,
     /// A whole number.
     Int,
@@ -37,4 +59,269 @@ pub enum NativeType {
     IconSize,
     /// An image.
     ImageCandidate,
+}
+
+impl NativeType {
+    /// Whether the type is for values of this kind.
+    pub(crate) fn castable(self, value: &Value) -> bool
+        ensures { result ≡ native_castable self (value_view value.now) }
+    {
+        match self {
+            NativeType::NoValue | NativeType::NoneEmpty | NativeType::NoneUndefined => {
+                matches!(value, Value::None)
+            }
+            NativeType::Auto => matches!(value, Value::Auto),
+            NativeType::TrueFalse | NativeType::YesNo | NativeType::OnOff => {
+                matches!(value, Value::Bool(_))
+            }
+            NativeType::Int | NativeType::NonNegativeInt | NativeType::PositiveInt => {
+                matches!(value, Value::Int(_))
+            }
+            NativeType::Str | NativeType::Char => matches!(value, Value::Str(_)),
+            NativeType::Datetime => matches!(value, Value::Datetime(_)),
+            NativeType::Duration => matches!(value, Value::Duration(_)),
+            NativeType::Color => matches!(value, Value::Color(_)),
+            NativeType::HorizontalDir => matches!(value, Value::Dir(_)),
+            NativeType::IconSize => matches!(value, Value::Array(_)),
+            NativeType::ImageCandidate => matches!(value, Value::Image { .. }),
+        }
+    }
+
+    /// The text of a value of this type.
+    pub(crate) fn cast(self, alloc: Global, value: &Value) -> Result<String, CastFault>
+        ensures { Casts text_answer result (native_cast self (value_view value.now)) }
+    {
+        match value {
+            Value::None => self.cast_none(alloc),
+            Value::Auto => match self {
+                NativeType::Auto => Ok(AutoValue.into_attr(alloc)?),
+                _ => Err(CastFault::WrongKind),
+            },
+            Value::Bool(on) => self.cast_bool(alloc, *on),
+            Value::Int(n) => self.cast_int(alloc, *n),
+            Value::Str(text) => self.cast_str(alloc, text),
+            Value::Color(color) => match self {
+                NativeType::Color => Ok(color.into_attr(alloc)?),
+                _ => Err(CastFault::WrongKind),
+            },
+            Value::Datetime(moment) => self.cast_datetime(alloc, moment),
+            Value::Duration(seconds) => match self {
+                NativeType::Duration => Ok(Duration(*seconds).into_attr(alloc)?),
+                _ => Err(CastFault::WrongKind),
+            },
+            Value::Dir(dir) => self.cast_dir(alloc, *dir),
+            Value::Image { src, width } => self.cast_image(alloc, src, *width),
+            Value::Array(items) => self.cast_array(alloc, items),
+        }
+    }
+
+    /// The text of none.
+    fn cast_none(self, alloc: Global) -> Result<String, CastFault>
+        ensures { Casts text_answer result (native_cast self none_value) }
+    {
+        match self {
+            NativeType::NoValue => Ok(NoneValue.into_attr(alloc)?),
+            NativeType::NoneEmpty => Ok(NoneEmpty.into_attr(alloc)?),
+            NativeType::NoneUndefined => Ok(NoneUndefined.into_attr(alloc)?),
+            _ => Err(CastFault::WrongKind),
+        }
+    }
+
+    /// The text of a Boolean.
+    fn cast_bool(self, alloc: Global, on: bool) -> Result<String, CastFault>
+        ensures { Casts text_answer result (native_cast self (bool_value on)) }
+    {
+        match self {
+            NativeType::TrueFalse => Ok(TrueFalseBool(on).into_attr(alloc)?),
+            NativeType::YesNo => Ok(YesNoBool(on).into_attr(alloc)?),
+            NativeType::OnOff => Ok(OnOffBool(on).into_attr(alloc)?),
+            _ => Err(CastFault::WrongKind),
+        }
+    }
+
+    /// The text of a whole number.
+    fn cast_int(self, alloc: Global, n: i64) -> Result<String, CastFault>
+        ensures { Casts text_answer result (native_cast self (int_value n)) }
+    {
+        match self {
+            NativeType::Int => Ok(n.into_attr(alloc)?),
+            NativeType::NonNegativeInt => Ok(natural(n)?.into_attr(alloc)?),
+            NativeType::PositiveInt => Ok(positive(n)?.into_attr(alloc)?),
+            _ => Err(CastFault::WrongKind),
+        }
+    }
+
+    /// The text of a text.
+    fn cast_str(self, alloc: Global, text: &String) -> Result<String, CastFault>
+        ensures { Casts text_answer result (native_cast self (str_value (text_view text.now))) }
+    {
+        match self {
+            NativeType::Str => Ok(text.clone()?),
+            NativeType::Char => Ok(only_char(text.as_str())?.into_attr(alloc)?),
+            _ => Err(CastFault::WrongKind),
+        }
+    }
+
+    /// The text of a moment.
+    fn cast_datetime(self, alloc: Global, moment: &Moment) -> Result<String, CastFault>
+        ensures { Casts text_answer result (native_cast self (datetime_value moment.now)) }
+    {
+        match self {
+            NativeType::Datetime => Ok(Datetime::new(*moment)?.into_attr(alloc)?),
+            _ => Err(CastFault::WrongKind),
+        }
+    }
+
+    /// The text of a direction.
+    fn cast_dir(self, alloc: Global, dir: Dir) -> Result<String, CastFault>
+        ensures { Casts text_answer result (native_cast self (dir_value dir)) }
+    {
+        match self {
+            NativeType::HorizontalDir => Ok(horizontal(dir)?.into_attr(alloc)?),
+            _ => Err(CastFault::WrongKind),
+        }
+    }
+
+    /// The text of an image.
+    fn cast_image(
+        self,
+        alloc: Global,
+        src: &String,
+        width: Option<i64>,
+    ) -> Result<String, CastFault>
+        ensures { Casts text_answer result
+            (native_cast self (image_value (text_view src.now) width)) }
+    {
+        match self {
+            NativeType::ImageCandidate => Ok(candidate(src, width)?.into_attr(alloc)?),
+            _ => Err(CastFault::WrongKind),
+        }
+    }
+
+    /// The text of an array.
+    fn cast_array(self, alloc: Global, items: &[Value]) -> Result<String, CastFault>
+        ensures { Casts text_answer result
+            (native_cast self (array_value (values_view items.now))) }
+    {
+        match self {
+            NativeType::IconSize => Ok(icon_size(items)?.into_attr(alloc)?),
+            _ => Err(CastFault::WrongKind),
+        }
+    }
+}
+
+/// A number from 0 on.
+fn natural(n: i64) -> Result<u64, CastFault>
+    ensures { Finds (λ made. made) NumberRange result (natural n) }
+{
+    match u64::try_from(n) {
+        Ok(n) => Ok(n),
+        Err(_) => Err(CastFault::NumberRange),
+    }
+}
+
+/// A number from 1 on.
+fn positive(n: i64) -> Result<NonZeroU64, CastFault>
+    ensures { Finds non_zero_u64_get NumberRange result (positive n) }
+{
+    match NonZeroU64::new(natural(n)?) {
+        Some(n) => Ok(n),
+        None => Err(CastFault::NumberRange),
+    }
+}
+
+/// The one character of a text.
+fn only_char(text: &str) -> Result<char, CastFault>
+    ensures { Casts (λ c. gives (c ∷ [])) result (one_char (chars text.now)) }
+{
+    let mut characters = text.chars();
+    match (characters.next(), characters.next()) {
+        (Some(c), None) => Ok(c),
+        _ => Err(CastFault::NotOneChar),
+    }
+}
+
+/// A horizontal direction.
+fn horizontal(dir: Dir) -> Result<HorizontalDir, CastFault>
+    ensures { Casts (λ made. gives (horizontal_text made)) result (horizontal dir) }
+{
+    match dir {
+        Dir::LTR => Ok(HorizontalDir::LTR),
+        Dir::RTL => Ok(HorizontalDir::RTL),
+        Dir::TTB | Dir::BTT => Err(CastFault::VerticalDir),
+    }
+}
+
+/// A whole number.
+fn integer(value: &Value) -> Result<i64, CastFault>
+    ensures { Finds (λ n. n) WrongKind result (int_of (value_view value.now)) }
+{
+    match value {
+        Value::Int(n) => Ok(*n),
+        _ => Err(CastFault::WrongKind),
+    }
+}
+
+/// The size that two whole numbers give.
+fn icon_size(items: &[Value]) -> Result<IconSize, CastFault>
+    ensures { Casts (λ size. gives (size_text size.width size.height)) result
+        (icon_size (values_view items.now)) }
+{
+    let [width, height] = items else {
+        return Err(CastFault::WrongKind);
+    };
+    let width = integer(width)?;
+    let height = integer(height)?;
+    Ok(IconSize {
+        width: natural(width)?,
+        height: natural(height)?,
+    })
+}
+
+/// Whether a text has no character.
+#[tactic(auto, using(crate::proofs::Commas::empty_chars))]
+fn is_empty(src: &str) -> bool
+    ensures { result ≡ (length (chars src.now) == 0) }
+{
+    src.is_empty()
+}
+
+/// Whether the first character is a comma.
+#[tactic(auto, using(crate::proofs::Commas::first_chars))]
+fn begins_with_comma(src: &str) -> bool
+    ensures { result ≡ (slice_index (chars src.now) 0 == 44) }
+{
+    src.starts_with(',')
+}
+
+/// Whether the last character is a comma.
+#[tactic(auto, using(crate::proofs::Commas::last_chars))]
+fn ends_with_comma(src: &str) -> bool
+    ensures { result ≡ (slice_index (chars src.now) (length (chars src.now) - 1) == 44) }
+{
+    src.ends_with(',')
+}
+
+/// Whether a text is empty, or begins or ends with a comma.
+fn is_bad_source(src: &str) -> bool
+    ensures { result ≡ is_bad_source (chars src.now) }
+{
+    is_empty(src) || begins_with_comma(src) || ends_with_comma(src)
+}
+
+/// An image with a source and perhaps a width.
+fn candidate(src: &String, width: Option<i64>) -> Result<ImageCandidate, CastFault>
+    ensures { Casts candidate_answer result (image (text_view src.now) width) }
+{
+    let width = match width {
+        Some(n) => Some(positive(n)?),
+        None => None,
+    };
+    if is_bad_source(src.as_str()) {
+        return Err(CastFault::BadImageSource);
+    }
+    Ok(ImageCandidate {
+        src: src.clone()?,
+        width,
+    })
 }

@@ -9,7 +9,7 @@ pub enum Value {
     None,
     /// What decides by itself.
     Auto,
-    /// A truth.
+    /// A Boolean.
     Bool(bool),
     /// A whole number.
     Int(i64),

@@ -1,10 +1,11 @@
 //! Values whose texts are words.
 
-ghost use Rattle.std.specs.Prelude.{codes, []};
-ghost use Rattle.html_values.specs.AttrTexts.{word_of, horizontal_text};
+ghost use Rattle.std.specs.Prelude.{◌≡◌, codes, []};
+ghost use Rattle.html_values.specs.AttrTexts.{word_of, horizontal_dir, horizontal_text};
 
 use crate::into_attr::IntoAttr;
 use crate::text::{ascii, empty};
+use html_css::Dir;
 use std::alloc::{AllocError, Global};
 
 /// None, written `none`.
@@ -23,15 +24,15 @@ pub struct NoneUndefined;
 #[derive(Clone, Copy, Debug, PartialEq, Eq)]
 pub struct AutoValue;
 
-/// A truth, written `true` or `false`.
+/// A Boolean, written `true` or `false`.
 #[derive(Clone, Copy, Debug, PartialEq, Eq)]
 pub struct TrueFalseBool(pub bool);
 
-/// A truth, written `yes` or `no`.
+/// A Boolean, written `yes` or `no`.
 #[derive(Clone, Copy, Debug, PartialEq, Eq)]
 pub struct YesNoBool(pub bool);
 
-/// A truth, written `on` or `off`.
+/// A Boolean, written `on` or `off`.
 #[derive(Clone, Copy, Debug, PartialEq, Eq)]
 pub struct OnOffBool(pub bool);
 
@@ -42,6 +43,18 @@ pub enum HorizontalDir {
     LTR,
     /// From right to left.
     RTL,
+}
+
+impl HorizontalDir {
+    /// The direction of writing.
+    pub fn dir(self) -> Dir
+        ensures { result ≡ horizontal_dir self }
+    {
+        match self {
+            HorizontalDir::LTR => Dir::LTR,
+            HorizontalDir::RTL => Dir::RTL,
+        }
+    }
 }
 
 impl IntoAttr for NoneValue {
@@ -104,12 +117,6 @@ impl IntoAttr for HorizontalDir {
     ghost attr_text = { horizontal_text };
 
     fn into_attr(&self, alloc: Global) -> Result<String, AllocError> {
-        ascii(
-            alloc,
-            match self {
-                HorizontalDir::LTR => "ltr",
-                HorizontalDir::RTL => "rtl",
-            },
-        )
+        self.dir().into_attr(alloc)
     }
 }

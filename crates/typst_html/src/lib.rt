@@ -10,11 +10,13 @@ pub use html_flow::{
     Arg, ArgValue, Args, ConstructFault, ElementInfo, FrameElem, HtmlElem, Item, Pair, Role,
     construct,
 };
-pub use html_names::{HtmlAttr, HtmlTag, NameFault, Refused, attr, charsets, property, tag};
+pub use html_names::{
+    HtmlAttr, HtmlTag, NameFault, Output, Refused, attr, charsets, property, tag,
+};
 pub use html_values::{
-    Abs, Angle, AttrType, AutoValue, Calc, CalcPart, Call, CastFault, CssWriter, Datetime, Dir,
-    Duration, Em, HorizontalDir, IconSize, ImageCandidate, Inline, IntoAttr, Length, ListType,
-    Moment, NativeType, NoneEmpty, NoneUndefined, NoneValue, OnOffBool, Paint, Properties,
-    PropertiesBuilder, Property, Ratio, Rel, Rgba, Separator, Str, ToCss, TrueFalseBool, Value,
-    Warning, WarningSink, YesNoBool,
+    Abs, Angle, AttrType, AutoValue, Calc, CalcPart, Call, CastFault, CssWriter, Datetime, Degrees,
+    Dir, Duration, Em, Ems, HorizontalDir, IconSize, ImageCandidate, Inline, IntoAttr, Length,
+    ListType, Moment, NativeType, NoneEmpty, NoneUndefined, NoneValue, OnOffBool, Paint, Points,
+    Properties, PropertiesBuilder, Property, Quantity, Ratio, Rel, Rgba, Separator, Str, ToCss,
+    TrueFalseBool, Unit, Value, Warning, WarningSink, Whole, YesNoBool, civil,
 };

@@ -5,198 +5,108 @@ ghost use Rattle.html_names.specs.Kinds as kinds;
 
 use crate::html_tag::HtmlTag;
 use crate::property::Display;
+use crate::table::{
+    EMBEDDED_CONTENT, ESCAPABLE_RAW, FLOW_BESIDE_PHRASING, FOREIGN_SELF_CLOSING, HEADING_CONTENT,
+    INTERACTIVE_CONTENT, LINE_BREAK, METADATA_CONTENT, NOT_PALPABLE, PHRASING_CONTENT, RAW,
+    REPLACED, SCRIPT_SUPPORTING_ELEMENT, SECTIONING_CONTENT, VOID,
+};
 use crate::tag::mathml::is_mathml;
 
-/// The names of the elements that `is_void` answers for.
-const VOID: [&str; 13] = [
-    "area", "base", "br", "col", "embed", "hr", "img", "input", "link", "meta", "source", "track",
-    "wbr",
-];
-
 /// Whether the element is void: it has no content and no end tag (HTML Standard 13.1.2).
-#[tactic(auto, unfolding(crate::specs::Kinds::is_void))]
+#[tactic(auto, using(crate::proofs::ByTable::void_by_table))]
 pub fn is_void(tag: &HtmlTag) -> bool
     ensures { result ≡ kinds.is_void tag.now }
 {
-    tag.is_one_of(&VOID)
+    tag.name.is_of(VOID)
 }
 
-/// The names of the elements that `is_raw` answers for.
-const RAW: [&str; 2] = ["script", "style"];
-
 /// Whether the element holds raw text (HTML Standard 13.1.2).
-#[tactic(auto, unfolding(crate::specs::Kinds::is_raw))]
+#[tactic(auto, using(crate::proofs::ByTable::raw_by_table))]
 pub fn is_raw(tag: &HtmlTag) -> bool
     ensures { result ≡ kinds.is_raw tag.now }
 {
-    tag.is_one_of(&RAW)
+    tag.name.is_of(RAW)
 }
 
-/// The names of the elements that `is_escapable_raw` answers for.
-const ESCAPABLE_RAW: [&str; 2] = ["textarea", "title"];
-
 /// Whether the element holds escapable raw text (HTML Standard 13.1.2).
-#[tactic(auto, unfolding(crate::specs::Kinds::is_escapable_raw))]
+#[tactic(auto, using(crate::proofs::ByTable::escapable_raw_by_table))]
 pub fn is_escapable_raw(tag: &HtmlTag) -> bool
     ensures { result ≡ kinds.is_escapable_raw tag.now }
 {
-    tag.is_one_of(&ESCAPABLE_RAW)
+    tag.name.is_of(ESCAPABLE_RAW)
 }
 
-/// The names of the elements that `is_foreign_self_closing` answers for.
-const FOREIGN_SELF_CLOSING: [&str; 2] = ["mprescripts", "mspace"];
-
 /// Whether the foreign element is written self-closing.
-#[tactic(auto, unfolding(crate::specs::Kinds::is_foreign_self_closing))]
+#[tactic(auto, using(crate::proofs::ByTable::foreign_self_closing_by_table))]
 pub fn is_foreign_self_closing(tag: &HtmlTag) -> bool
     ensures { result ≡ kinds.is_foreign_self_closing tag.now }
 {
-    tag.is_one_of(&FOREIGN_SELF_CLOSING)
+    tag.name.is_of(FOREIGN_SELF_CLOSING)
 }
 
-/// The names of the elements that `is_metadata_content` answers for.
-const METADATA_CONTENT: [&str; 8] = [
-    "base", "link", "meta", "noscript", "script", "style", "template", "title",
-];
-
 /// Whether the element is metadata content (HTML Standard 3.2.5.2.1).
-#[tactic(auto, unfolding(crate::specs::Kinds::is_metadata_content))]
+#[tactic(auto, using(crate::proofs::ByTable::metadata_content_by_table))]
 pub fn is_metadata_content(tag: &HtmlTag) -> bool
     ensures { result ≡ kinds.is_metadata_content tag.now }
 {
-    tag.is_one_of(&METADATA_CONTENT)
+    tag.name.is_of(METADATA_CONTENT)
 }
 
-/// The names of the elements that `is_sectioning_content` answers for.
-const SECTIONING_CONTENT: [&str; 4] = ["article", "aside", "nav", "section"];
-
 /// Whether the element is sectioning content (HTML Standard 3.2.5.2.3).
-#[tactic(auto, unfolding(crate::specs::Kinds::is_sectioning_content))]
+#[tactic(auto, using(crate::proofs::ByTable::sectioning_content_by_table))]
 pub fn is_sectioning_content(tag: &HtmlTag) -> bool
     ensures { result ≡ kinds.is_sectioning_content tag.now }
 {
-    tag.is_one_of(&SECTIONING_CONTENT)
+    tag.name.is_of(SECTIONING_CONTENT)
 }
 
-/// The names of the elements that `is_heading_content` answers for.
-const HEADING_CONTENT: [&str; 7] = ["h1", "h2", "h3", "h4", "h5", "h6", "hgroup"];
-
 /// Whether the element is heading content (HTML Standard 3.2.5.2.4).
-#[tactic(auto, unfolding(crate::specs::Kinds::is_heading_content))]
+#[tactic(auto, using(crate::proofs::ByTable::heading_content_by_table))]
 pub fn is_heading_content(tag: &HtmlTag) -> bool
     ensures { result ≡ kinds.is_heading_content tag.now }
 {
-    tag.is_one_of(&HEADING_CONTENT)
+    tag.name.is_of(HEADING_CONTENT)
 }
 
-/// The names of the elements that `is_phrasing_content` answers for.
-const PHRASING_CONTENT: [&str; 55] = [
-    "a", "abbr", "area", "audio", "b", "bdi", "bdo", "br", "button", "canvas", "cite", "code",
-    "data", "datalist", "del", "dfn", "em", "embed", "i", "iframe", "img", "input", "ins", "kbd",
-    "label", "link", "map", "mark", "math", "meta", "meter", "noscript", "object", "output",
-    "picture", "progress", "q", "ruby", "s", "samp", "script", "select", "slot", "small", "span",
-    "strong", "sub", "sup", "template", "textarea", "time", "u", "var", "video", "wbr",
-];
-
 /// Whether the element is phrasing content (HTML Standard 3.2.5.2.5).
-#[tactic(auto, unfolding(crate::specs::Kinds::is_phrasing_content))]
+#[tactic(auto, using(crate::proofs::ByTable::phrasing_content_by_table))]
 pub fn is_phrasing_content(tag: &HtmlTag) -> bool
     ensures { result ≡ kinds.is_phrasing_content tag.now }
 {
-    tag.is_one_of(&PHRASING_CONTENT)
+    tag.name.is_of(PHRASING_CONTENT)
 }
 
-/// The names of the elements that `is_embedded_content` answers for.
-const EMBEDDED_CONTENT: [&str; 9] = [
-    "audio", "canvas", "embed", "iframe", "img", "math", "object", "picture", "video",
-];
-
 /// Whether the element is embedded content (HTML Standard 3.2.5.2.6).
-#[tactic(auto, unfolding(crate::specs::Kinds::is_embedded_content))]
+#[tactic(auto, using(crate::proofs::ByTable::embedded_content_by_table))]
 pub fn is_embedded_content(tag: &HtmlTag) -> bool
     ensures { result ≡ kinds.is_embedded_content tag.now }
 {
-    tag.is_one_of(&EMBEDDED_CONTENT)
+    tag.name.is_of(EMBEDDED_CONTENT)
 }
 
-/// The names of the elements that `is_interactive_content` answers for.
-const INTERACTIVE_CONTENT: [&str; 12] = [
-    "a", "audio", "button", "details", "embed", "iframe", "img", "input", "label", "select",
-    "textarea", "video",
-];
-
 /// Whether the element is interactive content (HTML Standard 3.2.5.2.7).
-#[tactic(auto, unfolding(crate::specs::Kinds::is_interactive_content))]
+#[tactic(auto, using(crate::proofs::ByTable::interactive_content_by_table))]
 pub fn is_interactive_content(tag: &HtmlTag) -> bool
     ensures { result ≡ kinds.is_interactive_content tag.now }
 {
-    tag.is_one_of(&INTERACTIVE_CONTENT)
+    tag.name.is_of(INTERACTIVE_CONTENT)
 }
 
-/// The names of the elements that `is_script_supporting_element` answers for.
-const SCRIPT_SUPPORTING_ELEMENT: [&str; 2] = ["script", "template"];
-
 /// Whether the element supports scripts (HTML Standard 3.2.5.2.9).
-#[tactic(auto, unfolding(crate::specs::Kinds::is_script_supporting_element))]
+#[tactic(auto, using(crate::proofs::ByTable::script_supporting_element_by_table))]
 pub fn is_script_supporting_element(tag: &HtmlTag) -> bool
     ensures { result ≡ kinds.is_script_supporting_element tag.now }
 {
-    tag.is_one_of(&SCRIPT_SUPPORTING_ELEMENT)
+    tag.name.is_of(SCRIPT_SUPPORTING_ELEMENT)
 }
 
-/// The names of the elements that `is_replaced` answers for.
-const REPLACED: [&str; 8] = [
-    "audio", "canvas", "embed", "iframe", "img", "input", "object", "video",
-];
-
 /// Whether the element is replaced: CSS sees one object in its place.
-#[tactic(auto, unfolding(crate::specs::Kinds::is_replaced))]
+#[tactic(auto, using(crate::proofs::ByTable::replaced_by_table))]
 pub fn is_replaced(tag: &HtmlTag) -> bool
     ensures { result ≡ kinds.is_replaced tag.now }
 {
-    tag.is_one_of(&REPLACED)
+    tag.name.is_of(REPLACED)
 }
-
-/// The names of flow content that is no phrasing content.
-const FLOW_BESIDE_PHRASING: [&str; 31] = [
-    "address",
-    "article",
-    "aside",
-    "blockquote",
-    "details",
-    "dialog",
-    "div",
-    "dl",
-    "fieldset",
-    "figure",
-    "footer",
-    "form",
-    "h1",
-    "h2",
-    "h3",
-    "h4",
-    "h5",
-    "h6",
-    "header",
-    "hgroup",
-    "hr",
-    "main",
-    "menu",
-    "nav",
-    "ol",
-    "p",
-    "pre",
-    "search",
-    "section",
-    "table",
-    "ul",
-];
-
-/// The names of flow content that is not palpable.
-const NOT_PALPABLE: [&str; 12] = [
-    "area", "br", "datalist", "dialog", "hr", "link", "meta", "noscript", "script", "slot",
-    "template", "wbr",
-];
 
 /// Whether the element is foreign, as those of MathML are (HTML Standard 13.1.2).
 pub fn is_foreign(tag: &HtmlTag) -> bool
@@ -206,19 +116,19 @@ pub fn is_foreign(tag: &HtmlTag) -> bool
 }
 
 /// Whether the element is flow content and no phrasing content.
-#[tactic(auto, unfolding(crate::specs::Kinds::is_flow_beside_phrasing))]
+#[tactic(auto, using(crate::proofs::ByTable::flow_beside_phrasing_by_table))]
 fn is_flow_beside_phrasing(tag: &HtmlTag) -> bool
     ensures { result ≡ kinds.is_flow_beside_phrasing tag.now }
 {
-    tag.is_one_of(&FLOW_BESIDE_PHRASING)
+    tag.name.is_of(FLOW_BESIDE_PHRASING)
 }
 
 /// Whether the element is flow content that is not palpable.
-#[tactic(auto, unfolding(crate::specs::Kinds::is_not_palpable))]
+#[tactic(auto, using(crate::proofs::ByTable::not_palpable_by_table))]
 fn is_not_palpable(tag: &HtmlTag) -> bool
     ensures { result ≡ kinds.is_not_palpable tag.now }
 {
-    tag.is_one_of(&NOT_PALPABLE)
+    tag.name.is_of(NOT_PALPABLE)
 }
 
 /// Whether the element is flow content (HTML Standard 3.2.5.2.2).
@@ -244,10 +154,11 @@ pub fn is_whitespace_collapsing(tag: &HtmlTag) -> bool
 }
 
 /// Whether the element is `br`.
+#[tactic(auto, using(crate::proofs::ByTable::line_break_by_table))]
 fn is_line_break(tag: &HtmlTag) -> bool
     ensures { result ≡ kinds.is_line_break tag.now }
 {
-    tag.is_one_of(&["br"])
+    tag.name.is_of(LINE_BREAK)
 }
 
 /// Whether the element may stand in a paragraph that its neighbours form: phrasing content that is

@@ -5,179 +5,142 @@ ghost use Rattle.std.specs.Prelude.{◌≡◌};
 ghost use Rattle.html_names.specs.Kinds as kinds;
 
 use crate::html_tag::HtmlTag;
-use crate::known_tag::KnownTag;
 use crate::name::Name;
-
-/// The names of MathML's elements.
-const MATHML: [&str; 30] = [
-    "annotation",
-    "annotation-xml",
-    "maction",
-    "math",
-    "merror",
-    "mfrac",
-    "mi",
-    "mmultiscripts",
-    "mn",
-    "mo",
-    "mover",
-    "mpadded",
-    "mphantom",
-    "mprescripts",
-    "mroot",
-    "mrow",
-    "ms",
-    "mspace",
-    "msqrt",
-    "mstyle",
-    "msub",
-    "msubsup",
-    "msup",
-    "mtable",
-    "mtd",
-    "mtext",
-    "mtr",
-    "munder",
-    "munderover",
-    "semantics",
-];
-
-/// The names of MathML's token elements.
-const TOKEN: [&str; 6] = ["mtext", "mi", "mn", "mo", "mspace", "ms"];
+use crate::table::{MATHML, TOKEN};
 
 /// Whether the element is one of MathML.
-#[tactic(auto, unfolding(crate::specs::Kinds::is_mathml))]
+#[tactic(auto, using(crate::proofs::ByTable::mathml_by_table))]
 pub fn is_mathml(tag: &HtmlTag) -> bool
     ensures { result ≡ kinds.is_mathml tag.now }
 {
-    tag.is_one_of(&MATHML)
+    tag.name.is_of(MATHML)
 }
 
 /// Whether the element is a token of MathML: text stands directly in it.
-#[tactic(auto, unfolding(crate::specs::Kinds::is_token))]
+#[tactic(auto, using(crate::proofs::ByTable::token_by_table))]
 pub fn is_token(tag: &HtmlTag) -> bool
     ensures { result ≡ kinds.is_token tag.now }
 {
-    tag.is_one_of(&TOKEN)
+    tag.name.is_of(TOKEN)
 }
 
 /// `<annotation>`
 pub const annotation: HtmlTag = HtmlTag {
-    name: Name::Known(KnownTag::Annotation),
+    name: Name::Known(3),
 };
 /// `<annotation-xml>`
 pub const annotation_xml: HtmlTag = HtmlTag {
-    name: Name::Known(KnownTag::AnnotationXml),
+    name: Name::Known(4),
 };
 /// `<maction>`
 pub const maction: HtmlTag = HtmlTag {
-    name: Name::Known(KnownTag::Maction),
+    name: Name::Known(61),
 };
 /// `<math>`
 pub const math: HtmlTag = HtmlTag {
-    name: Name::Known(KnownTag::Math),
+    name: Name::Known(65),
 };
 /// `<merror>`
 pub const merror: HtmlTag = HtmlTag {
-    name: Name::Known(KnownTag::Merror),
+    name: Name::Known(67),
 };
 /// `<mfrac>`
 pub const mfrac: HtmlTag = HtmlTag {
-    name: Name::Known(KnownTag::Mfrac),
+    name: Name::Known(70),
 };
 /// `<mi>`
 pub const mi: HtmlTag = HtmlTag {
-    name: Name::Known(KnownTag::Mi),
+    name: Name::Known(71),
 };
 /// `<mmultiscripts>`
 pub const mmultiscripts: HtmlTag = HtmlTag {
-    name: Name::Known(KnownTag::Mmultiscripts),
+    name: Name::Known(72),
 };
 /// `<mn>`
 pub const mn: HtmlTag = HtmlTag {
-    name: Name::Known(KnownTag::Mn),
+    name: Name::Known(73),
 };
 /// `<mo>`
 pub const mo: HtmlTag = HtmlTag {
-    name: Name::Known(KnownTag::Mo),
+    name: Name::Known(74),
 };
 /// `<mover>`
 pub const mover: HtmlTag = HtmlTag {
-    name: Name::Known(KnownTag::Mover),
+    name: Name::Known(75),
 };
 /// `<mpadded>`
 pub const mpadded: HtmlTag = HtmlTag {
-    name: Name::Known(KnownTag::Mpadded),
+    name: Name::Known(76),
 };
 /// `<mphantom>`
 pub const mphantom: HtmlTag = HtmlTag {
-    name: Name::Known(KnownTag::Mphantom),
+    name: Name::Known(77),
 };
 /// `<mprescripts>`
 pub const mprescripts: HtmlTag = HtmlTag {
-    name: Name::Known(KnownTag::Mprescripts),
+    name: Name::Known(78),
 };
 /// `<mroot>`
 pub const mroot: HtmlTag = HtmlTag {
-    name: Name::Known(KnownTag::Mroot),
+    name: Name::Known(79),
 };
 /// `<mrow>`
 pub const mrow: HtmlTag = HtmlTag {
-    name: Name::Known(KnownTag::Mrow),
+    name: Name::Known(80),
 };
 /// `<ms>`
 pub const ms: HtmlTag = HtmlTag {
-    name: Name::Known(KnownTag::Ms),
+    name: Name::Known(81),
 };
 /// `<mspace>`
 pub const mspace: HtmlTag = HtmlTag {
-    name: Name::Known(KnownTag::Mspace),
+    name: Name::Known(82),
 };
 /// `<msqrt>`
 pub const msqrt: HtmlTag = HtmlTag {
-    name: Name::Known(KnownTag::Msqrt),
+    name: Name::Known(83),
 };
 /// `<mstyle>`
 pub const mstyle: HtmlTag = HtmlTag {
-    name: Name::Known(KnownTag::Mstyle),
+    name: Name::Known(84),
 };
 /// `<msub>`
 pub const msub: HtmlTag = HtmlTag {
-    name: Name::Known(KnownTag::Msub),
+    name: Name::Known(85),
 };
 /// `<msubsup>`
 pub const msubsup: HtmlTag = HtmlTag {
-    name: Name::Known(KnownTag::Msubsup),
+    name: Name::Known(86),
 };
 /// `<msup>`
 pub const msup: HtmlTag = HtmlTag {
-    name: Name::Known(KnownTag::Msup),
+    name: Name::Known(87),
 };
 /// `<mtable>`
 pub const mtable: HtmlTag = HtmlTag {
-    name: Name::Known(KnownTag::Mtable),
+    name: Name::Known(88),
 };
 /// `<mtd>`
 pub const mtd: HtmlTag = HtmlTag {
-    name: Name::Known(KnownTag::Mtd),
+    name: Name::Known(89),
 };
 /// `<mtext>`
 pub const mtext: HtmlTag = HtmlTag {
-    name: Name::Known(KnownTag::Mtext),
+    name: Name::Known(90),
 };
 /// `<mtr>`
 pub const mtr: HtmlTag = HtmlTag {
-    name: Name::Known(KnownTag::Mtr),
+    name: Name::Known(91),
 };
 /// `<munder>`
 pub const munder: HtmlTag = HtmlTag {
-    name: Name::Known(KnownTag::Munder),
+    name: Name::Known(92),
 };
 /// `<munderover>`
 pub const munderover: HtmlTag = HtmlTag {
-    name: Name::Known(KnownTag::Munderover),
+    name: Name::Known(93),
 };
 /// `<semantics>`
 pub const semantics: HtmlTag = HtmlTag {
-    name: Name::Known(KnownTag::Semantics),
+    name: Name::Known(115),
 };

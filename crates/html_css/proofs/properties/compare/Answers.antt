@@ -7,5 +7,7 @@ use Rattle.html_css.proofs.properties.compare.Goals as goal
 
 pub returns : goal.returns
 returns c =
-    let bytes : c.cmp.result ≡ slice_cmp nat_cmp (string_bytes c.args.property.now.name) c.args.name.now = search rules in
-    bytes ∙ sym (by_name_bytes (string_bytes c.args.property.now.name) c.args.name.now (IsUtf8-string_bytes c.args.property.now.name) c.utf8.name)
+    let bytes : c.cmp.result ≡ slice_cmp nat_cmp (string_bytes c.args.property.now.name)
+    c.args.name.now = search rules in
+    bytes ∙ sym (by_name_bytes (string_bytes c.args.property.now.name) c.args.name.now
+    (IsUtf8-string_bytes c.args.property.now.name) c.utf8.name)

@@ -3,4 +3,5 @@ use Rattle.html_css.specs.Properties.{list_view}
 use Rattle.html_css.proofs.properties.copies.Given as goal
 
 abbrev pub invariant-loop-property : goal.invariant-loop-property
-invariant-loop-property l = list_view l.copies.items ≡ list_view (take l.property-index l.list.items)
+invariant-loop-property l = list_view l.copies.items
+    ≡ list_view (take l.property-index l.list.items)

@@ -13,5 +13,6 @@ returns-in-Ok-clause-ok c =
     let value = text_view c.args.value in
     let found = rw c.deref.ensures.value at c.in-Ok.ensures in
     let here : there ≡ get_or list c.in-Ok.at there = c.index_mut.ensures.value in
-    sym (put_found by_name_total property_view list (chars c.args.name.now) value c.in-Ok.at (record { name = there.name; value = c.args.value }) there
+    sym (put_found by_name_total property_view list (chars c.args.name.now) value c.in-Ok.at
+    (record { name = there.name; value = c.args.value }) there
     found.within found.before found.here (ap (λ (p : Property). (name_of p, value)) here))

@@ -10,9 +10,12 @@ pub returns-in-Ok-insert-clause-ok : goal.returns-in-Ok-insert-clause-ok
 returns-in-Ok-insert-clause-ok c =
     let list = c.args.list.now.items in
     let made = c.new.result in
-    let name : name_of made ≡ chars c.args.name.now = ap (λ (p : Property). name_of p) c.new.ensures ∙ ap chars c.in-Ok.ensures.ok in
-    let value : text_view made.value ≡ text_view c.args.value = ap (λ (p : Property). text_view p.value) c.new.ensures in
+    let name : name_of made ≡ chars c.args.name.now =
+    ap (λ (p : Property). name_of p) c.new.ensures ∙ ap chars c.in-Ok.ensures.ok in
+    let value : text_view made.value ≡ text_view c.args.value =
+    ap (λ (p : Property). text_view p.value) c.new.ensures in
     ap list_view c.in-Ok-insert.ensures.items
-    ∙ sym (put_gap by_name_total property_view list c.args.at made c.requires.within (rw name c.requires.before) (rw name c.requires.after))
+    ∙ sym (put_gap by_name_total property_view list c.args.at made c.requires.within
+    (rw name c.requires.before) (rw name c.requires.after))
     ∙ ap (λ (n : List ℕ). with_value (list_view list) n (text_view made.value)) name
     ∙ ap (λ (v : List ℕ). with_value (list_view list) (chars c.args.name.now) v) value

@@ -9,5 +9,7 @@ pub returns : goal.returns
 returns c =
     let name = chars c.args.name.now in
     let facts = c.binary_search_by.ensures in
-    let found = facts.position (λ p. by_name (name_of p) name) (always_returns_same _ _ _ (λ a r f called. (search rules, search rules))) in
-    searched by_name_total property_view c.args.list.now name c.binary_search_by.result c.requires facts.bound found
+    let found = facts.position (λ p. by_name (name_of p) name)
+    (always_returns_same _ _ _ (λ a r f called. (search rules, search rules))) in
+    searched by_name_total property_view c.args.list.now name c.binary_search_by.result c.requires
+    facts.bound found

@@ -8,9 +8,11 @@ pub returns-in-Ok : goal.returns-in-Ok
 returns-in-Ok c =
     let found = rw c.deref.ensures.value at c.in-Ok.ensures in
     ap list_view c.remove-taken.ensures.items
-    ∙ sym (drop_found by_name_total property_view c.args.list.now.items (chars c.args.name.now) c.in-Ok.at found.within found.before found.here)
+    ∙ sym (drop_found by_name_total property_view c.args.list.now.items (chars c.args.name.now)
+    c.in-Ok.at found.within found.before found.here)
 
 pub returns-in-Err : goal.returns-in-Err
 returns-in-Err c =
     let gap = rw c.deref.ensures.value at c.in-Err.ensures in
-    sym (drop_gap by_name_total property_view c.args.list.now.items (chars c.args.name.now) _ gap.within gap.before gap.after)
+    sym (drop_gap by_name_total property_view c.args.list.now.items (chars c.args.name.now) _
+    gap.within gap.before gap.after)

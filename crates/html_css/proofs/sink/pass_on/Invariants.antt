@@ -1,10 +1,13 @@
-use Rattle.std.proofs.Common.{◌≡◌, []}
-use Rattle.html_css.specs.Sink.{StartsWith}
+use Rattle.std.proofs.Common.{drop}
+use Rattle.html_css.specs.Sink.{Takes, Given, Interrupted}
 use Rattle.html_css.proofs.sink.pass_on.Given as goal
 
 abbrev pub invariant-loop-warning : goal.invariant-loop-warning
-invariant-loop-warning g l = record {
-  begun : StartsWith (g.S.WarningSink.warnings l.sink) (g.S.WarningSink.warnings l.fn.sink);
-  none : l.warnings ≡ [] → g.S.WarningSink.warnings l.sink ≡ g.S.WarningSink.warnings l.fn.sink;
-  place : g.S.WarningSink.place l.sink ≡ g.S.WarningSink.place l.fn.sink;
-}
+invariant-loop-warning g l =
+    let takes = Takes g.S.WarningSink.warnings g.S.WarningSink.borrow g.S.WarningSink.emit_gives in
+    let left = drop l.warning-index l.warnings in
+    record {
+      given : (new : _) → Given takes l.sink left new → Given takes l.fn.sink l.warnings new;
+      interrupted : (new : _) → Interrupted takes l.sink left new
+          → Interrupted takes l.fn.sink l.warnings new;
+    }

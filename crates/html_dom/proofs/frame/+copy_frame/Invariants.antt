@@ -3,4 +3,5 @@ use Rattle.html_dom.specs.FrameViews.{positioned_view}
 use Rattle.html_dom.proofs.frame.+copy_frame.Given as goal
 
 abbrev pub invariant-Frame::try_clone-loop-item : goal.invariant-Frame::try_clone-loop-item
-invariant-Frame::try_clone-loop-item l = map positioned_view l.items.items ≡ map positioned_view (take l.item-index l.item-items)
+invariant-Frame::try_clone-loop-item l =
+    map positioned_view l.items.items ≡ map positioned_view (take l.item-index l.item-items)

@@ -17,28 +17,33 @@ loop-c-preserved c =
     let clean = rw (step, c.in_ok-write_char.ensures.clean) at held.clean in
     record {
       utf8 = IsUtf8-past_char _ _ c.in-Some.c held.utf8 parts;
-      told = rw (c.in_ok-write_char.ensures.text, append_assoc) told;
+      told = rw (c.in_ok-write_char.ensures.appended, append_assoc) told;
       clean = clean;
     }
 
-pub returns-in_err-write_char-clause-fault : goal.returns-in_err-write_char-clause-fault
-returns-in_err-write_char-clause-fault c =
+pub returns-in_err-write_char : goal.returns-in_err-write_char
+returns-in_err-write_char c =
     let held = c.loop-c.invariant in
     let step = chars_past_char _ _ c.in-Some.c held.utf8 c.in-Some.ensures.steps.0 in
-    let all : text_faults c.args.escaping c.args.span.0 (chars c.args.text.now)
-    ≡ char_faults c.args.escaping c.args.span.0 c.in-Some.c ++ text_faults c.args.escaping c.args.span.0 (chars (chars_rest c.next.new.self)) =
+    let escaping = c.args.escaping in
+    let span = c.args.span.0 in
+    let all : text_faults escaping span (chars c.args.text.now)
+    ≡ char_faults escaping span c.in-Some.c ++ text_faults escaping span
+    (chars (chars_rest c.next.new.self)) =
     sym (rw step at held.clean) in
-    let p = err_from_is_err_and c.from_residual.result c.from_residual.ensures.1 in
-    rw (p.1, p.2, all) (first_of_more _ _ _ c.in_err-write_char.ensures.fault)
+    let failed = err_from_is_err_and c.from_residual.result c.from_residual.ensures.1 in
+    record {
+      appended = rw failed.1 tt;
+      clean = rw failed.1 tt;
+      fault = rw (failed.1, failed.2, all) (first_of_more _ _ _ c.in_err-write_char.ensures.fault);
+    }
 
-pub returns-clause-text : goal.returns-clause-text
-returns-clause-text c =
+pub returns : goal.returns
+returns c =
     let held = c.loop-c.invariant in
     let empty = chars_of_empty _ c.in-None.ensures.steps.0.0 in
-    sym (append-nil _) ∙ rw empty at held.told
-
-pub returns-clause-clean : goal.returns-clause-clean
-returns-clause-clean c =
-    let held = c.loop-c.invariant in
-    let empty = chars_of_empty _ c.in-None.ensures.steps.0.0 in
-    sym (rw empty at held.clean)
+    record {
+      appended = sym (append-nil _) ∙ rw empty at held.told;
+      clean = sym (rw empty at held.clean);
+      fault = tt;
+    }

@@ -1,6 +1,6 @@
 use Rattle.std.proofs.Common.{◌≡◌, ◌++◌, IsUtf8, chars}
 use Rattle.std.specs.Str.Iter.{chars_rest}
-use Rattle.html_encode.specs.Written.{escaped}
+use Rattle.html_encode.specs.Text.{escaped_text}
 use Rattle.html_encode.specs.Faults.{text_faults}
 use Rattle.html_encode.proofs.escape.write_text.Given as goal
 
@@ -10,6 +10,6 @@ invariant-loop-c l =
     let all = chars l.fn.text in
     record {
       utf8 : IsUtf8 (chars_rest l.c-iterator);
-      told : l.out ++ escaped l.escaping left ≡ l.fn.out ++ escaped l.escaping all;
+      told : l.out ++ escaped_text l.escaping left ≡ l.fn.out ++ escaped_text l.escaping all;
       clean : text_faults l.escaping l.span.0 left ≡ text_faults l.escaping l.span.0 all;
     }

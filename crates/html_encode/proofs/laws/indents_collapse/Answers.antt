@@ -1,4 +1,4 @@
-use Rattle.html_encode.proofs.Unseen.{content_collapses, body_collapses}
+use Rattle.html_encode.proofs.IndentsCollapse.{content_collapses, body_collapses}
 use Rattle.html_encode.proofs.laws.indents_collapse.Goals as goal
 
 pub returns-clause-content : goal.returns-clause-content

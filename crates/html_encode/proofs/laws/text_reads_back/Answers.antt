@@ -1,4 +1,4 @@
-use Rattle.html_encode.proofs.Contents.{reads_back}
+use Rattle.html_encode.proofs.ReadingBack.{reads_back}
 use Rattle.html_encode.proofs.laws.text_reads_back.Goals as goal
 
 pub returns : goal.returns

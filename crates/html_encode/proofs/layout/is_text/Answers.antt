@@ -7,4 +7,5 @@ pub returns : goal.returns
 returns c =
     c.eq.ensures
     ∙ (ap (bytes_eq c.args.expected.now) c.as_str.ensures.value
-    ∙ sym (bytes_eq-ascii c.args.expected.now (string_bytes c.args.text.now) c.requires (IsUtf8-string_bytes c.args.text.now)))
+    ∙ sym (bytes_eq-ascii c.args.expected.now (string_bytes c.args.text.now) c.requires
+    (IsUtf8-string_bytes c.args.text.now)))

@@ -5,5 +5,7 @@ use Rattle.html_encode.proofs.raw.push_chars.Goals as goal
 
 pub returns : goal.returns
 returns c =
-    let end = YieldsList-end (YieldsList-from_chars c.args.text.now c.utf8.text cc) c.loop-c.yielded _ c.loop-c.yielded_by _ _ c.in-None.is c.next.ensures.steps in
-    c.loop-c.invariant ∙ ap (λ cs. c.args.list.now.items ++ cs) (sym (map-id c.loop-c.yielded) ∙ end.0)
+    let end = YieldsList-end
+    (YieldsList-from_chars c.args.text.now c.utf8.text cc) c.loop-c.yielded _ c.loop-c.yielded_by _ _ c.in-None.is c.next.ensures.steps in
+    c.loop-c.invariant ∙ ap (λ cs. c.args.list.now.items ++ cs)
+    (sym (map-id c.loop-c.yielded) ∙ end.0)

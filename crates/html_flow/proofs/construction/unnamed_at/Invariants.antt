@@ -4,4 +4,6 @@ use Rattle.html_flow.specs.Pieces.{unnamed_at}
 use Rattle.html_flow.proofs.construction.unnamed_at.Given as goal
 
 abbrev pub invariant-loop-place : goal.invariant-loop-place
-invariant-loop-place l = unnamed_at (args_view l.args) ≡ option_map (λ k. l.place + k) (unnamed_at (args_view (drop l.place l.args)))
+invariant-loop-place l =
+    unnamed_at (args_view l.args)
+    ≡ option_map (λ k. l.place + k) (unnamed_at (args_view (drop l.place l.args)))

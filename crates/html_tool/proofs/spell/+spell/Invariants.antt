@@ -6,4 +6,6 @@ use Rattle.html_tool.proofs.spell.+spell.Given as goal
 
 abbrev pub invariant-list_of-loop-value : goal.invariant-list_of-loop-value
 invariant-list_of-loop-value l =
-    spelled_all (items_view l.value-items) l.fn.number ≡ option_map (after_done (map form_view l.list.items)) (spelled_all (items_view (drop l.value-index l.value-items)) l.next)
+    spelled_all (items_view l.value-items) l.fn.number
+    ≡ option_map (after_done (map form_view l.list.items))
+    (spelled_all (items_view (drop l.value-index l.value-items)) l.next)

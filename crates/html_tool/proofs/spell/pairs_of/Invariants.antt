@@ -6,4 +6,6 @@ use Rattle.html_tool.proofs.spell.pairs_of.Given as goal
 
 abbrev pub invariant-loop-pair : goal.invariant-loop-pair
 invariant-loop-pair l =
-    pairs_of (items_view l.pair-items) ≡ option_map (λ rest. map form_pair_view l.list.items ++ rest) (pairs_of (items_view (drop l.pair-index l.pair-items)))
+    pairs_of (items_view l.pair-items) ≡ option_map
+    (λ rest. map form_pair_view l.list.items ++ rest)
+    (pairs_of (items_view (drop l.pair-index l.pair-items)))

@@ -1,4 +1,4 @@
-use Rattle.std.proofs.Common.{string_bytes, false}
+use Rattle.std.proofs.Common.{string_bytes, []}
 use Rattle.std.proofs.lemmas.Str.{IsUtf8-had, IsUtf8-string_bytes}
 use Rattle.html_css.specs.Sums.{closed}
 use Rattle.html_css.specs.Writer.{state}
@@ -13,11 +13,13 @@ invariant_of-self g c =
     let v = IsUtf8-string_bytes c.write_ascii.new.self.text in
     record {
       within = kept_within c.args.self.start b d c.args.self.within u v c.write_ascii.ensures.kept;
-      seam = rw (kept_front c.args.self.start b d c.args.self.within u v c.write_ascii.ensures.kept) c.args.self.seam;
+      seam = rw (kept_front c.args.self.start b d c.args.self.within u v c.write_ascii.ensures.kept)
+          c.args.self.seam;
     }
 
 pub returns-clause-whole : goal.returns-clause-whole
 returns-clause-whole g c =
-    let seen = state g.S.WarningSink.warnings g.S.WarningSink.place in
-    emits_whole c.write_ascii.result c.args.self.start (string_bytes c.args.self.out.now.text) (seen c.args.self.out.now) (seen c.write_ascii.new.self) (closed c.args.self.parts) false
+    let seen = state in
+    emits_whole c.write_ascii.result c.args.self.start (string_bytes c.args.self.out.now.text)
+    (seen c.args.self.out.now) (seen c.write_ascii.new.self) (closed c.args.self.parts) []
     (IsUtf8-had _ c.args.self.seam) (rw (← c.closing-closing.ensures) c.write_ascii.ensures)

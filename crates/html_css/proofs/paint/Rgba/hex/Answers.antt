@@ -6,4 +6,5 @@ use Rattle.html_css.proofs.paint.Rgba.hex.Goals as goal
 pub returns : goal.returns
 returns c =
     let bytes : string_bytes c.push_alpha.new.text ≡ color_text c.args.self = search rules in
-    ap chars bytes ∙ color_chars c.args.self c.push_byte.ensures.fits c.push_byte-2.ensures.fits c.push_byte-3.ensures.fits c.push_alpha.ensures.fits
+    ap chars bytes ∙ color_chars c.args.self c.push_byte.ensures.fits c.push_byte-2.ensures.fits
+    c.push_byte-3.ensures.fits c.push_alpha.ensures.fits

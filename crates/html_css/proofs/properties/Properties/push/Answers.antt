@@ -6,4 +6,6 @@ use Rattle.html_css.proofs.properties.Properties.push.Goals as goal
 
 pub invariant_of-self : goal.invariant_of-self
 invariant_of-self c =
-    put_listed c.put.result (list_view c.self.inside.list.items) (list_view c.put.new.list.items) (chars c.args.name.now) (text_view c.args.value) c.self.invariant c.put.ensures.ok c.put.ensures.err
+    put_listed c.put.result (list_view c.self.inside.list.items) (list_view c.put.new.list.items)
+    (chars c.args.name.now) (text_view c.args.value) c.self.invariant c.put.ensures.ok
+    c.put.ensures.err

@@ -6,4 +6,5 @@ use Rattle.html_css.proofs.same.PropertiesHash.hash.Goals as goal
 
 pub returns : goal.returns
 returns g c =
-    fed_along g.H.Hasher.write c.args.state.now c.hash.new.state (list_hashed c.as_slice.result.now ∙ ap pairs_fed c.as_slice.ensures.all) c.hash.ensures
+    fed_along g.H.Hasher.write c.args.state.now c.hash.new.state
+    (list_hashed c.as_slice.result.now ∙ ap pairs_fed c.as_slice.ensures.all) c.hash.ensures

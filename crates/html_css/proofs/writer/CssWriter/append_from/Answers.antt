@@ -11,8 +11,8 @@ returns-clause-keeps g c =
     let u = IsUtf8-string_bytes c.args.self.now.text in
     let v = IsUtf8-string_bytes c.append_part.new.self.text in
     record {
-      within = kept_within c.args.at b d c.requires.within u v c.append_part.ensures.kept;
-      front = kept_front c.args.at b d c.requires.within u v c.append_part.ensures.kept;
+      within = kept_within c.args.start b d c.requires.within u v c.append_part.ensures.kept;
+      front = kept_front c.args.start b d c.requires.within u v c.append_part.ensures.kept;
     }
 
 pub returns-clause-emits : goal.returns-clause-emits
@@ -21,6 +21,8 @@ returns-clause-emits g c =
     let d = string_bytes c.append_part.new.self.text in
     let u = IsUtf8-string_bytes c.args.self.now.text in
     let v = IsUtf8-string_bytes c.append_part.new.self.text in
-    let seen = state g.S.WarningSink.warnings g.S.WarningSink.place in
-    emits_from c.args.at b d (IsUtf8-had _ c.requires.seam) (kept_front c.args.at b d c.requires.within u v c.append_part.ensures.kept)
-    c.append_part.result (seen c.args.self.now) (seen c.append_part.new.self) _ _ c.append_part.ensures
+    let seen = state in
+    emits_from c.args.start b d (IsUtf8-had _ c.requires.seam)
+    (kept_front c.args.start b d c.requires.within u v c.append_part.ensures.kept)
+    c.append_part.result (seen c.args.self.now) (seen c.append_part.new.self) _ _
+    c.append_part.ensures

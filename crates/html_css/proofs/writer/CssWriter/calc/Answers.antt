@@ -5,5 +5,7 @@ use Rattle.html_css.proofs.writer.CssWriter.calc.Goals as goal
 
 pub returns-clause-nothing : goal.returns-clause-nothing
 returns-clause-nothing g c =
-    let seen = state g.S.WarningSink.warnings g.S.WarningSink.place c.args.self.now in
-    ap (λ (t : List ℕ). record seen { text = t }) (nothing_after (string_bytes c.args.self.now.text) (length c.as_str-start.result.now) (ap length c.as_str-start.ensures.value))
+    let seen = state c.args.self.now in
+    ap (λ (t : List ℕ). record seen { text = t })
+    (nothing_after (string_bytes c.args.self.now.text) (length c.as_str-start.result.now)
+    (ap length c.as_str-start.ensures.value))

@@ -7,6 +7,7 @@ use Rattle.html_dom.proofs.attrs.HtmlAttrs.fold.Given as goal
 
 abbrev pub invariant-loop-attr : goal.invariant-loop-attr
 invariant-loop-attr l = record {
-  told : union (attrs_view l.self) (map pair_view (into_iter_items l.attr-iterator)) ≡ union (attrs_view l.fn.self) (attrs_view l.fn.outer);
+  rest : union (attrs_view l.self) (map pair_view (into_iter_items l.attr-iterator))
+      ≡ union (attrs_view l.fn.self) (attrs_view l.fn.outer);
   room : vec_len l.self.0 + length (into_iter_items l.attr-iterator) ≤ vec_capacity l.self.0;
 }

@@ -6,5 +6,6 @@ use Rattle.html_dom.proofs.attrs.HtmlAttrs.place.Given as goal
 abbrev pub invariant-loop-pair : goal.invariant-loop-pair
 invariant-loop-pair l = record {
   here : l.place ≡ l.pair-index;
-  rest : l.place + place (map pair_view (drop l.pair-index l.pair-items)) l.attr ≡ place (map pair_view l.pair-items) l.attr;
+  rest : l.place + place (map pair_view (drop l.pair-index l.pair-items)) l.attr
+      ≡ place (map pair_view l.pair-items) l.attr;
 }

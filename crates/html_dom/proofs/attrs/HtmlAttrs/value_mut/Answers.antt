@@ -7,7 +7,14 @@ use Rattle.html_dom.proofs.attrs.HtmlAttrs.value_mut.Goals as goal
 
 pub returns : goal.returns
 returns c =
-    let here : (d : Item) → c.index_mut.result.now ≡ get_or c.args.self.now.0.items c.args.place d =
-    λ d. c.index_mut.ensures.value ∙ get_or_default c.args.self.now.0.items c.args.place c.index_mut.result.now d (omega (arith, c.requires, c.args.self.now.0.ok.0)) in
-    let wrote : (w : String Global) → Item → HtmlAttrs = λ w p. record { 0 = with_item c.args.self.now.0 c.args.place (p.0, w) } in
-    ((refl, λ w. ap (wrote w) (here ([], w))), record { writes_back = tt; value = ap (λ p. p.1) (here ([], c.index_mut.result.now.1)) })
+    let attrs = c.args.self.now in
+    let pair = c.index_mut.result.now in
+    let here : (other : Item) → pair ≡ get_or attrs.0.items c.args.place other =
+    λ other. c.index_mut.ensures.value
+    ∙ get_or_default attrs.0.items c.args.place pair other
+    (omega (arith, c.requires, attrs.0.ok.0)) in
+    let with_pair : String Global → Item → HtmlAttrs =
+    λ value p. record { 0 = with_item attrs.0 c.args.place (p.0, value) } in (
+      (refl, λ value. ap (with_pair value) (here ([], value))),
+      record { writes_back = tt; value = ap (λ p. p.1) (here ([], pair.1)) },
+    )

@@ -5,5 +5,6 @@ use Rattle.html_names.proofs.html_tag.HtmlTagDebug.fmt.Goals as goal
 
 pub returns : goal.returns
 returns g c =
-    let same : encodes c.args.self.now ≡ c.resolve-name.result.now = ap encodes (sym c.resolve-name.ensures.text) ∙ encodes-chars _ c.resolve-name.utf8 in
+    let same : encodes c.args.self.now ≡ c.resolve-name.result.now =
+    ap encodes (sym c.resolve-name.ensures.text) ∙ encodes-chars _ c.resolve-name.utf8 in
     rw same c.write.ensures

@@ -1,8 +1,8 @@
-use Rattle.std.proofs.Common.{chars, ap, ◌∙◌}
-use Rattle.html_names.proofs.Lists.{chars_ascii}
+use Rattle.std.proofs.Common.{arith}
+use Rattle.html_names.proofs.Held.{known_text}
 use Rattle.html_names.proofs.name.Name.as_str.Goals as goal
 
 pub returns-in-Known : goal.returns-in-Known
-returns-in-Known g c =
-    let known = c.in-Known.known in
-    rw c.in-Known.is (ap chars c.as_str.ensures ∙ chars_ascii (g.K.Known.text known) (g.met.K.Known.ascii known))
+returns-in-Known c =
+    let within = rw c.in-Known.is at c.requires.within in
+    rw c.in-Known.is (known_text c.args.table.now c.in-Known.place _ within c.requires.ascii)

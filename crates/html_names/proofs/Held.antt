@@ -1,0 +1,112 @@
+-- A known name's text, and that it is valid.
+use Rattle.std.proofs.Common.{OnErr, Result, Ok, Err, ◌≡◌, ℕ, zero, suc, ◌<◌, Bool, true, false, ◌&&◌, List, [], ◌∷◌, refl, sym, ap, ◌∙◌, chars, length, get_or, arith, map, subst}
+use Rattle.std.specs.Borrow.{Bor}
+use Rattle.std.proofs.lemmas.Bool.{and_parts}
+use Rattle.html_names.specs.Names.{texts, are_ascii, stands_in}
+use Rattle.html_names.specs.Characters.{all, IsOf, is_tag_char, is_attr_char}
+use Rattle.html_names.specs.Held.{name_of, IsHeld, IsNameOf}
+use Rattle.html_names.specs.Tables.{known_tags, known_attrs, tag_count, attr_count}
+use Rattle.html_names.specs.declared.name.Name.{Name}
+use Rattle.html_names.specs.declared.name.Name.TheVariants.{Known, Own}
+use Rattle.html_names.specs.declared.table.TheConstants.{TAGS, ATTRS}
+use Rattle.html_names.proofs.Lists.{chars_ascii}
+
+pub known_text : (table : List (Bor (List ℕ))) (n : ℕ) (d : Bor (List ℕ)) → n < length table →
+    are_ascii (texts table) ≡ true → chars (get_or table n d).now ≡ get_or (texts table) n []
+known_text [] n d h a = absurd (omega arith)
+known_text (t ∷ ts) zero d h a = chars_ascii t.now (and_parts _ _ a).0
+known_text (t ∷ ts) (suc n) d h a = known_text ts n d (omega arith) (and_parts _ _ a).1
+
+abbrev is_of : (ℕ → Bool) → List ℕ → Bool
+is_of p [] = false
+is_of p (c ∷ cs) = p c && all p cs
+
+abbrev all_of : (ℕ → Bool) → List (List ℕ) → Bool
+all_of p [] = true
+all_of p (t ∷ ts) = is_of p t && all_of p ts
+
+of_test : (p : ℕ → Bool) (t : List ℕ) → is_of p t ≡ true → IsOf p t
+of_test p [] h = cc
+of_test p (c ∷ cs) h = and_parts _ _ h
+
+known_valid : (p : ℕ → Bool) (table : List (List ℕ)) (n : ℕ) → n < length table →
+    all_of p table ≡ true → IsOf p (get_or table n [])
+known_valid p [] n h a = absurd (omega arith)
+known_valid p (t ∷ ts) zero h a = of_test p t (and_parts _ _ a).0
+known_valid p (t ∷ ts) (suc n) h a = known_valid p ts n (omega arith) (and_parts _ _ a).1
+
+held_valid : (p : ℕ → Bool) (table : List (List ℕ)) (name : Name) → all_of p table ≡ true →
+    IsHeld (length table) table p name → IsOf p (name_of table name)
+held_valid p table (Known n) a h = known_valid p table n h a
+held_valid p table (Own s) a h = h.0
+
+pub tag_texts : map (λ n. n.now) TAGS ≡ known_tags
+unfolding known_tags
+tag_texts = refl
+
+pub attr_texts : map (λ n. n.now) ATTRS ≡ known_attrs
+unfolding known_attrs
+attr_texts = refl
+
+pub tag_valid : (name : Name) → IsHeld tag_count known_tags is_tag_char name →
+    IsOf is_tag_char (name_of known_tags name)
+unfolding known_tags
+tag_valid name h = held_valid is_tag_char known_tags name refl h
+
+pub attr_valid : (name : Name) → IsHeld attr_count known_attrs is_attr_char name →
+    IsOf is_attr_char (name_of known_attrs name)
+unfolding known_attrs
+attr_valid name h = held_valid is_attr_char known_attrs name refl h
+
+pub tag_long : length known_tags ≡ tag_count
+unfolding known_tags
+tag_long = refl
+
+pub attr_long : length known_attrs ≡ attr_count
+unfolding known_attrs
+attr_long = refl
+
+module _ (count : ℕ) (table : List (List ℕ)) (p : ℕ → Bool) (long : length table ≡ count) where
+  -- the name of a valid text is held as names are
+  pub held : (text : List ℕ) (name : Name) → IsOf p text → IsNameOf table text name →
+      IsHeld count table p name
+  held text (Known n) v h = omega (arith, long, h.0)
+  held text (Own s) v h = rw h.0 (v, h.1)
+
+-- and has that text
+pub named : (table : List (List ℕ)) (text : List ℕ) (name : Name) → IsNameOf table text name →
+    name_of table name ≡ text
+named table text (Known n) h = h.1
+named table text (Own s) h = h.0
+
+pub tag_held : (text : List ℕ) (name : Name) → IsOf is_tag_char text →
+    IsNameOf (map (λ n. n.now) TAGS) text name → IsHeld tag_count known_tags is_tag_char name
+tag_held text name v h = held tag_count known_tags is_tag_char tag_long text name v
+    (subst (λ (names : List (List ℕ)). IsNameOf names text name) tag_texts h)
+
+pub tag_named : (text : List ℕ) (name : Name) → IsNameOf (map (λ n. n.now) TAGS) text name →
+    name_of known_tags name ≡ text
+tag_named text name h = named known_tags text name
+    (subst (λ (names : List (List ℕ)). IsNameOf names text name) tag_texts h)
+
+pub tag_unknown : (text : List ℕ) → stands_in (map (λ n. n.now) TAGS) text ≡ false →
+    stands_in known_tags text ≡ false
+tag_unknown text h = sym (ap (λ (names : List (List ℕ)). stands_in names text) tag_texts) ∙ h
+
+pub attr_held : (text : List ℕ) (name : Name) → IsOf is_attr_char text →
+    IsNameOf (map (λ n. n.now) ATTRS) text name → IsHeld attr_count known_attrs is_attr_char name
+attr_held text name v h = held attr_count known_attrs is_attr_char attr_long text name v
+    (subst (λ (names : List (List ℕ)). IsNameOf names text name) attr_texts h)
+
+pub attr_named : (text : List ℕ) (name : Name) → IsNameOf (map (λ n. n.now) ATTRS) text name →
+    name_of known_attrs name ≡ text
+attr_named text name h = named known_attrs text name
+    (subst (λ (names : List (List ℕ)). IsNameOf names text name) attr_texts h)
+
+pub attr_unknown : (text : List ℕ) → stands_in (map (λ n. n.now) ATTRS) text ≡ false →
+    stands_in known_attrs text ≡ false
+attr_unknown text h = sym (ap (λ (names : List (List ℕ)). stands_in names text) attr_texts) ∙ h
+
+pub on_err : {A E : Type 0} (result : Result A E) (P : Type 0) → P → OnErr result P
+on_err (Ok value) P h = tt
+on_err (Err error) P h = h

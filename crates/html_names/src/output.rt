@@ -1,0 +1,100 @@
+ghost use Rattle.std.specs.Prelude.{◌≡◌, ◌++◌, ◌∷◌, [], ◌<◌, OnOk, chars, string_bytes, IsTrue, false};
+ghost use Rattle.std.specs.Fmt.{decimal, digits};
+ghost use Rattle.html_names.specs.Names.{is_ascii};
+ghost use Rattle.html_names.specs.Texts.{two_digits};
+
+use std::alloc::{AllocError, Global};
+use std::marker::Model;
+
+/// A text that is being written.
+///
+/// A contract sees it as its characters. Each call that adds to it either adds all that it says, or
+/// answers that an allocation failed; the text may then have any characters.
+#[derive(Drop)]
+pub struct Output {
+    text: String,
+}
+
+impl Model for Output {
+    ghost use Rattle.std.specs.Prelude.{ℕ, List, chars, string_bytes};
+
+    ghost Value = { List ℕ };
+
+    ghost view = { λ output. chars (string_bytes output.text) };
+}
+
+impl Output {
+    /// The empty text.
+    #[tactic(auto, using(std::proofs::StrCases::chars_of_empty))]
+    pub fn new(alloc: Global) -> Output
+        ensures { result ≡ [] }
+    {
+        Output {
+            text: String::new(alloc),
+        }
+    }
+
+    /// Adds a character.
+    pub fn push(&mut self, c: char) -> Result<(), AllocError>
+        ensures { OnOk result (self.new ≡ self.old ++ c ∷ []) }
+    {
+        self.text.push(c)?;
+        Ok(())
+    }
+
+    /// Adds a text.
+    pub fn push_str(&mut self, text: &str) -> Result<(), AllocError>
+        ensures { OnOk result (self.new ≡ self.old ++ chars text.now) }
+    {
+        self.text.push_str(text)?;
+        Ok(())
+    }
+
+    /// Adds a text of ASCII.
+    #[tactic(auto, using(crate::proofs::Lists::chars_ascii))]
+    pub fn push_ascii(&mut self, text: &str) -> Result<(), AllocError>
+        requires { IsTrue (is_ascii text.now) }
+        ensures { OnOk result (self.new ≡ self.old ++ text.now) }
+    {
+        self.push_str(text)
+    }
+
+    /// Adds a number in decimal digits.
+    pub fn push_decimal(&mut self, n: u64) -> Result<(), AllocError>
+        ensures { OnOk result (self.new ≡ self.old ++ decimal n) }
+    {
+        write!(self.text, "{n}")?;
+        Ok(())
+    }
+
+    /// Adds a number below a hundred in two decimal digits.
+    pub fn push_two_digits(&mut self, n: u8) -> Result<(), AllocError>
+        requires { n < 100 }
+        ensures { OnOk result (self.new ≡ self.old ++ two_digits n) }
+    {
+        self.push_decimal(u64::from(n / 10))?;
+        self.push_decimal(u64::from(n % 10))
+    }
+
+    /// Adds a number in small hexadecimal digits.
+    pub fn push_hex(&mut self, n: u32) -> Result<(), AllocError>
+        ensures { OnOk result (self.new ≡ self.old ++ digits 16 false n) }
+    {
+        write!(self.text, "{n:x}")?;
+        Ok(())
+    }
+
+    /// The text so far.
+    pub fn as_str(&self) -> &str
+        ensures { chars result.now ≡ self.now }
+    {
+        self.text.as_str()
+    }
+
+    /// The text.
+    pub fn into_string(self) -> String
+        ensures { chars (string_bytes result) ≡ self }
+    {
+        self.text
+    }
+}

@@ -1,0 +1,18 @@
+-- What decides whether moments are equal.
+use Rattle.std.specs.Prelude.{ℕ, ℤ}
+use Rattle.jiff_core.specs.Date.{epoch_day}
+use Rattle.jiff_core.specs.Time.{time_nanos}
+use Rattle.jiff_core.specs.DateTime.{civil_nanos}
+use Rattle.html_values.specs.declared.moment.Moment.{Moment}
+use Rattle.html_values.specs.declared.moment.Moment.TheVariants.{Date, Time, DateTime}
+
+-- a day's number from 1970-01-01 on, the nanosecond of a day, or the nanosecond from that day on
+pub data MomentView : Type 0 where
+  day_moment : ℤ → MomentView
+  time_moment : ℕ → MomentView
+  civil_moment : ℤ → MomentView
+
+abbrev pub moment_view : Moment → MomentView
+moment_view (Date d) = day_moment (epoch_day d)
+moment_view (Time t) = time_moment (time_nanos t)
+moment_view (DateTime b) = civil_moment (civil_nanos b)

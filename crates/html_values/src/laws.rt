@@ -1,0 +1,129 @@
+//! Laws of this crate's types, each the contract of a function: what `==` tests.
+
+ghost use Rattle.std.specs.Prelude.{◌≡◌, ◌↔◌, IsTrue};
+ghost use Rattle.html_names.specs.Texts.{text_view};
+ghost use Rattle.html_values.specs.AttrTexts.{image_candidate_view};
+ghost use Rattle.html_values.specs.Moments.{moment_view};
+
+use crate::cast_fault::CastFault;
+use crate::duration::Duration;
+use crate::image::{IconSize, ImageCandidate};
+use crate::into_attr::Str;
+use crate::moment::{Datetime, Moment};
+use crate::native_type::NativeType;
+use crate::words::{
+    AutoValue, HorizontalDir, NoneEmpty, NoneUndefined, NoneValue, OnOffBool, TrueFalseBool,
+    YesNoBool,
+};
+
+/// Faults of casts are equal where they are the same.
+pub fn equal_cast_faults(a: CastFault, b: CastFault) -> bool
+    ensures { IsTrue result ↔ (a ≡ b) }
+{
+    a == b
+}
+
+/// Native types are equal where they are the same.
+pub fn equal_native_types(a: NativeType, b: NativeType) -> bool
+    ensures { IsTrue result ↔ (a ≡ b) }
+{
+    a == b
+}
+
+/// Moments are equal where they are of one kind, and the day, the time or both are the same.
+pub fn equal_moments(a: Moment, b: Moment) -> bool
+    ensures { IsTrue result ↔ (moment_view a ≡ moment_view b) }
+{
+    a == b
+}
+
+/// Moments that have a text are equal where the moments are.
+pub fn equal_datetimes(a: Datetime, b: Datetime) -> bool
+    ensures { IsTrue result ↔ (moment_view a.moment ≡ moment_view b.moment) }
+{
+    a == b
+}
+
+/// Spans of time are equal where their seconds are.
+pub fn equal_durations(a: Duration, b: Duration) -> bool
+    ensures { IsTrue result ↔ (a.0 ≡ b.0) }
+{
+    a == b
+}
+
+/// Texts are equal where their characters are.
+pub fn equal_strs(a: &Str, b: &Str) -> bool
+    ensures { IsTrue result ↔ (text_view a.now.0 ≡ text_view b.now.0) }
+{
+    a == b
+}
+
+/// Sizes of icons are equal where both numbers are.
+pub fn equal_icon_sizes(a: IconSize, b: IconSize) -> bool
+    ensures { IsTrue result ↔ (a ≡ b) }
+{
+    a == b
+}
+
+/// Candidates are equal where their sources and their widths are.
+pub fn equal_image_candidates(a: &ImageCandidate, b: &ImageCandidate) -> bool
+    ensures { IsTrue result ↔ (image_candidate_view a.now ≡ image_candidate_view b.now) }
+{
+    a == b
+}
+
+/// Booleans written `true` and `false` are equal where they are the same.
+pub fn equal_true_false(a: TrueFalseBool, b: TrueFalseBool) -> bool
+    ensures { IsTrue result ↔ (a.0 ≡ b.0) }
+{
+    a == b
+}
+
+/// Booleans written `yes` and `no` are equal where they are the same.
+pub fn equal_yes_no(a: YesNoBool, b: YesNoBool) -> bool
+    ensures { IsTrue result ↔ (a.0 ≡ b.0) }
+{
+    a == b
+}
+
+/// Booleans written `on` and `off` are equal where they are the same.
+pub fn equal_on_off(a: OnOffBool, b: OnOffBool) -> bool
+    ensures { IsTrue result ↔ (a.0 ≡ b.0) }
+{
+    a == b
+}
+
+/// Horizontal directions are equal where they are the same.
+pub fn equal_horizontal_dirs(a: HorizontalDir, b: HorizontalDir) -> bool
+    ensures { IsTrue result ↔ (a ≡ b) }
+{
+    a == b
+}
+
+/// Every `none` is equal to every other.
+pub fn equal_none_values(a: NoneValue, b: NoneValue) -> bool
+    ensures { IsTrue result }
+{
+    a == b
+}
+
+/// Every none that is written as the empty text is equal to every other.
+pub fn equal_none_empties(a: NoneEmpty, b: NoneEmpty) -> bool
+    ensures { IsTrue result }
+{
+    a == b
+}
+
+/// Every `undefined` is equal to every other.
+pub fn equal_none_undefineds(a: NoneUndefined, b: NoneUndefined) -> bool
+    ensures { IsTrue result }
+{
+    a == b
+}
+
+/// Every `auto` is equal to every other.
+pub fn equal_auto_values(a: AutoValue, b: AutoValue) -> bool
+    ensures { IsTrue result }
+{
+    a == b
+}
