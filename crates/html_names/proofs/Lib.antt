@@ -4,6 +4,8 @@ pub mod Equals
 pub mod Faults
 pub mod Held
 pub mod Lists
+pub mod NameTables
+pub mod NumberMaps
 pub mod Same
 pub mod Search
 pub mod Texts

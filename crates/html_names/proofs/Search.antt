@@ -46,7 +46,7 @@ step : (a b x : List ℕ) → is_lt (cmp a b) ≡ true →
     ordering_index (cmp a x) ≤ ordering_index (cmp b x)
 step a b x h = step_at a b x (cmp b x) refl (less (cmp a b) h)
 
-or_true : (b : Bool) → (b || true) ≡ true
+pub or_true : (b : Bool) → (b || true) ≡ true
 or_true true = refl
 or_true false = refl
 

@@ -6,6 +6,8 @@ pub mod Faults
 pub mod Hashes
 pub mod Held
 pub mod Kinds
+pub mod NameTables
 pub mod Names
+pub mod NumberMaps
 pub mod Tables
 pub mod Texts

@@ -1,9 +1,10 @@
 //! Laws of this crate's types and constants, each the contract of a function.
 
-ghost use Rattle.std.specs.Prelude.{◌≡◌, ◌↔◌, IsTrue};
+ghost use Rattle.std.specs.Prelude.{◌≡◌, ◌↔◌, IsTrue, IfOk};
 
 use crate::property::Display;
-use crate::{NameFault, Refused};
+use crate::{HtmlAttr, HtmlTag, NameFault, NameTable, Refused};
+use std::alloc::AllocError;
 
 pub mod attrs;
 pub mod tags;
@@ -27,4 +28,68 @@ pub fn equal_refused<T: PartialEq>(a: &Refused<T>, b: &Refused<T>) -> bool
     ensures { result ≡ T.eq a.now.back b.now.back }
 {
     a == b
+}
+
+/// Two tags have one number exactly where their texts are equal.
+pub fn equal_tag_numbers(
+    names: &mut NameTable,
+    a: &HtmlTag,
+    b: &HtmlTag,
+) -> Result<bool, AllocError>
+    ensures { IfOk result (λ same. IsTrue same ↔ (a.now ≡ b.now)) }
+{
+    Ok(names.tag(a)? == names.tag(b)?)
+}
+
+/// A number stays when another of the tags gets one.
+pub fn tag_number_stays(
+    names: &mut NameTable,
+    given: &HtmlTag,
+    other: &HtmlTag,
+) -> Result<bool, AllocError>
+    ensures { IfOk result (λ same. IsTrue same) }
+{
+    let number = names.tag(given)?;
+    names.tag(other)?;
+    Ok(names.tag(given)? == number)
+}
+
+/// What stands at the number of one of the tags has its text.
+pub fn tag_at_number(names: &mut NameTable, given: &HtmlTag) -> Result<bool, AllocError>
+    ensures { IfOk result (λ same. IsTrue same) }
+{
+    let number = names.tag(given)?;
+    Ok(names.tag_at(number) == given)
+}
+
+/// Two attributes have one number exactly where their texts are equal.
+pub fn equal_attr_numbers(
+    names: &mut NameTable,
+    a: &HtmlAttr,
+    b: &HtmlAttr,
+) -> Result<bool, AllocError>
+    ensures { IfOk result (λ same. IsTrue same ↔ (a.now ≡ b.now)) }
+{
+    Ok(names.attr(a)? == names.attr(b)?)
+}
+
+/// A number stays when another of the attributes gets one.
+pub fn attr_number_stays(
+    names: &mut NameTable,
+    given: &HtmlAttr,
+    other: &HtmlAttr,
+) -> Result<bool, AllocError>
+    ensures { IfOk result (λ same. IsTrue same) }
+{
+    let number = names.attr(given)?;
+    names.attr(other)?;
+    Ok(names.attr(given)? == number)
+}
+
+/// What stands at the number of one of the attributes has its text.
+pub fn attr_at_number(names: &mut NameTable, given: &HtmlAttr) -> Result<bool, AllocError>
+    ensures { IfOk result (λ same. IsTrue same) }
+{
+    let number = names.attr(given)?;
+    Ok(names.attr_at(number) == given)
 }

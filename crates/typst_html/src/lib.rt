@@ -11,7 +11,7 @@ pub use html_flow::{
     construct,
 };
 pub use html_names::{
-    HtmlAttr, HtmlTag, NameFault, Output, Refused, attr, charsets, property, tag,
+    HtmlAttr, HtmlTag, NameFault, NameTable, Output, Refused, attr, charsets, property, tag,
 };
 pub use html_values::{
     Abs, Angle, AttrType, AutoValue, Calc, CalcPart, Call, CastFault, CssWriter, Datetime, Degrees,

@@ -8,6 +8,7 @@ mod characters;
 mod displays;
 mod interning;
 mod kinds;
+mod name_table;
 mod output;
 
 /// The names of HTML's elements and of MathML's, and others that are none of these.

@@ -1,0 +1,270 @@
+-- Numbers of names, over lists of texts.
+use Rattle.std.proofs.Common.{◌≡◌, ℕ, zero, suc, ◌+◌, ◌<◌, ◌≤◌, Bool, true, false, ◌||◌, if◌then◌else◌, List, [], ◌∷◌, ◌++◌, refl, sym, ap, ◌∙◌, length, arith, bytes_eq, add-one, append-nil, length-append, Some, None, Ok, unwrap_or}
+use Rattle.std.proofs.lemmas.Slice.Eq.{bytes_eq-Decides}
+use Rattle.html_names.specs.Names.{stands_in}
+use Rattle.html_names.specs.NameTables.{NamesView, Numbers, number_in, with_name, name_at, with_tag, with_attr}
+use Rattle.html_names.specs.NumberMaps.{number_where}
+use Rattle.html_names.proofs.Search.{or_true}
+
+same : (name : List ℕ) → bytes_eq name name ≡ true
+same name = (bytes_eq-Decides name name).1 refl
+
+below_step : (b s : Bool) (k count : ℕ) → (s ≡ true → k < count) → (b || s) ≡ true →
+    (if b then 0 else k + 1) < suc count
+below_step true s k count below h = omega arith
+below_step false s k count below h = omega (arith, below h)
+
+-- a name that stands among names has a number below their count
+pub number_below : (names : List (List ℕ)) (name : List ℕ) → stands_in names name ≡ true →
+    number_in names name < length names
+unfolding stands_in number_in
+number_below [] name h = cc
+number_below (n ∷ ns) name h =
+    below_step (bytes_eq n name) (stands_in ns name) (number_in ns name) (length ns)
+    (number_below ns name) h
+
+next_step : (b s : Bool) (k count : ℕ) → (s ≡ false → k ≡ count) → (b || s) ≡ false →
+    (if b then 0 else k + 1) ≡ suc count
+next_step true s k count next h = cc
+next_step false s k count next h = omega (arith, next h)
+
+-- one that does not, has the next
+pub number_next : (names : List (List ℕ)) (name : List ℕ) → stands_in names name ≡ false →
+    number_in names name ≡ length names
+unfolding stands_in number_in
+number_next [] name h = refl
+number_next (n ∷ ns) name h =
+    next_step (bytes_eq n name) (stands_in ns name) (number_in ns name) (length ns)
+    (number_next ns name) h
+
+name_step : (n name : List ℕ) (ns : List (List ℕ)) (b s : Bool) (k : ℕ) → bytes_eq n name ≡ b →
+    (s ≡ true → name_at ns k ≡ name) → (b || s) ≡ true →
+    name_at (n ∷ ns) (if b then 0 else k + 1) ≡ name
+name_step n name ns true s k e there h = (bytes_eq-Decides n name).0 e
+name_step n name ns false s k e there h = rw (add-one k) (there h)
+
+-- what stands at the number of a name is the name
+pub name_at-number : (names : List (List ℕ)) (name : List ℕ) → stands_in names name ≡ true →
+    name_at names (number_in names name) ≡ name
+unfolding stands_in number_in
+name_at-number [] name h = cc
+name_at-number (n ∷ ns) name h =
+    name_step n name ns (bytes_eq n name) (stands_in ns name) (number_in ns name) refl
+    (name_at-number ns name) h
+
+-- names that are added leave the first as they are
+pub name_at-append : (names more : List (List ℕ)) (number : ℕ) → number < length names →
+    name_at (names ++ more) number ≡ name_at names number
+name_at-append [] more number h = absurd (omega arith)
+name_at-append (n ∷ ns) more zero h = refl
+name_at-append (n ∷ ns) more (suc number) h = name_at-append ns more number (omega arith)
+
+-- and the next after them is the first that is added
+pub name_at-last : (names : List (List ℕ)) (name : List ℕ) →
+    name_at (names ++ name ∷ []) (length names) ≡ name
+name_at-last [] name = refl
+name_at-last (n ∷ ns) name = name_at-last ns name
+
+stands_step : (b s t : Bool) → (s ≡ true → t ≡ true) → (b || s) ≡ true → (b || t) ≡ true
+stands_step true s t still h = refl
+stands_step false s t still h = still h
+
+pub stands_in-append : (names more : List (List ℕ)) (name : List ℕ) →
+    stands_in names name ≡ true → stands_in (names ++ more) name ≡ true
+unfolding stands_in
+stands_in-append [] more name h = cc
+stands_in-append (n ∷ ns) more name h =
+    stands_step (bytes_eq n name) (stands_in ns name) (stands_in (ns ++ more) name)
+    (stands_in-append ns more name) h
+
+number_step : (b s : Bool) (k m : ℕ) → (s ≡ true → m ≡ k) → (b || s) ≡ true →
+    (if b then 0 else m + 1) ≡ (if b then 0 else k + 1)
+number_step true s k m still h = refl
+number_step false s k m still h = ap (λ n. n + 1) (still h)
+
+pub number_in-append : (names more : List (List ℕ)) (name : List ℕ) →
+    stands_in names name ≡ true → number_in (names ++ more) name ≡ number_in names name
+unfolding stands_in number_in
+number_in-append [] more name h = cc
+number_in-append (n ∷ ns) more name h =
+    number_step (bytes_eq n name) (stands_in ns name) (number_in ns name)
+    (number_in (ns ++ more) name) (number_in-append ns more name) h
+
+-- a name at the end stands there, with the number that it has or gets
+pub stands_in-last : (names : List (List ℕ)) (name : List ℕ) →
+    stands_in (names ++ name ∷ []) name ≡ true
+unfolding stands_in
+stands_in-last [] name = rw (same name) refl
+stands_in-last (n ∷ ns) name = rw (stands_in-last ns name) (or_true (bytes_eq n name))
+
+pub number_in-last : (names : List (List ℕ)) (name : List ℕ) →
+    number_in (names ++ name ∷ []) name ≡ number_in names name
+unfolding number_in
+number_in-last [] name = rw (same name) refl
+number_in-last (n ∷ ns) name = rw (number_in-last ns name) refl
+
+-- a name that stands there is not told again
+pub with_name-stands : (names : List (List ℕ)) (name : List ℕ) → stands_in names name ≡ true →
+    with_name names name ≡ names
+unfolding with_name
+with_name-stands names name h = rw h refl
+
+pub with_name-new : (names : List (List ℕ)) (name : List ℕ) → stands_in names name ≡ false →
+    with_name names name ≡ names ++ name ∷ []
+unfolding with_name
+with_name-new names name h = rw h refl
+
+appends_by : (names : List (List ℕ)) (name : List ℕ) (s : Bool) → stands_in names name ≡ s →
+    (more : List (List ℕ)) × (with_name names name ≡ names ++ more)
+appends_by names name true h = ([], with_name-stands names name h ∙ sym (append-nil names))
+appends_by names name false h = (name ∷ [], with_name-new names name h)
+
+-- to tell a name adds at the end
+pub with_name-appends : (names : List (List ℕ)) (name : List ℕ) →
+    (more : List (List ℕ)) × (with_name names name ≡ names ++ more)
+with_name-appends names name = appends_by names name (stands_in names name) refl
+
+pub with_name-long : (names : List (List ℕ)) (name : List ℕ) →
+    length names ≤ length (with_name names name)
+with_name-long names name =
+    let told = with_name-appends names name in
+    rw (told.1, length-append names told.0) (omega arith)
+
+told_by : (names : List (List ℕ)) (name : List ℕ) (s : Bool) → stands_in names name ≡ s →
+    stands_in (with_name names name) name ≡ true
+told_by names name true h = rw (with_name-stands names name h) h
+told_by names name false h = rw (with_name-new names name h) (stands_in-last names name)
+
+-- a name that is told stands there, with the number that it had or got
+pub stands_in-told : (names : List (List ℕ)) (name : List ℕ) →
+    stands_in (with_name names name) name ≡ true
+stands_in-told names name = told_by names name (stands_in names name) refl
+
+number_by : (names : List (List ℕ)) (name : List ℕ) (s : Bool) → stands_in names name ≡ s →
+    number_in (with_name names name) name ≡ number_in names name
+number_by names name true h = rw (with_name-stands names name h) refl
+number_by names name false h = rw (with_name-new names name h) (number_in-last names name)
+
+pub number_in-told : (names : List (List ℕ)) (name : List ℕ) →
+    number_in (with_name names name) name ≡ number_in names name
+number_in-told names name = number_by names name (stands_in names name) refl
+
+pub number_below-told : (names : List (List ℕ)) (name : List ℕ) →
+    number_in names name < length (with_name names name)
+number_below-told names name =
+    let told : List (List ℕ) = with_name names name in
+    omega (arith, number_in-told names name, number_below told name (stands_in-told names name))
+
+pub name_at-told : (names : List (List ℕ)) (name : List ℕ) →
+    name_at (with_name names name) (number_in names name) ≡ name
+name_at-told names name =
+    let told : List (List ℕ) = with_name names name in
+    ap (name_at told) (sym (number_in-told names name))
+    ∙ name_at-number told name (stands_in-told names name)
+
+-- other names stay
+pub name_at-with_name : (names : List (List ℕ)) (name : List ℕ) (number : ℕ) →
+    number < length names → name_at (with_name names name) number ≡ name_at names number
+name_at-with_name names name number h =
+    let told = with_name-appends names name in
+    rw told.1 (name_at-append names told.0 number h)
+
+pub stands_in-with_name : (names : List (List ℕ)) (name other : List ℕ) →
+    stands_in names other ≡ true → stands_in (with_name names name) other ≡ true
+stands_in-with_name names name other h =
+    let told = with_name-appends names name in
+    rw told.1 (stands_in-append names told.0 other h)
+
+pub number_in-with_name : (names : List (List ℕ)) (name other : List ℕ) →
+    stands_in names other ≡ true → number_in (with_name names name) other ≡ number_in names other
+number_in-with_name names name other h =
+    let told = with_name-appends names name in
+    rw told.1 (number_in-append names told.0 other h)
+
+-- names of one number are equal
+pub one_number : (names : List (List ℕ)) (a b : List ℕ) → stands_in names a ≡ true →
+    stands_in names b ≡ true → number_in names a ≡ number_in names b → a ≡ b
+one_number names a b h l e =
+    sym (name_at-number names a h) ∙ (ap (name_at names) e ∙ name_at-number names b l)
+
+-- numbers that are asked for one after another are equal where the names are
+pub equal_numbers : (names : List (List ℕ)) (a b : List ℕ) →
+    (number_in names a ≡ number_in (with_name names a) b → a ≡ b)
+    × (a ≡ b → number_in names a ≡ number_in (with_name names a) b)
+equal_numbers names a b =
+    let one : List (List ℕ) = with_name names a in
+    let both : List (List ℕ) = with_name one b in
+    let there : stands_in one a ≡ true = stands_in-told names a in
+    let first : number_in both a ≡ number_in names a =
+    number_in-with_name one b a there ∙ number_in-told names a in (
+      λ e. one_number both a b (stands_in-with_name one b a there) (stands_in-told one b)
+          (first ∙ (e ∙ sym (number_in-told one b))),
+      λ e. sym (number_in-told names a) ∙ ap (number_in one) e,
+    )
+
+-- a number stays when another name is told
+pub number_later : (names : List (List ℕ)) (name other : List ℕ) →
+    number_in (with_name (with_name names name) other) name ≡ number_in names name
+number_later names name other =
+    number_in-with_name (with_name names name) other name (stands_in-told names name)
+    ∙ number_in-told names name
+
+where_told : (names : List (List ℕ)) (name : List ℕ) (number : ℕ) (s : Bool) →
+    stands_in names name ≡ s →
+    Some number ≡ (if s then Some (number_in names name) else None) →
+    (number ≡ number_in names name) × (with_name names name ≡ names)
+where_told names name number true h e = (
+  ap (λ found. unwrap_or found 0) e,
+  with_name-stands names name h,
+)
+where_told names name number false h e = cc
+
+-- a name that is found has its number, and is told
+told_where : (names : List (List ℕ)) (name : List ℕ) (number : ℕ) →
+    Some number ≡ number_where names name →
+    (number ≡ number_in names name) × (with_name names name ≡ names)
+told_where names name number e = where_told names name number (stands_in names name) refl e
+
+-- in a table: a tag that is found, and one that is not
+pub finds_tag : (old now : NamesView) (text held : List ℕ) (number : ℕ) → now ≡ old →
+    held ≡ text → Some number ≡ number_where now.tags held →
+    Numbers (Ok number) old.tags text old old (with_tag old text)
+finds_tag old now text held number is named found =
+    let there : Some number ≡ number_where old.tags text = rw (sym is, sym named) found in
+    let told = told_where old.tags text number there in
+    record { number = told.0; names = rw told.1 refl; absent = tt; kept = tt }
+
+pub adds_tag : (old now : NamesView) (text copy : List ℕ) (after : List (List ℕ)) (number : ℕ) →
+    now ≡ old → copy ≡ text → after ≡ now.tags ++ copy ∷ [] → number ≡ length now.tags →
+    stands_in old.tags text ≡ false →
+    Numbers (Ok number) old.tags text old (record { tags = after; attrs = now.attrs })
+    (with_tag old text)
+adds_tag old now text copy after number is copied added counted new =
+    record {
+      number = rw (number_next old.tags text new, counted, is) refl;
+      names = rw (added, copied, with_name-new old.tags text new, is) refl;
+      absent = tt;
+      kept = tt;
+    }
+
+-- and so for attributes
+pub finds_attr : (old now : NamesView) (text held : List ℕ) (number : ℕ) → now ≡ old →
+    held ≡ text → Some number ≡ number_where now.attrs held →
+    Numbers (Ok number) old.attrs text old old (with_attr old text)
+finds_attr old now text held number is named found =
+    let there : Some number ≡ number_where old.attrs text = rw (sym is, sym named) found in
+    let told = told_where old.attrs text number there in
+    record { number = told.0; names = rw told.1 refl; absent = tt; kept = tt }
+
+pub adds_attr : (old now : NamesView) (text copy : List ℕ) (after : List (List ℕ)) (number : ℕ) →
+    now ≡ old → copy ≡ text → after ≡ now.attrs ++ copy ∷ [] → number ≡ length now.attrs →
+    stands_in old.attrs text ≡ false →
+    Numbers (Ok number) old.attrs text old (record { tags = now.tags; attrs = after })
+    (with_attr old text)
+adds_attr old now text copy after number is copied added counted new =
+    record {
+      number = rw (number_next old.attrs text new, counted, is) refl;
+      names = rw (added, copied, with_name-new old.attrs text new, is) refl;
+      absent = tt;
+      kept = tt;
+    }

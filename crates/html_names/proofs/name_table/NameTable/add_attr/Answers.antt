@@ -1,0 +1,22 @@
+use Rattle.std.proofs.Common.{sym, ap, ◌∙◌, rules}
+use Rattle.html_names.specs.Characters.{is_attr_char}
+use Rattle.html_names.specs.Tables.{known_attrs, attr_count}
+use Rattle.html_names.proofs.Same.{attr_same}
+use Rattle.html_names.proofs.NameTables.{adds_attr}
+use Rattle.html_names.proofs.NumberMaps.{numbering}
+use Rattle.html_names.proofs.name_table.NameTable.add_attr.Goals as goal
+
+pub invariant_of-self-in_default : goal.invariant_of-self-in_default
+invariant_of-self-in_default c = (
+  c.self.invariant.0,
+  numbering attr_count known_attrs is_attr_char attr_same c.self.inside.attr_numbers c.put.new.self
+      c.self.inside.kept_attrs.items c.push.new.self.items c.attr.inside.name c.in_ok-try_clone.field-0
+      c.len-number.result (c.attr.view_is ∙ sym c.in_ok-try_clone.ensures.copy) c.in_ok-push.ensures.items
+      (search (rules, c.len-number.ensures)) c.self.invariant.1 c.attr.invariant
+      (rw (c.in_ok-try_clone.ensures.copy, ap (λ names. names.attrs) c.self.view_is) c.requires)
+      c.in_default.ensures.placed,
+)
+
+pub returns : goal.returns
+returns c = adds_attr _ _ _ _ _ _ c.self.view_is c.in_ok-try_clone.ensures.copy c.in_ok-push.ensures.items
+    (search (rules, c.len-number.ensures)) c.requires

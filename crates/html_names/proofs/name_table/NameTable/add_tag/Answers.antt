@@ -1,0 +1,22 @@
+use Rattle.std.proofs.Common.{sym, ap, ◌∙◌, rules}
+use Rattle.html_names.specs.Characters.{is_tag_char}
+use Rattle.html_names.specs.Tables.{known_tags, tag_count}
+use Rattle.html_names.proofs.Same.{tag_same}
+use Rattle.html_names.proofs.NameTables.{adds_tag}
+use Rattle.html_names.proofs.NumberMaps.{numbering}
+use Rattle.html_names.proofs.name_table.NameTable.add_tag.Goals as goal
+
+pub invariant_of-self-in_default : goal.invariant_of-self-in_default
+invariant_of-self-in_default c = (
+  numbering tag_count known_tags is_tag_char tag_same c.self.inside.tag_numbers c.put.new.self
+      c.self.inside.kept_tags.items c.push.new.self.items c.tag.inside.name c.in_ok-new.field-0
+      c.len-number.result (c.tag.view_is ∙ sym c.in_ok-new.ensures) c.in_ok-push.ensures.items
+      (search (rules, c.len-number.ensures)) c.self.invariant.0 c.tag.invariant
+      (rw (c.in_ok-new.ensures, ap (λ names. names.tags) c.self.view_is) c.requires)
+      c.in_default.ensures.placed,
+  c.self.invariant.1,
+)
+
+pub returns : goal.returns
+returns c = adds_tag _ _ _ _ _ _ c.self.view_is c.in_ok-new.ensures c.in_ok-push.ensures.items
+    (search (rules, c.len-number.ensures)) c.requires

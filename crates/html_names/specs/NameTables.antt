@@ -1,0 +1,50 @@
+-- Numbers for names: a table gives each tag, and each attribute, the next number from 0.
+use Rattle.std.specs.Prelude.{◌≡◌, ℕ, ◌+◌, false, List, [], ◌∷◌, ◌++◌, bytes_eq, slice_index_or, if◌then◌else◌, Result, IfOk, OnOk, OnErr, ◌<◌, length}
+use Rattle.std.specs.declared.alloc.AllocError.{AllocError}
+use Rattle.html_names.specs.Names.{stands_in}
+
+-- a table of names: the texts of the tags and of the attributes that have a number, in the order of
+-- their numbers
+pub record NamesView : Type 0 where
+  pub tags : List (List ℕ)
+  pub attrs : List (List ℕ)
+
+-- no name has a number
+abbrev pub no_names : NamesView
+no_names = record { tags = []; attrs = [] }
+
+-- the number of a name among names: how many stand before the first that is equal to it, so how
+-- many they are where none is
+unfoldable pub number_in : List (List ℕ) → List ℕ → ℕ
+number_in [] name = 0
+number_in (n ∷ ns) name = if bytes_eq n name then 0 else number_in ns name + 1
+
+-- the names, and that name at the end unless it stands there
+unfoldable pub with_name : List (List ℕ) → List ℕ → List (List ℕ)
+with_name names name = if stands_in names name then names else names ++ name ∷ []
+
+-- the name of that number
+abbrev pub name_at : List (List ℕ) → ℕ → List ℕ
+name_at names number = slice_index_or names number []
+
+-- each number is that of its name, so that no name stands there twice
+abbrev pub IsNumbered : List (List ℕ) → Type 0
+IsNumbered names = (number : ℕ) → number < length names →
+    number_in names (name_at names number) ≡ number
+
+-- a table of names, and that tag in it
+abbrev pub with_tag : NamesView → List ℕ → NamesView
+with_tag table tag = record { tags = with_name table.tags tag; attrs = table.attrs }
+
+-- a table of names, and that attribute in it
+abbrev pub with_attr : NamesView → List ℕ → NamesView
+with_attr table attr = record { tags = table.tags; attrs = with_name table.attrs attr }
+
+-- a call that asks for the number of a name among names that have one: where it succeeds, it gives
+-- the number and the table becomes the one told, else the name had no number and the table stays
+pub record Numbers (result : Result ℕ AllocError) (given : List (List ℕ)) (name : List ℕ)
+    (old new told : NamesView) : Type 0 where
+  pub number : IfOk result (λ n. n ≡ number_in given name)
+  pub names : OnOk result (new ≡ told)
+  pub absent : OnErr result (stands_in given name ≡ false)
+  pub kept : OnErr result (new ≡ old)

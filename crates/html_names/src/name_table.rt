@@ -1,0 +1,211 @@
+ghost use Rattle.std.specs.Prelude.{◌≡◌, ◌<◌, length, false};
+ghost use Rattle.html_names.specs.Names.{stands_in};
+ghost use Rattle.html_names.specs.Kinds as kinds;
+ghost use Rattle.html_names.specs.Displays.{default_display};
+ghost use Rattle.html_names.specs.NameTables.{Numbers, IsNumbered, no_names, name_at, with_tag, with_attr};
+
+use crate::html_attr::HtmlAttr;
+use crate::html_tag::HtmlTag;
+use crate::property::Display;
+use std::alloc::{AllocError, Global};
+use std::marker::Model;
+
+mod kept_tag;
+mod number_map;
+
+use kept_tag::KeptTag;
+use number_map::NumberMap;
+
+/// Numbers for names: each tag, and each attribute, gets the next number from 0 when it is first
+/// asked for, and keeps it. Tags and attributes are numbered apart.
+///
+/// What the tables of kinds and of displays say of a tag is kept with its number, so that to ask by
+/// number takes an index and a field.
+///
+/// A contract sees the table as the texts of its tags and of its attributes, in the order of their
+/// numbers.
+///
+/// ```
+/// use html_names::{HtmlTag, NameTable, attr, tag};
+///
+/// let mut names = NameTable::new(alloc);
+/// let own = HtmlTag::intern(alloc, "my-el")?;
+/// assert_eq!(rt; names.tag(&tag::br)?, 0);
+/// assert_eq!(rt; names.tag(&own)?, 1);
+/// assert_eq!(rt; names.tag(&tag::br)?, 0);
+/// assert_eq!(rt; names.attr(&attr::class)?, 0);
+/// assert!(rt; names.is_void(0));
+/// assert_eq!(rt; names.tag_at(1).resolve(), "my-el");
+/// ```
+#[derive(Drop)]
+pub struct NameTable {
+    kept_tags: Vec<KeptTag>,
+    tag_numbers: NumberMap,
+    kept_attrs: Vec<HtmlAttr>,
+    attr_numbers: NumberMap,
+}
+
+impl Model for NameTable {
+    ghost use Rattle.html_names.specs.NameTables.{NamesView};
+
+    ghost Value = { NamesView };
+
+    ghost use Rattle.html_names.specs.NumberMaps.{IsNumbering};
+    ghost use Rattle.html_names.specs.Tables.{known_tags, tag_count, known_attrs, attr_count};
+    ghost use Rattle.html_names.specs.Characters.{is_tag_char, is_attr_char};
+
+    ghost view = { λ t. record { tags = t.kept_tags.items; attrs = t.kept_attrs.items } };
+
+    ghost invariant = { λ t. IsNumbering tag_count known_tags is_tag_char t.tag_numbers t.kept_tags.items
+        × IsNumbering attr_count known_attrs is_attr_char t.attr_numbers t.kept_attrs.items };
+}
+
+impl NameTable {
+    /// A table in which no name has a number. It takes no memory.
+    pub fn new(alloc: Global) -> NameTable
+        ensures { result ≡ no_names }
+    {
+        NameTable {
+            kept_tags: Vec::new(alloc),
+            tag_numbers: NumberMap::new(alloc),
+            kept_attrs: Vec::new(alloc),
+            attr_numbers: NumberMap::new(alloc),
+        }
+    }
+
+    /// The number of a tag: the one that it has, else the next.
+    ///
+    /// Where an allocation fails, the table stays as it was. A tag that has a number takes no
+    /// memory.
+    ///
+    /// Cost: an index for a known name, and a search in an ordered map for another.
+    pub fn tag(&mut self, tag: &HtmlTag) -> Result<usize, AllocError>
+        ensures { Numbers result self.old.tags tag.now self.old self.new
+            (with_tag self.old tag.now) }
+    {
+        if let Some(number) = self.tag_numbers.number_of(&tag.name) {
+            return Ok(number);
+        }
+        self.add_tag(tag)
+    }
+
+    /// The next number, for a tag that has none.
+    fn add_tag(&mut self, tag: &HtmlTag) -> Result<usize, AllocError>
+        requires { stands_in self.old.tags tag.now ≡ false }
+        ensures { Numbers result self.old.tags tag.now self.old self.new
+            (with_tag self.old tag.now) }
+    {
+        let number = self.kept_tags.len();
+        self.kept_tags.push(KeptTag::new(tag)?)?;
+        if let Err(fault) = self.tag_numbers.put(&tag.name, number) {
+            self.kept_tags.pop();
+            return Err(fault);
+        }
+        Ok(number)
+    }
+
+    /// The number of an attribute: the one that it has, else the next.
+    ///
+    /// Where an allocation fails, the table stays as it was. An attribute that has a number takes no
+    /// memory.
+    ///
+    /// Cost: an index for a known name, and a search in an ordered map for another.
+    pub fn attr(&mut self, attr: &HtmlAttr) -> Result<usize, AllocError>
+        ensures { Numbers result self.old.attrs attr.now self.old self.new
+            (with_attr self.old attr.now) }
+    {
+        if let Some(number) = self.attr_numbers.number_of(&attr.name) {
+            return Ok(number);
+        }
+        self.add_attr(attr)
+    }
+
+    /// The next number, for an attribute that has none.
+    fn add_attr(&mut self, attr: &HtmlAttr) -> Result<usize, AllocError>
+        requires { stands_in self.old.attrs attr.now ≡ false }
+        ensures { Numbers result self.old.attrs attr.now self.old self.new
+            (with_attr self.old attr.now) }
+    {
+        let number = self.kept_attrs.len();
+        self.kept_attrs.push(attr.try_clone()?)?;
+        if let Err(fault) = self.attr_numbers.put(&attr.name, number) {
+            self.kept_attrs.pop();
+            return Err(fault);
+        }
+        Ok(number)
+    }
+
+    /// How many tags have a number. No two of them are equal.
+    pub fn tags(&self) -> usize
+        ensures count { result ≡ length self.now.tags }
+        ensures numbered { IsNumbered self.now.tags }
+    {
+        self.kept_tags.len()
+    }
+
+    /// How many attributes have a number. No two of them are equal.
+    pub fn attrs(&self) -> usize
+        ensures count { result ≡ length self.now.attrs }
+        ensures numbered { IsNumbered self.now.attrs }
+    {
+        self.kept_attrs.len()
+    }
+
+    /// The tag of that number.
+    pub fn tag_at(&self, number: usize) -> &HtmlTag
+        requires { number < length self.now.tags }
+        ensures { result.now ≡ name_at self.now.tags number }
+    {
+        self.kept_tags[number].tag()
+    }
+
+    /// The attribute of that number.
+    pub fn attr_at(&self, number: usize) -> &HtmlAttr
+        requires { number < length self.now.attrs }
+        ensures { result.now ≡ name_at self.now.attrs number }
+    {
+        &self.kept_attrs[number]
+    }
+
+    /// Whether the tag of that number is of a void element, as `tag::is_void` says.
+    pub fn is_void(&self, number: usize) -> bool
+        requires { number < length self.now.tags }
+        ensures { result ≡ kinds.is_void (name_at self.now.tags number) }
+    {
+        self.kept_tags[number].is_void()
+    }
+
+    /// Whether the tag of that number is of an element of raw text, as `tag::is_raw` says.
+    pub fn is_raw(&self, number: usize) -> bool
+        requires { number < length self.now.tags }
+        ensures { result ≡ kinds.is_raw (name_at self.now.tags number) }
+    {
+        self.kept_tags[number].is_raw()
+    }
+
+    /// Whether the tag of that number is of an element of escapable raw text, as
+    /// `tag::is_escapable_raw` says.
+    pub fn is_escapable_raw(&self, number: usize) -> bool
+        requires { number < length self.now.tags }
+        ensures { result ≡ kinds.is_escapable_raw (name_at self.now.tags number) }
+    {
+        self.kept_tags[number].is_escapable_raw()
+    }
+
+    /// Whether the tag of that number is of a foreign element that is written self-closing, as
+    /// `tag::is_foreign_self_closing` says.
+    pub fn is_foreign_self_closing(&self, number: usize) -> bool
+        requires { number < length self.now.tags }
+        ensures { result ≡ kinds.is_foreign_self_closing (name_at self.now.tags number) }
+    {
+        self.kept_tags[number].is_foreign_self_closing()
+    }
+
+    /// The default display of the tag of that number, as `Display::default_for` says.
+    pub fn default_for(&self, number: usize) -> Option<Display>
+        requires { number < length self.now.tags }
+        ensures { result ≡ default_display (name_at self.now.tags number) }
+    {
+        self.kept_tags[number].default_display()
+    }
+}

@@ -1,0 +1,75 @@
+ghost use Rattle.std.specs.Prelude.{◌≡◌, ◌<◌, ◌^◌, ℕ, None, length, OnOk, slice_index_or};
+ghost use Rattle.html_names.specs.NumberMaps.{number_of, Puts, HoldsNone};
+
+use crate::name::Name;
+use std::alloc::{AllocError, Global};
+use std::collections::BTreeMap;
+
+/// The numbers of names, by how a name is held: a known one by its place, another by its text.
+#[derive(Drop)]
+pub(crate) struct NumberMap {
+    known: Vec<Option<usize>>,
+    own: BTreeMap<String, usize>,
+}
+
+impl NumberMap {
+    /// No name has a number. It takes no memory.
+    pub(crate) fn new(alloc: Global) -> NumberMap
+        ensures { HoldsNone result }
+    {
+        NumberMap {
+            known: Vec::new(alloc),
+            own: BTreeMap::new(alloc),
+        }
+    }
+
+    /// The name's number, if it has one.
+    pub(crate) fn number_of(&self, name: &Name) -> Option<usize>
+        ensures { result ≡ number_of self.now name.now }
+    {
+        match name {
+            Name::Known(place) => known_number(&self.known, *place),
+            Name::Own(text) => self.own.get(text.as_str()).copied(),
+        }
+    }
+
+    /// Gives the name that number. Where an allocation fails, each name has the number that it had.
+    pub(crate) fn put(&mut self, name: &Name, number: usize) -> Result<(), AllocError>
+        ensures { Puts result self.old self.new name.now number }
+    {
+        match name {
+            Name::Known(place) => {
+                let place = *place as usize;
+                make_room(&mut self.known, place)?;
+                self.known[place] = Some(number);
+            }
+            Name::Own(text) => {
+                self.own.insert(text.clone()?, number)?;
+            }
+        }
+        Ok(())
+    }
+}
+
+/// The number of the known name at that place, if it has one.
+fn known_number(numbers: &[Option<usize>], place: u8) -> Option<usize>
+    ensures { result ≡ slice_index_or numbers.now place None }
+{
+    match numbers.get(place as usize) {
+        Some(number) => *number,
+        None => None,
+    }
+}
+
+/// Lengthens the list until it has that place, with places where no number is.
+fn make_room(numbers: &mut Vec<Option<usize>>, place: usize) -> Result<(), AllocError>
+    requires { place < 2 ^ 8 }
+    ensures room { OnOk result (place < length numbers.new.items) }
+    ensures same { (p : ℕ) → slice_index_or numbers.new.items p None
+        ≡ slice_index_or numbers.old.items p None }
+{
+    while numbers.len() <= place {
+        numbers.push(None)?;
+    }
+    Ok(())
+}
