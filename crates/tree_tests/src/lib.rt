@@ -6,4 +6,6 @@ mod dom;
 #[cfg(test)]
 mod encode;
 #[cfg(test)]
+mod flat;
+#[cfg(test)]
 mod flow;

@@ -6,6 +6,7 @@ pub use html_dom::{
     resolve_inline_styles,
 };
 pub use html_encode::{ExportFault, FrameFault, FrameWriter, HtmlOptions, html_in_bundle, laws};
+pub use html_flat::{FlatElement, FlatNode, FlatTree};
 pub use html_flow::{
     Arg, ArgValue, Args, ConstructFault, ElementInfo, FrameElem, HtmlElem, Item, Pair, Role,
     construct,

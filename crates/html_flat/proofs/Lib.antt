@@ -1,0 +1,5 @@
+pub mod Flats
+pub mod Elements
+pub mod Growth
+pub mod Closings
+pub mod Stacking

@@ -1,0 +1,14 @@
+//! A tree as one list: its nodes, at all depths, in the order in which they are written. Each name
+//! is a number, so that what is known of a name is found by an index.
+//!
+//! See [`FlatTree`] for an example.
+#![tactic(auto)]
+
+mod builder;
+mod flat_node;
+mod flat_tree;
+mod numbering;
+mod spelling;
+
+pub use flat_node::{FlatElement, FlatNode};
+pub use flat_tree::FlatTree;
