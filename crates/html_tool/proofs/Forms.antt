@@ -1,14 +1,18 @@
 -- The forms of a value, by the length of its list.
-use Rattle.std.proofs.Common.{◌≡◌, ◌≢◌, ℕ, ◌+◌, List, [], ◌∷◌, length, get_or, Option, Some, None, option_map, map, drop, suc, ◌<◌, refl, sym, ap, ◌∙◌, ◌++◌, add-one, drop-cons, ◌≤◌, rules, arith}
+use Rattle.std.proofs.Common.{◌≡◌, ◌≢◌, ℕ, ◌+◌, List, [], ◌∷◌, length, get_or, Option, Some, None, option_map, map, drop, suc, ◌<◌, refl, sym, ap, ◌∙◌, ◌++◌, add-one, drop-cons, ◌≤◌, rules, arith, String}
 use Rattle.std.proofs.lemmas.List.{map-append, drop_all}
+use Rattle.std.specs.declared.alloc.Global.{Global}
 use Rattle.serde_json.specs.declared.value.Value.{Value}
 use Rattle.serde_json.specs.View.{view, items_view}
-use Rattle.html_dom.specs.Tree.{NodeView, element_node, NodesView, none, node}
-use Rattle.html_dom.specs.Views.{nodes_of}
+use Rattle.html_dom.specs.Tree.{NodeView, tag_node, text_node, element_node, NodesView, none, node}
+use Rattle.html_dom.specs.Views.{text_view, tag_view, nodes_of, node_view, nodes_view, element_view}
+use Rattle.html_dom.specs.declared.introspection.Tag.{Tag}
+use Rattle.html_dom.specs.declared.node.HtmlElement.{HtmlElement}
+use Rattle.html_dom.specs.declared.node.HtmlNode as HtmlNode
+use Rattle.html_dom.specs.declared.node.HtmlNode.{HtmlNode, the_lemmas}
+use Rattle.html_dom.specs.declared.span.Span.{Span}
 use Rattle.html_tool.specs.Spelled.{text_at, pair_form, pairs_at, text_form, dest_form, end_form, element_form, element_from, list_at, spelled, spelled_all}
-use Rattle.html_tool.specs.Forms.{joined, form_view, forms_view, element_form_view, after_done}
-use Rattle.html_tool.specs.declared.form.Form.{Form, Element, the_lemmas}
-use Rattle.html_tool.specs.declared.form.ElementForm.{ElementForm}
+use Rattle.html_tool.specs.Spelling.{joined, after_done}
 
 pub text_form-other : (vs : List Value) (n : ℕ) → length vs ≢ 1 → text_form (items_view vs) n ≡ None
 text_form-other [] n h = refl
@@ -66,35 +70,46 @@ option_step None ns n = refl
 option_step (Some q) ns n = rw joined-append
 
 -- one more value was spelled
-pub spelled_more : (vs : List Value) (i : ℕ) (v : Value) (done : List Form) (form : Form)
+pub spelled_more : (vs : List Value) (i : ℕ) (v : Value) (done : List HtmlNode) (one : HtmlNode)
     (n next after : ℕ)
-    → i < length vs → v ≡ get_or vs i v → spelled (view v) next ≡ Some (form_view form, after)
-    → spelled_all (items_view vs) n ≡ option_map (after_done (map form_view done))
+    → i < length vs → v ≡ get_or vs i v → spelled (view v) next ≡ Some (node_view one, after)
+    → spelled_all (items_view vs) n ≡ option_map (after_done (map node_view done))
     (spelled_all (items_view (drop i vs)) next)
-    → spelled_all (items_view vs) n ≡ option_map (after_done (map form_view (done ++ form ∷ [])))
+    → spelled_all (items_view vs) n ≡ option_map (after_done (map node_view (done ++ one ∷ [])))
     (spelled_all (items_view (drop (i + 1) vs)) after)
-spelled_more vs i v done form n next after h is made so_far =
+spelled_more vs i v done one n next after h is made so_far =
     let cut : drop i vs ≡ v ∷ drop (suc i) vs =
     drop-cons vs i v h ∙ ap (λ x. x ∷ drop (suc i) vs) (sym is) in
     so_far ∙ rw (cut, add-one, map-append, made)
-    (option_step (spelled_all (items_view (drop (suc i) vs)) after) (map form_view done)
-    (form_view form))
+    (option_step (spelled_all (items_view (drop (suc i) vs)) after) (map node_view done)
+    (node_view one))
 
-spelled_all-end : (vs : List Value) (i : ℕ) (done : List Form) (next : ℕ) → length vs ≤ i
-    → option_map (after_done (map form_view done)) (spelled_all (items_view (drop i vs)) next)
-    ≡ Some (forms_view done, next)
+spelled_all-end : (vs : List Value) (i : ℕ) (done : List HtmlNode) (next : ℕ) → length vs ≤ i
+    → option_map (after_done (map node_view done)) (spelled_all (items_view (drop i vs)) next)
+    ≡ Some (nodes_view done, next)
 spelled_all-end vs i done next h = rw (drop_all i vs h, joined-none)
 
 -- every value was spelled
-pub spelled_whole : (vs : List Value) (i : ℕ) (done : List Form) (n next : ℕ) → length vs ≤ i
-    → spelled_all (items_view vs) n ≡ option_map (after_done (map form_view done))
+pub spelled_whole : (vs : List Value) (i : ℕ) (done : List HtmlNode) (n next : ℕ) → length vs ≤ i
+    → spelled_all (items_view vs) n ≡ option_map (after_done (map node_view done))
     (spelled_all (items_view (drop i vs)) next)
-    → spelled_all (items_view vs) n ≡ Some (forms_view done, next)
+    → spelled_all (items_view vs) n ≡ Some (nodes_view done, next)
 spelled_whole vs i done n next h so_far = so_far ∙ spelled_all-end vs i done next h
 
-pub form_view-Element : (e : ElementForm)
-    → form_view (Element e) ≡ element_node (element_form_view e).0 (element_form_view e).1
-form_view-Element e = search (rules, the_lemmas)
+pub node_view-Tag : (t : Tag) → node_view (HtmlNode.Tag t) ≡ tag_node (tag_view t)
+node_view-Tag t = search (rules, the_lemmas)
+
+pub node_view-Text : (s : String Global) (span : Span)
+    → node_view (HtmlNode.Text s span) ≡ text_node (text_view s) span.0
+node_view-Text s span = search (rules, the_lemmas)
+
+pub node_view-Element : (e : HtmlElement)
+    → node_view (HtmlNode.Element e) ≡ element_node (element_view e).0 (element_view e).1
+node_view-Element e = search (rules, the_lemmas)
+
+pub done_none : (r : Option (NodesView × ℕ)) → r ≡ option_map (after_done []) r
+done_none None = refl
+done_none (Some q) = refl
 
 pub ruleset forms = (
   text_form-other,

@@ -1,9 +1,9 @@
 pub mod Answers
-pub mod Forms
 pub mod Json
 pub mod Names
 pub mod Refusals
 pub mod Replies
 pub mod Spelled
+pub mod Spelling
 pub mod Words
 pub mod Writing

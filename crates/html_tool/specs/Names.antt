@@ -6,6 +6,10 @@ use Rattle.html_names.specs.Names.{tag_fault, attr_fault}
 use Rattle.html_names.specs.declared.fault.NameFault.{NameFault}
 use Rattle.html_dom.specs.Tree.{TextPair, Head, NodeView, tag_node, text_node, element_node, frame_node, NodesView, none, node, ElementView}
 
+-- a name is seen as its text
+abbrev pub name_view : List ℕ → List ℕ
+name_view text = text
+
 -- a refusal: its number and its span
 abbrev pub Refusal : Type 0
 Refusal = ℕ × ℕ

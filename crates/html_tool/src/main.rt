@@ -1,13 +1,13 @@
 //! The program: HTML text of a tree that standard input spells in JSON.
 #![tactic(auto)]
 
-mod form;
 mod frames;
 mod json;
 mod names;
 mod recorded;
 mod refusal;
 mod run;
+mod shape;
 mod spell;
 mod status;
 #[cfg(test)]

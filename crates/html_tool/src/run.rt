@@ -1,25 +1,24 @@
 //! A run of the program on any reader and writer.
 
-ghost use Rattle.std.specs.Prelude.{◌≡◌, None, option_map, option_and_then, IfSome, IfOk};
+ghost use Rattle.std.specs.Prelude.{◌≡◌, [], None, IfSome, IfOk};
 ghost use Rattle.html_dom.specs.Views.{text_view, element_view};
-ghost use Rattle.html_tool.specs.Answers.{EndsAs, EndsOn, bad_input, input_answer, refusal_line, export_text, export_refusals, tree_refusals, tree_answer};
-ghost use Rattle.html_tool.specs.Forms.{element_form_view};
-ghost use Rattle.html_tool.specs.Json.{json_of};
+ghost use Rattle.html_tool.specs.Answers.{EndsAs, EndsOn, bad_input, input_answer, element_answer, refusal_line, export_text, export_refusals, tree_answer};
+ghost use Rattle.serde_json.specs.View.{view};
+ghost use Rattle.html_tool.specs.Names.{element_refusals};
 ghost use Rattle.html_tool.specs.Refusals.{Makes};
 ghost use Rattle.html_tool.specs.Replies.{IsReply, RepliesOn, shown};
 ghost use Rattle.html_tool.specs.Spelled.{element_spelled};
 ghost use Rattle.html_tool.specs.Words.{texts_of, wants_pretty};
 
-use crate::form::{ElementForm, Form};
 use crate::frames::NoFrames;
 use crate::json::parse;
-use crate::names::element_of;
 use crate::recorded::{Recorded, WriteFailed};
 use crate::refusal::Refusal;
-use crate::spell::{SpellFault, form_of};
+use crate::spell::{SpellFault, element_in};
 use crate::status::Status;
 use crate::words::wants_pretty;
 use html_dom::{HtmlElement, Span};
+use serde_json::Value;
 use std::alloc::{AllocError, Global};
 use std::io::{Read, Write};
 use typst_html::{HtmlOptions, html_in_bundle};
@@ -80,21 +79,6 @@ fn refused(alloc: Global, number: u8, span: Span) -> Result<Reply, AllocError>
     make_reply(alloc, Status::Refused, line.as_bytes())
 }
 
-/// The element that the input spells, its names not judged.
-fn form_in(alloc: Global, input: &[u8]) -> Result<Option<ElementForm>, AllocError>
-    ensures { IfOk result (λ form. option_map element_form_view form
-        ≡ option_and_then element_spelled (json_of input.now)) }
-{
-    let Some(value) = parse(alloc, input)? else {
-        return Ok(None);
-    };
-    match form_of(alloc, &value, 1) {
-        Ok((Form::Element(form), _)) => Ok(Some(form)),
-        Ok((Form::Tag(_) | Form::Text(_, _), _)) | Err(SpellFault::BadInput) => Ok(None),
-        Err(SpellFault::OutOfMemory) => Err(AllocError),
-    }
-}
-
 /// The text of an element.
 #[tactic(auto, using(crate::proofs::Firsts::first_fault))]
 fn html_text(alloc: Global, element: &HtmlElement, pretty: bool) -> Result<String, Refusal>
@@ -108,33 +92,40 @@ fn html_text(alloc: Global, element: &HtmlElement, pretty: bool) -> Result<Strin
     }
 }
 
-/// The text of the tree that is spelled, or the first refusal: of its names, and then of the tree.
-#[tactic(auto, using(crate::proofs::Firsts::first_of_more))]
-fn text_of(alloc: Global, form: &ElementForm, pretty: bool) -> Result<String, Refusal>
-    ensures { Makes text_view result (export_text pretty (element_form_view form.now))
-        (tree_refusals pretty (element_form_view form.now)) }
-{
-    let element = element_of(alloc, form)?;
-    html_text(alloc, &element, pretty)
-}
-
 /// The answer to an input.
 #[tactic(auto, unfolding(crate::specs::Answers::input_answer))]
 fn answer(alloc: Global, input: &[u8], pretty: bool) -> Result<Reply, AllocError>
     ensures { IfOk result (λ reply. IsReply reply (input_answer pretty input.now)) }
 {
-    let Some(form) = form_in(alloc, input)? else {
-        return bad_input(alloc);
-    };
-    answer_form(alloc, &form, pretty)
+    match parse(alloc, input)? {
+        Some(value) => answer_value(alloc, &value, pretty),
+        None => bad_input(alloc),
+    }
+}
+
+/// The answer to an input that is this JSON value.
+fn answer_value(alloc: Global, value: &Value, pretty: bool) -> Result<Reply, AllocError>
+    ensures { IfOk result (λ reply.
+        IsReply reply (element_answer pretty (element_spelled (view value.now)))) }
+{
+    match element_in(alloc, value) {
+        Ok(element) => answer_tree(alloc, &element, pretty),
+        Err(SpellFault::Refused(number, span)) => refused(alloc, number, span),
+        Err(SpellFault::BadInput) => bad_input(alloc),
+        Err(SpellFault::OutOfMemory) => Err(AllocError),
+    }
 }
 
 /// The answer to an input that spells this element.
-fn answer_form(alloc: Global, form: &ElementForm, pretty: bool) -> Result<Reply, AllocError>
-    ensures { IfOk result (λ reply. IsReply reply (tree_answer pretty (element_form_view form.now))) }
+fn answer_tree(alloc: Global, element: &HtmlElement, pretty: bool) -> Result<Reply, AllocError>
+    requires { element_refusals (element_view element.now) ≡ [] }
+    ensures { IfOk result (λ reply. IsReply reply (tree_answer pretty (element_view element.now))) }
 {
-    match text_of(alloc, form, pretty) {
-        Ok(text) => make_reply(alloc, Status::Done, text.as_bytes()),
+    match html_text(alloc, element, pretty) {
+        Ok(text) => Ok(Reply {
+            status: Status::Done,
+            text: text.into_bytes(),
+        }),
         Err(Refusal::OutOfMemory) => Err(AllocError),
         Err(Refusal::At(number, span)) => refused(alloc, number, span),
     }

@@ -1,18 +1,28 @@
+//! The tree that a JSON value spells.
+
 ghost use Rattle.std.specs.Prelude.{◌≡◌};
 ghost use Rattle.serde_json.specs.View.{view, items_view};
-ghost use Rattle.html_tool.specs.Spelled.{spelled, text_form, dest_form, start_form, end_form, element_form, list_at, pairs_at, pair_at, pair_form};
-ghost use Rattle.html_tool.specs.Forms.{AnswersForm, AnswersForms, AnswersPairs, AnswersPair, AnswersDest};
+ghost use Rattle.html_tool.specs.Spelled.{element_spelled, spelled, text_form, start_form, end_form, element_form, list_at, pairs_at, pair_at, pair_form};
+ghost use Rattle.html_tool.specs.Spelling.{SpellsElement, SpellsNode, SpellsNodes, SpellsPairs, SpellsPair};
 
-use crate::form::{ElementForm, Form};
-use html_dom::{Location, Span, Tag};
+use crate::names::{attr_of, tag_of};
+use crate::refusal::Refusal;
+use crate::shape::{end_in, is_node, start_in, text_in};
+use html_css::Properties;
+use html_dom::{HtmlAttrs, HtmlElement, HtmlNode, Span};
+use html_names::HtmlAttr;
 use serde_json::Value;
 use std::alloc::{AllocError, AllocFailed, Global};
 
-/// Why a value spells nothing.
+/// Why no tree is made of a value.
 #[derive(Clone, Copy, Debug, PartialEq, Eq)]
 pub(crate) enum SpellFault {
     OutOfMemory,
+    /// The value spells nothing.
     BadInput,
+    /// Where the value spells something, its first name that is none: the number of that name's
+    /// fault, and the span.
+    Refused(u8, Span),
 }
 
 impl From<AllocError> for SpellFault {
@@ -35,11 +45,41 @@ impl<T: Drop> From<AllocFailed<T>> for SpellFault {
     }
 }
 
+impl From<Refusal> for SpellFault {
+    ghost use Rattle.html_tool.specs.Spelling.{refused_name};
+
+    ghost from_gives = { λ refusal e. e ≡ refused_name refusal };
+
+    fn from(refusal: Refusal) -> SpellFault {
+        match refusal {
+            Refusal::OutOfMemory => SpellFault::OutOfMemory,
+            Refusal::At(number, span) => SpellFault::Refused(number, span),
+        }
+    }
+}
+
+/// The element that a value spells, where no name in it is refused.
+///
+/// A value that spells none is bad input, whatever its names are.
+#[tactic(auto, using(crate::proofs::Roots::roots))]
+pub(crate) fn element_in(alloc: Global, value: &Value) -> Result<HtmlElement, SpellFault>
+    ensures { SpellsElement result (element_spelled (view value.now)) }
+{
+    match node_of(alloc, value, 1) {
+        Ok((HtmlNode::Element(element), _)) => Ok(element),
+        Ok((HtmlNode::Tag(_) | HtmlNode::Text(_, _) | HtmlNode::Frame(_), _)) => {
+            Err(SpellFault::BadInput)
+        }
+        Err(SpellFault::Refused(_, _)) if !is_node(value) => Err(SpellFault::BadInput),
+        Err(fault) => Err(fault),
+    }
+}
+
 /// The node that a value spells, with `number` for its first list, and the number of the next one.
 #[cycle(spell)]
 #[tactic(auto, using(crate::proofs::Forms::forms))]
-pub(crate) fn form_of(alloc: Global, value: &Value, number: u64) -> Result<(Form, u64), SpellFault>
-    ensures { AnswersForm result (spelled (view value.now) number) }
+fn node_of(alloc: Global, value: &Value, number: u64) -> Result<(HtmlNode, u64), SpellFault>
+    ensures { SpellsNode result (spelled (view value.now) number) }
 {
     let Value::Array(items) = value else {
         return Err(SpellFault::BadInput);
@@ -56,80 +96,35 @@ pub(crate) fn form_of(alloc: Global, value: &Value, number: u64) -> Result<(Form
     }
 }
 
-#[tactic(auto, using(crate::proofs::Forms::forms))]
-fn text_of(alloc: Global, fields: &[Value], number: u64) -> Result<(Form, u64), SpellFault>
-    ensures { AnswersForm result (text_form (items_view fields.now) number) }
+fn text_of(alloc: Global, fields: &[Value], number: u64) -> Result<(HtmlNode, u64), SpellFault>
+    ensures { SpellsNode result (text_form (items_view fields.now) number) }
 {
-    let [only] = fields else {
-        return Err(SpellFault::BadInput);
-    };
-    let Some(text) = only.as_str() else {
-        return Err(SpellFault::BadInput);
-    };
+    let text = text_in(fields).ok_or(SpellFault::BadInput)?;
     let next = number.checked_add(1).ok_or(SpellFault::OutOfMemory)?;
     let text = String::from_str(alloc, text)?;
-    Ok((Form::Text(text, Span(number)), next))
+    Ok((HtmlNode::Text(text, Span(number)), next))
 }
 
-#[tactic(auto, using(crate::proofs::Forms::forms))]
-fn dest_of(fields: &[Value]) -> Result<Option<Location>, SpellFault>
-    ensures { AnswersDest result (dest_form (items_view fields.now)) }
+fn start_of(fields: &[Value], number: u64) -> Result<(HtmlNode, u64), SpellFault>
+    ensures { SpellsNode result (start_form (items_view fields.now) number) }
 {
-    match fields {
-        [] => Ok(None),
-        [only] => match only.as_u64() {
-            Some(dest) => Ok(Some(Location(dest))),
-            None => Err(SpellFault::BadInput),
-        },
-        _ => Err(SpellFault::BadInput),
-    }
-}
-
-#[tactic(auto, using(crate::proofs::Forms::forms))]
-fn start_of(fields: &[Value], number: u64) -> Result<(Form, u64), SpellFault>
-    ensures { AnswersForm result (start_form (items_view fields.now) number) }
-{
-    let [location, dest @ ..] = fields else {
-        return Err(SpellFault::BadInput);
-    };
-    let dest = dest_of(dest)?;
-    let Some(location) = location.as_u64() else {
-        return Err(SpellFault::BadInput);
-    };
+    let tag = start_in(fields).ok_or(SpellFault::BadInput)?;
     let next = number.checked_add(1).ok_or(SpellFault::OutOfMemory)?;
-    Ok((
-        Form::Tag(Tag::Start {
-            location: Location(location),
-            label: None,
-            dest,
-        }),
-        next,
-    ))
+    Ok((HtmlNode::Tag(tag), next))
 }
 
-#[tactic(auto, using(crate::proofs::Forms::forms))]
-fn end_of(fields: &[Value], number: u64) -> Result<(Form, u64), SpellFault>
-    ensures { AnswersForm result (end_form (items_view fields.now) number) }
+fn end_of(fields: &[Value], number: u64) -> Result<(HtmlNode, u64), SpellFault>
+    ensures { SpellsNode result (end_form (items_view fields.now) number) }
 {
-    let [only] = fields else {
-        return Err(SpellFault::BadInput);
-    };
-    let Some(location) = only.as_u64() else {
-        return Err(SpellFault::BadInput);
-    };
+    let tag = end_in(fields).ok_or(SpellFault::BadInput)?;
     let next = number.checked_add(1).ok_or(SpellFault::OutOfMemory)?;
-    Ok((
-        Form::Tag(Tag::End {
-            location: Location(location),
-        }),
-        next,
-    ))
+    Ok((HtmlNode::Tag(tag), next))
 }
 
 #[cycle(spell)]
 #[tactic(auto, using(crate::proofs::Forms::forms))]
-fn element_of(alloc: Global, fields: &[Value], number: u64) -> Result<(Form, u64), SpellFault>
-    ensures { AnswersForm result (element_form (items_view fields.now) number) }
+fn element_of(alloc: Global, fields: &[Value], number: u64) -> Result<(HtmlNode, u64), SpellFault>
+    ensures { SpellsNode result (element_form (items_view fields.now) number) }
 {
     let [tag, attrs, children] = fields else {
         return Err(SpellFault::BadInput);
@@ -138,45 +133,50 @@ fn element_of(alloc: Global, fields: &[Value], number: u64) -> Result<(Form, u64
         return Err(SpellFault::BadInput);
     };
     let first = number.checked_add(1).ok_or(SpellFault::OutOfMemory)?;
-    let tag = String::from_str(alloc, tag)?;
-    let attrs = pairs_of(alloc, attrs)?;
+    let span = Span(number);
+    let tag = tag_of(alloc, tag, span)?;
+    let attrs = pairs_of(alloc, attrs, span)?;
     let (children, next) = list_of(alloc, children, first)?;
     Ok((
-        Form::Element(ElementForm {
+        HtmlNode::Element(HtmlElement {
             tag,
             attrs,
+            css: Properties::new(alloc),
             children,
-            span: Span(number),
+            parent: None,
+            span,
+            pre_span: false,
         }),
         next,
     ))
 }
 
-fn pairs_of(alloc: Global, value: &Value) -> Result<Vec<(String, String)>, SpellFault>
-    ensures { AnswersPairs result (pairs_at (view value.now)) }
+/// The attributes of the element with that span.
+fn pairs_of(alloc: Global, value: &Value, span: Span) -> Result<HtmlAttrs, SpellFault>
+    ensures { SpellsPairs span result (pairs_at (view value.now)) }
 {
     let Some(pairs) = value.as_array() else {
         return Err(SpellFault::BadInput);
     };
-    let mut list = Vec::new(alloc);
+    let mut list = Vec::with_capacity(alloc, pairs.len())?;
     for pair in pairs {
-        list.push(pair_at(alloc, pair)?)?;
+        list.push(pair_at(alloc, pair, span)?)?;
     }
-    Ok(list)
+    Ok(HtmlAttrs(list))
 }
 
-fn pair_at(alloc: Global, pair: &Value) -> Result<(String, String), SpellFault>
-    ensures { AnswersPair result (pair_at (view pair.now)) }
+fn pair_at(alloc: Global, pair: &Value, span: Span) -> Result<(HtmlAttr, String), SpellFault>
+    ensures { SpellsPair span result (pair_at (view pair.now)) }
 {
     let Some(parts) = pair.as_array() else {
         return Err(SpellFault::BadInput);
     };
-    pair_of(alloc, parts)
+    pair_of(alloc, parts, span)
 }
 
 #[tactic(auto, using(crate::proofs::Forms::forms))]
-fn pair_of(alloc: Global, parts: &[Value]) -> Result<(String, String), SpellFault>
-    ensures { AnswersPair result (pair_form (items_view parts.now)) }
+fn pair_of(alloc: Global, parts: &[Value], span: Span) -> Result<(HtmlAttr, String), SpellFault>
+    ensures { SpellsPair span result (pair_form (items_view parts.now)) }
 {
     let [name, value] = parts else {
         return Err(SpellFault::BadInput);
@@ -184,23 +184,23 @@ fn pair_of(alloc: Global, parts: &[Value]) -> Result<(String, String), SpellFaul
     let (Some(name), Some(value)) = (name.as_str(), value.as_str()) else {
         return Err(SpellFault::BadInput);
     };
-    let name = String::from_str(alloc, name)?;
+    let name = attr_of(alloc, name, span)?;
     let value = String::from_str(alloc, value)?;
     Ok((name, value))
 }
 
 #[cycle(spell)]
-fn list_of(alloc: Global, value: &Value, number: u64) -> Result<(Vec<Form>, u64), SpellFault>
-    ensures { AnswersForms result (list_at (view value.now) number) }
+fn list_of(alloc: Global, value: &Value, number: u64) -> Result<(Vec<HtmlNode>, u64), SpellFault>
+    ensures { SpellsNodes result (list_at (view value.now) number) }
 {
     let Value::Array(values) = value else {
         return Err(SpellFault::BadInput);
     };
-    let mut list = Vec::new(alloc);
+    let mut list = Vec::with_capacity(alloc, values.len())?;
     let mut next = number;
     for value in values {
-        let (form, after) = form_of(alloc, value, next)?;
-        list.push(form)?;
+        let (node, after) = node_of(alloc, value, next)?;
+        list.push(node)?;
         next = after;
     }
     Ok((list, next))

@@ -1,11 +1,15 @@
-use Rattle.std.proofs.Common.{◌≡◌, map, drop, option_map}
+use Rattle.std.proofs.Common.{◌≡◌, [], map, drop, option_map}
 use Rattle.serde_json.specs.View.{items_view}
+use Rattle.html_dom.specs.Views.{node_view, nodes_view}
+use Rattle.html_tool.specs.Names.{all_name_refusals}
 use Rattle.html_tool.specs.Spelled.{spelled_all}
-use Rattle.html_tool.specs.Forms.{form_view, after_done}
+use Rattle.html_tool.specs.Spelling.{after_done}
 use Rattle.html_tool.proofs.spell.+spell.Given as goal
 
 abbrev pub invariant-list_of-loop-value : goal.invariant-list_of-loop-value
-invariant-list_of-loop-value l =
-    spelled_all (items_view l.value-items) l.fn.number
-    ≡ option_map (after_done (map form_view l.list.items))
-    (spelled_all (items_view (drop l.value-index l.value-items)) l.next)
+invariant-list_of-loop-value l = record {
+  spelled : spelled_all (items_view l.value-items) l.fn.number
+      ≡ option_map (after_done (map node_view l.list.items))
+      (spelled_all (items_view (drop l.value-index l.value-items)) l.next);
+  clean : all_name_refusals (nodes_view l.list.items) ≡ [];
+}
