@@ -1,5 +1,8 @@
+pub mod Closings
 pub mod Escapes
 pub mod Firsts
+pub mod Given
+pub mod Indents
 pub mod IndentsCollapse
 pub mod Layouts
 pub mod Lines
@@ -9,10 +12,16 @@ pub mod NodeAtoms
 pub mod Normals
 pub mod Plainly
 pub mod RawBack
+pub mod RawChildren
 pub mod RawNames
 pub mod ReadingBack
 pub mod References
 pub mod Rows
 pub mod Runs
 pub mod Same
+pub mod NextSiblings
+pub mod Stretches
 pub mod TagsBack
+pub mod Turns
+pub mod Visits
+pub mod Walk

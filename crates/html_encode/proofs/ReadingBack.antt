@@ -1,5 +1,5 @@
 -- Elements and lists of nodes are read back.
-use Rattle.std.proofs.Common.{◌≡◌, ℕ, zero, suc, ◌+◌, Bool, true, false, ◌&&◌, ◌||◌, inl, inr, eqb, List, [], ◌∷◌, ◌++◌, Option, Some, None, codes, refl, ap, sym, ◌∙◌, arith, append_assoc, append-nil}
+use Rattle.std.proofs.Common.{◌≡◌, ℕ, zero, suc, Bool, true, false, ◌&&◌, ◌||◌, inl, inr, eqb, List, [], ◌∷◌, ◌++◌, Option, Some, None, codes, refl, ap, sym, ◌∙◌, arith, append_assoc, append-nil}
 use Rattle.std.specs.Prelude.{if◌then◌else◌}
 use Rattle.std.proofs.lemmas.Bool.{cases_Bool, false≢true, true≢false}
 use Rattle.std.proofs.lemmas.Bool.Decides.{nat_tests}
@@ -164,7 +164,7 @@ module _ (frames : Frames) where
         (nodes_text frames h.pre_span true (margin_inside margin h ns) ns)
 
     abbrev rest : Head → NodesView → List ℕ
-    rest h ns = if ends_at_once h then [] else (feed_text h ns ++ (inside h ns ++ end_tag_text h))
+    rest h ns = if ends_at_once h then [] else (feed_text h ns ++ (inside h ns ++ end_tag_text h.name))
 
     abbrev rest_faults : Head → NodesView → List ExportFault
     rest_faults h ns = if ends_at_once h then void_faults h.span ns
@@ -175,7 +175,7 @@ module _ (frames : Frames) where
 
     -- the content and the end tag are read, as these nodes
     abbrev InsideRead : Head → NodesView → List Open → NodesView → Type 0
-    InsideRead h ns s ms = run (Content [] (own h ∷ s)) (inside h ns ++ end_tag_text h)
+    InsideRead h ns s ms = run (Content [] (own h ∷ s)) (inside h ns ++ end_tag_text h.name)
         ≡ complete h.name h.attrs (nodes_normal ms) s
 
     inside_text : (h : Head) (ns : NodesView) (s : List Open) → is_raw h.name ≡ false →
@@ -183,9 +183,9 @@ module _ (frames : Frames) where
         nodes_raw_faults escaping.Text ns ≡ [] → InsideRead h ns s ns
     inside_text h ns s r e n f =
         let here : inside h ns ≡ escaped_text escaping.Text (nodes_raw_text ns) = rw (r, e) refl in
-        ap (λ l. run (Content [] (own h ∷ s)) (l ++ end_tag_text h)) here
+        ap (λ l. run (Content [] (own h ∷ s)) (l ++ end_tag_text h.name)) here
         ∙ read_on (Content [] (own h ∷ s)) (Content (nodes_raw_text ns) (own h ∷ s)) _
-        (escaped_text escaping.Text (nodes_raw_text ns)) (end_tag_text h)
+        (escaped_text escaping.Text (nodes_raw_text ns)) (end_tag_text h.name)
         (chars_read false [] (own h ∷ s) (nodes_raw_text ns) (raw_good escaping.Text ns f))
         (end_read (own h) s (nodes_raw_text ns) n
         ∙ ap (λ k. complete h.name h.attrs k s)
@@ -208,9 +208,9 @@ module _ (frames : Frames) where
         let ms = nodes_layout true (margin_inside margin h ns) ns in
         let here : inside h ns ≡ all = rw (r, e) refl in
         let j = joined no_plains [] ms in
-        ap (λ l. run (Content [] (own h ∷ s)) (l ++ end_tag_text h)) here
+        ap (λ l. run (Content [] (own h ∷ s)) (l ++ end_tag_text h.name)) here
         ∙ read_on (Content [] (own h ∷ s)) (Content j.1
-        (record (own h) { children = j.0 } ∷ s)) _ all (end_tag_text h) (ih e f)
+        (record (own h) { children = j.0 } ∷ s)) _ all (end_tag_text h.name) (ih e f)
         (end_read (record (own h) { children = j.0 }) s j.1 n
         ∙ ap (λ k. complete h.name h.attrs k s) (joined_is ms no_plains []))
 
@@ -219,7 +219,7 @@ module _ (frames : Frames) where
         begins_with_feed ns ≡ d → (b ≡ true → begins_with_feed ns ≡ false →
         starts_with_feed (inside h ns) ≡ false) → InsideRead h ns s ms →
         run (if b then Fresh (own h ∷ s) else Content [] (own h ∷ s))
-        ((if b && d then codes "\n" else []) ++ (inside h ns ++ end_tag_text h))
+        ((if b && d then codes "\n" else []) ++ (inside h ns ++ end_tag_text h.name))
         ≡ complete h.name h.attrs (nodes_normal ms) s
     fed false d h ns s ms e f i = i
     fed true true h ns s ms e f i = i
@@ -236,7 +236,7 @@ module _ (frames : Frames) where
     content_read h ns s ms p q u l first i =
         let x : started h.name h.attrs s ≡ (if drops_feed h.name then Fresh (own h ∷ s)
         else Content [] (own h ∷ s)) = rw (p, q, u) refl in
-        let y : rest h ns ≡ feed_text h ns ++ (inside h ns ++ end_tag_text h) = rw (p, q) refl in
+        let y : rest h ns ≡ feed_text h ns ++ (inside h ns ++ end_tag_text h.name) = rw (p, q) refl in
         ap (λ t. run t (rest h ns)) x
         ∙ (ap (run (if drops_feed h.name then Fresh (own h ∷ s) else Content [] (own h ∷ s))) y
         ∙ (fed (drops_feed h.name) (begins_with_feed ns) h ns s ms refl first i

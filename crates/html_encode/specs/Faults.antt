@@ -99,13 +99,6 @@ unfoldable mutual
   nodes_faults frames pre_span pretty (node n ns) =
       node_faults frames pre_span pretty n ++ nodes_faults frames pre_span pretty ns
 
--- those of what stands between the tags of an element
-abbrev pub content_faults : Frames → (pretty : Bool) → ElementView → List ExportFault
-content_faults frames pretty e = by_kind (content_kind e.0.name)
-    (raw_content_faults e.0 e.1)
-    (nodes_raw_faults escaping.Text e.1)
-    (nodes_faults frames e.0.pre_span (pretty && is_pretty_inside e.0 e.1) e.1)
-
 abbrev pub element_faults : Frames → (pretty : Bool) → ElementView → List ExportFault
 element_faults frames pretty e = node_faults frames false pretty (element_node e.0 e.1)
 

@@ -6,9 +6,13 @@ pub mod Frames
 pub mod Indented
 pub mod IndentsCollapse
 pub mod Layout
+pub mod Opens
 pub mod ReadingBack
 pub mod Reader
 pub mod References
 pub mod Rows
+pub mod Siblings
+pub mod Stretches
 pub mod Text
+pub mod Walk
 pub mod Writes

@@ -47,8 +47,8 @@ tag_close name = if is_foreign_self_closing name then codes "/>" else codes ">"
 abbrev pub start_tag_text : Head → List ℕ
 start_tag_text h = codes "<" ++ (h.name ++ (attrs_text h.attrs ++ tag_close h.name))
 
-abbrev pub end_tag_text : Head → List ℕ
-end_tag_text h = codes "</" ++ (h.name ++ codes ">")
+abbrev pub end_tag_text : (name : List ℕ) → List ℕ
+end_tag_text name = codes "</" ++ (name ++ codes ">")
 
 -- an element that is its start tag alone
 abbrev pub ends_at_once : Head → Bool
@@ -89,7 +89,7 @@ unfoldable mutual
       (raw_text margin h (nodes_raw_text ns))
       (escaped_text escaping.Text (nodes_raw_text ns))
       (nodes_text frames h.pre_span true (margin_inside margin h ns) ns)
-      ++ end_tag_text h)))
+      ++ end_tag_text h.name)))
   node_text frames pre_span margin (frame_node b) = frame_text margin (frames b margin.pretty)
 
   -- the children of an element at that margin, and what stands before its end tag
@@ -99,13 +99,6 @@ unfoldable mutual
       indent_where (margin.pretty && has_indent due n) (deeper margin).level
       ++ (node_text frames pre_span (deeper margin) n
       ++ nodes_text frames pre_span (due_after due n) margin ns)
-
--- what stands between the tags of an element
-abbrev pub content_text : Frames → Margin → ElementView → List ℕ
-content_text frames margin e = by_kind (content_kind e.0.name)
-    (raw_text margin e.0 (nodes_raw_text e.1))
-    (escaped_text escaping.Text (nodes_raw_text e.1))
-    (nodes_text frames e.0.pre_span true (margin_inside margin e.0 e.1) e.1)
 
 abbrev pub element_text : Frames → Margin → ElementView → List ℕ
 element_text frames margin e = node_text frames false margin (element_node e.0 e.1)

@@ -1,11 +1,13 @@
 //! How texts are written.
 
-ghost use Rattle.std.specs.Prelude.{◌≡◌, ◌++◌, OnOk, chars};
-ghost use Rattle.html_encode.specs.Faults.{is_bad, char_faults, text_faults};
+ghost use Rattle.std.specs.Prelude.{◌≡◌, ◌++◌, false, OnOk, IfOk, chars};
+ghost use Rattle.html_encode.specs.Faults.{is_bad, is_reference, char_faults, text_faults};
 ghost use Rattle.html_encode.specs.References.{reference_to};
+ghost use Rattle.html_encode.specs.Stretches.{is_plain, PassesPlain, WritesUpTo};
 ghost use Rattle.html_encode.specs.Text.{stands_as_is, char_text, escaped_text};
 ghost use Rattle.html_encode.specs.Writes.{Writes};
 
+use crate::common::past_common;
 use crate::fault::ExportFault;
 use html_dom::Span;
 use html_names::Output;
@@ -87,6 +89,47 @@ fn write_char(out: &mut Output, escaping: Escaping, c: char, span: Span) -> Resu
     Ok(())
 }
 
+/// Whether the character can be written, and is written as it is.
+fn is_plain(escaping: Escaping, c: char) -> bool
+    ensures { result ≡ is_plain escaping c }
+{
+    stands_as_is(escaping, c) && !is_bad(escaping, c)
+}
+
+/// The text from its first character on that can't be written or is not written as it is, where
+/// not each character is a reference. Common characters are passed many at a time.
+fn past_plain(escaping: Escaping, text: &str) -> &str
+    requires { is_reference escaping ≡ false }
+    ensures { PassesPlain escaping text.now result.now }
+{
+    let mut rest = past_common(text);
+    let mut left = rest.chars();
+    while let Some(c) = left.next() {
+        if !is_plain(escaping, c) {
+            return rest;
+        }
+        rest = past_common(left.as_str());
+        left = rest.chars();
+    }
+    rest
+}
+
+/// Writes what stands at the start of a text and is written as it is, and gives the rest.
+fn write_plain<'a>(
+    out: &mut Output,
+    escaping: Escaping,
+    text: &'a str,
+) -> Result<&'a str, AllocError>
+    ensures { IfOk result (λ rest. WritesUpTo escaping out.old out.new text.now rest.now) }
+{
+    if matches!(escaping, Escaping::Reference) {
+        return Ok(text);
+    }
+    let rest = past_plain(escaping, text);
+    out.push_str(&text[..text.len() - rest.len()])?;
+    Ok(rest)
+}
+
 /// Writes a text, or says which of its characters can't be written.
 pub(crate) fn write_text(
     out: &mut Output,
@@ -98,8 +141,10 @@ pub(crate) fn write_text(
         (escaped_text escaping (chars text.now))
         (text_faults escaping span.0 (chars text.now)) }
 {
-    for c in text.chars() {
+    let mut left = write_plain(out, escaping, text)?.chars();
+    while let Some(c) = left.next() {
         write_char(out, escaping, c, span)?;
+        left = write_plain(out, escaping, left.as_str())?.chars();
     }
     Ok(())
 }

@@ -13,7 +13,7 @@ use crate::frame::FrameWriter;
 use crate::indent::{push_feed_if, push_indent_if};
 use crate::layout::Margin;
 use crate::options::HtmlOptions;
-use crate::write::write_element;
+use crate::write::write_root;
 use html_dom::HtmlElement;
 use html_names::Output;
 use std::alloc::Global;
@@ -64,7 +64,7 @@ pub fn html_in_bundle<F: FrameWriter>(
     };
     out.push_ascii("<!DOCTYPE html>")?;
     push_indent_if(&mut out, options.pretty, 0)?;
-    write_element(&mut out, root, margin, frames)?;
+    write_root(alloc, &mut out, root, margin, frames)?;
     push_feed_if(&mut out, options.pretty)?;
     Ok(out.into_string())
 }

@@ -1,22 +1,65 @@
 //! Indents and lines.
 
-ghost use Rattle.std.specs.Prelude.{◌≡◌, ◌++◌, OnOk, chars};
+ghost use Rattle.std.specs.Prelude.{◌≡◌, ◌++◌, ◌<◌, ◌≤◌, OnOk, chars};
 ghost use Rattle.std.specs.Str.Lines.{lines};
-ghost use Rattle.html_encode.specs.Layout.{indent, indent_where, feed_where, by_lines};
+ghost use Rattle.html_encode.specs.Layout.{spaces, indent, indent_where, feed_where, by_lines};
 
 use html_names::Output;
 use std::alloc::AllocError;
 
-/// Adds a line feed and two spaces a level.
-#[tactic(auto, unfolding(crate::specs::Layout::indent))]
+/// A line feed, and the spaces of `MOST_LEVELS` levels.
+const LINE: &str = "\n                                                                ";
+
+/// How many levels the spaces of `LINE` are for.
+const MOST_LEVELS: usize = 32;
+
+/// The first levels of an indent, as many as `LINE` has.
+fn first_levels(level: usize) -> usize
+    ensures fits { result ≤ 32 }
+    ensures within { result ≤ level }
+    ensures moves { 0 < level → 0 < result }
+{
+    level.min(MOST_LEVELS)
+}
+
+/// The spaces of a few levels.
+fn few_spaces(levels: usize) -> &'static str
+    requires { levels ≤ 32 }
+    ensures { result.now ≡ spaces levels }
+{
+    &LINE[1..1 + 2 * levels]
+}
+
+/// A line feed, and the spaces of a few levels.
+fn short_indent(levels: usize) -> &'static str
+    requires { levels ≤ 32 }
+    ensures { result.now ≡ indent levels }
+{
+    &LINE[..1 + 2 * levels]
+}
+
+/// Adds two spaces a level.
+#[tactic(auto, using(crate::proofs::Indents::spaces_ascii))]
+fn push_spaces(out: &mut Output, level: usize) -> Result<(), AllocError>
+    ensures { OnOk result (out.new ≡ out.old ++ spaces level) }
+{
+    let mut left = level;
+    while left > 0 {
+        let levels = first_levels(left);
+        out.push_ascii(few_spaces(levels))?;
+        left -= levels;
+    }
+    Ok(())
+}
+
+/// Adds a line feed and two spaces a level, in one piece where the level is not deep.
+#[tactic(auto, using(crate::proofs::Indents::indent_ascii))]
 pub(crate) fn push_indent(out: &mut Output, level: usize) -> Result<(), AllocError>
     ensures { OnOk result (out.new ≡ out.old ++ indent level) }
 {
-    out.push('\n')?;
-    for _ in 0..level {
-        out.push_ascii("  ")?;
-    }
-    Ok(())
+    let levels = first_levels(level);
+    out.push_ascii(short_indent(levels))?;
+    push_spaces(out, level - levels)
 }
 
 /// Adds an indent where asked.

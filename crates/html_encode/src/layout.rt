@@ -1,20 +1,25 @@
 //! Where pretty writing puts indents. The rules are this project's; the CSS defaults they go by are
 //! those of HTML Standard 15.3.
 
-ghost use Rattle.std.specs.Prelude.{◌≡◌, ◌==◌, IfOk, IsTrue, bytes_eq, chars, codes};
+ghost use Rattle.std.specs.Prelude.{◌≡◌, ◌==◌, IfOk, IsTrue, true, bytes_eq, chars, codes};
 ghost use Rattle.std.specs.List.{list_any};
 ghost use Rattle.html_names.specs.Names.{is_ascii};
 ghost use Rattle.html_dom.specs.Attributes.{first};
-ghost use Rattle.html_dom.specs.Views.{attrs_view, head_of, node_view, nodes_view, text_view};
+ghost use Rattle.html_dom.specs.Tree.{none};
+ghost use Rattle.html_dom.specs.Views.{text_view};
+ghost use Rattle.html_flat.specs.FlatViews.{flat_node_view, is_node_given};
+ghost use Rattle.html_encode.specs.Siblings.{head_view, node_view, siblings_view};
+ghost use Rattle.html_encode.specs.Walk.{node_with};
 ghost use Rattle.html_encode.specs.Layout.{deeper, margin_inside, is_of_lines};
 ghost use Rattle.html_encode.specs.Layout.{allows_pretty_inside, wants_pretty_around};
 ghost use Rattle.html_encode.specs.Layout.{node_wants_pretty, nodes_want_pretty, is_pretty_inside};
 ghost use Rattle.html_encode.specs.Layout.{is_text, has_indent, due_after};
 ghost use Rattle.html_encode.specs.Layout.{has_other_type, is_by_lines, keeps_lines};
 
-use html_dom::{HtmlAttrs, HtmlElement, HtmlNode};
+use crate::siblings::{Element, ElementHead, Node, Siblings};
+use html_flat::FlatNode;
 use html_names::property::Display;
-use html_names::{HtmlTag, attr, tag};
+use html_names::{HtmlTag, NameTable, attr, tag};
 use std::alloc::AllocError;
 
 /// How far in a node stands.
@@ -42,9 +47,9 @@ impl Margin {
     }
 
     /// The margin of an element with the mode of its children.
-    pub(crate) fn inside(self, element: &HtmlElement) -> Margin
+    pub(crate) fn inside(self, element: &Element) -> Margin
         ensures { result ≡
-            margin_inside self (head_of element.now) (nodes_view element.now.children.items) }
+            margin_inside self (head_view element.now.head) (siblings_view element.now.children) }
     {
         Margin {
             pretty: self.pretty && is_pretty_inside(element),
@@ -66,11 +71,12 @@ fn is_of_lines(display: Option<Display>) -> bool
 
 /// Whether pretty writing is allowed inside elements of that name.
 #[tactic(auto, unfolding(html_names::specs::Tables::known_tags, crate::specs::Layout::allows_pretty_inside))]
-fn allows_pretty_inside(tag: &HtmlTag) -> bool
-    ensures { result ≡ allows_pretty_inside tag.now }
+fn allows_pretty_inside(head: &ElementHead) -> bool
+    ensures { result ≡ allows_pretty_inside (head_view head.now).name }
 {
+    let tag = head.tag();
     (tag::mathml::is_mathml(tag) && !tag::mathml::is_token(tag))
-        || (is_of_lines(Display::default_for(tag)) && *tag != tag::pre)
+        || (is_of_lines(head.default_display()) && *tag != tag::pre)
         || *tag == tag::head
 }
 
@@ -84,89 +90,105 @@ fn is_text(text: &String, expected: &'static str) -> bool
 
 /// Whether the first value of `display` is `block`.
 #[tactic(auto, unfolding(html_names::specs::Tables::known_attrs))]
-fn shows_as_block(attrs: &HtmlAttrs) -> bool
-    ensures { result ≡ is_text (codes "block") (first (attrs_view attrs.now) (codes "display")) }
+fn shows_as_block(head: &ElementHead) -> bool
+    ensures { result ≡
+        is_text (codes "block") (first (head_view head.now).attrs (codes "display")) }
 {
-    match attrs.get(&attr::mathml::display) {
-        Some(value) => is_text(value, "block"),
-        None => false,
+    let names = head.names;
+    for (number, value) in &head.flat.attrs {
+        if *names.attr_at(*number) == attr::mathml::display {
+            return is_text(value, "block");
+        }
     }
+    false
 }
 
 /// Whether the element wants lines of its own.
 #[tactic(auto, unfolding(html_names::specs::Tables::known_tags, crate::specs::Layout::wants_pretty_around))]
-fn wants_pretty_around(element: &HtmlElement) -> bool
-    ensures { result ≡ wants_pretty_around (head_of element.now) }
+fn wants_pretty_around(head: &ElementHead) -> bool
+    ensures { result ≡ wants_pretty_around (head_view head.now) }
 {
-    if element.tag == tag::mathml::math {
-        return shows_as_block(&element.attrs);
+    let tag = head.tag();
+    if *tag == tag::mathml::math {
+        return shows_as_block(head);
     }
-    tag::mathml::is_mathml(&element.tag)
-        || element.tag == tag::pre
-        || tag::is_metadata_content(&element.tag)
-        || allows_pretty_inside(&element.tag)
+    tag::mathml::is_mathml(tag)
+        || *tag == tag::pre
+        || tag::is_metadata_content(tag)
+        || allows_pretty_inside(head)
 }
 
-/// Whether a child wants pretty writing: a frame, or an element that wants lines of its own.
-fn node_wants_pretty(node: &HtmlNode) -> bool
-    ensures { result ≡ node_wants_pretty (node_view node.now) }
+/// Whether a node wants pretty writing: a frame, or an element that wants lines of its own.
+fn node_wants_pretty(names: &NameTable, flat: &FlatNode) -> bool
+    requires { is_node_given names.now flat.now ≡ true }
+    ensures { result ≡ node_wants_pretty (node_with (flat_node_view names.now flat.now) none) }
 {
-    match node {
-        HtmlNode::Tag(_) | HtmlNode::Text(_, _) => false,
-        HtmlNode::Element(element) => wants_pretty_around(element),
-        HtmlNode::Frame(_) => true,
+    match flat {
+        FlatNode::Tag(_) | FlatNode::Text(_, _) => false,
+        FlatNode::Element(flat) => wants_pretty_around(&ElementHead { names, flat }),
+        FlatNode::Frame(_) => true,
     }
 }
 
 /// Whether a node among them wants pretty writing.
-fn nodes_want_pretty(nodes: &[HtmlNode]) -> bool
-    ensures { result ≡ nodes_want_pretty (nodes_view nodes.now) }
+#[tactic(auto, using(crate::proofs::NextSiblings::next_left))]
+fn nodes_want_pretty(siblings: &Siblings) -> bool
+    ensures { result ≡ nodes_want_pretty (siblings_view siblings.now) }
 {
-    for node in nodes {
-        if node_wants_pretty(node) {
+    let mut index = 0;
+    while index < siblings.nodes.len() {
+        let flat = &siblings.nodes[index];
+        if node_wants_pretty(siblings.names, flat) {
             return true;
         }
+        index = match flat {
+            FlatNode::Element(element) => element.past - siblings.first,
+            _ => index + 1,
+        };
     }
     false
 }
 
 /// Whether the children are written pretty where pretty writing is on.
 #[tactic(auto, unfolding(crate::specs::Layout::is_pretty_inside))]
-fn is_pretty_inside(element: &HtmlElement) -> bool
-    ensures { result ≡ is_pretty_inside (head_of element.now) (nodes_view element.now.children.items) }
+fn is_pretty_inside(element: &Element) -> bool
+    ensures { result ≡ is_pretty_inside (head_view element.now.head) (siblings_view element.now.children) }
 {
-    allows_pretty_inside(&element.tag) && nodes_want_pretty(&element.children)
+    allows_pretty_inside(&element.head) && nodes_want_pretty(&element.children)
 }
 
 /// Whether an indent stands before the child: one is due, or the child wants it.
-pub(crate) fn has_indent(due: bool, child: &HtmlNode) -> bool
+pub(crate) fn has_indent(due: bool, child: &Node) -> bool
     ensures { result ≡ has_indent due (node_view child.now) }
 {
-    match child {
-        HtmlNode::Tag(_) => false,
-        HtmlNode::Text(_, _) | HtmlNode::Frame(_) => due,
-        HtmlNode::Element(element) => due || wants_pretty_around(element),
+    let names = child.children.names;
+    match child.flat {
+        FlatNode::Tag(_) => false,
+        FlatNode::Text(_, _) | FlatNode::Frame(_) => due,
+        FlatNode::Element(flat) => due || wants_pretty_around(&ElementHead { names, flat }),
     }
 }
 
 /// Whether an indent is due before the next child.
-pub(crate) fn due_after(due: bool, child: &HtmlNode) -> bool
+pub(crate) fn due_after(due: bool, child: &Node) -> bool
     ensures { result ≡ due_after due (node_view child.now) }
 {
-    match child {
-        HtmlNode::Tag(_) => due,
-        HtmlNode::Text(_, _) | HtmlNode::Frame(_) => false,
-        HtmlNode::Element(element) => wants_pretty_around(element),
+    let names = child.children.names;
+    match child.flat {
+        FlatNode::Tag(_) => due,
+        FlatNode::Text(_, _) | FlatNode::Frame(_) => false,
+        FlatNode::Element(flat) => wants_pretty_around(&ElementHead { names, flat }),
     }
 }
 
 /// Whether a script is of another type than JavaScript.
 #[tactic(auto, unfolding(html_names::specs::Tables::known_attrs))]
-fn has_other_type(attrs: &HtmlAttrs) -> bool
-    ensures { result ≡ has_other_type (attrs_view attrs.now) }
+fn has_other_type(head: &ElementHead) -> bool
+    ensures { result ≡ has_other_type (head_view head.now).attrs }
 {
-    for (name, value) in &attrs.0 {
-        if *name == attr::type_ && !is_text(value, "text/javascript") {
+    let names = head.names;
+    for (number, value) in &head.flat.attrs {
+        if *names.attr_at(*number) == attr::type_ && !is_text(value, "text/javascript") {
             return true;
         }
     }
@@ -175,10 +197,10 @@ fn has_other_type(attrs: &HtmlAttrs) -> bool
 
 /// Whether pretty writing puts the text of a raw element on lines of its own.
 #[tactic(auto, unfolding(html_names::specs::Tables::known_tags, crate::specs::Layout::is_by_lines))]
-pub(crate) fn is_by_lines(element: &HtmlElement) -> bool
-    ensures { result ≡ is_by_lines (head_of element.now) }
+pub(crate) fn is_by_lines(head: &ElementHead) -> bool
+    ensures { result ≡ is_by_lines (head_view head.now) }
 {
-    element.tag == tag::style || !has_other_type(&element.attrs)
+    *head.tag() == tag::style || !has_other_type(head)
 }
 
 /// Whether the text holds a backquote.

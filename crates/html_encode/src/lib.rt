@@ -29,16 +29,22 @@
 //! ```
 #![tactic(auto)]
 
+mod closing;
+mod common;
 mod content;
 mod escape;
 mod export;
 mod fault;
 mod frame;
+mod head;
 mod indent;
 pub mod laws;
 mod layout;
+mod node;
+mod opens;
 mod options;
 mod raw;
+mod siblings;
 mod tags;
 mod write;
 

@@ -1,32 +1,36 @@
 //! Raw text, which ends where its element's closing tag stands.
 
-ghost use Rattle.std.specs.Prelude.{◌≡◌, ◌++◌, OnOk, IfOk, chars, map};
-ghost use Rattle.std.specs.Char.{to_ascii_lowercase};
-ghost use Rattle.html_dom.specs.Views.{head_of, node_view, nodes_view};
-ghost use Rattle.html_encode.specs.Closing as ending;
+ghost use Rattle.std.specs.Prelude.{◌≡◌, ◌++◌, OnOk, chars};
+ghost use Rattle.html_names.specs.NameTables.{NamesView};
+ghost use Rattle.html_dom.specs.Tree.{none};
+ghost use Rattle.html_flat.specs.FlatViews.{flat_node_view};
 ghost use Rattle.html_encode.specs.Faults.{node_raw_faults, nodes_raw_faults, raw_content_faults};
 ghost use Rattle.html_encode.specs.Layout.{lines_text, raw_text};
+ghost use Rattle.html_encode.specs.Siblings.{head_view, siblings_view};
 ghost use Rattle.html_encode.specs.Text.{escaped_text, node_raw_text, nodes_raw_text};
+ghost use Rattle.html_encode.specs.Walk.{node_with};
 ghost use Rattle.html_encode.specs.Writes.{Writes, Makes};
 
+use crate::closing::holds_closing;
 use crate::escape::{Escaping, write_text};
 use crate::fault::ExportFault;
 use crate::indent::{push_indent, push_lines};
 use crate::layout::{Margin, is_by_lines, keeps_lines};
-use html_dom::{HtmlElement, HtmlNode};
+use crate::siblings::{Element, Siblings};
+use html_flat::FlatNode;
 use html_names::{HtmlTag, Output};
 use std::alloc::{AllocError, Global};
 
 /// Writes the content of a raw element.
 pub(crate) fn write_raw(
     out: &mut Output,
-    element: &HtmlElement,
+    element: &Element,
     margin: Margin,
 ) -> Result<(), ExportFault>
-    ensures { let children = nodes_view element.now.children.items in
+    ensures { let children = siblings_view element.now.children in
         Writes result out.old out.new
-        (raw_text margin (head_of element.now) (nodes_raw_text children))
-        (raw_content_faults (head_of element.now) children) }
+        (raw_text margin (head_view element.now.head) (nodes_raw_text children))
+        (raw_content_faults (head_view element.now.head) children) }
 {
     let text = checked_text(element)?;
     write_joined(out, element, text.as_str(), margin)?;
@@ -34,23 +38,25 @@ pub(crate) fn write_raw(
 }
 
 /// The text of a raw element, which holds no closing tag of it.
-fn checked_text(element: &HtmlElement) -> Result<String, ExportFault>
-    ensures { let children = nodes_view element.now.children.items in
-        Makes result (nodes_raw_text children) (raw_content_faults (head_of element.now) children) }
+fn checked_text(element: &Element) -> Result<String, ExportFault>
+    ensures { let children = siblings_view element.now.children in
+        Makes result (nodes_raw_text children) (raw_content_faults (head_view element.now.head) children) }
 {
-    let alloc = *element.children.allocator();
+    let alloc = *element.head.flat.attrs.allocator();
     let text = joined(alloc, &element.children)?;
-    if holds_closing(alloc, element.tag.resolve(), text.as_str())? {
-        return Err(ExportFault::RawClosing { span: element.span });
+    if holds_closing(element.head.tag().resolve(), text.as_str()) {
+        return Err(ExportFault::RawClosing {
+            span: element.head.flat.span,
+        });
     }
     Ok(text)
 }
 
 /// The text of a raw element: that of its children, joined.
-fn joined(alloc: Global, children: &[HtmlNode]) -> Result<String, ExportFault>
+fn joined(alloc: Global, children: &Siblings) -> Result<String, ExportFault>
     ensures { Makes result
-        (nodes_raw_text (nodes_view children.now))
-        (nodes_raw_faults Escaping.Raw (nodes_view children.now)) }
+        (nodes_raw_text (siblings_view children.now))
+        (nodes_raw_faults Escaping.Raw (siblings_view children.now)) }
 {
     let mut out = Output::new(alloc);
     write_children(&mut out, Escaping::Raw, children)?;
@@ -61,43 +67,43 @@ fn joined(alloc: Global, children: &[HtmlNode]) -> Result<String, ExportFault>
 pub(crate) fn write_children(
     out: &mut Output,
     escaping: Escaping,
-    children: &[HtmlNode],
+    children: &Siblings,
 ) -> Result<(), ExportFault>
     ensures { Writes result out.old out.new
-        (escaped_text escaping (nodes_raw_text (nodes_view children.now)))
-        (nodes_raw_faults escaping (nodes_view children.now)) }
+        (escaped_text escaping (nodes_raw_text (siblings_view children.now)))
+        (nodes_raw_faults escaping (siblings_view children.now)) }
 {
-    for child in children {
-        write_child(out, escaping, child)?;
+    for node in children.nodes {
+        write_child(out, escaping, node)?;
     }
     Ok(())
 }
 
-/// Writes a child of a raw or an escapable raw element.
-fn write_child(out: &mut Output, escaping: Escaping, child: &HtmlNode) -> Result<(), ExportFault>
-    ensures { Writes result out.old out.new
-        (escaped_text escaping (node_raw_text (node_view child.now)))
-        (node_raw_faults escaping (node_view child.now)) }
+/// Writes a child of a raw or an escapable raw element: a text.
+fn write_child(out: &mut Output, escaping: Escaping, child: &FlatNode) -> Result<(), ExportFault>
+    ensures { (names : NamesView) → let n = node_with (flat_node_view names child.now) none in
+        Writes result out.old out.new
+        (escaped_text escaping (node_raw_text n)) (node_raw_faults escaping n) }
 {
     match child {
-        HtmlNode::Tag(_) => Ok(()),
-        HtmlNode::Text(text, span) => write_text(out, escaping, text.as_str(), *span),
-        HtmlNode::Element(element) => Err(ExportFault::RawChild { span: element.span }),
-        HtmlNode::Frame(frame) => Err(ExportFault::RawChild { span: frame.span }),
+        FlatNode::Tag(_) => Ok(()),
+        FlatNode::Text(text, span) => write_text(out, escaping, text.as_str(), *span),
+        FlatNode::Element(element) => Err(ExportFault::RawChild { span: element.span }),
+        FlatNode::Frame(frame) => Err(ExportFault::RawChild { span: frame.span }),
     }
 }
 
 /// Writes a raw text, on lines of its own where pretty writing puts it there.
 fn write_joined(
     out: &mut Output,
-    element: &HtmlElement,
+    element: &Element,
     text: &str,
     margin: Margin,
 ) -> Result<(), AllocError>
-    ensures { OnOk result (out.new ≡ out.old ++ raw_text margin (head_of element.now) (chars text.now)) }
+    ensures { OnOk result (out.new ≡ out.old ++ raw_text margin (head_view element.now.head) (chars text.now)) }
 {
-    if margin.pretty && is_by_lines(element) {
-        write_lines(out, &element.tag, text, margin)
+    if margin.pretty && is_by_lines(&element.head) {
+        write_lines(out, element.head.tag(), text, margin)
     } else {
         out.push_str(text)
     }
@@ -120,73 +126,4 @@ fn write_lines(
         push_lines(out, text, margin.deeper()?.level, true)?;
     }
     push_indent(out, margin.level)
-}
-
-/// Adds the characters of a text.
-fn push_chars(list: &mut Vec<char>, text: &str) -> Result<(), AllocError>
-    ensures { OnOk result (list.new.items ≡ list.old.items ++ chars text.now) }
-{
-    for c in text.chars() {
-        list.push(c)?;
-    }
-    Ok(())
-}
-
-/// `</` and the name in small letters.
-fn closing(alloc: Global, name: &str) -> Result<Vec<char>, AllocError>
-    ensures { IfOk result (λ list. list.items ≡ ending.closing (chars name.now)) }
-{
-    let mut list = Vec::new(alloc);
-    list.push('<')?;
-    list.push('/')?;
-    for c in name.chars() {
-        list.push(c.to_ascii_lowercase())?;
-    }
-    Ok(list)
-}
-
-/// Whether the character ends the name in a closing tag.
-#[tactic(auto, unfolding(crate::specs::Closing::is_tag_end))]
-fn is_tag_end(c: char) -> bool
-    ensures { result ≡ ending.is_tag_end c }
-{
-    matches!(c, '\t' | '\n' | '\u{c}' | '\r' | ' ' | '>' | '/')
-}
-
-/// Whether the text begins with these characters, in any ASCII case, and then one that ends a name.
-fn begins(closing: &[char], text: &[char]) -> bool
-    ensures { result ≡ ending.begins closing.now text.now }
-{
-    match closing {
-        [] => match text {
-            [] => false,
-            [end, ..] => is_tag_end(*end),
-        },
-        [expected, closing @ ..] => match text {
-            [] => false,
-            [c, text @ ..] => c.to_ascii_lowercase() == *expected && begins(closing, text),
-        },
-    }
-}
-
-/// Whether the text holds a closing tag.
-fn holds(closing: &[char], text: &[char]) -> bool
-    ensures { result ≡ ending.holds closing.now text.now }
-{
-    for i in 0..text.len() {
-        if begins(closing, &text[i..]) {
-            return true;
-        }
-    }
-    false
-}
-
-/// Whether the text holds the closing tag of an element of that name.
-fn holds_closing(alloc: Global, name: &str, text: &str) -> Result<bool, AllocError>
-    ensures { IfOk result (λ holds. holds ≡ ending.holds_closing (chars name.now) (chars text.now)) }
-{
-    let closing = closing(alloc, name)?;
-    let mut list = Vec::new(alloc);
-    push_chars(&mut list, text)?;
-    Ok(holds(&closing, &list))
 }

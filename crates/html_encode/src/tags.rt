@@ -1,17 +1,20 @@
 //! Start tags and end tags.
 
 ghost use Rattle.std.specs.Prelude.{◌≡◌, ◌++◌, OnOk};
-ghost use Rattle.html_dom.specs.Views.{text_view, attrs_view, head_of, nodes_view};
+ghost use Rattle.html_dom.specs.Views.{text_view};
 ghost use Rattle.html_encode.specs.Faults.{text_faults, attrs_faults};
 ghost use Rattle.html_encode.specs.Reader.{drops_feed};
 ghost use Rattle.html_encode.specs.ReadingBack.{PairsAreNamed, HeadIsNamed};
+ghost use Rattle.html_encode.specs.Siblings.{head_view, siblings_view};
 ghost use Rattle.html_encode.specs.Text.{value_text, attrs_text, tag_close, start_tag_text};
-ghost use Rattle.html_encode.specs.Text.{end_tag_text, ends_at_once, begins_with_feed, feed_text};
+ghost use Rattle.html_encode.specs.Text.{end_tag_text, begins_with_feed, feed_text};
 ghost use Rattle.html_encode.specs.Writes.{Writes};
 
 use crate::escape::{Escaping, write_text};
 use crate::fault::ExportFault;
-use html_dom::{HtmlAttrs, HtmlElement, HtmlNode, Span};
+use crate::siblings::{Element, ElementHead, Siblings};
+use html_dom::Span;
+use html_flat::FlatNode;
 use html_names::{HtmlTag, Output, tag};
 use std::alloc::AllocError;
 
@@ -32,25 +35,25 @@ fn write_value(out: &mut Output, value: &String, span: Span) -> Result<(), Expor
 }
 
 /// Writes the attributes of a start tag.
-fn write_attrs(out: &mut Output, attrs: &HtmlAttrs, span: Span) -> Result<(), ExportFault>
-    ensures writes { Writes result out.old out.new
-        (attrs_text (attrs_view attrs.now))
-        (attrs_faults span.0 (attrs_view attrs.now)) }
-    ensures named { OnOk result (PairsAreNamed (attrs_view attrs.now)) }
+fn write_attrs(out: &mut Output, head: &ElementHead) -> Result<(), ExportFault>
+    ensures writes { let head = head_view head.now in
+        Writes result out.old out.new (attrs_text head.attrs) (attrs_faults head.span head.attrs) }
+    ensures named { OnOk result (PairsAreNamed (head_view head.now).attrs) }
 {
-    for (attr, value) in &attrs.0 {
+    let names = head.names;
+    for (number, value) in &head.flat.attrs {
         out.push(' ')?;
-        out.push_str(attr.resolve())?;
-        write_value(out, value, span)?;
+        out.push_str(names.attr_at(*number).resolve())?;
+        write_value(out, value, head.flat.span)?;
     }
     Ok(())
 }
 
 /// Writes the end of a start tag.
-fn write_tag_close(out: &mut Output, tag: &HtmlTag) -> Result<(), AllocError>
-    ensures { OnOk result (out.new ≡ out.old ++ tag_close tag.now) }
+fn write_tag_close(out: &mut Output, head: &ElementHead) -> Result<(), AllocError>
+    ensures { OnOk result (out.new ≡ out.old ++ tag_close (head_view head.now).name) }
 {
-    if tag::is_foreign_self_closing(tag) {
+    if head.is_foreign_self_closing() {
         out.push_ascii("/>")
     } else {
         out.push_ascii(">")
@@ -58,49 +61,42 @@ fn write_tag_close(out: &mut Output, tag: &HtmlTag) -> Result<(), AllocError>
 }
 
 /// Writes the start tag.
-pub(crate) fn write_start(out: &mut Output, element: &HtmlElement) -> Result<(), ExportFault>
-    ensures writes { Writes result out.old out.new
-        (start_tag_text (head_of element.now))
-        (attrs_faults element.now.span.0 (attrs_view element.now.attrs)) }
-    ensures named { OnOk result (HeadIsNamed (head_of element.now)) }
+pub(crate) fn write_start(out: &mut Output, head: &ElementHead) -> Result<(), ExportFault>
+    ensures writes { let head = head_view head.now in
+        Writes result out.old out.new (start_tag_text head) (attrs_faults head.span head.attrs) }
+    ensures named { OnOk result (HeadIsNamed (head_view head.now)) }
 {
     out.push('<')?;
-    out.push_str(element.tag.resolve())?;
-    write_attrs(out, &element.attrs, element.span)?;
-    write_tag_close(out, &element.tag)?;
+    out.push_str(head.tag().resolve())?;
+    write_attrs(out, head)?;
+    write_tag_close(out, head)?;
     Ok(())
 }
 
 /// Writes the end tag.
-pub(crate) fn write_end(out: &mut Output, element: &HtmlElement) -> Result<(), AllocError>
-    ensures { OnOk result (out.new ≡ out.old ++ end_tag_text (head_of element.now)) }
+pub(crate) fn write_end(out: &mut Output, tag: &HtmlTag) -> Result<(), AllocError>
+    ensures { OnOk result (out.new ≡ out.old ++ end_tag_text tag.now) }
 {
     out.push_ascii("</")?;
-    out.push_str(element.tag.resolve())?;
+    out.push_str(tag.resolve())?;
     out.push('>')
-}
-
-/// Whether the element is its start tag alone.
-pub(crate) fn ends_at_once(element: &HtmlElement) -> bool
-    ensures { result ≡ ends_at_once (head_of element.now) }
-{
-    tag::is_foreign_self_closing(&element.tag) || tag::is_void(&element.tag)
 }
 
 /// Whether the first child that is neither a tag nor an empty text begins with a line feed or a
 /// carriage return.
-fn begins_with_feed(children: &[HtmlNode]) -> bool
-    ensures { result ≡ begins_with_feed (nodes_view children.now) }
+#[tactic(auto, unfolding(html_flat::specs::Flat::spelled_nodes))]
+fn begins_with_feed(children: &Siblings) -> bool
+    ensures { result ≡ begins_with_feed (siblings_view children.now) }
 {
-    for child in children {
-        match child {
-            HtmlNode::Tag(_) => {}
-            HtmlNode::Text(text, _) => {
+    for node in children.nodes {
+        match node {
+            FlatNode::Tag(_) => {}
+            FlatNode::Text(text, _) => {
                 if let Some(c) = text.as_str().chars().next() {
                     return c == '\n' || c == '\r';
                 }
             }
-            HtmlNode::Element(_) | HtmlNode::Frame(_) => return false,
+            FlatNode::Element(_) | FlatNode::Frame(_) => return false,
         }
     }
     false
@@ -115,11 +111,11 @@ fn drops_feed(tag: &HtmlTag) -> bool
 }
 
 /// Writes a line feed where a reader would drop the text's own.
-pub(crate) fn write_feed(out: &mut Output, element: &HtmlElement) -> Result<(), AllocError>
+pub(crate) fn write_feed(out: &mut Output, element: &Element) -> Result<(), AllocError>
     ensures { OnOk result (out.new ≡
-        out.old ++ feed_text (head_of element.now) (nodes_view element.now.children.items)) }
+        out.old ++ feed_text (head_view element.now.head) (siblings_view element.now.children)) }
 {
-    if drops_feed(&element.tag) && begins_with_feed(&element.children) {
+    if drops_feed(element.head.tag()) && begins_with_feed(&element.children) {
         out.push('\n')?;
     }
     Ok(())

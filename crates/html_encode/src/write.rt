@@ -1,132 +1,192 @@
-//! Writing, plain and pretty.
-#![tactic(auto, using(crate::proofs::Named::writing), unfolding(crate::specs::Text::node_text, crate::specs::Faults::node_faults, crate::specs::ReadingBack::NodeIsNamed))]
+//! Writing, plain and pretty: one walk over a flat tree.
 
-ghost use Rattle.std.specs.Prelude.{◌≡◌, ◌++◌, OnOk, Some, chars, true};
+ghost use Rattle.std.specs.Prelude.{◌≡◌, ◌++◌, OnOk, Some, chars, false};
 ghost use Rattle.html_dom.specs.FrameViews.{html_frame_view};
-ghost use Rattle.html_dom.specs.Views.{node_view, element_view, nodes_view};
-ghost use Rattle.html_encode.specs.Faults.{void_faults, content_faults, frame_faults};
-ghost use Rattle.html_encode.specs.Faults.{node_faults, nodes_faults, element_faults};
-ghost use Rattle.html_encode.specs.Layout.{frame_text};
-ghost use Rattle.html_encode.specs.ReadingBack.{NodeIsNamed, NodesAreNamed, ElementIsNamed};
-ghost use Rattle.html_encode.specs.Text.{escaping_of, node_text, nodes_text, content_text};
-ghost use Rattle.html_encode.specs.Text.{element_text};
+ghost use Rattle.html_dom.specs.Views.{element_view};
+ghost use Rattle.html_flat.specs.FlatTrees.{tree_nodes};
+ghost use Rattle.html_encode.specs.Faults.{void_faults, frame_faults, nodes_faults, element_faults};
+ghost use Rattle.html_encode.specs.Layout.{indent_where, frame_text};
+ghost use Rattle.html_encode.specs.Opens.{open_view, Enters};
+ghost use Rattle.html_encode.specs.ReadingBack.{HeadIsNamed, NodesAreNamed, ElementIsNamed};
+ghost use Rattle.html_encode.specs.Siblings.{head_view, flat_element_view, node_flat_view, node_view, siblings_view};
+ghost use Rattle.html_encode.specs.Text.{escaping_of, end_tag_text, element_text};
+ghost use Rattle.html_encode.specs.Walk.{first_text, first_faults, FirstIsNamed};
+ghost use Rattle.html_encode.specs.Walk.{outside_text, element_first_text, element_first_faults};
 ghost use Rattle.html_encode.specs.Writes.{Writes, Passes};
 
-use crate::content::{ContentKind, content_kind};
+use crate::content::ContentKind;
 use crate::escape::{Escaping, write_text};
 use crate::fault::ExportFault;
 use crate::frame::{FrameFault, FrameWriter};
 use crate::indent::{push_indent_if, push_lines};
-use crate::layout::{Margin, due_after, has_indent};
+use crate::layout::{Margin, due_after};
+use crate::node::node_at;
+use crate::opens::{Open, Opens};
 use crate::raw;
-use crate::tags::{ends_at_once, write_end, write_feed, write_start};
-use html_dom::{HtmlElement, HtmlFrame, HtmlNode};
+use crate::siblings::{Element, ElementHead, Node};
+use crate::tags::{write_end, write_feed, write_start};
+use html_dom::{HtmlElement, HtmlFrame};
+use html_flat::{FlatNode, FlatTree};
 use html_names::Output;
-use std::alloc::AllocError;
+use std::alloc::{AllocError, Global};
 
-/// Writes a node.
-#[cycle(write)]
-fn write_node<F: FrameWriter>(
+/// Writes an element at that margin.
+pub(crate) fn write_root<F: FrameWriter>(
+    alloc: Global,
     out: &mut Output,
-    node: &HtmlNode,
-    pre_span: bool,
+    root: &HtmlElement,
     margin: Margin,
     frames: &F,
 ) -> Result<(), ExportFault>
     ensures writes { Writes result out.old out.new
-        (node_text (F.drawing frames.now) pre_span margin (node_view node.now))
-        (node_faults (F.drawing frames.now) pre_span margin.pretty (node_view node.now)) }
-    ensures named { OnOk result (NodeIsNamed (node_view node.now)) }
+        (element_text (F.drawing frames.now) margin (element_view root.now))
+        (element_faults (F.drawing frames.now) margin.pretty (element_view root.now)) }
+    ensures named { OnOk result (ElementIsNamed (element_view root.now)) }
 {
-    match node {
-        HtmlNode::Tag(_) => Ok(()),
-        HtmlNode::Text(text, span) => write_text(out, escaping(pre_span), text.as_str(), *span),
-        HtmlNode::Element(element) => write_element(out, element, margin, frames),
-        HtmlNode::Frame(frame) => write_frame(out, frame, margin, frames),
-    }
+    let tree = FlatTree::from_element(alloc, root)?;
+    write_tree(alloc, out, &tree, margin, frames)
 }
 
-/// Writes an element.
-#[cycle(write)]
-pub(crate) fn write_element<F: FrameWriter>(
+/// Writes the nodes of a flat tree, one after another: nodes that stand in no element have that
+/// margin.
+fn write_tree<F: FrameWriter>(
+    alloc: Global,
     out: &mut Output,
-    element: &HtmlElement,
-    margin: Margin,
+    tree: &FlatTree,
+    outer: Margin,
     frames: &F,
 ) -> Result<(), ExportFault>
-    ensures writes { Writes result out.old out.new
-        (element_text (F.drawing frames.now) margin (element_view element.now))
-        (element_faults (F.drawing frames.now) margin.pretty (element_view element.now)) }
-    ensures named { OnOk result (ElementIsNamed (element_view element.now)) }
+    ensures writes { let ns = tree_nodes tree.now in
+        Writes result out.old out.new (outside_text (F.drawing frames.now) outer ns)
+        (nodes_faults (F.drawing frames.now) false outer.pretty ns) }
+    ensures named { OnOk result (NodesAreNamed (tree_nodes tree.now)) }
 {
-    write_start(out, element)?;
-    if ends_at_once(element) {
-        return refuse_children(element);
-    }
-    write_feed(out, element)?;
-    write_content(out, element, margin, frames)?;
-    write_end(out, element)?;
-    Ok(())
-}
-
-/// Writes what stands between the tags of an element.
-#[cycle(write)]
-fn write_content<F: FrameWriter>(
-    out: &mut Output,
-    element: &HtmlElement,
-    margin: Margin,
-    frames: &F,
-) -> Result<(), ExportFault>
-    ensures writes { Writes result out.old out.new
-        (content_text (F.drawing frames.now) margin (element_view element.now))
-        (content_faults (F.drawing frames.now) margin.pretty (element_view element.now)) }
-    ensures named { OnOk result (NodesAreNamed (nodes_view element.now.children.items)) }
-{
-    match content_kind(&element.tag) {
-        ContentKind::Raw => raw::write_raw(out, element, margin),
-        ContentKind::EscapableRaw => raw::write_children(out, Escaping::Text, &element.children),
-        ContentKind::Nodes => {
-            let inside = margin.inside(element);
-            write_children(out, &element.children, element.pre_span, inside, frames)
+    let names = tree.names();
+    let nodes = tree.nodes();
+    let mut opens = Opens::new(alloc);
+    let mut due = false;
+    let mut place = 0;
+    loop {
+        if let Some(element) = opens.pop_at(place) {
+            write_close(out, &element)?;
+            due = element.due_after;
+        } else if place < nodes.len() {
+            let node = node_at(names, nodes, place);
+            let margin = opens.margin(outer)?;
+            push_indent_if(out, opens.has_indent(due, &node), margin.level)?;
+            write_first(out, &node, opens.pre_span(), margin, frames)?;
+            if let Some(element) = entered(&node, margin, due) {
+                opens.push(element)?;
+                due = true;
+                place += 1;
+            } else {
+                due = due_after(due, &node);
+                place = node.past;
+            }
+        } else {
+            return Ok(());
         }
     }
 }
 
-/// Writes the children of an element at that margin.
-#[cycle(write)]
-fn write_children<F: FrameWriter>(
+/// Writes the end of an element that the walk leaves.
+fn write_close(out: &mut Output, element: &Open) -> Result<(), AllocError>
+    ensures { let o = open_view element.now in OnOk result (out.new ≡
+        out.old ++ (indent_where o.margin.pretty o.margin.level ++ end_tag_text o.name)) }
+{
+    push_indent_if(out, element.margin.pretty, element.margin.level)?;
+    write_end(out, element.tag)
+}
+
+/// The element that the walk enters with that node, if it does.
+fn entered<'a>(node: &Node<'a>, margin: Margin, due: bool) -> Option<Open<'a>>
+    ensures { Enters result (node_flat_view node.now) (siblings_view node.now.children) margin due }
+{
+    let FlatNode::Element(flat) = node.flat else {
+        return None;
+    };
+    let head = ElementHead {
+        names: node.children.names,
+        flat,
+    };
+    if head.ends_at_once() || !matches!(head.content_kind(), ContentKind::Nodes) {
+        return None;
+    }
+    let element = Element {
+        head,
+        children: node.children,
+    };
+    Some(Open {
+        tag: head.tag(),
+        pre_span: flat.pre_span,
+        past: flat.past,
+        margin: margin.inside(&element),
+        due_after: due_after(due, node),
+    })
+}
+
+/// Writes a node, or the start of an element that the walk enters.
+fn write_first<F: FrameWriter>(
     out: &mut Output,
-    children: &[HtmlNode],
+    node: &Node,
     pre_span: bool,
     margin: Margin,
     frames: &F,
 ) -> Result<(), ExportFault>
     ensures writes { Writes result out.old out.new
-        (nodes_text (F.drawing frames.now) pre_span true margin (nodes_view children.now))
-        (nodes_faults (F.drawing frames.now) pre_span margin.pretty (nodes_view children.now)) }
-    ensures named { OnOk result (NodesAreNamed (nodes_view children.now)) }
+        (first_text (F.drawing frames.now) pre_span margin (node_view node.now))
+        (first_faults (F.drawing frames.now) pre_span margin.pretty (node_view node.now)) }
+    ensures named { OnOk result (FirstIsNamed (node_view node.now)) }
 {
-    let inner = margin.deeper()?;
-    let mut due = true;
-    for child in children {
-        push_indent_if(out, inner.pretty && has_indent(due, child), inner.level)?;
-        write_node(out, child, pre_span, inner, frames)?;
-        due = due_after(due, child);
+    match node.flat {
+        FlatNode::Tag(_) => Ok(()),
+        FlatNode::Text(text, span) => write_text(out, escaping(pre_span), text.as_str(), *span),
+        FlatNode::Element(flat) => {
+            let children = node.children;
+            let head = ElementHead {
+                names: children.names,
+                flat,
+            };
+            write_element(out, &Element { head, children }, margin)
+        }
+        FlatNode::Frame(frame) => write_frame(out, frame, margin, frames),
     }
-    push_indent_if(out, margin.pretty, margin.level)?;
+}
+
+/// Writes an element whose children are not written one by one, and else its start.
+fn write_element(out: &mut Output, element: &Element, margin: Margin) -> Result<(), ExportFault>
+    ensures writes { Writes result out.old out.new
+        (element_first_text margin (flat_element_view element.now))
+        (element_first_faults (flat_element_view element.now)) }
+    ensures named { OnOk result (HeadIsNamed (head_view element.now.head)) }
+{
+    write_start(out, &element.head)?;
+    if element.head.ends_at_once() {
+        return refuse_children(element);
+    }
+    write_feed(out, element)?;
+    match element.head.content_kind() {
+        ContentKind::Raw => raw::write_raw(out, element, margin)?,
+        ContentKind::EscapableRaw => raw::write_children(out, Escaping::Text, &element.children)?,
+        ContentKind::Nodes => return Ok(()),
+    }
+    write_end(out, element.head.tag())?;
     Ok(())
 }
 
 /// Refuses a child of an element that is its start tag alone.
-fn refuse_children(element: &HtmlElement) -> Result<(), ExportFault>
-    ensures { Passes result (void_faults element.now.span.0 (nodes_view element.now.children.items)) }
+#[tactic(auto, unfolding(html_flat::specs::Flat::spelled_nodes))]
+fn refuse_children(element: &Element) -> Result<(), ExportFault>
+    ensures { Passes result
+        (void_faults (head_view element.now.head).span (siblings_view element.now.children)) }
 {
-    match element.children.first() {
+    match element.children.nodes.first() {
         None => Ok(()),
-        Some(_) => Err(ExportFault::VoidChildren { span: element.span }),
+        Some(_) => Err(ExportFault::VoidChildren {
+            span: element.head.flat.span,
+        }),
     }
 }
-
 /// Writes a frame by its writer.
 fn write_frame<F: FrameWriter>(
     out: &mut Output,

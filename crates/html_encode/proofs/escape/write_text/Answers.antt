@@ -1,7 +1,7 @@
 use Rattle.std.proofs.Common.{◌≡◌, ◌++◌, chars, sym, ◌∙◌, append_assoc}
 use Rattle.std.specs.Str.Iter.{chars_rest}
 use Rattle.std.proofs.lemmas.List.{append-nil}
-use Rattle.std.proofs.lemmas.Str.{IsUtf8-past_char, chars_past_char}
+use Rattle.std.proofs.lemmas.Str.{chars_past_char}
 use Rattle.std.proofs.lemmas.Result.{err_from_is_err_and}
 use Rattle.std.proofs.StrCases.{chars_of_empty}
 use Rattle.html_encode.specs.Faults.{char_faults, text_faults}
@@ -12,13 +12,17 @@ pub loop-c-preserved : goal.loop-c-preserved
 loop-c-preserved c =
     let held = c.loop-c.invariant in
     let parts = c.in-Some.ensures.steps.0 in
-    let step = chars_past_char _ _ c.in-Some.c held.utf8 parts in
+    let char = c.in-Some.c in
+    let step = chars_past_char _ _ char held.utf8 parts in
+    let wrote = c.in_ok-write_plain-2.ensures in
     let told = rw step at held.told in
     let clean = rw (step, c.in_ok-write_char.ensures.clean) at held.clean in
+    let next = c.chars-left-in-Some.ensures.rest in
+    let past = c.as_str.ensures in
     record {
-      utf8 = IsUtf8-past_char _ _ c.in-Some.c held.utf8 parts;
-      told = rw (c.in_ok-write_char.ensures.appended, append_assoc) told;
-      clean = clean;
+      utf8 = rw next wrote.rest_utf8;
+      told = rw (next, wrote.told, past, c.in_ok-write_char.ensures.appended, append_assoc) told;
+      clean = rw (next, wrote.clean c.args.span.0, past) clean;
     }
 
 pub returns-in_err-write_char : goal.returns-in_err-write_char
@@ -31,7 +35,8 @@ returns-in_err-write_char c =
     ≡ char_faults escaping span c.in-Some.c ++ text_faults escaping span
     (chars (chars_rest c.next.new.self)) =
     sym (rw step at held.clean) in
-    let failed = err_from_is_err_and c.from_residual.result c.from_residual.ensures.1 in
+    let failed = err_from_is_err_and c.from_residual-in_err-write_char.result
+    c.from_residual-in_err-write_char.ensures.1 in
     record {
       appended = rw failed.1 tt;
       clean = rw failed.1 tt;
@@ -41,7 +46,7 @@ returns-in_err-write_char c =
 pub returns : goal.returns
 returns c =
     let held = c.loop-c.invariant in
-    let empty = chars_of_empty _ c.in-None.ensures.steps.0.0 in
+    let empty = chars_of_empty _ c.in_default.ensures.steps.0.0 in
     record {
       appended = sym (append-nil _) ∙ rw empty at held.told;
       clean = sym (rw empty at held.clean);

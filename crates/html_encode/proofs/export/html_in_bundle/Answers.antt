@@ -20,7 +20,7 @@ is_written g c =
     let last = feed_where options.pretty in
     c.into_string.ensures
     ∙ (c.in_ok-push_feed_if.ensures
-    ∙ (ap (λ o. o ++ last) (c.in_ok-write_element.ensures.writes.appended
+    ∙ (ap (λ o. o ++ last) (c.in_ok-write_root.ensures.writes.appended
     ∙ ap (λ o. o ++ element) (c.in_ok-push_indent_if.ensures
     ∙ ap (λ o. o ++ before) (c.in_ok-push_ascii.ensures ∙ ap (λ o. o ++ first) c.new-out.ensures)))
     ∙ four_joined first before element last))
@@ -29,14 +29,14 @@ both_read_back : (g : given.Over) (c : goal.After-into_string g) →
     EitherReadsBack (g.F.FrameWriter.drawing c.args.frames.now) c.args.options.now
     (element_view c.args.root.now) (text_view c.into_string.result)
 both_read_back g c =
-    let wrote = c.in_ok-write_element.ensures in
+    let wrote = c.in_ok-write_root.ensures in
     either_reads_back (g.F.FrameWriter.drawing c.args.frames.now) c.args.options.now
     (element_view c.args.root.now)
     (text_view c.into_string.result) (is_written g c) wrote.named wrote.writes.clean
 
 pub returns-clause-makes : goal.returns-clause-makes
 returns-clause-makes g c =
-    record { made = is_written g c; clean = c.in_ok-write_element.ensures.writes.clean; fault = tt }
+    record { made = is_written g c; clean = c.in_ok-write_root.ensures.writes.clean; fault = tt }
 
 pub returns-clause-reads_back : goal.returns-clause-reads_back
 returns-clause-reads_back g c = (both_read_back g c).0

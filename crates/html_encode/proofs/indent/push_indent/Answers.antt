@@ -1,12 +1,10 @@
-use Rattle.std.proofs.Common.{◌++◌, ap, ◌∙◌, append_assoc, codes}
-use Rattle.html_encode.specs.Layout.{spaces}
-use Rattle.html_encode.proofs.Layouts.{spaces_more}
+use Rattle.std.proofs.lemmas.Result.{on_ok_weaker}
+use Rattle.html_encode.proofs.Indents.{indent_left}
 use Rattle.html_encode.proofs.indent.push_indent.Goals as goal
 
-pub loop-preserved : goal.loop-preserved
-loop-preserved c =
-    let before = c.push.new.self in
-    c.in_ok-push_ascii.ensures
-    ∙ (ap (λ s. s ++ codes "  ") c.loop.invariant
-    ∙ (append_assoc before (spaces c.loop.counter) (codes "  ")
-    ∙ ap (λ s. before ++ s) (spaces_more c.loop.counter)))
+pub returns : goal.returns
+returns c = on_ok_weaker c.push_spaces.result
+    (indent_left c.args.out.now c.push_ascii.new.self c.short_indent.result.now
+    c.push_spaces.new.out c.first_levels-levels.result c.args.level
+    c.first_levels-levels.ensures.within c.in_ok-push_ascii.ensures c.short_indent.ensures)
+    c.push_spaces.ensures

@@ -1,5 +1,5 @@
 use Rattle.std.proofs.Common.{◌++◌, ap, ◌∙◌}
-use Rattle.html_dom.specs.Views.{nodes_view}
+use Rattle.html_encode.specs.Siblings.{siblings_view}
 use Rattle.html_encode.specs.Text.{escaped_text, nodes_raw_text}
 use Rattle.html_encode.specs.declared.escape.Escaping.TheVariants as escaping
 use Rattle.html_encode.proofs.Escapes.{escaped_text-raw}
@@ -7,7 +7,7 @@ use Rattle.html_encode.proofs.raw.joined.Goals as goal
 
 pub returns : goal.returns
 returns c =
-    let all = nodes_raw_text (nodes_view c.args.children.now) in
+    let all = nodes_raw_text (siblings_view c.args.children.now) in
     let wrote = c.in_ok-write_children.ensures in
     record {
       made = c.into_string.ensures

@@ -1,15 +1,12 @@
-use Rattle.std.proofs.Common.{◌≡◌, ◌++◌, drop}
-use Rattle.html_dom.specs.Views.{nodes_view}
-use Rattle.html_encode.specs.Text.{escaped_text, nodes_raw_text}
-use Rattle.html_encode.specs.Faults.{nodes_raw_faults}
+use Rattle.std.proofs.Common.{◌+◌, drop}
+use Rattle.html_flat.specs.Flat.{spelled_nodes}
+use Rattle.html_flat.specs.FlatViews.{flat_nodes_view}
+use Rattle.html_encode.specs.Siblings.{siblings_view}
+use Rattle.html_encode.proofs.RawChildren.{RawLeft}
 use Rattle.html_encode.proofs.raw.write_children.Given as goal
 
-abbrev pub invariant-loop-child : goal.invariant-loop-child
-invariant-loop-child l =
-    let left = nodes_view (drop l.child-index l.children) in
-    let all = nodes_view l.children in
-    record {
-      told : l.out ++ escaped_text l.escaping (nodes_raw_text left)
-          ≡ l.fn.out ++ escaped_text l.escaping (nodes_raw_text all);
-      clean : nodes_raw_faults l.escaping left ≡ nodes_raw_faults l.escaping all;
-    }
+abbrev pub invariant-loop-node : goal.invariant-loop-node
+invariant-loop-node l =
+    let s = l.children in
+    RawLeft l.escaping (spelled_nodes (s.first + l.node-index)
+    (flat_nodes_view s.names.now (drop l.node-index s.nodes.now))) (siblings_view s) l.out l.fn.out

@@ -1,0 +1,80 @@
+use Rattle.std.proofs.Common.{◌≡◌, ◌+◌, ◌-◌, ◌∙◌, refl, sym, ap, arith, get_or}
+use Rattle.html_flat.specs.FlatViews.{flat_node_view}
+use Rattle.html_encode.specs.Siblings.{siblings_view}
+use Rattle.html_encode.specs.Walk.{place_after}
+use Rattle.html_encode.proofs.Given.{node_given}
+use Rattle.html_encode.proofs.NextSiblings.{next_is, wanted_here, goes_on, at_end, not_element}
+use Rattle.html_encode.proofs.layout.nodes_want_pretty.Goals as goal
+
+pub node_wants_pretty-requires : goal.node_wants_pretty-requires
+node_wants_pretty-requires c =
+    let s = c.args.siblings.now in
+    node_given s.names.now s.nodes.now c.loop-index.index c.index-siblings-index.result _ s.given
+    c.loop-index-test.true refl
+
+pub returns-then-node_wants_pretty : goal.returns-then-node_wants_pretty
+returns-then-node_wants_pretty c =
+    let s = c.args.siblings.now in
+    let d = c.index-siblings-index.result in
+    let flat = get_or s.nodes.now c.loop-index.index d in
+    sym (wanted_here s.names.now s.nodes.now s.first c.loop-index.index 0 flat d
+    c.loop-index-test.true refl c.loop-index.invariant.spells
+    (sym c.node_wants_pretty.ensures ∙ c.if-node_wants_pretty.true)) ∙ c.loop-index.invariant.wants
+
+pub overflow_sub-index : goal.overflow_sub-index
+overflow_sub-index c =
+    let s = c.args.siblings.now in
+    let d = c.index-siblings-index.result in
+    let flat = get_or s.nodes.now c.loop-index.index d in
+    let n = next_is s.names.now s.nodes.now s.first c.loop-index.index 0 flat d
+    c.loop-index-test.true refl c.loop-index.invariant.spells in
+    let to = ap (λ f. place_after (s.first + c.loop-index.index) (flat_node_view s.names.now f))
+    c.in-Element.is in
+    omega (arith, n.later, to)
+
+pub loop-index-preserved-in-Element : goal.loop-index-preserved-in-Element
+loop-index-preserved-in-Element c =
+    let s = c.args.siblings.now in
+    let d = c.index-siblings-index.result in
+    let flat = get_or s.nodes.now c.loop-index.index d in
+    let n = next_is s.names.now s.nodes.now s.first c.loop-index.index 0 flat d
+    c.loop-index-test.true refl c.loop-index.invariant.spells in
+    let to = ap (λ f. place_after (s.first + c.loop-index.index) (flat_node_view s.names.now f))
+    c.in-Element.is in
+    let on = goes_on s.names.now s.nodes.now s.first c.loop-index.index
+    (c.in-Element.element.past - s.first) flat d (siblings_view s) c.loop-index-test.true refl
+    c.loop-index.invariant.spells c.loop-index.invariant.wants
+    (sym c.node_wants_pretty.ensures ∙ c.if-node_wants_pretty.false)
+    (omega (arith, n.later, to)) in
+    record { spells = on.0; wants = on.1 }
+
+pub loop-index-smaller-in-Element : goal.loop-index-smaller-in-Element
+loop-index-smaller-in-Element c =
+    let s = c.args.siblings.now in
+    let d = c.index-siblings-index.result in
+    let flat = get_or s.nodes.now c.loop-index.index d in
+    let n = next_is s.names.now s.nodes.now s.first c.loop-index.index 0 flat d
+    c.loop-index-test.true refl c.loop-index.invariant.spells in
+    let to = ap (λ f. place_after (s.first + c.loop-index.index) (flat_node_view s.names.now f))
+    c.in-Element.is in
+    omega (arith, n.later, to, c.loop-index-test.true)
+
+pub loop-index-preserved : goal.loop-index-preserved
+loop-index-preserved c =
+    let s = c.args.siblings.now in
+    let d = c.index-siblings-index.result in
+    let flat = get_or s.nodes.now c.loop-index.index d in
+    let to : s.first + (c.loop-index.index + 1) ≡ place_after (s.first + c.loop-index.index) (flat_node_view s.names.now flat)
+    = omega (arith, not_element s.names.now (s.first + c.loop-index.index) flat c.in_default.not-Element) in
+    let on = goes_on s.names.now s.nodes.now s.first c.loop-index.index
+    (c.loop-index.index + 1) flat d (siblings_view s) c.loop-index-test.true refl
+    c.loop-index.invariant.spells c.loop-index.invariant.wants
+    (sym c.node_wants_pretty.ensures ∙ c.if-node_wants_pretty.false) to in
+    record { spells = on.0; wants = on.1 }
+
+pub returns : goal.returns
+returns c =
+    let s = c.args.siblings.now in
+    sym (at_end s.names.now s.nodes.now (s.first + c.loop-index.index) c.loop-index.index
+    c.loop-index-test.false)
+    ∙ c.loop-index.invariant.wants
