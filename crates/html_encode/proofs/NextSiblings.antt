@@ -130,6 +130,25 @@ module _ (names : NamesView) (nodes : List FlatNode) (first index next : ℕ) (f
             ∙ wants,
       )
 
+-- where the node is an element, the search goes on at its end
+pub record EndsBehind (names : NamesView) (first index : ℕ) (flat : FlatNode) (e : FlatElement) : Type 0 where
+  pub first_before : first ≤ e.past
+  pub later : index < e.past - first
+  pub to : first + (e.past - first) ≡ place_after (first + index) (flat_node_view names flat)
+
+pub ends_behind : (names : NamesView) (nodes : List FlatNode) (first index : ℕ) (flat d : FlatNode)
+    (e : FlatElement) → index < length nodes → flat ≡ get_or nodes index d →
+    IsSpelling (first + index) (flat_nodes_view names (drop index nodes)) → flat ≡ Element e →
+    EndsBehind names first index flat e
+ends_behind names nodes first index flat d e below is spells element =
+    let n = next_is names nodes first index 0 flat d below is spells in
+    let to = ap (λ f. place_after (first + index) (flat_node_view names f)) element in
+    record {
+      first_before = omega (arith, n.later, to);
+      later = omega (arith, n.later, to);
+      to = omega (arith, n.later, to);
+    }
+
 -- behind the last there is nothing that wants it
 pub at_end : (names : NamesView) (nodes : List FlatNode) (place index : ℕ) → length nodes ≤ index →
     nodes_want_pretty (spelled_nodes place (flat_nodes_view names (drop index nodes))) ≡ false

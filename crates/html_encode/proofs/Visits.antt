@@ -45,10 +45,12 @@ enters_any frames outer whole start place due opened (flat_element h past) fs te
     new_text entered.0 wrote clean named)
 
 module _ (frames : Frames) (outer : Margin) (whole : NodesView) (start : List ℕ)
-    (names : NamesView) (nodes : List FlatNode) (place : ℕ) (due : Bool) (opened : List OpenView)
-    (text : List ℕ) (n : Node) (at : IsNodeAt names nodes place n)
-    (stands : Stands frames outer whole start place due opened (flat_nodes_view names (drop place nodes)) text)
-    (later : EndsLater place opened) where
+    (names : NamesView) (nodes : List FlatNode) (place : ℕ) (due : Bool)
+    (before opened : List OpenView) (kept : opened ≡ before) (text : List ℕ) (n : Node)
+    (at : IsNodeAt names nodes place n)
+    (stood : Stands frames outer whole start place due before
+    (flat_nodes_view names (drop place nodes)) text)
+    (ends_later : EndsLater place before) where
   abbrev f : FlatNodeView
   f = node_flat_view n
 
@@ -61,8 +63,12 @@ module _ (frames : Frames) (outer : Margin) (whole : NodesView) (start : List �
   abbrev margin : Margin
   margin = next_margin outer opened
 
+  later : EndsLater place opened
+  later = subst (EndsLater place) (sym kept) ends_later
+
   here : Stands frames outer whole start place due opened (f ∷ fs) text
-  here = subst (λ xs. Stands frames outer whole start place due opened xs text) at.list stands
+  here = subst (λ os. Stands frames outer whole start place due os (f ∷ fs) text) (sym kept)
+      (subst (λ xs. Stands frames outer whole start place due before xs text) at.list stood)
 
   kids_are : kids ≡ spelled_nodes (place + 1) (take (place_after place f - (place + 1)) fs)
   kids_are = at.children ∙ ap (λ p. spelled_nodes (place + 1) (take (p - (place + 1)) fs)) at.past

@@ -1,9 +1,9 @@
-use Rattle.std.proofs.Common.{◌≡◌, ◌+◌, ◌-◌, ◌∙◌, refl, sym, ap, arith, get_or}
+use Rattle.std.proofs.Common.{◌≡◌, ◌+◌, ◌-◌, ◌∙◌, refl, sym, arith, get_or}
 use Rattle.html_flat.specs.FlatViews.{flat_node_view}
 use Rattle.html_encode.specs.Siblings.{siblings_view}
 use Rattle.html_encode.specs.Walk.{place_after}
 use Rattle.html_encode.proofs.Given.{node_given}
-use Rattle.html_encode.proofs.NextSiblings.{next_is, wanted_here, goes_on, at_end, not_element}
+use Rattle.html_encode.proofs.NextSiblings.{ends_behind, wanted_here, goes_on, at_end, not_element}
 use Rattle.html_encode.proofs.layout.nodes_want_pretty.Goals as goal
 
 pub node_wants_pretty-requires : goal.node_wants_pretty-requires
@@ -24,40 +24,29 @@ returns-then-node_wants_pretty c =
 pub overflow_sub-index : goal.overflow_sub-index
 overflow_sub-index c =
     let s = c.args.siblings.now in
-    let d = c.index-siblings-index.result in
-    let flat = get_or s.nodes.now c.loop-index.index d in
-    let n = next_is s.names.now s.nodes.now s.first c.loop-index.index 0 flat d
-    c.loop-index-test.true refl c.loop-index.invariant.spells in
-    let to = ap (λ f. place_after (s.first + c.loop-index.index) (flat_node_view s.names.now f))
-    c.in-Element.is in
-    omega (arith, n.later, to)
+    (ends_behind s.names.now s.nodes.now s.first c.loop-index.index _ c.index-siblings-index.result
+    c.in-Element.element c.loop-index-test.true refl c.loop-index.invariant.spells
+    c.in-Element.is).first_before
+
+pub loop-index-smaller-in-Element : goal.loop-index-smaller-in-Element
+loop-index-smaller-in-Element c =
+    let s = c.args.siblings.now in
+    let behind = ends_behind s.names.now s.nodes.now s.first c.loop-index.index _
+    c.index-siblings-index.result c.in-Element.element c.loop-index-test.true refl
+    c.loop-index.invariant.spells c.in-Element.is in
+    omega (arith, behind.later, c.loop-index-test.true)
 
 pub loop-index-preserved-in-Element : goal.loop-index-preserved-in-Element
 loop-index-preserved-in-Element c =
     let s = c.args.siblings.now in
     let d = c.index-siblings-index.result in
-    let flat = get_or s.nodes.now c.loop-index.index d in
-    let n = next_is s.names.now s.nodes.now s.first c.loop-index.index 0 flat d
-    c.loop-index-test.true refl c.loop-index.invariant.spells in
-    let to = ap (λ f. place_after (s.first + c.loop-index.index) (flat_node_view s.names.now f))
-    c.in-Element.is in
+    let behind = ends_behind s.names.now s.nodes.now s.first c.loop-index.index _ d
+    c.in-Element.element c.loop-index-test.true refl c.loop-index.invariant.spells c.in-Element.is in
     let on = goes_on s.names.now s.nodes.now s.first c.loop-index.index
-    (c.in-Element.element.past - s.first) flat d (siblings_view s) c.loop-index-test.true refl
+    (c.in-Element.element.past - s.first) _ d (siblings_view s) c.loop-index-test.true refl
     c.loop-index.invariant.spells c.loop-index.invariant.wants
-    (sym c.node_wants_pretty.ensures ∙ c.if-node_wants_pretty.false)
-    (omega (arith, n.later, to)) in
+    (sym c.node_wants_pretty.ensures ∙ c.if-node_wants_pretty.false) behind.to in
     record { spells = on.0; wants = on.1 }
-
-pub loop-index-smaller-in-Element : goal.loop-index-smaller-in-Element
-loop-index-smaller-in-Element c =
-    let s = c.args.siblings.now in
-    let d = c.index-siblings-index.result in
-    let flat = get_or s.nodes.now c.loop-index.index d in
-    let n = next_is s.names.now s.nodes.now s.first c.loop-index.index 0 flat d
-    c.loop-index-test.true refl c.loop-index.invariant.spells in
-    let to = ap (λ f. place_after (s.first + c.loop-index.index) (flat_node_view s.names.now f))
-    c.in-Element.is in
-    omega (arith, n.later, to, c.loop-index-test.true)
 
 pub loop-index-preserved : goal.loop-index-preserved
 loop-index-preserved c =

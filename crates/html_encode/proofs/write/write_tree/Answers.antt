@@ -3,7 +3,7 @@ use Rattle.std.proofs.lemmas.Result.{err_from_is_err_and}
 use Rattle.html_flat.specs.FlatTrees.{tree_nodes}
 use Rattle.html_flat.specs.FlatViews.{flat_nodes_view}
 use Rattle.html_encode.specs.Opens.{open_view}
-use Rattle.html_encode.specs.Walk.{Stands, EndsLater, outside}
+use Rattle.html_encode.specs.Walk.{Stands, outside}
 use Rattle.html_encode.proofs.Turns.{leaves}
 use Rattle.html_encode.proofs.Visits.{past_later, visits_whole, wrote, refused_as, entered_as, all_visited}
 use Rattle.html_encode.proofs.write.write_tree.Goals as goal
@@ -41,20 +41,17 @@ returns-in_err-write_first-clause-writes g c =
     let names = c.names-names.result.now in
     let nodes = c.nodes-nodes.result.now in
     let place = c.loop-element.place in
-    let kept = sym c.in_default.ensures.kept in
-    let stands = subst (λ os. Stands frames c.args.outer whole c.args.out.now place
-    c.loop-element.due os (flat_nodes_view names (drop place nodes)) c.loop-element.out) kept
-    c.loop-element.invariant in
-    let later = subst (EndsLater place) kept c.in_default.ensures.later in
+    let first = refused_as frames c.args.outer whole c.args.out.now names nodes place
+    c.loop-element.due c.loop-element.opens c.pop_at.new.self c.in_default.ensures.kept
+    c.loop-element.out c.node_at-node.result c.node_at-node.ensures c.loop-element.invariant
+    c.in_default.ensures.later c.pre_span.result c.in_ok-margin.margin c.in_err-write_first.field-0.0
+    c.pre_span.ensures c.in_ok-margin.ensures c.in_err-write_first.ensures.writes.fault in
     let failed = err_from_is_err_and c.from_residual-in_err-write_first.result
     c.from_residual-in_err-write_first.ensures.1 in
     record {
       appended = rw failed.1 tt;
       clean = rw failed.1 tt;
-      fault = rw (failed.1, failed.2) (refused_as frames c.args.outer whole c.args.out.now names
-          nodes place c.loop-element.due c.pop_at.new.self c.loop-element.out c.node_at-node.result
-          c.node_at-node.ensures stands later c.pre_span.result c.in_ok-margin.margin _
-          c.pre_span.ensures c.in_ok-margin.ensures c.in_err-write_first.ensures.writes.fault);
+      fault = rw (failed.1, failed.2) first;
     }
 
 pub loop-element-preserved-in-Some-entered : goal.loop-element-preserved-in-Some-entered
@@ -64,13 +61,9 @@ loop-element-preserved-in-Some-entered g c =
     let names = c.names-names.result.now in
     let nodes = c.nodes-nodes.result.now in
     let place = c.loop-element.place in
-    let kept = sym c.in_default.ensures.kept in
-    let stands = subst (λ os. Stands frames c.args.outer whole c.args.out.now place
-    c.loop-element.due os (flat_nodes_view names (drop place nodes)) c.loop-element.out) kept
-    c.loop-element.invariant in
-    let later = subst (EndsLater place) kept c.in_default.ensures.later in
     let w = wrote frames c.args.outer whole c.args.out.now names nodes place c.loop-element.due
-    c.pop_at.new.self c.loop-element.out c.node_at-node.result c.node_at-node.ensures stands later
+    c.loop-element.opens c.pop_at.new.self c.in_default.ensures.kept c.loop-element.out
+    c.node_at-node.result c.node_at-node.ensures c.loop-element.invariant c.in_default.ensures.later
     c.has_indent.result c.pre_span.result c.in_ok-margin.margin c.push_indent_if.new.out
     c.write_first.new.out c.has_indent.ensures c.pre_span.ensures c.in_ok-margin.ensures
     c.in_ok-push_indent_if.ensures c.in_ok-write_first.ensures.writes.appended
@@ -78,7 +71,8 @@ loop-element-preserved-in-Some-entered g c =
     subst (λ os. Stands frames c.args.outer whole c.args.out.now (place + 1) true os
     (flat_nodes_view names (drop (place + 1) nodes)) c.write_first.new.out) (sym c.in_ok-push.ensures)
     (entered_as frames c.args.outer whole c.args.out.now names nodes place c.loop-element.due
-    c.pop_at.new.self c.loop-element.out c.node_at-node.result c.node_at-node.ensures stands later
+    c.loop-element.opens c.pop_at.new.self c.in_default.ensures.kept c.loop-element.out
+    c.node_at-node.result c.node_at-node.ensures c.loop-element.invariant c.in_default.ensures.later
     c.in-Some-entered.element c.in_ok-margin.margin c.write_first.new.out c.in_ok-margin.ensures
     c.in-Some-entered.ensures w)
 
@@ -89,14 +83,10 @@ loop-element-smaller g c =
     let names = c.names-names.result.now in
     let nodes = c.nodes-nodes.result.now in
     let place = c.loop-element.place in
-    let kept = sym c.in_default.ensures.kept in
-    let stands = subst (λ os. Stands frames c.args.outer whole c.args.out.now place
-    c.loop-element.due os (flat_nodes_view names (drop place nodes)) c.loop-element.out) kept
-    c.loop-element.invariant in
-    let later = subst (EndsLater place) kept c.in_default.ensures.later in
     let past = past_later frames c.args.outer whole c.args.out.now names nodes place
-    c.loop-element.due c.pop_at.new.self c.loop-element.out c.node_at-node.result
-    c.node_at-node.ensures stands later in
+    c.loop-element.due
+    c.loop-element.opens c.pop_at.new.self c.in_default.ensures.kept c.loop-element.out
+    c.node_at-node.result c.node_at-node.ensures c.loop-element.invariant c.in_default.ensures.later in
     omega (arith, past, c.if-place-nodes.true, ap length c.in_default.ensures.kept)
 
 pub loop-element-preserved : goal.loop-element-preserved
@@ -106,13 +96,9 @@ loop-element-preserved g c =
     let names = c.names-names.result.now in
     let nodes = c.nodes-nodes.result.now in
     let place = c.loop-element.place in
-    let kept = sym c.in_default.ensures.kept in
-    let stands = subst (λ os. Stands frames c.args.outer whole c.args.out.now place
-    c.loop-element.due os (flat_nodes_view names (drop place nodes)) c.loop-element.out) kept
-    c.loop-element.invariant in
-    let later = subst (EndsLater place) kept c.in_default.ensures.later in
     let w = wrote frames c.args.outer whole c.args.out.now names nodes place c.loop-element.due
-    c.pop_at.new.self c.loop-element.out c.node_at-node.result c.node_at-node.ensures stands later
+    c.loop-element.opens c.pop_at.new.self c.in_default.ensures.kept c.loop-element.out
+    c.node_at-node.result c.node_at-node.ensures c.loop-element.invariant c.in_default.ensures.later
     c.has_indent.result c.pre_span.result c.in_ok-margin.margin c.push_indent_if.new.out
     c.write_first.new.out c.has_indent.ensures c.pre_span.ensures c.in_ok-margin.ensures
     c.in_ok-push_indent_if.ensures c.in_ok-write_first.ensures.writes.appended
@@ -121,7 +107,8 @@ loop-element-preserved g c =
     c.pop_at.new.self (flat_nodes_view names (drop c.node_at-node.result.past nodes)) c.write_first.new.out)
     (sym c.due_after-due.ensures)
     (visits_whole frames c.args.outer whole c.args.out.now names nodes place c.loop-element.due
-    c.pop_at.new.self c.loop-element.out c.node_at-node.result c.node_at-node.ensures stands later
+    c.loop-element.opens c.pop_at.new.self c.in_default.ensures.kept c.loop-element.out
+    c.node_at-node.result c.node_at-node.ensures c.loop-element.invariant c.in_default.ensures.later
     c.write_first.new.out c.in_default-entered.ensures w.told w.clean w.named)
 
 pub returns-else-place-nodes-clause-writes : goal.returns-else-place-nodes-clause-writes
