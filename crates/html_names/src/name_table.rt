@@ -34,6 +34,7 @@ use number_map::NumberMap;
 /// assert_eq!(rt; names.tag(&own)?, 1);
 /// assert_eq!(rt; names.tag(&tag::br)?, 0);
 /// assert_eq!(rt; names.attr(&attr::class)?, 0);
+/// assert!(rt; names.tags() == 2);
 /// assert!(rt; names.is_void(0));
 /// assert_eq!(rt; names.tag_at(1).resolve(), "my-el");
 /// ```

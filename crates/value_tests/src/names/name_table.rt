@@ -36,6 +36,7 @@ fn numbered_tags(rt: HostRuntime) -> Result<(), Fail> {
     for (text, number) in &TAGS {
         let tag = tag_of(alloc, text)?;
         assert_eq!(rt; names.tag(&tag)?, *number, "{text}");
+        assert!(rt; *number < names.tags(), "{text}");
         assert_eq!(rt; names.tag_at(*number).resolve(), *text);
     }
     assert_eq!(rt; names.tags(), 6);
@@ -51,6 +52,7 @@ fn numbered_attributes(rt: HostRuntime) -> Result<(), Fail> {
     for (text, number) in &ATTRS {
         let attr = HtmlAttr::intern(alloc, text)?;
         assert_eq!(rt; names.attr(&attr)?, *number, "{text}");
+        assert!(rt; *number < names.attrs(), "{text}");
         assert_eq!(rt; names.attr_at(*number).resolve(), *text);
     }
     assert_eq!(rt; names.tags(), 1);
@@ -74,6 +76,7 @@ fn kinds_by_number(rt: HostRuntime) -> Result<(), Fail> {
     let mut names = NameTable::new(alloc);
     for (text, kinds, display) in &KINDS {
         let number = names.tag(&tag_of(alloc, text)?)?;
+        assert!(rt; number < names.tags(), "{text}");
         assert_eq!(rt; names.is_void(number), kinds[0], "{text}");
         assert_eq!(rt; names.is_raw(number), kinds[1], "{text}");
         assert_eq!(rt; names.is_escapable_raw(number), kinds[2], "{text}");
@@ -93,6 +96,7 @@ fn example_of_name_table(rt: HostRuntime) -> Result<(), Fail> {
     assert_eq!(rt; names.tag(&own)?, 1);
     assert_eq!(rt; names.tag(&tag::br)?, 0);
     assert_eq!(rt; names.attr(&attr::class)?, 0);
+    assert!(rt; names.tags() == 2);
     assert!(rt; names.is_void(0));
     assert_eq!(rt; names.tag_at(1).resolve(), "my-el");
     Ok(())
