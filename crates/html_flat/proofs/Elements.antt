@@ -39,11 +39,7 @@ given_take names (n ∷ ns) (suc i) given =
     let parts = both (is_node_given names n) _ given in
     both_hold (is_node_given names n) _ parts.0 (given_take names ns i parts.1)
 
--- a given element's tag has a name, and so have its attributes
-pub given_tag : (names : NamesView) (e : FlatElement) → is_given names e ≡ true →
-    e.tag < length names.tags
-given_tag names e given = ltb-true _ _ (both _ (list_all (is_pair_given names) e.attrs.items) given).0
-
+-- the numbers of a given element's attributes are given
 pub given_pairs : (names : NamesView) (e : FlatElement) → is_given names e ≡ true →
     list_all (is_pair_given names) e.attrs.items ≡ true
 given_pairs names e given = (both _ (list_all (is_pair_given names) e.attrs.items) given).1
