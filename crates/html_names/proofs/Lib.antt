@@ -1,11 +1,13 @@
+pub mod Ascending
 pub mod ByTable
 pub mod Digits
 pub mod Equals
 pub mod Faults
 pub mod Held
+pub mod Known
 pub mod Lists
 pub mod NameTables
 pub mod NumberMaps
 pub mod Same
-pub mod Search
+pub mod Starts
 pub mod Texts

@@ -4,7 +4,7 @@ use Rattle.std.proofs.lemmas.Slice.Eq.{bytes_eq-Decides}
 use Rattle.html_names.specs.Names.{stands_in}
 use Rattle.html_names.specs.NameTables.{NamesView, Numbers, number_in, with_name, name_at, with_tag, with_attr}
 use Rattle.html_names.specs.NumberMaps.{number_where}
-use Rattle.html_names.proofs.Search.{or_true}
+use Rattle.html_names.proofs.Ascending.{or_true}
 
 same : (name : List ℕ) → bytes_eq name name ≡ true
 same name = (bytes_eq-Decides name name).1 refl

@@ -13,7 +13,7 @@ use Rattle.html_names.specs.Names.{stands_in}
 use Rattle.html_names.specs.Held.{name_of, IsHeld, same_held}
 use Rattle.html_names.specs.NameTables.{number_in, name_at, IsNumbered}
 use Rattle.html_names.specs.NumberMaps.{number_of, HoldsNone, number_where, IsNumbering}
-use Rattle.html_names.proofs.Search.{stands}
+use Rattle.html_names.proofs.Ascending.{stands}
 use Rattle.html_names.proofs.NameTables.{number_next, name_at-append, name_at-last, number_in-append, number_in-last, stands_in-last}
 
 -- where no name has a number, an empty list is numbered

@@ -11,7 +11,7 @@ use Rattle.html_names.specs.Tables.{known_tags, known_attrs, tag_count, attr_cou
 use Rattle.html_names.specs.declared.name.Name.{Name}
 use Rattle.html_names.specs.declared.name.Name.TheVariants.{Known, Own}
 use Rattle.html_names.proofs.Lists.{bytes_eq-chars}
-use Rattle.html_names.proofs.Search.{places_differ, stands}
+use Rattle.html_names.proofs.Ascending.{places_differ, stands}
 
 flip : (a b : List ℕ) → bytes_eq a b ≡ false → bytes_eq b a ≡ false
 flip a b h =

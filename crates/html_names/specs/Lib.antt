@@ -9,5 +9,6 @@ pub mod Kinds
 pub mod NameTables
 pub mod Names
 pub mod NumberMaps
+pub mod Starts
 pub mod Tables
 pub mod Texts

@@ -1,4 +1,4 @@
-ghost use Rattle.std.specs.Prelude.{◌≡◌, bytes_eq, chars, IfOk, OnErr, IfSome, IsTrue, is_some, false, not};
+ghost use Rattle.std.specs.Prelude.{◌≡◌, bytes_eq, chars, IfOk, OnErr, IfSome, IsTrue, is_some, false, not, None};
 ghost use Rattle.std.specs.List.{find, list_any};
 ghost use Rattle.html_names.specs.Names.{Interns, attr_fault, is_ascii};
 ghost use Rattle.std.specs.Cmp as cmp;
@@ -9,8 +9,8 @@ ghost use Rattle.html_names.specs.Characters.{IsOf, is_attr_char};
 
 use crate::charsets::is_valid_in_attribute_name;
 use crate::fault::NameFault;
-use crate::name::Name;
-use crate::table::ATTRS;
+use crate::name::{Name, place_in};
+use crate::table::{ATTR_STARTS, ATTRS};
 use std::alloc::{AllocError, Global};
 use std::fmt;
 use std::hash::{Hash, Hasher};
@@ -60,6 +60,19 @@ fn fault_of(text: &str) -> Option<NameFault>
 }
 
 impl HtmlAttr {
+    /// The known name of that text.
+    fn known(text: &str) -> Option<HtmlAttr>
+        ensures name { IfSome result (λ attr. attr ≡ chars text.now) }
+        ensures faultless { IfSome result (λ _. attr_fault (chars text.now) ≡ None) }
+    {
+        match place_in(&ATTRS, &ATTR_STARTS, text) {
+            Some(place) => Some(HtmlAttr {
+                name: Name::Known(place),
+            }),
+            None => None,
+        }
+    }
+
     /// The name of this text, or the first that is wrong with it: it is empty, or a character is
     /// not valid in an attribute name (HTML Standard 13.1.2.3).
     ///
@@ -69,6 +82,9 @@ impl HtmlAttr {
         ensures { let name = chars text.now in
             Interns (attr_fault name) (is_known_attr name) name result }
     {
+        if let Some(attr) = HtmlAttr::known(text) {
+            return Ok(attr);
+        }
         if let Some(fault) = fault_of(text) {
             return Err(fault);
         }
@@ -96,7 +112,7 @@ impl HtmlAttr {
         ensures memory { OnErr result (is_known_attr (chars text.now) ≡ false) }
     {
         Ok(HtmlAttr {
-            name: Name::make(alloc, &ATTRS, text)?,
+            name: Name::make(alloc, &ATTRS, &ATTR_STARTS, text)?,
         })
     }
 

@@ -1,4 +1,4 @@
-ghost use Rattle.std.specs.Prelude.{◌≡◌, ◌<◌, bytes_eq, chars, IfOk, IfErr, OnErr, IfSome, is_some, false, not, slice_index};
+ghost use Rattle.std.specs.Prelude.{◌≡◌, ◌<◌, bytes_eq, chars, IfOk, IfErr, OnErr, IfSome, is_some, false, not, slice_index, None};
 ghost use Rattle.std.specs.List.{find, list_any};
 ghost use Rattle.html_names.specs.Names.{Interns, tag_fault, custom_fault, is_reserved};
 ghost use Rattle.std.specs.Cmp as cmp;
@@ -9,8 +9,8 @@ ghost use Rattle.html_names.specs.Characters.{IsOf, is_tag_char, is_hyphen, is_l
 
 use crate::charsets::is_valid_in_tag_name;
 use crate::fault::NameFault;
-use crate::name::{Name, is_one_of};
-use crate::table::TAGS;
+use crate::name::{Name, is_one_of, place_in};
+use crate::table::{RESERVED_TAG, TAG_STARTS, TAGS};
 use std::alloc::{AllocError, Global};
 use std::fmt;
 use std::hash::{Hash, Hasher};
@@ -123,6 +123,19 @@ fn fault_of(text: &str) -> Option<NameFault>
 }
 
 impl HtmlTag {
+    /// The known name of that text, unless something is wrong with the text.
+    fn known(text: &str) -> Option<HtmlTag>
+        ensures name { IfSome result (λ tag. tag ≡ chars text.now) }
+        ensures faultless { IfSome result (λ _. tag_fault (chars text.now) ≡ None) }
+    {
+        match place_in(&TAGS, &TAG_STARTS, text) {
+            Some(place) if place != RESERVED_TAG => Some(HtmlTag {
+                name: Name::Known(place),
+            }),
+            _ => None,
+        }
+    }
+
     /// The name of this text, or the first that is wrong with it: it is empty, a character is not
     /// valid in a tag name (HTML Standard 13.1.2), or a name with a hyphen does not begin with a
     /// small ASCII letter, has an ASCII capital or is reserved (HTML Standard 4.13.2).
@@ -133,6 +146,9 @@ impl HtmlTag {
         ensures { let name = chars text.now in
             Interns (tag_fault name) (is_known_tag name) name result }
     {
+        if let Some(tag) = HtmlTag::known(text) {
+            return Ok(tag);
+        }
         if let Some(fault) = fault_of(text) {
             return Err(fault);
         }
@@ -160,7 +176,7 @@ impl HtmlTag {
         ensures memory { OnErr result (is_known_tag (chars text.now) ≡ false) }
     {
         Ok(HtmlTag {
-            name: Name::make(alloc, &TAGS, text)?,
+            name: Name::make(alloc, &TAGS, &TAG_STARTS, text)?,
         })
     }
 

@@ -1,5 +1,6 @@
-ghost use Rattle.std.specs.Prelude.{◌≡◌, ◌≤◌, OnErr, IfOk, length, chars, IsTrue, IfSome, is_some, false};
-ghost use Rattle.html_names.specs.Names.{texts, are_ascii, rises, IsPlace, stands_in};
+ghost use Rattle.std.specs.Prelude.{◌≡◌, OnErr, IfOk, length, chars, IsTrue, IfSome, is_some, false};
+ghost use Rattle.html_names.specs.Names.{texts, are_ascii, IsPlace, stands_in};
+ghost use Rattle.html_names.specs.Starts.{are_starts};
 ghost use Rattle.html_names.specs.Tables.{tag_count};
 
 use crate::property::Display;
@@ -38,15 +39,15 @@ impl Name {
     pub(crate) fn make(
         alloc: Global,
         table: &[&'static str],
+        starts: &[u8; 27],
         text: &str,
     ) -> Result<Name, AllocError>
         requires ascii { IsTrue (are_ascii (texts table.now)) }
-        requires ascending { IsTrue (rises (texts table.now)) }
-        requires short { length table.now ≤ 256 }
+        requires starts { IsTrue (are_starts starts.now (texts table.now)) }
         ensures name { IfOk result (IsNameOf (texts table.now) (chars text.now)) }
         ensures memory { OnErr result (stands_in (texts table.now) (chars text.now) ≡ false) }
     {
-        if let Some(place) = place_in(table, text) {
+        if let Some(place) = place_in(table, starts, text) {
             return Ok(Name::Known(place));
         }
         Ok(Name::Own(String::from_str(alloc, text)?))
@@ -98,18 +99,25 @@ impl Name {
     }
 }
 
-/// The place of the text in an ascending table, in characters.
-fn place_in(table: &[&'static str], text: &str) -> Option<u8>
+/// The place of the text in a table, in characters. It is looked for among the names that begin
+/// with its first letter.
+pub(crate) fn place_in(table: &[&'static str], starts: &[u8; 27], text: &str) -> Option<u8>
     requires ascii { IsTrue (are_ascii (texts table.now)) }
-    requires ascending { IsTrue (rises (texts table.now)) }
-    requires short { length table.now ≤ 256 }
+    requires starts { IsTrue (are_starts starts.now (texts table.now)) }
     ensures found { IfSome result (IsPlace (texts table.now) (chars text.now)) }
     ensures test { is_some result ≡ stands_in (texts table.now) (chars text.now) }
 {
-    match table.binary_search(&text) {
-        Ok(place) => Some(place as u8),
-        Err(_) => None,
+    let first = *text.as_bytes().first()?;
+    if !first.is_ascii_lowercase() {
+        return None;
     }
+    let letter = usize::from(first - b'a');
+    for place in starts[letter]..starts[letter + 1] {
+        if table[usize::from(place)] == text {
+            return Some(place);
+        }
+    }
+    None
 }
 
 /// Whether the text is one of the list.

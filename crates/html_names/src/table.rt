@@ -149,6 +149,15 @@ pub(crate) const TAGS: [&str; 142] = [
     "wbr",
 ];
 
+/// The places of `TAGS` at which the names with each first letter begin, and the end.
+pub(crate) const TAG_STARTS: [u8; 27] = [
+    0, 9, 17, 23, 33, 35, 40, 40, 51, 56, 56, 57, 61, 94, 96, 101, 105, 106, 109, 125, 137, 139,
+    141, 142, 142, 142, 142,
+];
+
+/// The place of `annotation-xml`, the only known tag that is a reserved name.
+pub(crate) const RESERVED_TAG: u8 = 4;
+
 /// The known attributes.
 pub(crate) const ATTRS: [&str; 206] = [
     "abbr",
@@ -357,6 +366,12 @@ pub(crate) const ATTRS: [&str; 206] = [
     "width",
     "wrap",
     "writingsuggestions",
+];
+
+/// The places of `ATTRS` at which the names with each first letter begin, and the end.
+pub(crate) const ATTR_STARTS: [u8; 27] = [
+    0, 64, 65, 82, 94, 96, 105, 105, 112, 125, 125, 126, 135, 147, 151, 153, 162, 162, 171, 196,
+    201, 202, 203, 206, 206, 206, 206,
 ];
 
 pub(crate) const VOID: u32 = 1;

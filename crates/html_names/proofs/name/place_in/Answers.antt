@@ -1,31 +1,65 @@
-use Rattle.std.proofs.Common.{◌<◌, sym, length}
+use Rattle.std.proofs.Common.{◌+◌, ◌≡◌, ◌<◌, ◌≤◌, ◌∙◌, ap, sym, length, arith, bytes_eq, get_or, false, []}
 use Rattle.std.proofs.lemmas.List.{length-map}
 use Rattle.html_names.specs.Names.{texts}
-use Rattle.html_names.proofs.Search.{found, not_found, stands_there}
+use Rattle.html_names.proofs.Ascending.{stands_there}
+use Rattle.html_names.proofs.Starts.{within, empty, other, not_among, found, not_here, more}
 use Rattle.html_names.proofs.name.place_in.Goals as goal
 
-pub returns-in-Ok-clause-found : goal.returns-in-Ok-clause-found
-returns-in-Ok-clause-found c =
-    let table = c.args.table.now in
-    let in_range : c.in-Ok.place < length (texts table) =
-    rw (length-map table (λ y. y.now)) c.in-Ok.ensures.bound in (
-      in_range,
-      found (λ y. y.now) c.args.text.now table c.in-Ok.place c.args.text c.requires.ascii
-          c.in-Ok.ensures.ok c.in-Ok.ensures.bound,
-    )
-
-pub returns-in-Ok-clause-test : goal.returns-in-Ok-clause-test
-returns-in-Ok-clause-test c =
-    let table = c.args.table.now in
-    let in_range : c.in-Ok.place < length (texts table) =
-    rw (length-map table (λ y. y.now)) c.in-Ok.ensures.bound in
-    let text = found (λ y. y.now) c.args.text.now table c.in-Ok.place c.args.text
-    c.requires.ascii c.in-Ok.ensures.ok c.in-Ok.ensures.bound in
-    sym (stands_there (texts table) c.in-Ok.place _ in_range text)
-
-pub returns-in-Err-clause-test : goal.returns-in-Err-clause-test
-returns-in-Err-clause-test c =
+pub returns-in_err-first-clause-test : goal.returns-in_err-first-clause-test
+returns-in_err-first-clause-test c =
     let text = c.args.text.now in
-    let table = c.args.table.now in
-    sym (not_found (λ y. y.now) text table c.in-Err.field-0 c.requires.ascii
-    c.requires.ascending c.utf8.text c.in-Err.ensures.position)
+    let short : length text ≤ 0 =
+    rw (sym c.as_bytes.ensures.value) c.in_err-first.ensures.item.3 in
+    rw c.from_residual.ensures
+    (sym (empty c.args.starts.now _ text c.requires.starts c.requires.ascii c.utf8.text short))
+
+pub returns-then-not-is_ascii_lowercase-clause-test :
+    goal.returns-then-not-is_ascii_lowercase-clause-test
+returns-then-not-is_ascii_lowercase-clause-test c =
+    let text = c.args.text.now in
+    let first = c.in_ok-first.field-0.now in
+    let is : first ≡ get_or text 0 0 =
+    rw (sym c.as_bytes.ensures.value) (c.in_ok-first.ensures.item.3.1 0) in
+    sym (other c.args.starts.now _ text first c.requires.starts c.requires.ascii c.utf8.text is
+    (sym c.if-not-is_ascii_lowercase.ensures.value))
+
+pub loop-place-init : goal.loop-place-init
+loop-place-init c = (
+  rw (sym (length-map c.args.table.now (λ b. b.now)))
+      (within c.args.starts.now (texts c.args.table.now) (c.from-letter.result + 1) c.requires.starts),
+  λ k s l. absurd (omega (arith, s, l)),
+)
+
+pub returns-then-eq-clause-found : goal.returns-then-eq-clause-found
+returns-then-eq-clause-found c =
+    found c.args.table.now c.args.text.now c.loop-place.place c.from.result _
+    (omega (arith, c.loop-place.invariant.0, c.loop-place-test.true)) c.from.ensures
+    c.requires.ascii (c.if-eq.ensures)
+
+pub returns-then-eq-clause-test : goal.returns-then-eq-clause-test
+returns-then-eq-clause-test c =
+    let place = found c.args.table.now c.args.text.now c.loop-place.place c.from.result _
+    (omega (arith, c.loop-place.invariant.0, c.loop-place-test.true)) c.from.ensures
+    c.requires.ascii (c.if-eq.ensures) in
+    sym (stands_there (texts c.args.table.now) c.loop-place.place _ place.0 place.1)
+
+pub loop-place-preserved : goal.loop-place-preserved
+loop-place-preserved c = (
+  c.loop-place.invariant.0,
+  more (λ k. bytes_eq (get_or (texts c.args.table.now) k []) c.args.text.now ≡ false) _
+      c.loop-place.place c.loop-place.invariant.1
+      (not_here c.args.table.now c.args.text.now c.loop-place.place c.from.result _
+      (omega (arith, c.loop-place.invariant.0, c.loop-place-test.true)) c.from.ensures c.if-eq.ensures),
+)
+
+pub returns-clause-test : goal.returns-clause-test
+returns-clause-test c =
+    let text = c.args.text.now in
+    let first = c.in_ok-first.field-0.now in
+    let is : first ≡ get_or text 0 0 =
+    rw (sym c.as_bytes.ensures.value) (c.in_ok-first.ensures.item.3.1 0) in
+    let long : 0 < length text =
+    rw (sym c.as_bytes.ensures.value) c.in_ok-first.ensures.item.3.0 in
+    sym (not_among c.args.starts.now (texts c.args.table.now) text first c.from-letter.result
+    c.requires.starts c.requires.ascii c.utf8.text long is c.from-letter.ensures
+    (λ k s l. c.loop-place.invariant.1 k s (omega (arith, l, c.loop-place-test.false))))

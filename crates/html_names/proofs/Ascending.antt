@@ -1,0 +1,63 @@
+-- What stands in a table of texts, and that an ascending one holds no text twice.
+use Rattle.std.proofs.Common.{◌≡◌, ℕ, zero, suc, ◌<◌, Bool, true, false, List, [], ◌∷◌, refl, sym, ap, ◌∙◌, length, get_or, arith, bytes_eq, ◌||◌}
+use Rattle.std.specs.Ordering.{nat_cmp, is_lt, is_eq}
+use Rattle.std.specs.declared.cmp.Ordering.{Ordering}
+use Rattle.std.specs.declared.cmp.Ordering.TheVariants.{Less, Equal, Greater}
+use Rattle.std.specs.Cmp.Lexicographic.{slice_cmp}
+use Rattle.std.proofs.lemmas.Cmp.{nat_list_cmp_total}
+use Rattle.std.proofs.lemmas.Map.Text.{is_eq-slice_cmp}
+use Rattle.std.proofs.lemmas.Bool.{and_parts}
+use Rattle.std.proofs.lemmas.Slice.Eq.{bytes_eq-Decides}
+use Rattle.html_names.specs.Names.{stands_in, rises, is_below_first, is_ascii, are_ascii}
+
+pub or_true : (b : Bool) → (b || true) ≡ true
+or_true true = refl
+or_true false = refl
+
+pub stands : (names : List (List ℕ)) (n : ℕ) → n < length names →
+    stands_in names (get_or names n []) ≡ true
+unfolding stands_in
+stands [] n h = absurd (omega arith)
+stands (m ∷ ms) zero h = rw ((bytes_eq-Decides m m).1 refl) refl
+stands (m ∷ ms) (suc n) h = rw (stands ms n (omega arith)) (or_true (bytes_eq m (get_or ms n [])))
+
+pub stands_there : (names : List (List ℕ)) (n : ℕ) (t : List ℕ) → n < length names →
+    get_or names n [] ≡ t → stands_in names t ≡ true
+stands_there names n t h e = rw (sym e) (stands names n h)
+
+pub ascii_at : (names : List (List ℕ)) (n : ℕ) → n < length names → are_ascii names ≡ true →
+    is_ascii (get_or names n []) ≡ true
+ascii_at [] n h a = absurd (omega arith)
+ascii_at (m ∷ ms) zero h a = (and_parts (is_ascii m) (are_ascii ms) a).0
+ascii_at (m ∷ ms) (suc n) h a =
+    ascii_at ms n (omega arith) (and_parts (is_ascii m) (are_ascii ms) a).1
+
+abbrev cmp : List ℕ → List ℕ → Ordering
+cmp = slice_cmp nat_cmp
+
+less : (o : Ordering) → is_lt o ≡ true → o ≡ Less
+less Less h = refl
+less Equal h = cc
+less Greater h = cc
+
+-- an ascending table holds no text twice
+ascends : (names : List (List ℕ)) → rises names ≡ true → (i j : ℕ) → i < j → j < length names →
+    cmp (get_or names i []) (get_or names j []) ≡ Less
+ascends [] a i j h l = absurd (omega arith)
+ascends (y ∷ ys) a i zero h l = absurd (omega arith)
+ascends (y ∷ []) a zero (suc j) h l = absurd (omega arith)
+ascends (y ∷ z ∷ zs) a zero (suc zero) h l = less (cmp y z) (and_parts _ (rises (z ∷ zs)) a).0
+ascends (y ∷ z ∷ zs) a zero (suc (suc j)) h l =
+    let both = and_parts (is_lt (cmp y z)) (rises (z ∷ zs)) a in
+    nat_list_cmp_total.trans y z _ (less (cmp y z) both.0)
+    (ascends (z ∷ zs) both.1 zero (suc j) (omega arith) (omega arith))
+ascends (y ∷ ys) a (suc i) (suc j) h l =
+    ascends ys (and_parts (is_below_first y ys) _ a).1 i j (omega arith) (omega arith)
+
+apart : (a b : List ℕ) → cmp a b ≡ Less → bytes_eq a b ≡ false
+apart a b e = sym (is_eq-slice_cmp a b) ∙ ap is_eq e
+
+pub places_differ : (names : List (List ℕ)) → rises names ≡ true → (i j : ℕ) → i < j →
+    j < length names → bytes_eq (get_or names i []) (get_or names j []) ≡ false
+places_differ names a i j h l =
+    apart (get_or names i []) (get_or names j []) (ascends names a i j h l)

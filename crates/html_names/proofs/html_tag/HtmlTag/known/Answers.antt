@@ -1,0 +1,12 @@
+use Rattle.std.proofs.Common.{chars}
+use Rattle.html_names.proofs.Known.{tag_text, tag_faultless}
+use Rattle.html_names.proofs.html_tag.HtmlTag.known.Goals as goal
+
+pub returns-in-Some-clause-name : goal.returns-in-Some-clause-name
+returns-in-Some-clause-name c =
+    tag_text (chars c.args.text.now) c.in-Some.place c.in-Some.ensures.found
+
+pub returns-in-Some-clause-faultless : goal.returns-in-Some-clause-faultless
+returns-in-Some-clause-faultless c =
+    tag_faultless (chars c.args.text.now) c.in-Some.place c.in-Some.ensures.found
+    c.if-place-ne-RESERVED_TAG.true
