@@ -8,7 +8,7 @@ use Rattle.std.specs.declared.alloc.AllocError.{AllocError}
 use Rattle.std.specs.declared.alloc.Global.{Global}
 use Rattle.html_names.specs.Texts.{text_view, TextPair}
 use Rattle.html_names.specs.NameTables.{NamesView, Numbers, name_at, with_name, with_tag, with_attr}
-use Rattle.html_names.proofs.NameTables.{with_name-long, name_at-with_name, number_below-told, name_at-told}
+use Rattle.html_names.proofs.NameTables.{with_name-long, name_at-with_name, name_at-told}
 use Rattle.html_flat.specs.FlatViews.{FlatPair, flat_pair, flat_head, flat_node_view, flat_nodes_view, is_pair_given, is_given, is_node_given, are_given}
 use Rattle.html_flat.specs.Numbering.{AreKept, Grows, ArePairsOf}
 use Rattle.html_flat.specs.declared.flat_node.FlatElement.{FlatElement}
@@ -41,14 +41,14 @@ grows_on old mid new first second =
     }
 
 pub grows_tag : (result : Result ℕ AllocError) (old new : NamesView) (tag : List ℕ) →
-    Numbers result old.tags tag old new (with_tag old tag) → Grows old new
+    Numbers result old.tags new.tags tag old new (with_tag old tag) → Grows old new
 grows_tag (Ok number) old new tag asked =
     subst (Grows old) (sym asked.names)
     (record { tags = kept_told old.tags tag; attrs = kept_all old.attrs })
 grows_tag (Err fault) old new tag asked = subst (Grows old) (sym asked.kept) (grows_all old)
 
 pub grows_attr : (result : Result ℕ AllocError) (old new : NamesView) (attr : List ℕ) →
-    Numbers result old.attrs attr old new (with_attr old attr) → Grows old new
+    Numbers result old.attrs new.attrs attr old new (with_attr old attr) → Grows old new
 grows_attr (Ok number) old new attr asked =
     subst (Grows old) (sym asked.names)
     (record { tags = kept_all old.tags; attrs = kept_told old.attrs attr })
@@ -56,13 +56,11 @@ grows_attr (Err fault) old new attr asked = subst (Grows old) (sym asked.kept) (
 
 -- the number of a tag, in a table that has given more since
 pub tag_kept : (old mid new : NamesView) (tag : List ℕ) (number : ℕ) →
-    Numbers (Ok number) old.tags tag old mid (with_tag old tag) → Grows mid new →
+    Numbers (Ok number) old.tags mid.tags tag old mid (with_tag old tag) → Grows mid new →
     (number < length new.tags) × (name_at new.tags number ≡ tag)
 tag_kept old mid new tag number asked grows =
     let table : mid.tags ≡ with_name old.tags tag = ap (λ n. n.tags) asked.names in
-    let below : number < length mid.tags
-    = rw (table, asked.number) (number_below-told old.tags tag) in
-    let kept = grows.tags number below in
+    let kept = grows.tags number asked.below in
     (kept.0, kept.1 ∙ rw (table, asked.number) (name_at-told old.tags tag))
 
 pub pairs_stay : (old new : NamesView) (pairs : List FlatPair) (attrs : List TextPair) →
@@ -83,7 +81,7 @@ pub pairs_more :
     (old new : NamesView) (pairs : List FlatPair) (attrs : List TextPair) (attr : List ℕ)
     (number : ℕ) (value : String Global) →
     ArePairsOf old pairs attrs →
-    Numbers (Ok number) old.attrs attr old new (with_attr old attr) →
+    Numbers (Ok number) old.attrs new.attrs attr old new (with_attr old attr) →
     ArePairsOf new (pairs ++ (number, value) ∷ []) (attrs ++ (attr, text_view value) ∷ [])
 pairs_more old new pairs attrs attr number value made asked =
     let kept = pairs_stay old new pairs attrs (grows_attr (Ok number) old new attr asked) made in
@@ -93,7 +91,7 @@ pairs_more old new pairs attrs attr number value made asked =
       given = list_all-append (is_pair_given new) pairs ((number, value) ∷ [])
           ∙ both_hold (list_all (is_pair_given new) pairs) _ kept.given
           (both_hold (is_pair_given new (number, value)) true
-          (lt-ltb _ _ (rw (table, asked.number) (number_below-told old.attrs attr))) refl);
+          (lt-ltb _ _ asked.below) refl);
     }
 
 head_stays : (old new : NamesView) (e : FlatElement) → Grows old new → is_given old e ≡ true →

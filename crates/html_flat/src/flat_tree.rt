@@ -10,6 +10,7 @@ use crate::spelling::spelled_nodes;
 use html_dom::{HtmlElement, HtmlNode};
 use html_names::NameTable;
 use std::alloc::{AllocError, Global};
+use std::fmt;
 
 /// A tree as one list: its nodes, at all depths, in the order in which they are written. An element
 /// says up to which place the nodes in it stand.
@@ -90,5 +91,16 @@ impl FlatTree {
         ensures { IfOk result (λ nodes. nodes_view nodes.items ≡ tree_nodes self.now) }
     {
         spelled_nodes(*self.nodes.allocator(), &self.names, &self.nodes)
+    }
+}
+
+/// `FlatTree`
+impl fmt::Debug for FlatTree {
+    ghost use Rattle.std.specs.Prelude.{codes, Some};
+
+    ghost debug_output = { λ _. Some (codes "FlatTree") };
+
+    fn fmt<W: fmt::Write>(&self, f: &mut fmt::Formatter<W>) -> fmt::Result {
+        write!(f, "FlatTree")
     }
 }

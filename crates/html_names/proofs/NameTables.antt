@@ -212,36 +212,42 @@ number_later names name other =
 where_told : (names : List (List ℕ)) (name : List ℕ) (number : ℕ) (s : Bool) →
     stands_in names name ≡ s →
     Some number ≡ (if s then Some (number_in names name) else None) →
-    (number ≡ number_in names name) × (with_name names name ≡ names)
-where_told names name number true h e = (
-  ap (λ found. unwrap_or found 0) e,
-  with_name-stands names name h,
-)
+    (number ≡ number_in names name) × (number < length names) × (with_name names name ≡ names)
+where_told names name number true h e =
+    let is : number ≡ number_in names name = ap (λ found. unwrap_or found 0) e in
+    (is, rw is (number_below names name h), with_name-stands names name h)
 where_told names name number false h e = cc
 
 -- a name that is found has its number, and is told
 told_where : (names : List (List ℕ)) (name : List ℕ) (number : ℕ) →
     Some number ≡ number_where names name →
-    (number ≡ number_in names name) × (with_name names name ≡ names)
+    (number ≡ number_in names name) × (number < length names) × (with_name names name ≡ names)
 told_where names name number e = where_told names name number (stands_in names name) refl e
+
+-- a new name gets the last number
+last_below : (names after : List (List ℕ)) (name : List ℕ) (number : ℕ) → number ≡ length names →
+    after ≡ names ++ name ∷ [] → number < length after
+last_below names after name number counted added =
+    rw (added, length-append names (name ∷ [])) (omega arith)
 
 -- in a table: a tag that is found, and one that is not
 pub finds_tag : (old now : NamesView) (text held : List ℕ) (number : ℕ) → now ≡ old →
     held ≡ text → Some number ≡ number_where now.tags held →
-    Numbers (Ok number) old.tags text old old (with_tag old text)
+    Numbers (Ok number) old.tags old.tags text old old (with_tag old text)
 finds_tag old now text held number is named found =
     let there : Some number ≡ number_where old.tags text = rw (sym is, sym named) found in
     let told = told_where old.tags text number there in
-    record { number = told.0; names = rw told.1 refl; absent = tt; kept = tt }
+    record { number = told.0; below = told.1; names = rw told.2 refl; absent = tt; kept = tt }
 
 pub adds_tag : (old now : NamesView) (text copy : List ℕ) (after : List (List ℕ)) (number : ℕ) →
     now ≡ old → copy ≡ text → after ≡ now.tags ++ copy ∷ [] → number ≡ length now.tags →
     stands_in old.tags text ≡ false →
-    Numbers (Ok number) old.tags text old (record { tags = after; attrs = now.attrs })
+    Numbers (Ok number) old.tags after text old (record { tags = after; attrs = now.attrs })
     (with_tag old text)
 adds_tag old now text copy after number is copied added counted new =
     record {
       number = rw (number_next old.tags text new, counted, is) refl;
+      below = last_below now.tags after copy number counted added;
       names = rw (added, copied, with_name-new old.tags text new, is) refl;
       absent = tt;
       kept = tt;
@@ -250,20 +256,21 @@ adds_tag old now text copy after number is copied added counted new =
 -- and so for attributes
 pub finds_attr : (old now : NamesView) (text held : List ℕ) (number : ℕ) → now ≡ old →
     held ≡ text → Some number ≡ number_where now.attrs held →
-    Numbers (Ok number) old.attrs text old old (with_attr old text)
+    Numbers (Ok number) old.attrs old.attrs text old old (with_attr old text)
 finds_attr old now text held number is named found =
     let there : Some number ≡ number_where old.attrs text = rw (sym is, sym named) found in
     let told = told_where old.attrs text number there in
-    record { number = told.0; names = rw told.1 refl; absent = tt; kept = tt }
+    record { number = told.0; below = told.1; names = rw told.2 refl; absent = tt; kept = tt }
 
 pub adds_attr : (old now : NamesView) (text copy : List ℕ) (after : List (List ℕ)) (number : ℕ) →
     now ≡ old → copy ≡ text → after ≡ now.attrs ++ copy ∷ [] → number ≡ length now.attrs →
     stands_in old.attrs text ≡ false →
-    Numbers (Ok number) old.attrs text old (record { tags = now.tags; attrs = after })
+    Numbers (Ok number) old.attrs after text old (record { tags = now.tags; attrs = after })
     (with_attr old text)
 adds_attr old now text copy after number is copied added counted new =
     record {
       number = rw (number_next old.attrs text new, counted, is) refl;
+      below = last_below now.attrs after copy number counted added;
       names = rw (added, copied, with_name-new old.attrs text new, is) refl;
       absent = tt;
       kept = tt;

@@ -41,10 +41,12 @@ abbrev pub with_attr : NamesView → List ℕ → NamesView
 with_attr table attr = record { tags = table.tags; attrs = with_name table.attrs attr }
 
 -- a call that asks for the number of a name among names that have one: where it succeeds, it gives
--- the number and the table becomes the one told, else the name had no number and the table stays
-pub record Numbers (result : Result ℕ AllocError) (given : List (List ℕ)) (name : List ℕ)
+-- the number, which is below the count of the names after the call, and the table becomes the one
+-- told; else the name had no number and the table stays
+pub record Numbers (result : Result ℕ AllocError) (given after : List (List ℕ)) (name : List ℕ)
     (old new told : NamesView) : Type 0 where
   pub number : IfOk result (λ n. n ≡ number_in given name)
+  pub below : IfOk result (λ n. n < length after)
   pub names : OnOk result (new ≡ told)
   pub absent : OnErr result (stands_in given name ≡ false)
   pub kept : OnErr result (new ≡ old)

@@ -8,6 +8,7 @@ use crate::html_attr::HtmlAttr;
 use crate::html_tag::HtmlTag;
 use crate::property::Display;
 use std::alloc::{AllocError, Global};
+use std::fmt;
 use std::marker::Model;
 
 mod kept_tag;
@@ -81,7 +82,7 @@ impl NameTable {
     ///
     /// Cost: an index for a known name, and a search in an ordered map for another.
     pub fn tag(&mut self, tag: &HtmlTag) -> Result<usize, AllocError>
-        ensures { Numbers result self.old.tags tag.now self.old self.new
+        ensures { Numbers result self.old.tags self.new.tags tag.now self.old self.new
             (with_tag self.old tag.now) }
     {
         if let Some(number) = self.tag_numbers.number_of(&tag.name) {
@@ -93,7 +94,7 @@ impl NameTable {
     /// The next number, for a tag that has none.
     fn add_tag(&mut self, tag: &HtmlTag) -> Result<usize, AllocError>
         requires { stands_in self.old.tags tag.now ≡ false }
-        ensures { Numbers result self.old.tags tag.now self.old self.new
+        ensures { Numbers result self.old.tags self.new.tags tag.now self.old self.new
             (with_tag self.old tag.now) }
     {
         let number = self.kept_tags.len();
@@ -112,7 +113,7 @@ impl NameTable {
     ///
     /// Cost: an index for a known name, and a search in an ordered map for another.
     pub fn attr(&mut self, attr: &HtmlAttr) -> Result<usize, AllocError>
-        ensures { Numbers result self.old.attrs attr.now self.old self.new
+        ensures { Numbers result self.old.attrs self.new.attrs attr.now self.old self.new
             (with_attr self.old attr.now) }
     {
         if let Some(number) = self.attr_numbers.number_of(&attr.name) {
@@ -124,7 +125,7 @@ impl NameTable {
     /// The next number, for an attribute that has none.
     fn add_attr(&mut self, attr: &HtmlAttr) -> Result<usize, AllocError>
         requires { stands_in self.old.attrs attr.now ≡ false }
-        ensures { Numbers result self.old.attrs attr.now self.old self.new
+        ensures { Numbers result self.old.attrs self.new.attrs attr.now self.old self.new
             (with_attr self.old attr.now) }
     {
         let number = self.kept_attrs.len();
@@ -208,5 +209,16 @@ impl NameTable {
         ensures { result ≡ default_display (name_at self.now.tags number) }
     {
         self.kept_tags[number].default_display()
+    }
+}
+
+/// `NameTable`
+impl fmt::Debug for NameTable {
+    ghost use Rattle.std.specs.Prelude.{codes, Some};
+
+    ghost debug_output = { λ _. Some (codes "NameTable") };
+
+    fn fmt<W: fmt::Write>(&self, f: &mut fmt::Formatter<W>) -> fmt::Result {
+        write!(f, "NameTable")
     }
 }

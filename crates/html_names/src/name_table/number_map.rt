@@ -68,8 +68,8 @@ fn make_room(numbers: &mut Vec<Option<usize>>, place: usize) -> Result<(), Alloc
     ensures same { (p : ℕ) → slice_index_or numbers.new.items p None
         ≡ slice_index_or numbers.old.items p None }
 {
-    while numbers.len() <= place {
-        numbers.push(None)?;
+    if numbers.len() <= place {
+        numbers.resize(place + 1, None)?;
     }
     Ok(())
 }

@@ -1,11 +1,7 @@
 use Rattle.std.proofs.Common.{◌∙◌}
 use Rattle.std.proofs.lemmas.Slice.Eq.{bytes_eq-Decides}
-use Rattle.html_names.proofs.NameTables.{number_below-told, name_at-told}
+use Rattle.html_names.proofs.NameTables.{name_at-told}
 use Rattle.html_names.proofs.laws.attr_at_number.Goals as goal
-
-pub attr_at-requires : goal.attr_at-requires
-attr_at-requires c = rw (c.in_ok-number.ensures.number, c.in_ok-number.ensures.names)
-    (number_below-told c.args.names.now.attrs c.args.given.now)
 
 pub returns : goal.returns
 returns c = c.eq.ensures ∙ (bytes_eq-Decides _ _).1 (

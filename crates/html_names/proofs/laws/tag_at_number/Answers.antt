@@ -1,11 +1,7 @@
 use Rattle.std.proofs.Common.{◌∙◌}
 use Rattle.std.proofs.lemmas.Slice.Eq.{bytes_eq-Decides}
-use Rattle.html_names.proofs.NameTables.{number_below-told, name_at-told}
+use Rattle.html_names.proofs.NameTables.{name_at-told}
 use Rattle.html_names.proofs.laws.tag_at_number.Goals as goal
-
-pub tag_at-requires : goal.tag_at-requires
-tag_at-requires c = rw (c.in_ok-number.ensures.number, c.in_ok-number.ensures.names)
-    (number_below-told c.args.names.now.tags c.args.given.now)
 
 pub returns : goal.returns
 returns c = c.eq.ensures ∙ (bytes_eq-Decides _ _).1 (
