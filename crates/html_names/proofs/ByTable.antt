@@ -1,5 +1,5 @@
 -- The tables by number against the definitions by lists.
-use Rattle.std.proofs.Common.{◌≡◌, ℕ, zero, suc, ◌<◌, ◌+◌, Bool, true, false, List, [], ◌∷◌, refl, sym, ap, ◌∙◌, chars, length, get_or, arith, map, bytes_eq, string_bytes, Option, None}
+use Rattle.std.proofs.Common.{◌≡◌, ℕ, zero, suc, ◌<◌, Bool, true, false, List, [], ◌∷◌, refl, sym, chars, length, get_or, arith, map, bytes_eq, string_bytes, None}
 use Rattle.std.specs.List.{list_all}
 use Rattle.std.proofs.lemmas.Bool.{and_parts}
 use Rattle.std.proofs.lemmas.Slice.Eq.{bytes_eq-Decides}
@@ -12,7 +12,6 @@ use Rattle.html_names.specs.Kinds.{is_void, void_names, is_raw, raw_names, is_es
 use Rattle.html_names.specs.Displays.{Row, first_row, rows, default_display}
 use Rattle.html_names.specs.declared.name.Name.{Name}
 use Rattle.html_names.specs.declared.name.Name.TheVariants.{Known, Own}
-use Rattle.html_names.specs.declared.property.Display.{Display}
 use Rattle.html_names.specs.declared.table.TheConstants.{KINDS, DISPLAYS, VOID, RAW, ESCAPABLE_RAW, FOREIGN_SELF_CLOSING, MATHML, TOKEN, METADATA_CONTENT, SECTIONING_CONTENT, HEADING_CONTENT, PHRASING_CONTENT, FLOW_BESIDE_PHRASING, NOT_PALPABLE, EMBEDDED_CONTENT, INTERACTIVE_CONTENT, SCRIPT_SUPPORTING_ELEMENT, REPLACED, LINE_BREAK}
 
 -- columns that agree, agree at each place

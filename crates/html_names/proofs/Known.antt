@@ -1,8 +1,8 @@
 -- Nothing is wrong with a known name, but for the one that is reserved.
-use Rattle.std.proofs.Common.{◌≡◌, ℕ, zero, suc, ◌+◌, ◌<◌, ◌==◌, Bool, true, false, ◌||◌, ◌&&◌, List, [], ◌∷◌, refl, sym, ap, ◌∙◌, length, get_or, arith, map, Option, Some, None, is_none, subst}
+use Rattle.std.proofs.Common.{◌≡◌, ℕ, zero, suc, ◌+◌, ◌<◌, ◌==◌, Bool, true, false, ◌||◌, ◌&&◌, List, [], ◌∷◌, refl, sym, ◌∙◌, length, get_or, arith, map, Option, Some, None, is_none, subst}
 use Rattle.std.proofs.lemmas.Bool.{and_parts, eqb-true}
 use Rattle.html_names.specs.Names.{stands_in, IsPlace, tag_fault, attr_fault, is_reserved}
-use Rattle.html_names.specs.Tables.{known_tags, known_attrs, tag_count, attr_count}
+use Rattle.html_names.specs.Tables.{known_tags, known_attrs, attr_count}
 use Rattle.html_names.specs.declared.fault.NameFault.{NameFault}
 use Rattle.html_names.specs.declared.table.TheConstants.{TAGS, ATTRS, RESERVED_TAG}
 use Rattle.html_names.proofs.Held.{tag_texts, attr_texts, attr_long}

@@ -1,5 +1,5 @@
 -- Names are equal where they are held alike.
-use Rattle.std.proofs.Common.{◌≡◌, ℕ, ◌<◌, ◌≤◌, ◌==◌, ltb, ltb-true, ltb-false, Bool, true, false, List, [], refl, sym, ap, ◌∙◌, chars, length, get_or, arith, bytes_eq, string_bytes, Global, String}
+use Rattle.std.proofs.Common.{◌≡◌, ℕ, ◌<◌, ◌≤◌, ◌==◌, ltb, ltb-true, ltb-false, Bool, true, false, List, [], refl, sym, ◌∙◌, chars, length, get_or, arith, bytes_eq, string_bytes}
 use Rattle.std.specs.Bool.{one_answer}
 use Rattle.std.proofs.lemmas.Bool.{eqb-true, eqb-false}
 use Rattle.std.proofs.lemmas.Slice.Eq.{bytes_eq-Decides}

@@ -11,7 +11,7 @@ use Rattle.html_names.specs.Characters.{is_lower}
 use Rattle.html_names.specs.Names.{stands_in, texts, is_ascii, are_ascii, IsPlace}
 use Rattle.html_names.specs.Starts.{is_started, all_started, are_starts}
 use Rattle.html_names.proofs.Lists.{stands_in-chars, chars_ascii}
-use Rattle.html_names.proofs.Ascending.{stands_there, ascii_at}
+use Rattle.html_names.proofs.Ascending.{ascii_at}
 
 -- no start lies beyond the end
 start_within : (starts : List ℕ) (n letter : ℕ) → list_all (λ s. nat_le s n) starts ≡ true →

@@ -1,4 +1,4 @@
-use Rattle.std.proofs.Common.{◌+◌, ◌≡◌, ◌<◌, ◌≤◌, ◌∙◌, ap, sym, length, arith, bytes_eq, get_or, false, []}
+use Rattle.std.proofs.Common.{◌+◌, ◌≡◌, ◌<◌, ◌≤◌, sym, length, arith, bytes_eq, get_or, false, []}
 use Rattle.std.proofs.lemmas.List.{length-map}
 use Rattle.html_names.specs.Names.{texts}
 use Rattle.html_names.proofs.Ascending.{stands_there}

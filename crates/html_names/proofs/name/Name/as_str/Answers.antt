@@ -1,4 +1,3 @@
-use Rattle.std.proofs.Common.{arith}
 use Rattle.html_names.proofs.Held.{known_text}
 use Rattle.html_names.proofs.name.Name.as_str.Goals as goal
 
