@@ -1,36 +1,58 @@
 -- Nothing is wrong with a known name, but for the one that is reserved.
-use Rattle.std.proofs.Common.{◌≡◌, ℕ, zero, suc, ◌+◌, ◌<◌, ◌==◌, Bool, true, false, ◌||◌, ◌&&◌, List, [], ◌∷◌, refl, sym, ◌∙◌, length, get_or, arith, map, Option, Some, None, is_none, subst}
+use Rattle.std.proofs.Common.{◌≡◌, ℕ, zero, suc, ◌+◌, ◌<◌, ◌==◌, Bool, true, false, not, ◌||◌, ◌&&◌, List, [], ◌∷◌, refl, sym, ◌∙◌, length, get_or, arith, map, find, None, subst}
+use Rattle.std.specs.List.{list_any}
 use Rattle.std.proofs.lemmas.Bool.{and_parts, eqb-true}
-use Rattle.html_names.specs.Names.{stands_in, IsPlace, tag_fault, attr_fault, is_reserved}
-use Rattle.html_names.specs.Tables.{known_tags, known_attrs, attr_count}
-use Rattle.html_names.specs.declared.fault.NameFault.{NameFault}
+use Rattle.html_names.specs.Characters.{all, IsOf, is_tag_char, is_attr_char, is_hyphen}
+use Rattle.html_names.specs.Names.{IsPlace, tag_fault, attr_fault}
+use Rattle.html_names.specs.Tables.{known_tags, known_attrs}
+use Rattle.html_names.specs.declared.name.Name.TheVariants.{Known}
 use Rattle.html_names.specs.declared.table.TheConstants.{TAGS, ATTRS, RESERVED_TAG}
-use Rattle.html_names.proofs.Held.{tag_texts, attr_texts, attr_long}
+use Rattle.html_names.proofs.Held.{tag_texts, attr_texts, tag_long, attr_long, tag_valid, attr_valid}
 
--- each name but that of one place is faultless
-module _ (fault_of : List ℕ → Option NameFault) (one : ℕ) where
-  abbrev are_faultless : ℕ → List (List ℕ) → Bool
-  are_faultless place [] = true
-  are_faultless place (n ∷ ns) =
-      (place == one || is_none (fault_of n)) && are_faultless (suc place) ns
+-- no character of a valid name is bad
+none_bad : (p : ℕ → Bool) (cs : List ℕ) → all p cs ≡ true → find (λ c. not (p c)) cs ≡ None
+none_bad p [] h = refl
+none_bad p (c ∷ cs) h =
+    let both = and_parts (p c) (all p cs) h in rw both.0 (none_bad p cs both.1)
 
-  nothing : (o : Option NameFault) → is_none o ≡ true → o ≡ None
-  nothing (Some fault) h = cc
-  nothing None h = refl
+faultless_tag : (name : List ℕ) → IsOf is_tag_char name → list_any is_hyphen name ≡ false →
+    tag_fault name ≡ None
+faultless_tag [] h plain = absurd h
+faultless_tag (c ∷ cs) h plain =
+    let good : find (λ d. not (is_tag_char d)) (c ∷ cs) ≡ None =
+    rw h.0 (none_bad is_tag_char cs h.1) in
+    rw (good, plain) refl
 
-  here : (place : ℕ) (b c : Bool) → (place == one) ≡ b → (place ≡ one → ⊥) → (b || c) ≡ true →
-      c ≡ true
-  here place true c e other h = absurd (other (eqb-true place one e))
-  here place false c e other h = h
+faultless_attr : (name : List ℕ) → IsOf is_attr_char name → attr_fault name ≡ None
+faultless_attr [] h = absurd h
+faultless_attr (c ∷ cs) h =
+    let good : find (λ d. not (is_attr_char d)) (c ∷ cs) ≡ None =
+    rw h.0 (none_bad is_attr_char cs h.1) in
+    rw good refl
 
-  faultless_at : (place n k : ℕ) (names : List (List ℕ)) → k < length names → n ≡ place + k →
-      (n ≡ one → ⊥) → are_faultless place names ≡ true → fault_of (get_or names k []) ≡ None
-  faultless_at place n k [] l e other h = absurd (omega arith)
-  faultless_at place n zero (t ∷ ts) l e other h =
-      let is : place ≡ n = omega arith in
-      nothing (fault_of t) (here place _ _ refl (λ p. other (sym is ∙ p)) (and_parts _ _ h).0)
-  faultless_at place n (suc k) (t ∷ ts) l e other h =
-      faultless_at (suc place) n k ts (omega arith) (omega arith) other (and_parts _ _ h).1
+-- only the name of that place has a hyphen
+abbrev are_plain : (one place : ℕ) → List (List ℕ) → Bool
+are_plain one place [] = true
+are_plain one place (n ∷ ns) =
+    (place == one || not (list_any is_hyphen n)) && are_plain one (suc place) ns
+
+no : (b : Bool) → not b ≡ true → b ≡ false
+no true h = cc
+no false h = refl
+
+here : (one place : ℕ) (b c : Bool) → (place == one) ≡ b → (place ≡ one → ⊥) → (b || c) ≡ true →
+    c ≡ true
+here one place true c e other h = absurd (other (eqb-true place one e))
+here one place false c e other h = h
+
+plain_at : (one place n k : ℕ) (names : List (List ℕ)) → k < length names → n ≡ place + k →
+    (n ≡ one → ⊥) → are_plain one place names ≡ true → list_any is_hyphen (get_or names k []) ≡ false
+plain_at one place n k [] l e other h = absurd (omega arith)
+plain_at one place n zero (t ∷ ts) l e other h =
+    let is : place ≡ n = omega arith in
+    no _ (here one place _ _ refl (λ p. other (sym is ∙ p)) (and_parts _ _ h).0)
+plain_at one place n (suc k) (t ∷ ts) l e other h =
+    plain_at one (suc place) n k ts (omega arith) (omega arith) other (and_parts _ _ h).1
 
 tag_at : (text : List ℕ) (n : ℕ) → IsPlace (map (λ n. n.now) TAGS) text n →
     IsPlace known_tags text n
@@ -48,18 +70,21 @@ pub attr_text : (text : List ℕ) (n : ℕ) → IsPlace (map (λ n. n.now) ATTRS
     get_or known_attrs n [] ≡ text
 attr_text text n h = (attr_at text n h).1
 
+tags_plain : are_plain RESERVED_TAG 0 known_tags ≡ true
+unfolding known_tags
+tags_plain = refl
+
 pub tag_faultless : (text : List ℕ) (n : ℕ) → IsPlace (map (λ n. n.now) TAGS) text n →
     (n ≡ RESERVED_TAG → ⊥) → tag_fault text ≡ None
-unfolding known_tags is_reserved stands_in
 tag_faultless text n h other =
     let p = tag_at text n h in
-    rw (sym p.1) (faultless_at tag_fault RESERVED_TAG 0 n n known_tags p.0 (omega arith) other refl)
+    let plain = plain_at RESERVED_TAG 0 n n known_tags p.0 (omega arith) other tags_plain in
+    rw (sym p.1) (faultless_tag (get_or known_tags n [])
+    (tag_valid (Known n) (omega (arith, tag_long, p.0))) plain)
 
 pub attr_faultless : (text : List ℕ) (n : ℕ) → IsPlace (map (λ n. n.now) ATTRS) text n →
     attr_fault text ≡ None
-unfolding known_attrs
 attr_faultless text n h =
     let p = attr_at text n h in
     rw (sym p.1)
-    (faultless_at attr_fault attr_count 0 n n known_attrs p.0 (omega arith)
-    (λ e. omega (arith, e, attr_long, p.0)) refl)
+    (faultless_attr (get_or known_attrs n []) (attr_valid (Known n) (omega (arith, attr_long, p.0))))
