@@ -1,5 +1,5 @@
 -- The arguments that a filter keeps are the others.
-use Rattle.std.proofs.Common.{◌≡◌, List, [], ◌∷◌, Bool, true, false, refl, ap, ◌∙◌, inl, inr}
+use Rattle.std.proofs.Common.{◌≡◌, List, [], ◌∷◌, Bool, refl, ap, ◌∙◌, inl, inr}
 use Rattle.std.specs.Prelude.{filter, not, is_some, option_map}
 use Rattle.std.proofs.lemmas.Bool.{cases_Bool}
 use Rattle.html_names.specs.Texts.{text_view}

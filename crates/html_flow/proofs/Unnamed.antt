@@ -76,7 +76,8 @@ module _ (raw : Bool) where
   some_chosen (a ∷ more) k h =
       elim (cases_Bool (is_some a.name)) [
         | inl e ↦
-            rw e (after_one a more (unnamed_at more) k refl (rest_at a more e k h) (some_chosen more))
+            let after = rest_at a more e k h in
+            rw e (after_one a more (unnamed_at more) k refl after (some_chosen more))
         | inr e ↦ rw (e, sym (same_Some 0 k (rw e at h))) refl
       ]
 

@@ -7,6 +7,6 @@ use Rattle.html_flow.proofs.construction.drop_known.Goals as goal
 pub returns : goal.returns
 returns c =
     let entries = entries_view c.args.entries.now in
-    let kept =
-    filter_same _ (is_other entries) _ (λ arg keep after call. search rules) _ _ c.retain.ensures.filtered in
+    let kept = filter_same _ (is_other entries) _ (λ arg keep after call. search rules) _ _
+    c.retain.ensures.filtered in
     others_kept entries _ _ kept
