@@ -21,4 +21,4 @@ pub node_given : (names : NamesView) (nodes : List FlatNode) (i : ℕ) (d node :
     are_given names nodes ≡ true → i < length nodes → node ≡ get_or nodes i d →
     is_node_given names node ≡ true
 node_given names nodes i d node given below is =
-    subst (λ n. is_node_given names n ≡ true) (sym is) (node_given_at names nodes i d given below)
+    subst (λ n. is_node_given names n ≡ true) (sym is) (node_given_at names nodes i given d below)

@@ -1,6 +1,7 @@
 -- An element that was opened, filled and closed.
 use Rattle.std.proofs.Common.{◌≡◌, ℕ, zero, suc, ◌+◌, ◌<◌, true, List, [], ◌∷◌, ◌++◌, refl, ap, ◌∙◌, arith, length, get_or}
 use Rattle.std.proofs.Math.ListN.{set}
+use Rattle.std.proofs.lemmas.Bool.{and_parts, and_from}
 use Rattle.html_names.specs.NameTables.{NamesView}
 use Rattle.html_dom.specs.Tree.{Head, NodesView}
 use Rattle.html_flat.specs.Flat.{FlatNodeView, flat_element, nodes_count, nodes_flat, element_flat}
@@ -9,7 +10,6 @@ use Rattle.html_flat.specs.Closing.{with_past, closed_at}
 use Rattle.html_flat.specs.Numbering.{ended}
 use Rattle.html_flat.specs.declared.flat_node.FlatNode.{FlatNode}
 use Rattle.html_flat.specs.declared.flat_node.FlatNode.TheVariants.{Tag, Text, Frame, Element}
-use Rattle.html_flat.proofs.Elements.{both, both_hold}
 
 view_ended : (names : NamesView) (past : ℕ) (n : FlatNode) →
     flat_node_view names (ended past n) ≡ with_past past (flat_node_view names n)
@@ -31,12 +31,12 @@ pub given_closed :
     are_given names (set nodes place v) ≡ true
 given_closed names [] place past v d is given = refl
 given_closed names (n ∷ ns) zero past v d is given =
-    let parts = both (is_node_given names n) _ given in
-    both_hold (is_node_given names v) _
+    let parts = and_parts (is_node_given names n) _ given in
+    and_from (is_node_given names v) _
     (ap (is_node_given names) is ∙ (given_ended names past n ∙ parts.0)) parts.1
 given_closed names (n ∷ ns) (suc place) past v d is given =
-    let parts = both (is_node_given names n) _ given in
-    both_hold (is_node_given names n) _ parts.0
+    let parts = and_parts (is_node_given names n) _ given in
+    and_from (is_node_given names n) _ parts.0
     (given_closed names ns place past v d is parts.1)
 
 pub closed :

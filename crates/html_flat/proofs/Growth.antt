@@ -1,6 +1,6 @@
 -- A table that gives more numbers leaves what was made with its numbers as it is.
 use Rattle.std.proofs.Common.{◌≡◌, ℕ, ◌<◌, true, List, [], ◌∷◌, ◌++◌, refl, ap, subst, sym, ◌∙◌, arith, map, length, Result, Ok, Err, String}
-use Rattle.std.proofs.lemmas.Bool.{ltb-true, lt-ltb}
+use Rattle.std.proofs.lemmas.Bool.{ltb-true, lt-ltb, and_parts, and_from}
 use Rattle.std.proofs.lemmas.List.{map-append}
 use Rattle.std.proofs.lemmas.List.Folds.{list_all-append}
 use Rattle.std.specs.List.{list_all}
@@ -14,7 +14,6 @@ use Rattle.html_flat.specs.Numbering.{AreKept, Grows, ArePairsOf}
 use Rattle.html_flat.specs.declared.flat_node.FlatElement.{FlatElement}
 use Rattle.html_flat.specs.declared.flat_node.FlatNode.{FlatNode}
 use Rattle.html_flat.specs.declared.flat_node.FlatNode.TheVariants.{Tag, Text, Frame, Element}
-use Rattle.html_flat.proofs.Elements.{both, both_hold}
 
 kept_all : (names : List (List ℕ)) → AreKept names names
 kept_all names = λ number below. (below, refl)
@@ -67,13 +66,13 @@ pub pairs_stay : (old new : NamesView) (pairs : List FlatPair) (attrs : List Tex
     Grows old new → ArePairsOf old pairs attrs → ArePairsOf new pairs attrs
 pairs_stay old new [] attrs grows made = record { same = made.same; given = refl }
 pairs_stay old new (p ∷ ps) attrs grows made =
-    let parts = both (is_pair_given old p) _ made.given in
+    let parts = and_parts (is_pair_given old p) _ made.given in
     let here = grows.attrs p.0 (ltb-true _ _ parts.0) in
     let others = pairs_stay old new ps (map (flat_pair old) ps) grows
     (record { same = refl; given = parts.1 }) in
     record {
       same = rw (here.1, others.same) made.same;
-      given = both_hold (is_pair_given new p) _ (lt-ltb _ _ here.0) others.given;
+      given = and_from (is_pair_given new p) _ (lt-ltb _ _ here.0) others.given;
     }
 
 -- with one more pair
@@ -89,19 +88,19 @@ pairs_more old new pairs attrs attr number value made asked =
     record {
       same = rw (map-append, kept.same, table, asked.number, name_at-told old.attrs attr) refl;
       given = list_all-append (is_pair_given new) pairs ((number, value) ∷ [])
-          ∙ both_hold (list_all (is_pair_given new) pairs) _ kept.given
-          (both_hold (is_pair_given new (number, value)) true
+          ∙ and_from (list_all (is_pair_given new) pairs) _ kept.given
+          (and_from (is_pair_given new (number, value)) true
           (lt-ltb _ _ asked.below) refl);
     }
 
 head_stays : (old new : NamesView) (e : FlatElement) → Grows old new → is_given old e ≡ true →
     (flat_head new e ≡ flat_head old e) × (is_given new e ≡ true)
 head_stays old new e grows given =
-    let parts = both _ (list_all (is_pair_given old) e.attrs.items) given in
+    let parts = and_parts _ (list_all (is_pair_given old) e.attrs.items) given in
     let tag = grows.tags e.tag (ltb-true _ _ parts.0) in
     let pairs = pairs_stay old new e.attrs.items (map (flat_pair old) e.attrs.items) grows
     (record { same = refl; given = parts.1 }) in
-    (rw (tag.1, pairs.same) refl, both_hold _ _ (lt-ltb _ _ tag.0) pairs.given)
+    (rw (tag.1, pairs.same) refl, and_from _ _ (lt-ltb _ _ tag.0) pairs.given)
 
 node_stays : (old new : NamesView) (n : FlatNode) → Grows old new → is_node_given old n ≡ true →
     (flat_node_view new n ≡ flat_node_view old n) × (is_node_given new n ≡ true)
@@ -115,13 +114,13 @@ pub views_stay : (old new : NamesView) (nodes : List FlatNode) → Grows old new
     are_given old nodes ≡ true → flat_nodes_view new nodes ≡ flat_nodes_view old nodes
 views_stay old new [] grows given = refl
 views_stay old new (n ∷ ns) grows given =
-    let parts = both (is_node_given old n) _ given in
+    let parts = and_parts (is_node_given old n) _ given in
     rw ((node_stays old new n grows parts.0).0, views_stay old new ns grows parts.1) refl
 
 pub given_stay : (old new : NamesView) (nodes : List FlatNode) → Grows old new →
     are_given old nodes ≡ true → are_given new nodes ≡ true
 given_stay old new [] grows given = refl
 given_stay old new (n ∷ ns) grows given =
-    let parts = both (is_node_given old n) _ given in
-    both_hold (is_node_given new n) _ (node_stays old new n grows parts.0).1
+    let parts = and_parts (is_node_given old n) _ given in
+    and_from (is_node_given new n) _ (node_stays old new n grows parts.0).1
     (given_stay old new ns grows parts.1)

@@ -66,7 +66,11 @@ taken : (past place : ℕ) (xs : List PlacedView) → IsLaid place xs →
     Taken (past - place) place (stack_nodes xs) (nodes_before past xs) (rest_after past xs)
 unfolding nodes_before rest_after
 taken past place [] laid =
-    record { first = sym (front_none (past - place)); others = sym (back_none (past - place)); laid = tt }
+    record {
+      first = sym (front_none (past - place));
+      others = sym (back_none (past - place));
+      laid = tt;
+    }
 taken past place (x ∷ xs) laid =
     taken_step past place x xs (nat_lt x.0 past) (past - place) refl refl laid
     (taken past (place + node_count x.1) xs laid.1)
@@ -128,7 +132,8 @@ pub stacked_more :
     stack_view new ≡ stacked place (drop place (flat_nodes_view names nodes))
 unfolding stacked
 stacked_more names nodes place d old mid new made below before makes puts =
-    rw (puts, stack_push mid (place, made), drop_at names nodes place d below, ← before, ← makes) refl
+    let here = drop_at names nodes place d below in
+    rw (puts, stack_push mid (place, made), here, ← before, ← makes) refl
 
 -- a node taken from the stack
 pub popped_before : (past place : ℕ) (n : NodeView) (xs : List PlacedView) →

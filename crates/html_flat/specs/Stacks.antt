@@ -42,7 +42,8 @@ is_top_before past (x ∷ xs) = nat_lt x.0 past
 -- what is left of a stack, and its top if that is taken since it stands before a place
 abbrev pub IsPopped : (past : ℕ) → (old new : List PlacedView) → Option NodeView → Type 0
 IsPopped past old new (Some n) = (place : ℕ) × (nat_lt place past ≡ true) × (old ≡ (place, n) ∷ new)
-IsPopped past old new None = (nodes_before past old ≡ []) × (rest_after past old ≡ old) × (new ≡ old)
+IsPopped past old new None =
+    (nodes_before past old ≡ []) × (rest_after past old ≡ old) × (new ≡ old)
 
 -- the node that is made of one of the list, where that stack holds what follows it, and the stack
 -- that is left

@@ -93,8 +93,8 @@ impl Builder {
         alloc: Global,
         element: &HtmlElement,
     ) -> Result<(), AllocError>
-        ensures list { OnOk result (builder_view self.new
-            ≡ builder_view self.old ++ element_flat (vec_len self.old.nodes) (element_view element.now)) }
+        ensures list { OnOk result (builder_view self.new ≡ builder_view self.old
+            ++ element_flat (vec_len self.old.nodes) (element_view element.now)) }
         ensures count { OnOk result (vec_len self.new.nodes
             ≡ vec_len self.old.nodes + 1 + nodes_count (element_view element.now).1) }
     {

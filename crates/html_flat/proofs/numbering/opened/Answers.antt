@@ -1,6 +1,5 @@
 use Rattle.std.proofs.Common.{refl}
-use Rattle.std.proofs.lemmas.Bool.{lt-ltb}
-use Rattle.html_flat.proofs.Elements.{both_hold}
+use Rattle.std.proofs.lemmas.Bool.{lt-ltb, and_from}
 use Rattle.html_flat.proofs.Growth.{grows_on, grows_tag, tag_kept}
 use Rattle.html_flat.proofs.numbering.opened.Goals as goal
 
@@ -24,5 +23,5 @@ returns-clause-opened c =
     record {
       same = rw (tag.1, pairs.same, c.in_ok-try_clone.ensures) refl;
       past = refl;
-      given = both_hold _ _ (lt-ltb _ _ tag.0) pairs.given;
+      given = and_from _ _ (lt-ltb _ _ tag.0) pairs.given;
     }

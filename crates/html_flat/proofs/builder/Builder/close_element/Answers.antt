@@ -7,10 +7,11 @@ pub invariant_of-self : goal.invariant_of-self
 invariant_of-self c =
     let old = c.args.self.now in
     let node = c.index_mut.result.now in
-    let set : c.set_past.new.node ≡ ended c.len-past.result (get_or old.nodes.items c.args.place node)
+    let place = c.args.place in
+    let set : c.set_past.new.node ≡ ended c.len-past.result (get_or old.nodes.items place node)
     = c.set_past.ensures ∙ ap (ended c.len-past.result) c.index_mut.ensures.value in
     record {
-      given = given_closed old.names old.nodes.items c.args.place c.len-past.result
+      given = given_closed old.names old.nodes.items place c.len-past.result
           c.set_past.new.node node set old.given;
     }
 
@@ -18,9 +19,9 @@ pub returns-clause-list : goal.returns-clause-list
 returns-clause-list c =
     let old = c.args.self.now in
     let node = c.index_mut.result.now in
+    let place = c.args.place in
     let past : c.len-past.result ≡ vec_len old.nodes = search rules in
-    let set : c.set_past.new.node ≡ ended (vec_len old.nodes) (get_or old.nodes.items c.args.place node)
+    let set : c.set_past.new.node ≡ ended (vec_len old.nodes) (get_or old.nodes.items place node)
     = c.set_past.ensures ∙ rw past (ap (ended (vec_len old.nodes)) c.index_mut.ensures.value) in
-    let below : c.args.place < length old.nodes.items = rw (← old.nodes.ok.0) c.requires in
-    closed old.names old.nodes.items c.args.place (vec_len old.nodes) c.set_past.new.node node set
-    below
+    let below : place < length old.nodes.items = rw (← old.nodes.ok.0) c.requires in
+    closed old.names old.nodes.items place (vec_len old.nodes) c.set_past.new.node node set below

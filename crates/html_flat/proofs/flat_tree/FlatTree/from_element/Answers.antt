@@ -1,4 +1,4 @@
-use Rattle.std.proofs.Common.{◌≡◌, refl, ◌∙◌, sym}
+use Rattle.std.proofs.Common.{◌≡◌, ◌∙◌, sym}
 use Rattle.html_dom.specs.Tree.{element_node, none, node}
 use Rattle.html_dom.specs.Views.{element_view}
 use Rattle.html_flat.specs.Flat.{nodes_flat}
@@ -12,7 +12,7 @@ invariant_of-result c =
     let ns = node (element_node e.0 e.1) none in
     let list : builder_view c.push_element.new.self ≡ nodes_flat 0 ns
     = c.in_ok-push_element.ensures.list
-    ∙ (rw (c.new-builder.ensures.list, c.new-builder.ensures.count) refl ∙ sym (element_list 0 e)) in
+    ∙ rw (c.new-builder.ensures.list, c.new-builder.ensures.count) (sym (element_list 0 e)) in
     record { given = c.push_element.new.self.given; spells = list_spells _ ns list }
 
 pub returns : goal.returns
@@ -21,5 +21,5 @@ returns c =
     let ns = node (element_node e.0 e.1) none in
     let list : builder_view c.push_element.new.self ≡ nodes_flat 0 ns
     = c.in_ok-push_element.ensures.list
-    ∙ (rw (c.new-builder.ensures.list, c.new-builder.ensures.count) refl ∙ sym (element_list 0 e)) in
+    ∙ rw (c.new-builder.ensures.list, c.new-builder.ensures.count) (sym (element_list 0 e)) in
     list_spelled _ ns list
