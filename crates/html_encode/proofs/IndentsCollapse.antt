@@ -160,7 +160,8 @@ unfolding stands_in
 border_is_no_break name h = no_break_by (bytes_eq (codes "br") name) name refl h
 
 -- an element with a border, its content aside
-edged : (name : List ℕ) (attrs : List TextPair) (inner us : List Atom) → has_border_display name ≡ true
+edged : (name : List ℕ) (attrs : List TextPair) (inner us : List Atom)
+    → has_border_display name ≡ true
     → element_atoms name attrs inner ++ us ≡ border ∷
     (cond (is_replaced name) (object name ∷ []) inner ++ border ∷ us)
 unfolding has_border

@@ -57,7 +57,7 @@ next_sibling place f fs e =
     let s = splits place f fs e in
     let after = place_after place f in
     let left : drop (after - (place + 1)) fs ≡ nodes_flat after s.others
-    = others_left place f fs (nodes_flat (place + node_count s.first) s.others) s.first s.comes_is
+    = others_left s.comes_is
     ∙ ap (λ p. nodes_flat p s.others) (sym s.comes_is.after) in
     let others : spelled_nodes after (drop (after - (place + 1)) fs) ≡ s.others
     = ap (spelled_nodes after) left ∙ spelled_flat after s.others in
@@ -70,7 +70,8 @@ next_sibling place f fs e =
     }
 
 -- the same over the nodes of the program
-module _ (names : NamesView) (nodes : List FlatNode) (first index next : ℕ) (flat d : FlatNode) where
+module _ (names : NamesView) (nodes : List FlatNode) (first index next : ℕ) (flat d : FlatNode)
+    where
   abbrev f : FlatNodeView
   f = flat_node_view names flat
 
@@ -97,10 +98,10 @@ module _ (names : NamesView) (nodes : List FlatNode) (first index next : ℕ) (f
       let n = next_is below is spells in
       let count : index + 1 + (place_after (first + index) f - (first + index + 1)) ≡ next
       = omega (arith, to, n.later) in
-      let skipped : drop (place_after (first + index) f - (first + index + 1)) (left (index + 1)) ≡ left next
-      = drop-map (flat_node_view names) _ (drop (index + 1) nodes)
-      ∙ (ap (flat_nodes_view names) (drop-drop (place_after (first + index) f - (first + index + 1)) (index + 1) nodes)
-      ∙ ap left count) in (
+      let more = place_after (first + index) f - (first + index + 1) in
+      let skipped : drop more (left (index + 1)) ≡ left next
+      = drop-map (flat_node_view names) more (drop (index + 1) nodes)
+      ∙ (ap (flat_nodes_view names) (drop-drop more (index + 1) nodes) ∙ ap left count) in (
         rw (to, ← skipped) n.spells,
         ap (λ fs. nodes_want_pretty (spelled_nodes (first + index) fs)) (left_first below is)
             ∙ (n.wants ∙ rw (to, ← skipped) refl),
@@ -111,9 +112,10 @@ module _ (names : NamesView) (nodes : List FlatNode) (first index next : ℕ) (f
       nodes_want_pretty (spelled_nodes (first + index) (left index)) ≡ true
   wanted_here below is spells wanted =
       let n = next_is below is spells in
+      let after = place_after (first + index) f in
+      let others = spelled_nodes after (drop (after - (first + index + 1)) (left (index + 1))) in
       ap (λ fs. nodes_want_pretty (spelled_nodes (first + index) fs)) (left_first below is)
-      ∙ (n.wants ∙ ap (λ b. b || nodes_want_pretty (spelled_nodes (place_after (first + index) f)
-      (drop (place_after (first + index) f - (first + index + 1)) (left (index + 1))))) wanted)
+      ∙ (n.wants ∙ ap (λ b. b || nodes_want_pretty others) wanted)
 
   -- the search goes on behind a node that does not want it
   pub goes_on : (all : NodesView) → index < length nodes → flat ≡ get_or nodes index d →
@@ -124,14 +126,13 @@ module _ (names : NamesView) (nodes : List FlatNode) (first index next : ℕ) (f
       IsSpelling (first + next) (left next)
       × (nodes_want_pretty (spelled_nodes (first + next) (left next)) ≡ nodes_want_pretty all)
   goes_on all below is spells wants unwanted to =
-      let n = next_left below is spells to in (
-        n.0,
-        sym (n.1 ∙ ap (λ b. b || nodes_want_pretty (spelled_nodes (first + next) (left next))) unwanted)
-            ∙ wants,
-      )
+      let n = next_left below is spells to in
+      let others = spelled_nodes (first + next) (left next) in
+      (n.0, sym (n.1 ∙ ap (λ b. b || nodes_want_pretty others) unwanted) ∙ wants)
 
 -- where the node is an element, the search goes on at its end
-pub record EndsBehind (names : NamesView) (first index : ℕ) (flat : FlatNode) (e : FlatElement) : Type 0 where
+pub record EndsBehind (names : NamesView) (first index : ℕ) (flat : FlatNode) (e : FlatElement)
+    : Type 0 where
   pub first_before : first ≤ e.past
   pub later : index < e.past - first
   pub to : first + (e.past - first) ≡ place_after (first + index) (flat_node_view names flat)
@@ -170,7 +171,8 @@ not_element names place (Element e) other = absurd (other e refl)
 abbrev pub AllCome : ℕ → List FlatNodeView → Type 0
 AllCome place [] = Unit {0}
 AllCome place (f ∷ fs) =
-    ((n : NodeView) × (others : List FlatNodeView) × Comes place f fs others n) × AllCome (place + 1) fs
+    ((n : NodeView) × (others : List FlatNodeView) × Comes place f fs others n)
+    × AllCome (place + 1) fs
 
 mutual
   unfolding node_flat node_count
@@ -180,16 +182,15 @@ mutual
   node_come (tag_node t) place after later =
       ((tag_node t, after, comes (tag_node t) place (flat_tag t) after after refl), later)
   node_come (text_node s span) place after later =
-      ((text_node s span, after, comes (text_node s span) place (flat_text s span) after after refl), later)
-  node_come (element_node h ns) place after later = (
-    (
-      element_node h ns,
-      after,
-      comes (element_node h ns) place
-          (flat_element h (place + 1 + nodes_count ns)) (nodes_flat (place + 1) ns ++ after) after refl,
-    ),
-    nodes_come ns (place + 1) after (subst (λ p. AllCome p after) (omega arith) later),
-  )
+      let n = text_node s span in
+      ((n, after, comes n place (flat_text s span) after after refl), later)
+  node_come (element_node h ns) place after later =
+      let n = element_node h ns in
+      let f = flat_element h (place + 1 + nodes_count ns) in
+      let others = nodes_flat (place + 1) ns ++ after in (
+        (n, after, comes n place f others after refl),
+        nodes_come ns (place + 1) after (subst (λ p. AllCome p after) (omega arith) later),
+      )
   node_come (frame_node b) place after later =
       ((frame_node b, after, comes (frame_node b) place (flat_frame b) after after refl), later)
 
@@ -197,9 +198,10 @@ mutual
       AllCome (place + nodes_count ns) after → AllCome place (nodes_flat place ns ++ after)
   nodes_come none place after later = subst (λ p. AllCome p after) (omega arith) later
   nodes_come (node n ns) place after later =
-      subst (AllCome place) (sym (append_assoc (node_flat place n) (nodes_flat (place + node_count n) ns) after))
-      (node_come n place (nodes_flat (place + node_count n) ns ++ after)
-      (nodes_come ns (place + node_count n) after (subst (λ p. AllCome p after) (omega arith) later)))
+      let next = place + node_count n in
+      let others = nodes_come ns next after (subst (λ p. AllCome p after) (omega arith) later) in
+      subst (AllCome place) (sym (append_assoc (node_flat place n) (nodes_flat next ns) after))
+      (node_come n place (nodes_flat next ns ++ after) others)
 
 come_at : (all : List FlatNodeView) (place i : ℕ) (f : FlatNodeView) (fs : List FlatNodeView) →
     AllCome place all → drop i all ≡ f ∷ fs →
@@ -232,21 +234,26 @@ module _ (names : NamesView) (nodes : List FlatNode) (place : ℕ) (flat d : Fla
   found =
       let all = flat_nodes_view names nodes in
       let ns = spelled_nodes 0 all in
-      let come : AllCome 0 all = subst (AllCome 0) (append-nil (nodes_flat 0 ns) ∙ spells) (nodes_come ns 0 [] tt) in
-      subst (λ p. (n : NodeView) × (after : List FlatNodeView) × Comes p here others after n) (omega arith)
-      (come_at all 0 place here others come (drop-map (flat_node_view names) place nodes ∙ first_at))
+      let come : AllCome 0 all
+      = subst (AllCome 0) (append-nil (nodes_flat 0 ns) ∙ spells) (nodes_come ns 0 [] tt) in
+      let at = drop-map (flat_node_view names) place nodes ∙ first_at in
+      subst (λ p. (n : NodeView) × (after : List FlatNodeView) × Comes p here others after n)
+      (omega arith) (come_at all 0 place here others come at)
 
   pub later_at : place + 1 ≤ place_after place here
   later_at = omega (arith, found.2.after, count_some found.0)
 
-  inside_at : take (place_after place here - (place + 1)) others ≡ nodes_flat (place + 1) (node_children found.0)
-  inside_at = children_taken place here others found.1 found.0 found.2
+  inside_at :
+      take (place_after place here - (place + 1)) others
+      ≡ nodes_flat (place + 1) (node_children found.0)
+  inside_at = children_taken found.2
 
   pub within_at : place_after place here ≤ length nodes
   within_at =
       let inside = nodes_flat (place + 1) (node_children found.0) in
       let long : length others ≡ length nodes - (place + 1)
-      = length-map (drop (place + 1) nodes) (flat_node_view names) ∙ length-drop (place + 1) nodes in
+      = length-map (drop (place + 1) nodes) (flat_node_view names)
+      ∙ length-drop (place + 1) nodes in
       let parts : length others ≡ length inside + length found.1
       = ap length found.2.flat ∙ length-append inside found.1 in
       let count = length_all (place + 1) (node_children found.0) in
@@ -259,7 +266,8 @@ module _ (names : NamesView) (nodes : List FlatNode) (place : ℕ) (flat d : Fla
 
   pub end_is : end_of (place + 1) flat ≡ place_after place here
   end_is = end_by flat where
-    end_by : (node : FlatNode) → end_of (place + 1) node ≡ place_after place (flat_node_view names node)
+    end_by : (node : FlatNode) →
+        end_of (place + 1) node ≡ place_after place (flat_node_view names node)
     end_by (Tag t) = refl
     end_by (Text s span) = refl
     end_by (Frame b) = refl

@@ -39,11 +39,12 @@ pub one_written : (escaping : Escaping) (place : ℕ) (f : FlatNodeView) (fs : L
 one_written escaping place f fs all out start new_out held wrote clean =
     let one = one_spelled escaping place f fs clean in
     let one_text = node_raw_text (node_with f none) in
-    let others = nodes_raw_text (spelled_nodes (place + 1) fs) in
+    let others = spelled_nodes (place + 1) fs in
+    let joined = sym (escaped_text-append escaping one_text (nodes_raw_text others)) in
     record {
-      told = rw (wrote, append_assoc) (ap (λ t. out ++ t) (sym (escaped_text-append escaping one_text others))
+      told = rw (wrote, append_assoc) (ap (λ t. out ++ t) joined
           ∙ (ap (λ ns. out ++ escaped_text escaping (nodes_raw_text ns)) (sym one) ∙ held.told));
-      clean = ap (λ faults. faults ++ nodes_raw_faults escaping (spelled_nodes (place + 1) fs)) (sym clean)
+      clean = ap (λ faults. faults ++ nodes_raw_faults escaping others) (sym clean)
           ∙ (ap (nodes_raw_faults escaping) (sym one) ∙ held.clean);
     }
 
@@ -52,17 +53,16 @@ first_raw : (escaping : Escaping) (place : ℕ) (f : FlatNodeView) (fs : List Fl
     (e : ExportFault) → IsFirst e (node_raw_faults escaping (node_with f none)) →
     IsFirst e (nodes_raw_faults escaping (spelled_nodes place (f ∷ fs)))
 unfolding spelled_nodes
-first_raw escaping place (flat_tag t) fs e is = first_of_more e _ (nodes_raw_faults escaping (spelled_nodes (place + 1) fs)) is
-first_raw escaping place (flat_text s span) fs e is = first_of_more e _ (nodes_raw_faults escaping (spelled_nodes (place + 1) fs)) is
-first_raw escaping place (flat_frame b) fs e is = first_of_more e _ (nodes_raw_faults escaping (spelled_nodes (place + 1) fs)) is
-first_raw escaping place (flat_element h past) fs e is =
-    first_of_more e (node_raw_faults escaping (node_with (flat_element h past) none))
-    (nodes_raw_faults escaping (back (past - (place + 1)) (spelled_nodes (place + 1) fs))) is
+first_raw escaping place (flat_tag t) fs e is = first_of_more e _ _ is
+first_raw escaping place (flat_text s span) fs e is = first_of_more e _ _ is
+first_raw escaping place (flat_frame b) fs e is = first_of_more e _ _ is
+first_raw escaping place (flat_element h past) fs e is = first_of_more e _ _ is
 
 pub one_refused : (escaping : Escaping) (place : ℕ) (f : FlatNodeView) (fs : List FlatNodeView)
     (all : NodesView) (out start : List ℕ) (e : ExportFault) →
     RawLeft escaping (spelled_nodes place (f ∷ fs)) all out start →
-    IsFirst e (node_raw_faults escaping (node_with f none)) → IsFirst e (nodes_raw_faults escaping all)
+    IsFirst e (node_raw_faults escaping (node_with f none)) →
+    IsFirst e (nodes_raw_faults escaping all)
 one_refused escaping place f fs all out start e held is =
     subst (IsFirst e) held.clean (first_raw escaping place f fs e is)
 
@@ -80,14 +80,14 @@ module _ (escaping : Escaping) (names : NamesView) (nodes : List FlatNode) (firs
 
   pub child_written : (flat d : FlatNode) (new_out : List ℕ) → index < length nodes →
       flat ≡ get_or nodes index d → RawLeft escaping (left index) all out start →
-      new_out ≡ out ++ escaped_text escaping (node_raw_text (node_with (flat_node_view names flat) none)) →
-      node_raw_faults escaping (node_with (flat_node_view names flat) none) ≡ [] →
+      let child = node_with (flat_node_view names flat) none in
+      new_out ≡ out ++ escaped_text escaping (node_raw_text child) →
+      node_raw_faults escaping child ≡ [] →
       RawLeft escaping (left (index + 1)) all new_out start
   child_written flat d new_out below is held wrote clean =
-      subst (λ p. RawLeft escaping (spelled_nodes p (flat_nodes_view names (drop (index + 1) nodes)))
-      all new_out start) (omega arith)
-      (one_written escaping (first + index) (flat_node_view names flat)
-      (flat_nodes_view names (drop (index + 1) nodes)) all out start new_out
+      let others = flat_nodes_view names (drop (index + 1) nodes) in
+      subst (λ p. RawLeft escaping (spelled_nodes p others) all new_out start) (omega arith)
+      (one_written escaping (first + index) (flat_node_view names flat) others all out start new_out
       (subst (λ ns. RawLeft escaping ns all out start) (split flat d below is) held) wrote clean)
 
   pub child_refused : (flat d : FlatNode) (e : ExportFault) → index < length nodes →
@@ -100,10 +100,12 @@ module _ (escaping : Escaping) (names : NamesView) (nodes : List FlatNode) (firs
       (subst (λ ns. RawLeft escaping ns all out start) (split flat d below is) held) refused
 
   pub all_written : length nodes ≤ index → RawLeft escaping (left index) all out start →
-      (out ≡ start ++ escaped_text escaping (nodes_raw_text all)) × (nodes_raw_faults escaping all ≡ [])
+      (out ≡ start ++ escaped_text escaping (nodes_raw_text all))
+      × (nodes_raw_faults escaping all ≡ [])
   unfolding spelled_nodes
   all_written beyond held =
       let nothing : left index ≡ none
-      = ap (λ ns. spelled_nodes (first + index) (flat_nodes_view names ns)) (drop_all index nodes beyond) in
-      let h = subst (λ ns. RawLeft escaping ns all out start) nothing held in
-      (sym (append-nil out) ∙ h.told, sym h.clean)
+      = ap (λ ns. spelled_nodes (first + index) (flat_nodes_view names ns))
+      (drop_all index nodes beyond) in
+      let done = subst (λ ns. RawLeft escaping ns all out start) nothing held in
+      (sym (append-nil out) ∙ done.told, sym done.clean)

@@ -164,7 +164,8 @@ module _ (frames : Frames) where
         (nodes_text frames h.pre_span true (margin_inside margin h ns) ns)
 
     abbrev rest : Head → NodesView → List ℕ
-    rest h ns = if ends_at_once h then [] else (feed_text h ns ++ (inside h ns ++ end_tag_text h.name))
+    rest h ns =
+        if ends_at_once h then [] else (feed_text h ns ++ (inside h ns ++ end_tag_text h.name))
 
     abbrev rest_faults : Head → NodesView → List ExportFault
     rest_faults h ns = if ends_at_once h then void_faults h.span ns
@@ -236,7 +237,8 @@ module _ (frames : Frames) where
     content_read h ns s ms p q u l first i =
         let x : started h.name h.attrs s ≡ (if drops_feed h.name then Fresh (own h ∷ s)
         else Content [] (own h ∷ s)) = rw (p, q, u) refl in
-        let y : rest h ns ≡ feed_text h ns ++ (inside h ns ++ end_tag_text h.name) = rw (p, q) refl in
+        let y : rest h ns ≡ feed_text h ns ++ (inside h ns ++ end_tag_text h.name)
+        = rw (p, q) refl in
         ap (λ t. run t (rest h ns)) x
         ∙ (ap (run (if drops_feed h.name then Fresh (own h ∷ s) else Content [] (own h ∷ s))) y
         ∙ (fed (drops_feed h.name) (begins_with_feed ns) h ns s ms refl first i
@@ -434,5 +436,6 @@ module _ (frames : Frames) where
 pub reads_back : ReadsBack
 reads_back frames = (
   λ e named frameless no_faults. plain_reads_back frames e named frameless no_faults,
-  λ e named frameless ended_well no_faults. pretty_reads_back frames e named frameless ended_well no_faults,
+  λ e named frameless ended_well no_faults.
+      pretty_reads_back frames e named frameless ended_well no_faults,
 )

@@ -90,7 +90,8 @@ attr_more : (name : List ℕ) (attrs : List TextPair) (s : List Open) (xs : List
     is_attr_char c ≡ true → step (AttrName name attrs xs s) c ≡ AttrName name attrs (xs ++ c ∷ []) s
 attr_more name attrs s xs c h = rw h refl
 
-attr_first : (name : List ℕ) (attrs : List TextPair) (s : List Open) (c : ℕ) → is_attr_char c ≡ true →
+attr_first : (name : List ℕ) (attrs : List TextPair) (s : List Open) (c : ℕ) →
+    is_attr_char c ≡ true →
     step (Space name attrs s) c ≡ AttrName name attrs (c ∷ []) s
 attr_first name attrs s c h = rw h refl
 
@@ -134,7 +135,8 @@ name_close : (b : Bool) (name : List ℕ) (s : List Open) →
 name_close true name s = ap (λ t. run t (codes ">")) (name_ends name s 47 tag_47)
 name_close false name s = name_ends name s 62 tag_62
 
-attr_on : (name : List ℕ) (attrs : List TextPair) (n : List ℕ) (s : List Open) (ps : List TextPair) →
+attr_on : (name : List ℕ) (attrs : List TextPair) (n : List ℕ) (s : List Open)
+    (ps : List TextPair) →
     run (AttrName name attrs n s) (attrs_text ps ++ tag_close name)
     ≡ run (Quoted name (attrs ++ (n, []) ∷ []) s) (attrs_text ps ++ tag_close name)
 attr_on name attrs n s [] = attr_close (is_foreign_self_closing name) name attrs n s
@@ -150,7 +152,8 @@ name_on name s (p ∷ ps) = ap (λ t. run t ((p.0 ++ (value_text p.1 ++ attrs_te
     ++ tag_close name)) (name_ends name s 32 tag_32)
 
 -- a value, or none
-valued : (name : List ℕ) (attrs : List TextPair) (n v : List ℕ) (s : List Open) (ps : List TextPair) →
+valued : (name : List ℕ) (attrs : List TextPair) (n v : List ℕ) (s : List Open)
+    (ps : List TextPair) →
     all is_text_char v ≡ true → run (AttrName name attrs n s)
     (value_text v ++ (attrs_text ps ++ tag_close name))
     ≡ run (Quoted name (attrs ++ (n, v) ∷ []) s) (attrs_text ps ++ tag_close name)

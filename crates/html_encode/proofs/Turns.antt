@@ -12,7 +12,7 @@ use Rattle.html_encode.specs.Frames.{Frames}
 use Rattle.html_encode.specs.Layout.{indent_where, due_after, margin_inside}
 use Rattle.html_encode.specs.ReadingBack.{NodeIsNamed, NodesAreNamed}
 use Rattle.html_encode.specs.Text.{end_tag_text, node_text, nodes_text}
-use Rattle.html_encode.specs.Walk.{first_text, first_faults, FirstIsNamed, is_entered, node_is_entered, node_with, place_after, OpenView, opening, Rest, outside, inside, rest_open, rest_flat, RestEnds, outside_text, rest_text, rest_faults, RestIsNamed, rest_nodes, rest_with, next_pre_span, next_margin, next_has_indent, EndsLater, Stands}
+use Rattle.html_encode.specs.Walk.{first_text, first_faults, FirstIsNamed, is_entered, node_is_entered, node_with, place_after, OpenElementView, open_element, opening, Rest, outside, inside, rest_open, rest_flat, RestEnds, outside_text, rest_text, rest_faults, RestIsNamed, rest_nodes, rest_with, next_pre_span, next_margin, next_has_indent, EndsLater, Stands}
 use Rattle.html_encode.specs.declared.fault.ExportFault.{ExportFault}
 use Rattle.html_encode.specs.declared.layout.Margin.{Margin}
 use Rattle.html_flat.specs.Flat.{FlatNodeView, flat_tag, flat_text, flat_frame, flat_element, node_count, nodes_count, node_flat, nodes_flat, spelled_nodes}
@@ -53,7 +53,8 @@ count_children (frame_node f) = refl
 
 -- a node that comes next in a flat list
 
-pub record Comes (place : ℕ) (f : FlatNodeView) (fs others : List FlatNodeView) (n : NodeView) : Type 0 where
+pub record Comes (place : ℕ) (f : FlatNodeView) (fs others : List FlatNodeView) (n : NodeView)
+    : Type 0 where
   pub is : n ≡ node_with f (node_children n)
   pub flat : fs ≡ nodes_flat (place + 1) (node_children n) ++ others
   pub after : place_after place f ≡ place + node_count n
@@ -74,39 +75,29 @@ comes (frame_node g) place f fs others e =
     let is : f ≡ flat_frame g = cc in
     rw is (record { is = refl; flat = cc; after = refl })
 
--- the children of a node stand between it and the place after it
-pub children_taken : (place : ℕ) (f : FlatNodeView) (fs others : List FlatNodeView) (n : NodeView) →
-    Comes place f fs others n →
-    take (place_after place f - (place + 1)) fs ≡ nodes_flat (place + 1) (node_children n)
-children_taken place f fs others n c =
-    let inside = nodes_flat (place + 1) (node_children n) in
-    let some = count_children n in
-    let long = length_all (place + 1) (node_children n) in
-    let count : place_after place f - (place + 1) ≡ length inside = omega (arith, c.after, some, long) in
-    rw (count, c.flat) (take-append_seam inside others)
+module _ {place : ℕ} {f : FlatNodeView} {fs others : List FlatNodeView} {n : NodeView}
+    (c : Comes place f fs others n) where
+  abbrev inner : List FlatNodeView
+  inner = nodes_flat (place + 1) (node_children n)
 
-pub children_spelled : (place : ℕ) (f : FlatNodeView) (fs others : List FlatNodeView) (n : NodeView) →
-    Comes place f fs others n →
-    spelled_nodes (place + 1) (take (place_after place f - (place + 1)) fs) ≡ node_children n
-children_spelled place f fs others n c =
-    ap (spelled_nodes (place + 1)) (children_taken place f fs others n c)
-    ∙ spelled_flat (place + 1) (node_children n)
+  inner_count : place_after place f - (place + 1) ≡ length inner
+  inner_count =
+      let long = length_all (place + 1) (node_children n) in
+      omega (arith, c.after, count_children n, long)
 
-pub others_left : (place : ℕ) (f : FlatNodeView) (fs others : List FlatNodeView) (n : NodeView) →
-    Comes place f fs others n → drop (place_after place f - (place + 1)) fs ≡ others
-others_left place f fs others n c =
-    let inside = nodes_flat (place + 1) (node_children n) in
-    let some = count_children n in
-    let long = length_all (place + 1) (node_children n) in
-    let count : place_after place f - (place + 1) ≡ length inside = omega (arith, c.after, some, long) in
-    rw (count, c.flat) (drop-append_seam inside others)
+  -- the children of a node stand between it and the place after it
+  pub children_taken : take (place_after place f - (place + 1)) fs ≡ inner
+  children_taken = rw (inner_count, c.flat) (take-append_seam inner others)
 
-is_with_children : (f : FlatNodeView) (n : NodeView) (kids : NodesView) → kids ≡ node_children n →
-    n ≡ node_with f (node_children n) → n ≡ node_with f kids
-is_with_children f n kids e is = is ∙ ap (node_with f) (sym e)
+  pub children_spelled :
+      spelled_nodes (place + 1) (take (place_after place f - (place + 1)) fs) ≡ node_children n
+  children_spelled =
+      ap (spelled_nodes (place + 1)) children_taken ∙ spelled_flat (place + 1) (node_children n)
+
+  pub others_left : drop (place_after place f - (place + 1)) fs ≡ others
+  others_left = rw (inner_count, c.flat) (drop-append_seam inner others)
 
 -- what is left is not nothing, and its first node is that of the list
-
 pub next_node : (rest : Rest) (place : ℕ) (f : FlatNodeView) (fs : List FlatNodeView) →
     f ∷ fs ≡ rest_flat place rest → RestEnds place rest → EndsLater place (rest_open rest) →
     (n : NodeView) × (ns : NodesView) × (rest_nodes rest ≡ node n ns)
@@ -117,8 +108,55 @@ next_node (inside h past margin due none rest) place f fs e ends later =
     absurd (ends_now past place (omega (arith, ends.0)) later)
 next_node (inside h past margin due (node n ns) rest) place f fs e ends later = (n, ns, refl)
 
-module _ (frames : Frames) (outer : Margin) (whole : NodesView) (start : List ℕ) where
-  leaves_rest : (place : ℕ) (due : Bool) (o : OpenView) (os : List OpenView)
+-- what is written in a turn that comes to a node, and its faults
+abbrev pub turn_text : Frames → (outer : Margin) → List OpenElementView → (due : Bool)
+    → NodeView → List ℕ
+turn_text frames outer opened due n =
+    indent_where (next_has_indent opened due n) (next_margin outer opened).level
+    ++ first_text frames (next_pre_span opened) (next_margin outer opened) n
+
+abbrev pub turn_faults : Frames → (outer : Margin) → List OpenElementView → NodeView
+    → List ExportFault
+turn_faults frames outer opened n =
+    first_faults frames (next_pre_span opened) (next_margin outer opened).pretty n
+
+pub record WritesNode (frames : Frames) (outer : Margin) (opened : List OpenElementView)
+    (due : Bool) (n : NodeView) (text new_text : List ℕ) : Type 0 where
+  pub told : new_text ≡ text ++ turn_text frames outer opened due n
+  pub clean : turn_faults frames outer opened n ≡ []
+  pub named : FirstIsNamed n
+
+none_open : (place : ℕ) (rest : Rest) → [] ≡ rest_flat place rest → RestEnds place rest →
+    EndsLater place (rest_open rest) → rest_open rest ≡ []
+unfolding nodes_count
+none_open place (outside ns) flat_is ends later = refl
+none_open place (inside h past margin after ns rest) flat_is ends later =
+    let e = nothing_flat ns place
+    (left_empty (nodes_flat place ns) (rest_flat past rest) (sym flat_is)) in
+    let count = ap (λ ms. place + nodes_count ms) e in
+    absurd (ends_now past place (ends.0 ∙ count ∙ add-zero place) later)
+
+finished_rest : (frames : Frames) (outer : Margin) (whole : NodesView) (start : List ℕ)
+    (place : ℕ) (due : Bool) (text : List ℕ) (rest : Rest) → [] ≡ rest_open rest →
+    [] ≡ rest_flat place rest →
+    text ++ rest_text frames outer due rest ≡ start ++ outside_text frames outer whole →
+    rest_faults frames outer rest ≡ nodes_faults frames false outer.pretty whole →
+    (RestIsNamed rest → NodesAreNamed whole) →
+    (text ≡ start ++ outside_text frames outer whole)
+    × (nodes_faults frames false outer.pretty whole ≡ []) × NodesAreNamed whole
+unfolding nodes_faults NodesAreNamed
+finished_rest frames outer whole start place due text (inside h past margin after ns rest)
+    opened_are flat_is told clean named = cc
+finished_rest frames outer whole start place due text (outside ns)
+    opened_are flat_is told clean named =
+    let e = nothing_flat ns place (sym flat_is) in (
+      sym (append-nil text) ∙ rw e at told,
+      sym (rw e at clean),
+      named (subst NodesAreNamed (sym e) tt),
+    )
+
+module _ {frames : Frames} {outer : Margin} {whole : NodesView} {start : List ℕ} where
+  leaves_rest : (place : ℕ) (due : Bool) (o : OpenElementView) (os : List OpenElementView)
       (flat : List FlatNodeView) (text new_text : List ℕ) (rest : Rest) →
       o ∷ os ≡ rest_open rest → flat ≡ rest_flat place rest → RestEnds place rest →
       text ++ rest_text frames outer due rest ≡ start ++ outside_text frames outer whole →
@@ -132,12 +170,12 @@ module _ (frames : Frames) (outer : Margin) (whole : NodesView) (start : List �
       opened_are flat_is ends told clean named here wrote = cc
   leaves_rest place due o os flat text new_text (inside h past margin after (node n ns) rest)
       opened_are flat_is ends told clean named here wrote =
-      let is : o ≡ record { name = h.name; pre_span = h.pre_span; past = past; margin = margin; due_after = after } = cc in
+      let is : o ≡ open_element h past margin after = cc in
       let at : past ≡ place = sym (ap (λ x. x.past) is) ∙ here in
       absurd (omega (arith, at, ends.0, count_some n))
   leaves_rest place due o os flat text new_text (inside h past margin after none rest)
       opened_are flat_is ends told clean named here wrote =
-      let is : o ≡ record { name = h.name; pre_span = h.pre_span; past = past; margin = margin; due_after = after } = cc in
+      let is : o ≡ open_element h past margin after = cc in
       let others : os ≡ rest_open rest = cc in
       let at : past ≡ place = sym (ap (λ x. x.past) is) ∙ here in
       record {
@@ -151,56 +189,33 @@ module _ (frames : Frames) (outer : Margin) (whole : NodesView) (start : List �
       }
 
   -- the walk leaves the innermost open element
-  pub leaves : (place : ℕ) (due : Bool) (o : OpenView) (os : List OpenView)
-      (flat : List FlatNodeView) (text new_text : List ℕ) →
-      Stands frames outer whole start place due (o ∷ os) flat text → o.past ≡ place →
+  pub leaves : {place : ℕ} {due : Bool} {opened : List OpenElementView} {o : OpenElementView}
+      {os : List OpenElementView} {flat : List FlatNodeView} {text new_text : List ℕ} →
+      Stands frames outer whole start place due opened flat text → opened ≡ o ∷ os →
+      o.past ≡ place →
       new_text ≡ text ++ (indent_where o.margin.pretty o.margin.level ++ end_tag_text o.name) →
       Stands frames outer whole start place o.due_after os flat new_text
-  leaves place due o os flat text new_text s here wrote =
-      leaves_rest place due o os flat text new_text s.rest s.opened_are s.flat_is s.ends s.told s.clean s.named here wrote
+  leaves s first here wrote =
+      leaves_rest _ _ _ _ _ _ _ s.rest (sym first ∙ s.opened_are) s.flat_is s.ends s.told s.clean
+      s.named here wrote
 
-  finished_rest : (place : ℕ) (due : Bool) (text : List ℕ) (rest : Rest) → [] ≡ rest_open rest →
-      [] ≡ rest_flat place rest →
-      text ++ rest_text frames outer due rest ≡ start ++ outside_text frames outer whole →
-      rest_faults frames outer rest ≡ nodes_faults frames false outer.pretty whole →
-      (RestIsNamed rest → NodesAreNamed whole) →
-      (text ≡ start ++ outside_text frames outer whole)
-      × (nodes_faults frames false outer.pretty whole ≡ []) × NodesAreNamed whole
-  unfolding nodes_faults NodesAreNamed
-  finished_rest place due text (inside h past margin after ns rest) opened_are flat_is told clean named = cc
-  finished_rest place due text (outside ns) opened_are flat_is told clean named =
-      let e = nothing_flat ns place (sym flat_is) in
-      (sym (append-nil text) ∙ rw e at told, sym (rw e at clean), named (subst NodesAreNamed (sym e) tt))
-
-  -- nothing is left
-  pub finished : (place : ℕ) (due : Bool) (text : List ℕ) →
-      Stands frames outer whole start place due [] [] text →
-      (text ≡ start ++ outside_text frames outer whole)
-      × (nodes_faults frames false outer.pretty whole ≡ []) × NodesAreNamed whole
-  finished place due text s =
-      finished_rest place due text s.rest s.opened_are s.flat_is s.told s.clean s.named
-
-  none_open : (place : ℕ) (rest : Rest) → [] ≡ rest_flat place rest → RestEnds place rest →
-      EndsLater place (rest_open rest) → rest_open rest ≡ []
-  unfolding nodes_count
-  none_open place (outside ns) flat_is ends later = refl
-  none_open place (inside h past margin after ns rest) flat_is ends later =
-      let e = nothing_flat ns place (left_empty (nodes_flat place ns) (rest_flat past rest) (sym flat_is)) in
-      absurd (ends_now past place (ends.0 ∙ ap (λ ms. place + nodes_count ms) e ∙ add-zero place) later)
-
-  -- at the end of the list no element is open that does not end there
-  pub none_left : (place : ℕ) (due : Bool) (opened : List OpenView) (text : List ℕ) →
+  -- nothing is left at the end of the list, where no element is open that does not end there
+  pub finished : {place : ℕ} {due : Bool} {opened : List OpenElementView} {text : List ℕ} →
       Stands frames outer whole start place due opened [] text → EndsLater place opened →
-      opened ≡ []
-  none_left place due opened text s later =
-      s.opened_are ∙ none_open place s.rest s.flat_is s.ends (subst (EndsLater place) s.opened_are later)
+      (text ≡ start ++ outside_text frames outer whole)
+      × (nodes_faults frames false outer.pretty whole ≡ []) × NodesAreNamed whole
+  finished {place} s later =
+      let none_left = none_open place s.rest s.flat_is s.ends
+      (subst (EndsLater place) s.opened_are later) in
+      finished_rest _ _ _ _ _ _ _ s.rest (sym none_left) s.flat_is s.told s.clean s.named
 
   -- the walk comes to a node of the list
-  module _ (place : ℕ) (due : Bool) (opened : List OpenView) (f : FlatNodeView)
-      (fs : List FlatNodeView) (text : List ℕ) (kids : NodesView)
+  module _ {place : ℕ} {due : Bool} {opened : List OpenElementView} {f : FlatNodeView}
+      {fs : List FlatNodeView} {text : List ℕ} {kids : NodesView}
       (stands : Stands frames outer whole start place due opened (f ∷ fs) text)
       (later : EndsLater place opened)
-      (kids_are : kids ≡ spelled_nodes (place + 1) (take (place_after place f - (place + 1)) fs)) where
+      (kids_are : kids ≡ spelled_nodes (place + 1) (take (place_after place f - (place + 1)) fs))
+      where
     abbrev here : NodeView
     here = node_with f kids
 
@@ -210,7 +225,8 @@ module _ (frames : Frames) (outer : Margin) (whole : NodesView) (start : List �
     record Next : Type 0 where
       others : NodesView
       first : rest_nodes stands.rest ≡ node here others
-      comes_is : Comes place f fs (rest_flat (place + node_count here) (rest_with others stands.rest)) here
+      comes_is : let left = rest_flat (place + node_count here) (rest_with others stands.rest) in
+          Comes place f fs left here
 
     next : Next
     next =
@@ -218,24 +234,25 @@ module _ (frames : Frames) (outer : Margin) (whole : NodesView) (start : List �
         (subst (EndsLater place) stands.opened_are later) in
         let flat = stands.flat_is
         ∙ rest_flat_first frames outer found.0 found.1 stands.rest place found.2 in
-        let others = rest_flat (place + node_count found.0) (rest_with found.1 stands.rest) in
-        let c = comes found.0 place f fs others flat in
-        let kids_there = kids_are ∙ children_spelled place f fs others found.0 c in
-        let is : found.0 ≡ here = is_with_children f found.0 kids kids_there c.is in
+        let left = λ (n : NodeView). rest_flat (place + node_count n) (rest_with found.1 stands.rest) in
+        let c = comes found.0 place f fs (left found.0) flat in
+        let kids_there = kids_are ∙ children_spelled c in
+        let is : found.0 ≡ here = c.is ∙ ap (node_with f) (sym kids_there) in
         record {
           others = found.1;
           first = found.2 ∙ ap (λ n. node n found.1) is;
-          comes_is = subst (λ n. Comes place f fs (rest_flat (place + node_count n) (rest_with found.1 stands.rest)) n) is c;
+          comes_is = subst (λ n. Comes place f fs (left n) n) is c;
         }
 
     pub place_is : after ≡ place + node_count here
     place_is = next.comes_is.after
 
-    left_are : drop (after - (place + 1)) fs ≡ rest_flat after (rest_with next.others stands.rest)
-    left_are =
-        let others = rest_flat (place + node_count here) (rest_with next.others stands.rest) in
-        others_left place f fs others here next.comes_is
-        ∙ ap (λ p. rest_flat p (rest_with next.others stands.rest)) (sym place_is)
+    -- the rest behind the node
+    abbrev left : Rest
+    left = rest_with next.others stands.rest
+
+    left_are : drop (after - (place + 1)) fs ≡ rest_flat after left
+    left_are = others_left next.comes_is ∙ ap (λ p. rest_flat p left) (sym place_is)
 
     abbrev margin : Margin
     margin = next_margin outer opened
@@ -243,98 +260,105 @@ module _ (frames : Frames) (outer : Margin) (whole : NodesView) (start : List �
     -- the text before the node's own, and the text after it
     text_left : text ++ (indent_where (next_has_indent opened due here) margin.level
         ++ (node_text frames (next_pre_span opened) margin here
-        ++ rest_text frames outer (due_after due here) (rest_with next.others stands.rest)))
+        ++ rest_text frames outer (due_after due here) left))
         ≡ start ++ outside_text frames outer whole
     text_left =
-        let left = rest_text frames outer (due_after due here) (rest_with next.others stands.rest) in
-        subst (λ os. text ++ (indent_where (next_has_indent os due here) (next_margin outer os).level
-        ++ (node_text frames (next_pre_span os) (next_margin outer os) here ++ left))
+        let behind = rest_text frames outer (due_after due here) left in
+        let first = rest_text_first frames outer here next.others stands.rest due next.first in
+        subst (λ os. text
+        ++ (indent_where (next_has_indent os due here) (next_margin outer os).level
+        ++ (node_text frames (next_pre_span os) (next_margin outer os) here ++ behind))
         ≡ start ++ outside_text frames outer whole) (sym stands.opened_are)
-        (ap (λ t. text ++ t) (sym (rest_text_first frames outer here next.others stands.rest due next.first)) ∙ stands.told)
+        (ap (λ t. text ++ t) (sym first) ∙ stands.told)
 
     faults_left : node_faults frames (next_pre_span opened) margin.pretty here
-        ++ rest_faults frames outer (rest_with next.others stands.rest)
+        ++ rest_faults frames outer left
         ≡ nodes_faults frames false outer.pretty whole
     faults_left =
-        let left = rest_faults frames outer (rest_with next.others stands.rest) in
-        subst (λ os. node_faults frames (next_pre_span os) (next_margin outer os).pretty here ++ left
-        ≡ nodes_faults frames false outer.pretty whole) (sym stands.opened_are)
-        (sym (rest_faults_first frames outer here next.others stands.rest next.first) ∙ stands.clean)
+        let first = rest_faults_first frames outer here next.others stands.rest next.first in
+        subst (λ os. node_faults frames (next_pre_span os) (next_margin outer os).pretty here
+        ++ rest_faults frames outer left ≡ nodes_faults frames false outer.pretty whole)
+        (sym stands.opened_are) (sym first ∙ stands.clean)
 
-    opened_after : opened ≡ rest_open (rest_with next.others stands.rest)
+    opened_after : opened ≡ rest_open left
     opened_after = stands.opened_are ∙ sym (rest_open_with next.others stands.rest)
 
-    ends_after : RestEnds after (rest_with next.others stands.rest)
-    ends_after = subst (λ p. RestEnds p (rest_with next.others stands.rest)) (sym place_is)
+    ends_after : RestEnds after left
+    ends_after = subst (λ p. RestEnds p left) (sym place_is)
         (rest_ends_after frames outer here next.others stands.rest place next.first stands.ends)
 
+    named_after : NodeIsNamed here → RestIsNamed left → NodesAreNamed whole
+    named_after one others = stands.named
+        (rest_named_first frames outer here next.others stands.rest next.first one others)
+
     -- a node that is written whole
-    pub passes : (new_text : List ℕ) → node_is_entered here ≡ false →
-        new_text ≡ text ++ (indent_where (next_has_indent opened due here) margin.level
-        ++ first_text frames (next_pre_span opened) margin here) →
-        first_faults frames (next_pre_span opened) margin.pretty here ≡ [] → FirstIsNamed here →
+    pub passes : {new_text : List ℕ} → node_is_entered here ≡ false →
+        WritesNode frames outer opened due here text new_text →
         Stands frames outer whole start after (due_after due here) opened
         (drop (after - (place + 1)) fs) new_text
-    passes new_text skipped wrote clean named =
-        let one_text = skipped_text frames (next_pre_span opened) margin here skipped in
-        let one_faults = skipped_faults frames (next_pre_span opened) margin.pretty here skipped in
+    passes skipped w =
+        let pre_span = next_pre_span opened in
+        let one_text = skipped_text frames pre_span margin here skipped in
+        let one_faults = skipped_faults frames pre_span margin.pretty here skipped in
         record {
-          rest = rest_with next.others stands.rest;
+          rest = left;
           opened_are = opened_after;
           flat_is = left_are;
           ends = ends_after;
-          told = rw (wrote, append_assoc, append_assoc) (rw one_text at text_left);
-          clean = rw (one_faults, clean) at faults_left;
-          named = λ r. stands.named (rest_named_first frames outer here next.others stands.rest next.first
-              (skipped_named frames (next_pre_span opened) margin.pretty here skipped named clean) r);
+          told = rw (w.told, append_assoc, append_assoc) (rw one_text at text_left);
+          clean = rw (one_faults, w.clean) at faults_left;
+          named = named_after
+              (skipped_named frames pre_span margin.pretty here skipped w.named w.clean);
         }
 
     -- a fault of a node is the first that is left
-    pub refused : (e : ExportFault) → IsFirst e (first_faults frames (next_pre_span opened) margin.pretty here) →
+    pub refused : (e : ExportFault) → IsFirst e (turn_faults frames outer opened here) →
         IsFirst e (nodes_faults frames false outer.pretty whole)
     refused e is =
-        let left = rest_faults frames outer (rest_with next.others stands.rest) in
-        subst (IsFirst e) faults_left (first_of_more e (node_faults frames (next_pre_span opened) margin.pretty here) left
-        (first_in_node frames (next_pre_span opened) margin.pretty here e is))
+        let pre_span = next_pre_span opened in
+        let one = first_in_node frames pre_span margin.pretty here e is in
+        subst (IsFirst e) faults_left
+        (first_of_more e (node_faults frames pre_span margin.pretty here) _ one)
 
   -- the walk enters an element of the list
-  module _ (place : ℕ) (due : Bool) (opened : List OpenView) (h : Head) (past : ℕ)
-      (fs : List FlatNodeView) (text : List ℕ) (kids : NodesView)
+  module _ {place : ℕ} {due : Bool} {opened : List OpenElementView} {h : Head} {past : ℕ}
+      {fs : List FlatNodeView} {text : List ℕ} {kids : NodesView}
       (stands : Stands frames outer whole start place due opened (flat_element h past ∷ fs) text)
       (later : EndsLater place opened)
       (kids_are : kids ≡ spelled_nodes (place + 1) (take (past - (place + 1)) fs)) where
     abbrev element : NodeView
     element = element_node h kids
 
-    pub enters : (new_text : List ℕ) → is_entered h ≡ true →
-        new_text ≡ text ++ (indent_where (next_has_indent opened due element) (next_margin outer opened).level
-        ++ first_text frames (next_pre_span opened) (next_margin outer opened) element) →
-        first_faults frames (next_pre_span opened) (next_margin outer opened).pretty element ≡ [] →
-        FirstIsNamed element →
-        Stands frames outer whole start (place + 1) true (opening h past kids (next_margin outer opened) due ∷ opened) fs new_text
+    pub enters : {new_text : List ℕ} → is_entered h ≡ true →
+        WritesNode frames outer opened due element text new_text →
+        Stands frames outer whole start (place + 1) true
+        (opening h past kids (next_margin outer opened) due ∷ opened) fs new_text
     unfolding NodeIsNamed
-    enters new_text entered wrote clean named =
-        let next_is = next place due opened (flat_element h past) fs text kids stands later kids_are in
+    enters {new_text} entered w =
+        let next_is = next stands later kids_are in
         let m = next_margin outer opened in
         let one_text = entered_text frames (next_pre_span opened) m h kids entered in
         let one_faults = entered_faults frames (next_pre_span opened) m.pretty h kids entered in
-        let texts = text_left place due opened (flat_element h past) fs text kids stands later kids_are in
-        let faults = faults_left place due opened (flat_element h past) fs text kids stands later kids_are in
         let others = rest_with next_is.others stands.rest in
-        let ends = ends_after place due opened (flat_element h past) fs text kids stands later kids_are in
+        let texts = text_left stands later kids_are in
+        let faults = faults_left stands later kids_are in
         record {
           rest = inside h past (margin_inside m h kids) (due_after due element) kids others;
           opened_are = ap (λ os. opening h past kids m due ∷ os)
-              (opened_after place due opened (flat_element h past) fs text kids stands later kids_are);
+              (opened_after stands later kids_are);
           flat_is = next_is.comes_is.flat
-              ∙ ap (λ p. nodes_flat (place + 1) kids ++ rest_flat p others) (sym next_is.comes_is.after);
-          ends = (omega (arith, next_is.comes_is.after, count_children element), ends);
+              ∙ ap (λ p. nodes_flat (place + 1) kids ++ rest_flat p others)
+              (sym next_is.comes_is.after);
+          ends = (
+            omega (arith, next_is.comes_is.after, count_children element),
+            ends_after stands later kids_are,
+          );
           told = begun text (indent_where (next_has_indent opened due element) m.level)
               (first_text frames (next_pre_span opened) m element)
-              (nodes_text frames h.pre_span true (margin_inside m h kids) kids) (end_tag_text h.name)
-              (rest_text frames outer (due_after due element) others) new_text
-              (start ++ outside_text frames outer whole) wrote (rw one_text at texts);
-          clean = rw (one_faults, clean) at faults;
-          named = λ r. stands.named (rest_named_first frames outer element next_is.others stands.rest
-              next_is.first (named, r.0) r.1);
+              (nodes_text frames h.pre_span true (margin_inside m h kids) kids)
+              (end_tag_text h.name) (rest_text frames outer (due_after due element) others) new_text
+              (start ++ outside_text frames outer whole) w.told
+              (rw one_text at texts);
+          clean = rw (one_faults, w.clean) at faults;
+          named = λ r. named_after stands later kids_are (w.named, r.0) r.1;
         }

@@ -22,66 +22,33 @@ use Rattle.html_flat.specs.Flat.{FlatNodeView, node_count, nodes_count, node_fla
 
 -- a node that the walk enters, and one that it does not
 
-by_cases_entered : (once : Bool) (kind : ContentKind) (start feed raw escapable inner end : List ℕ) →
-    (not once && by_kind kind false false true) ≡ true →
-    start ++ (if once then [] else (feed ++ (by_kind kind raw escapable inner ++ end)))
-    ≡ (start ++ (if once then [] else (feed ++ by_kind kind (raw ++ end) (escapable ++ end) [])))
-    ++ (inner ++ end)
-by_cases_entered true kind start feed raw escapable inner end e = cc
-by_cases_entered false Raw start feed raw escapable inner end e = cc
-by_cases_entered false EscapableRaw start feed raw escapable inner end e = cc
-by_cases_entered false Nodes start feed raw escapable inner end e =
-    rw (append-nil feed, append_assoc) refl
+-- the walk enters an element of nodes that is more than its start tag
+entered_is : (once : Bool) (kind : ContentKind) →
+    (not once && by_kind kind false false true) ≡ true → (once ≡ false) × (kind ≡ Nodes)
+entered_is true kind e = cc
+entered_is false Raw e = cc
+entered_is false EscapableRaw e = cc
+entered_is false Nodes e = (refl, refl)
 
-by_cases_skipped : (once : Bool) (kind : ContentKind) (start feed raw escapable inner end : List ℕ) →
-    (not once && by_kind kind false false true) ≡ false →
-    start ++ (if once then [] else (feed ++ (by_kind kind raw escapable inner ++ end)))
-    ≡ start ++ (if once then [] else (feed ++ by_kind kind (raw ++ end) (escapable ++ end) []))
-by_cases_skipped true kind start feed raw escapable inner end e = refl
-by_cases_skipped false Raw start feed raw escapable inner end e = refl
-by_cases_skipped false EscapableRaw start feed raw escapable inner end e = refl
-by_cases_skipped false Nodes start feed raw escapable inner end e = cc
+-- what holds of all elements that it does not enter
+when_skipped : (P : Bool → ContentKind → Type 0) → ((kind : ContentKind) → P true kind) →
+    P false Raw → P false EscapableRaw → (once : Bool) (kind : ContentKind) →
+    (not once && by_kind kind false false true) ≡ false → P once kind
+when_skipped P at_once raw escapable true kind e = at_once kind
+when_skipped P at_once raw escapable false Raw e = raw
+when_skipped P at_once raw escapable false EscapableRaw e = escapable
+when_skipped P at_once raw escapable false Nodes e = cc
 
-fault_cases_entered : (once : Bool) (kind : ContentKind)
-    (attrs empty raw escapable inner : List ExportFault) →
-    (not once && by_kind kind false false true) ≡ true →
-    attrs ++ (if once then empty else by_kind kind raw escapable inner)
-    ≡ (attrs ++ (if once then empty else by_kind kind raw escapable [])) ++ inner
-fault_cases_entered true kind attrs empty raw escapable inner e = cc
-fault_cases_entered false Raw attrs empty raw escapable inner e = cc
-fault_cases_entered false EscapableRaw attrs empty raw escapable inner e = cc
-fault_cases_entered false Nodes attrs empty raw escapable inner e = rw (append-nil attrs) refl
-
-fault_cases_skipped : (once : Bool) (kind : ContentKind)
-    (attrs empty raw escapable inner : List ExportFault) →
-    (not once && by_kind kind false false true) ≡ false →
-    attrs ++ (if once then empty else by_kind kind raw escapable inner)
-    ≡ attrs ++ (if once then empty else by_kind kind raw escapable [])
-fault_cases_skipped true kind attrs empty raw escapable inner e = refl
-fault_cases_skipped false Raw attrs empty raw escapable inner e = refl
-fault_cases_skipped false EscapableRaw attrs empty raw escapable inner e = refl
-fault_cases_skipped false Nodes attrs empty raw escapable inner e = cc
-
-named_cases : (once : Bool) (kind : ContentKind) (h : Head) (ns : NodesView) →
-    (not once && by_kind kind false false true) ≡ false →
-    (if once then void_faults h.span ns else by_kind kind (raw_content_faults h ns)
-    (nodes_raw_faults escaping.Text ns) []) ≡ [] →
-    NodesAreNamed ns
-named_cases true kind h ns e clean = childless_named h.span ns clean
-named_cases false Raw h ns e clean = raw_content_named h ns clean
-named_cases false EscapableRaw h ns e clean = texts_named escaping.Text ns clean
-named_cases false Nodes h ns e clean = cc
-
-pub entered_text : (frames : Frames) (pre_span : Bool) (margin : Margin) (h : Head) (ns : NodesView) →
-    is_entered h ≡ true →
+pub entered_text : (frames : Frames) (pre_span : Bool) (margin : Margin) (h : Head)
+    (ns : NodesView) → is_entered h ≡ true →
     node_text frames pre_span margin (element_node h ns)
     ≡ first_text frames pre_span margin (element_node h ns)
     ++ (nodes_text frames h.pre_span true (margin_inside margin h ns) ns ++ end_tag_text h.name)
 unfolding node_text
 entered_text frames pre_span margin h ns e =
-    by_cases_entered (ends_at_once h) (content_kind h.name) (start_tag_text h) (feed_text h ns)
-    (raw_text margin h (nodes_raw_text ns)) (escaped_text escaping.Text (nodes_raw_text ns))
-    (nodes_text frames h.pre_span true (margin_inside margin h ns) ns) (end_tag_text h.name) e
+    let is = entered_is (ends_at_once h) (content_kind h.name) e in
+    rw (is.0, is.1, append-nil (feed_text h ns))
+    (sym (append_assoc (start_tag_text h) (feed_text h ns) _))
 
 pub entered_faults : (frames : Frames) (pre_span pretty : Bool) (h : Head) (ns : NodesView) →
     is_entered h ≡ true →
@@ -90,9 +57,8 @@ pub entered_faults : (frames : Frames) (pre_span pretty : Bool) (h : Head) (ns :
     ++ nodes_faults frames h.pre_span (pretty && is_pretty_inside h ns) ns
 unfolding node_faults
 entered_faults frames pre_span pretty h ns e =
-    fault_cases_entered (ends_at_once h) (content_kind h.name) (attrs_faults h.span h.attrs)
-    (void_faults h.span ns) (raw_content_faults h ns) (nodes_raw_faults escaping.Text ns)
-    (nodes_faults frames h.pre_span (pretty && is_pretty_inside h ns) ns) e
+    let is = entered_is (ends_at_once h) (content_kind h.name) e in
+    rw (is.0, is.1, append-nil) refl
 
 pub skipped_text : (frames : Frames) (pre_span : Bool) (margin : Margin) (n : NodeView) →
     node_is_entered n ≡ false →
@@ -101,9 +67,15 @@ unfolding node_text
 skipped_text frames pre_span margin (tag_node t) e = refl
 skipped_text frames pre_span margin (text_node s span) e = refl
 skipped_text frames pre_span margin (element_node h ns) e =
-    by_cases_skipped (ends_at_once h) (content_kind h.name) (start_tag_text h) (feed_text h ns)
-    (raw_text margin h (nodes_raw_text ns)) (escaped_text escaping.Text (nodes_raw_text ns))
-    (nodes_text frames h.pre_span true (margin_inside margin h ns) ns) (end_tag_text h.name) e
+    let raw = raw_text margin h (nodes_raw_text ns) in
+    let escapable = escaped_text escaping.Text (nodes_raw_text ns) in
+    let inner = nodes_text frames h.pre_span true (margin_inside margin h ns) ns in
+    let end = end_tag_text h.name in
+    when_skipped (λ once kind. start_tag_text h
+    ++ (if once then [] else (feed_text h ns ++ (by_kind kind raw escapable inner ++ end)))
+    ≡ start_tag_text h
+    ++ (if once then [] else (feed_text h ns ++ by_kind kind (raw ++ end) (escapable ++ end) [])))
+    (λ kind. refl) refl refl (ends_at_once h) (content_kind h.name) e
 skipped_text frames pre_span margin (frame_node f) e = refl
 
 pub skipped_faults : (frames : Frames) (pre_span pretty : Bool) (n : NodeView) →
@@ -113,9 +85,14 @@ unfolding node_faults
 skipped_faults frames pre_span pretty (tag_node t) e = refl
 skipped_faults frames pre_span pretty (text_node s span) e = refl
 skipped_faults frames pre_span pretty (element_node h ns) e =
-    fault_cases_skipped (ends_at_once h) (content_kind h.name) (attrs_faults h.span h.attrs)
-    (void_faults h.span ns) (raw_content_faults h ns) (nodes_raw_faults escaping.Text ns)
-    (nodes_faults frames h.pre_span (pretty && is_pretty_inside h ns) ns) e
+    let empty = void_faults h.span ns in
+    let raw = raw_content_faults h ns in
+    let escapable = nodes_raw_faults escaping.Text ns in
+    let inner = nodes_faults frames h.pre_span (pretty && is_pretty_inside h ns) ns in
+    when_skipped (λ once kind.
+    attrs_faults h.span h.attrs ++ (if once then empty else by_kind kind raw escapable inner)
+    ≡ attrs_faults h.span h.attrs ++ (if once then empty else by_kind kind raw escapable []))
+    (λ kind. refl) refl refl (ends_at_once h) (content_kind h.name) e
 skipped_faults frames pre_span pretty (frame_node f) e = refl
 
 pub skipped_named : (frames : Frames) (pre_span pretty : Bool) (n : NodeView) →
@@ -126,13 +103,17 @@ skipped_named frames pre_span pretty (tag_node t) e named clean = tt
 skipped_named frames pre_span pretty (text_node s span) e named clean = tt
 skipped_named frames pre_span pretty (element_node h ns) e named clean = (
   named,
-  named_cases (ends_at_once h) (content_kind h.name) h ns e
+  when_skipped (λ once kind. (if once then void_faults h.span ns
+      else by_kind kind (raw_content_faults h ns) (nodes_raw_faults escaping.Text ns) []) ≡ [] →
+      NodesAreNamed ns) (λ kind. childless_named h.span ns) (raw_content_named h ns)
+      (texts_named escaping.Text ns) (ends_at_once h) (content_kind h.name) e
       (right_empty (attrs_faults h.span h.attrs) _ clean),
 )
 skipped_named frames pre_span pretty (frame_node f) e named clean = tt
 
-first_in_element : (frames : Frames) (pre_span pretty : Bool) (h : Head) (ns : NodesView) (e : ExportFault)
-    (b : Bool) → is_entered h ≡ b → IsFirst e (first_faults frames pre_span pretty (element_node h ns)) →
+first_in_element : (frames : Frames) (pre_span pretty : Bool) (h : Head) (ns : NodesView)
+    (e : ExportFault) (b : Bool) → is_entered h ≡ b →
+    IsFirst e (first_faults frames pre_span pretty (element_node h ns)) →
     IsFirst e (node_faults frames pre_span pretty (element_node h ns))
 first_in_element frames pre_span pretty h ns e true entered is =
     subst (IsFirst e) (sym (entered_faults frames pre_span pretty h ns entered))
@@ -175,7 +156,8 @@ module _ (frames : Frames) (outer : Margin) (n : NodeView) (ns : NodesView) wher
   unfolding nodes_count
   rest_ends_after (outside ms) place e ends = tt
   rest_ends_after (inside h past margin due ms rest) place e ends = (
-    ends.0 ∙ (ap (λ xs. place + nodes_count xs) e ∙ sym (add_assoc place (node_count n) (nodes_count ns))),
+    ends.0 ∙ ap (λ xs. place + nodes_count xs) e
+        ∙ sym (add_assoc place (node_count n) (nodes_count ns)),
     ends.1,
   )
 
@@ -218,14 +200,17 @@ rest_open_with ns (inside h past margin due ms rest) = refl
 module _ (frames : Frames) (margin : Margin) (h : Head) (kids ns : NodesView)
     (is : ns ≡ node (element_node h kids) none) where
   pub root_writes : (r : Result (Unit {0}) ExportFault) (old new : List ℕ) →
-      Writes r old new (outside_text frames margin ns) (nodes_faults frames false margin.pretty ns) →
-      Writes r old new (element_text frames margin (h, kids)) (element_faults frames margin.pretty (h, kids))
+      Writes r old new (outside_text frames margin ns)
+      (nodes_faults frames false margin.pretty ns) →
+      Writes r old new (element_text frames margin (h, kids))
+      (element_faults frames margin.pretty (h, kids))
   unfolding nodes_faults
   root_writes r old new w =
       let text : outside_text frames margin ns ≡ element_text frames margin (h, kids)
-      = ap (outside_text frames margin) is ∙ append-nil (element_text frames margin (h, kids)) in
-      let faults : nodes_faults frames false margin.pretty ns ≡ element_faults frames margin.pretty (h, kids)
-      = ap (nodes_faults frames false margin.pretty) is ∙ append-nil (element_faults frames margin.pretty (h, kids)) in
+      = ap (outside_text frames margin) is ∙ append-nil _ in
+      let faults : nodes_faults frames false margin.pretty ns
+      ≡ element_faults frames margin.pretty (h, kids)
+      = ap (nodes_faults frames false margin.pretty) is ∙ append-nil _ in
       subst (λ fs. Writes r old new (element_text frames margin (h, kids)) fs) faults
       (subst (λ t. Writes r old new t (nodes_faults frames false margin.pretty ns)) text w)
 

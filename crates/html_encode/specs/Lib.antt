@@ -6,7 +6,7 @@ pub mod Frames
 pub mod Indented
 pub mod IndentsCollapse
 pub mod Layout
-pub mod Opens
+pub mod OpenElements
 pub mod ReadingBack
 pub mod Reader
 pub mod References

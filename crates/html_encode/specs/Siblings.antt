@@ -42,7 +42,8 @@ abbrev pub IsSpelling : (place : ℕ) → List FlatNodeView → Type 0
 IsSpelling place fs = nodes_flat place (spelled_nodes place fs) ≡ fs
 
 -- the node that stands at a place of a list, by that table
-pub record IsNodeAt (names : NamesView) (nodes : List FlatNode) (place : ℕ) (n : Node) : Type 0 where
+pub record IsNodeAt (names : NamesView) (nodes : List FlatNode) (place : ℕ) (n : Node)
+    : Type 0 where
   pub list : flat_nodes_view names (drop place nodes)
       ≡ node_flat_view n ∷ flat_nodes_view names (drop (place + 1) nodes)
   pub past : n.past ≡ place_after place (node_flat_view n)

@@ -76,24 +76,28 @@ place_after place (flat_text s span) = place + 1
 place_after place (flat_frame f) = place + 1
 place_after place (flat_element h past) = past
 
--- an element that the walk has entered and not left: where it ends, the margin of what stands in it,
--- and whether an indent is due after it
-pub record OpenView : Type 0 where
+-- an element that the walk has entered and not left: where it ends, the margin of what stands in
+-- it, and whether an indent is due after it
+pub record OpenElementView : Type 0 where
   pub name : List ℕ
   pub pre_span : Bool
   pub past : ℕ
   pub margin : Margin
   pub due_after : Bool
 
--- an element of that head, end and children when the walk has entered it at a margin
-abbrev pub opening : Head → (past : ℕ) → NodesView → Margin → (due : Bool) → OpenView
-opening h past ns margin due = record {
+abbrev pub open_element : Head → (past : ℕ) → Margin → (due_after : Bool) → OpenElementView
+open_element h past margin due_after = record {
   name = h.name;
   pre_span = h.pre_span;
   past = past;
-  margin = margin_inside margin h ns;
-  due_after = due_after due (element_node h ns);
+  margin = margin;
+  due_after = due_after;
 }
+
+-- an element of that head, end and children when the walk has entered it at a margin
+abbrev pub opening : Head → (past : ℕ) → NodesView → Margin → (due : Bool) → OpenElementView
+opening h past ns margin due =
+    open_element h past (margin_inside margin h ns) (due_after due (element_node h ns))
 
 -- what is left of a tree: nodes inside the innermost open element, and what is left outside of it
 pub data Rest : Type 0 where
@@ -101,16 +105,10 @@ pub data Rest : Type 0 where
   inside : (head : Head) (past : ℕ) (margin : Margin) (due_after : Bool) → NodesView → Rest → Rest
 
 -- the open elements, the innermost first
-abbrev pub rest_open : Rest → List OpenView
+abbrev pub rest_open : Rest → List OpenElementView
 rest_open (outside ns) = []
 rest_open (inside h past margin due_after ns rest) =
-    record {
-      name = h.name;
-      pre_span = h.pre_span;
-      past = past;
-      margin = margin;
-      due_after = due_after;
-    } ∷ rest_open rest
+    open_element h past margin due_after ∷ rest_open rest
 
 -- the nodes in the order of writing, of which the first stands at that place
 abbrev pub rest_flat : (place : ℕ) → Rest → List FlatNodeView
@@ -158,27 +156,28 @@ rest_with ns (inside h past margin due_after ms rest) = inside h past margin due
 
 -- how a node in the innermost open element is written: the flag of that element, the margin, and
 -- whether an indent stands before the node
-abbrev pub next_pre_span : List OpenView → Bool
+abbrev pub next_pre_span : List OpenElementView → Bool
 next_pre_span [] = false
 next_pre_span (o ∷ os) = o.pre_span
 
-abbrev pub next_margin : (outer : Margin) → List OpenView → Margin
+abbrev pub next_margin : (outer : Margin) → List OpenElementView → Margin
 next_margin outer [] = outer
 next_margin outer (o ∷ os) = deeper o.margin
 
-abbrev pub next_has_indent : List OpenView → (due : Bool) → NodeView → Bool
+abbrev pub next_has_indent : List OpenElementView → (due : Bool) → NodeView → Bool
 next_has_indent [] due n = false
 next_has_indent (o ∷ os) due n = o.margin.pretty && has_indent due n
 
 -- the innermost open element does not end at a place
-abbrev pub EndsLater : (place : ℕ) → List OpenView → Type 0
+abbrev pub EndsLater : (place : ℕ) → List OpenElementView → Type 0
 EndsLater place [] = Unit {0}
 EndsLater place (o ∷ os) = IsFalse (o.past == place)
 
 -- a walk over nodes that stands at a place, having written a text: the flat list from there on is
 -- that of a rest, and what is written with the text of the rest is the text of the nodes
 pub record Stands (frames : Frames) (outer : Margin) (ns : NodesView) (start : List ℕ) (place : ℕ)
-    (due : Bool) (opened : List OpenView) (flat : List FlatNodeView) (text : List ℕ) : Type 0 where
+    (due : Bool) (opened : List OpenElementView) (flat : List FlatNodeView) (text : List ℕ)
+    : Type 0 where
   pub rest : Rest
   pub opened_are : opened ≡ rest_open rest
   pub flat_is : flat ≡ rest_flat place rest

@@ -25,9 +25,9 @@ use std::alloc::Global;
 /// pretty writing is on where the frame stands.
 ///
 /// The plain text of a tree without frames reads back, by HTML Standard 13.1 without a browser's
-/// repairs, as the tree with its tags dropped and neighbouring texts joined. So does the pretty text,
-/// with texts where indents stand, unless a raw text on lines of its own ends in a closing tag that
-/// lacks its last character.
+/// repairs, as the tree with its tags dropped and neighbouring texts joined. So does the pretty
+/// text, with texts where indents stand, unless a raw text on lines of its own ends in a closing
+/// tag that lacks its last character.
 ///
 /// # Example
 ///
@@ -51,9 +51,10 @@ pub fn html_in_bundle<F: FrameWriter>(
 
     // What the text of a tree without frames reads as.
     ensures reads_back { options.now.pretty ≡ false → ElementIsFrameFree (element_view root.now) →
-        IfOk result (λ text. read (text_view text) ≡ Some (element_normal (element_view root.now))) }
-    ensures reads_indented { options.now.pretty ≡ true → ElementIsFrameFree (element_view root.now) →
-        ElementEndsWell true (element_view root.now) →
+        IfOk result (λ text.
+        read (text_view text) ≡ Some (element_normal (element_view root.now))) }
+    ensures reads_indented { options.now.pretty ≡ true →
+        ElementIsFrameFree (element_view root.now) → ElementEndsWell true (element_view root.now) →
         IfOk result (λ text.
         read (text_view text) ≡ Some (element_normal (element_layout (element_view root.now)))) }
 {

@@ -1,5 +1,5 @@
-//! Laws of this crate's definitions and types. Each function has laws as its contract; those that need
-//! no value do nothing.
+//! Laws of this crate's definitions and types. Each function has laws as its contract; those that
+//! need no value do nothing.
 
 ghost use Rattle.std.specs.Prelude.{◌≡◌, ◌↔◌, [], codes, IsTrue, Some, None, IfOk, false};
 ghost use Rattle.html_dom.specs.PlainTree.{branch, no_plains};
@@ -13,9 +13,9 @@ use crate::frame::FrameFault;
 use crate::options::HtmlOptions;
 use std::alloc::AllocError;
 
-/// The plain text of a frame-free tree without a fault reads as the tree's normal form, and its pretty
-/// text as that of the indented tree, unless a raw text on lines of its own ends in a closing tag
-/// that lacks its last character.
+/// The plain text of a frame-free tree without a fault reads as the tree's normal form, and its
+/// pretty text as that of the indented tree, unless a raw text on lines of its own ends in a
+/// closing tag that lacks its last character.
 #[tactic(auto, using(crate::proofs::ReadingBack::reads_back))]
 pub fn text_reads_back()
     ensures { ReadsBack }
@@ -27,8 +27,8 @@ pub fn same_text_same_form()
     ensures { SameTextSameForm }
 {}
 
-/// Values stand in double quotes, end tags are exact, and there is one element with nothing but blanks
-/// around it.
+/// Values stand in double quotes, end tags are exact, and there is one element with nothing but
+/// blanks around it.
 #[tactic(auto, using(crate::proofs::Rows::exact_syntax))]
 pub fn reads_exact_syntax()
     ensures quotes { read (codes "<!DOCTYPE html><p title='x'></p>") ≡ None }
@@ -43,14 +43,16 @@ pub fn reads_exact_syntax()
     ensures two_spaces { read (codes "<!DOCTYPE html><p  a></p>") ≡ None }
     ensures no_element { read (codes "<!DOCTYPE html>") ≡ None }
     ensures no_doctype { read (codes "<p></p>") ≡ None }
-    ensures blanks { read (codes "<!DOCTYPE html> \n\t\r<p></p>\n") ≡ Some (branch (codes "p") [] no_plains) }
+    ensures blanks { read (codes "<!DOCTYPE html> \n\t\r<p></p>\n")
+        ≡ Some (branch (codes "p") [] no_plains) }
 {}
 
 /// A reference is one of five names, or the one spelling of a scalar value in lower hexadecimal.
 #[tactic(auto, using(crate::proofs::Rows::references))]
 pub fn reads_references()
     ensures entity { read (codes "<!DOCTYPE html><p>&nbsp;</p>") ≡ None }
-    ensures reference { read (codes "<!DOCTYPE html><p>&#x41;</p>") ≡ Some (paragraph_of (codes "p") (codes "A")) }
+    ensures reference { read (codes "<!DOCTYPE html><p>&#x41;</p>")
+        ≡ Some (paragraph_of (codes "p") (codes "A")) }
     ensures unclosed { read (codes "<!DOCTYPE html><p>&#x41</p>") ≡ None }
     ensures zeros { read (codes "<!DOCTYPE html><p>&#x041;</p>") ≡ None }
     ensures capital_x { read (codes "<!DOCTYPE html><p>&#X41;</p>") ≡ None }
@@ -60,8 +62,8 @@ pub fn reads_references()
     ensures too_large { read (codes "<!DOCTYPE html><p>&#x110000;</p>") ≡ None }
 {}
 
-/// Raw text ends before its closing tag, escapable raw text holds no element, and after the start tag
-/// of `pre` and `textarea` one line feed is dropped.
+/// Raw text ends before its closing tag, escapable raw text holds no element, and after the start
+/// tag of `pre` and `textarea` one line feed is dropped.
 #[tactic(auto, using(crate::proofs::Rows::raw_texts))]
 pub fn reads_raw_text()
     ensures script { read (codes "<!DOCTYPE html><script></script</script>")
@@ -72,8 +74,10 @@ pub fn reads_raw_text()
     ensures title_element { read (codes "<!DOCTYPE html><title>a<b></b></title>") ≡ None }
     ensures pre { read (codes "<!DOCTYPE html><pre>\n\nx</pre>")
         ≡ Some (paragraph_of (codes "pre") (codes "\nx")) }
-    ensures feed_kept { read (codes "<!DOCTYPE html><p>\nx</p>") ≡ Some (paragraph_of (codes "p") (codes "\nx")) }
-    ensures feed_dropped { read (codes "<!DOCTYPE html><pre>\nx</pre>") ≡ Some (paragraph_of (codes "pre") (codes "x")) }
+    ensures feed_kept { read (codes "<!DOCTYPE html><p>\nx</p>")
+        ≡ Some (paragraph_of (codes "p") (codes "\nx")) }
+    ensures feed_dropped { read (codes "<!DOCTYPE html><pre>\nx</pre>")
+        ≡ Some (paragraph_of (codes "pre") (codes "x")) }
 {}
 
 /// Options are equal where both ask for pretty text or neither does.

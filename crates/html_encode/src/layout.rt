@@ -89,7 +89,7 @@ fn is_text(text: &String, expected: &'static str) -> bool
 }
 
 /// Whether the first value of `display` is `block`.
-#[tactic(auto, unfolding(html_names::specs::Tables::known_attrs))]
+#[tactic(auto, unfolding(html_names::specs::Tables::known_attrs), using(crate::proofs::Given::pair_given))]
 fn shows_as_block(head: &ElementHead) -> bool
     ensures { result ≡
         is_text (codes "block") (first (head_view head.now).attrs (codes "display")) }
@@ -152,7 +152,8 @@ fn nodes_want_pretty(siblings: &Siblings) -> bool
 /// Whether the children are written pretty where pretty writing is on.
 #[tactic(auto, unfolding(crate::specs::Layout::is_pretty_inside))]
 fn is_pretty_inside(element: &Element) -> bool
-    ensures { result ≡ is_pretty_inside (head_view element.now.head) (siblings_view element.now.children) }
+    ensures { result ≡ is_pretty_inside (head_view element.now.head)
+        (siblings_view element.now.children) }
 {
     allows_pretty_inside(&element.head) && nodes_want_pretty(&element.children)
 }
@@ -182,7 +183,7 @@ pub(crate) fn due_after(due: bool, child: &Node) -> bool
 }
 
 /// Whether a script is of another type than JavaScript.
-#[tactic(auto, unfolding(html_names::specs::Tables::known_attrs))]
+#[tactic(auto, unfolding(html_names::specs::Tables::known_attrs), using(crate::proofs::Given::pair_given))]
 fn has_other_type(head: &ElementHead) -> bool
     ensures { result ≡ has_other_type (head_view head.now).attrs }
 {

@@ -41,7 +41,7 @@ mod indent;
 pub mod laws;
 mod layout;
 mod node;
-mod opens;
+mod open_elements;
 mod options;
 mod raw;
 mod siblings;

@@ -1,7 +1,7 @@
 //! The elements that a walk has entered and not left.
 
 ghost use Rattle.std.specs.Prelude.{◌≡◌, ◌∷◌, [], OnOk, IfOk, IfSome, IfNone};
-ghost use Rattle.html_encode.specs.Opens.{open_view};
+ghost use Rattle.html_encode.specs.OpenElements.{open_element_view};
 ghost use Rattle.html_encode.specs.Siblings.{node_view};
 ghost use Rattle.html_encode.specs.Walk.{EndsLater, next_pre_span, next_margin, next_has_indent};
 
@@ -13,7 +13,7 @@ use std::marker::Model;
 
 /// An element that the walk has entered.
 #[derive(Clone, Copy)]
-pub(crate) struct Open<'a> {
+pub(crate) struct OpenElement<'a> {
     /// Its name.
     pub(crate) tag: &'a HtmlTag,
     /// Whether the texts directly in it are written as references alone.
@@ -30,41 +30,41 @@ pub(crate) struct Open<'a> {
 ///
 /// A contract sees them as a list, the innermost first.
 #[derive(Drop)]
-pub(crate) struct Opens<'a> {
-    items: Vec<Open<'a>>,
+pub(crate) struct OpenElements<'a> {
+    items: Vec<OpenElement<'a>>,
 }
 
-impl<'a> Model for Opens<'a> {
+impl<'a> Model for OpenElements<'a> {
     ghost use Rattle.std.specs.Prelude.{List, map, reverse};
-    ghost use Rattle.html_encode.specs.Opens.{open_view};
-    ghost use Rattle.html_encode.specs.Walk.{OpenView};
+    ghost use Rattle.html_encode.specs.OpenElements.{open_element_view};
+    ghost use Rattle.html_encode.specs.Walk.{OpenElementView};
 
-    ghost Value = { List OpenView };
+    ghost Value = { List OpenElementView };
 
-    ghost view = { λ opens. reverse (map open_view opens.items.items) };
+    ghost view = { λ open_elements. reverse (map open_element_view open_elements.items.items) };
 }
 
-impl<'a> Opens<'a> {
+impl<'a> OpenElements<'a> {
     /// No element.
     pub(crate) fn new(alloc: Global) -> Self
         ensures { result ≡ [] }
     {
-        Opens {
+        OpenElements {
             items: Vec::new(alloc),
         }
     }
 
     /// Enters an element.
-    pub(crate) fn push(&mut self, element: Open<'a>) -> Result<(), AllocError>
-        ensures { OnOk result (self.new ≡ open_view element.entry ∷ self.old) }
+    pub(crate) fn push(&mut self, element: OpenElement<'a>) -> Result<(), AllocError>
+        ensures { OnOk result (self.new ≡ open_element_view element.entry ∷ self.old) }
     {
         self.items.push(element)?;
         Ok(())
     }
 
     /// Leaves the innermost element.
-    fn pop(&mut self) -> Option<Open<'a>>
-        ensures some { IfSome result (λ element. self.old ≡ open_view element ∷ self.new) }
+    fn pop(&mut self) -> Option<OpenElement<'a>>
+        ensures some { IfSome result (λ element. self.old ≡ open_element_view element ∷ self.new) }
         ensures none { IfNone result (self.old ≡ []) }
         ensures left { IfNone result (self.new ≡ []) }
     {
@@ -72,8 +72,8 @@ impl<'a> Opens<'a> {
     }
 
     /// Leaves the innermost element if it ends at that place.
-    pub(crate) fn pop_at(&mut self, place: usize) -> Option<Open<'a>>
-        ensures some { IfSome result (λ element. self.old ≡ open_view element ∷ self.new) }
+    pub(crate) fn pop_at(&mut self, place: usize) -> Option<OpenElement<'a>>
+        ensures some { IfSome result (λ element. self.old ≡ open_element_view element ∷ self.new) }
         ensures at { IfSome result (λ element. element.past ≡ place) }
         ensures kept { IfNone result (self.new ≡ self.old) }
         ensures later { IfNone result (EndsLater place self.old) }

@@ -40,7 +40,8 @@ pub(crate) fn write_raw(
 /// The text of a raw element, which holds no closing tag of it.
 fn checked_text(element: &Element) -> Result<String, ExportFault>
     ensures { let children = siblings_view element.now.children in
-        Makes result (nodes_raw_text children) (raw_content_faults (head_view element.now.head) children) }
+        Makes result (nodes_raw_text children)
+        (raw_content_faults (head_view element.now.head) children) }
 {
     let alloc = *element.head.flat.attrs.allocator();
     let text = joined(alloc, &element.children)?;
@@ -100,7 +101,8 @@ fn write_joined(
     text: &str,
     margin: Margin,
 ) -> Result<(), AllocError>
-    ensures { OnOk result (out.new ≡ out.old ++ raw_text margin (head_view element.now.head) (chars text.now)) }
+    ensures { OnOk result (out.new ≡ out.old
+        ++ raw_text margin (head_view element.now.head) (chars text.now)) }
 {
     if margin.pretty && is_by_lines(&element.head) {
         write_lines(out, element.head.tag(), text, margin)

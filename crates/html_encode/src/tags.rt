@@ -35,6 +35,7 @@ fn write_value(out: &mut Output, value: &String, span: Span) -> Result<(), Expor
 }
 
 /// Writes the attributes of a start tag.
+#[tactic(auto, using(crate::proofs::Given::pair_given))]
 fn write_attrs(out: &mut Output, head: &ElementHead) -> Result<(), ExportFault>
     ensures writes { let head = head_view head.now in
         Writes result out.old out.new (attrs_text head.attrs) (attrs_faults head.span head.attrs) }

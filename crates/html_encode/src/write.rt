@@ -6,7 +6,7 @@ ghost use Rattle.html_dom.specs.Views.{element_view};
 ghost use Rattle.html_flat.specs.FlatTrees.{tree_nodes};
 ghost use Rattle.html_encode.specs.Faults.{void_faults, frame_faults, nodes_faults, element_faults};
 ghost use Rattle.html_encode.specs.Layout.{indent_where, frame_text};
-ghost use Rattle.html_encode.specs.Opens.{open_view, Enters};
+ghost use Rattle.html_encode.specs.OpenElements.{open_element_view, Enters};
 ghost use Rattle.html_encode.specs.ReadingBack.{HeadIsNamed, NodesAreNamed, ElementIsNamed};
 ghost use Rattle.html_encode.specs.Siblings.{head_view, flat_element_view, node_flat_view, node_view, siblings_view};
 ghost use Rattle.html_encode.specs.Text.{escaping_of, end_tag_text, element_text};
@@ -21,7 +21,7 @@ use crate::frame::{FrameFault, FrameWriter};
 use crate::indent::{push_indent_if, push_lines};
 use crate::layout::{Margin, due_after};
 use crate::node::node_at;
-use crate::opens::{Open, Opens};
+use crate::open_elements::{OpenElement, OpenElements};
 use crate::raw;
 use crate::siblings::{Element, ElementHead, Node};
 use crate::tags::{write_end, write_feed, write_start};
@@ -63,20 +63,20 @@ fn write_tree<F: FrameWriter>(
 {
     let names = tree.names();
     let nodes = tree.nodes();
-    let mut opens = Opens::new(alloc);
+    let mut open_elements = OpenElements::new(alloc);
     let mut due = false;
     let mut place = 0;
     loop {
-        if let Some(element) = opens.pop_at(place) {
+        if let Some(element) = open_elements.pop_at(place) {
             write_close(out, &element)?;
             due = element.due_after;
         } else if place < nodes.len() {
             let node = node_at(names, nodes, place);
-            let margin = opens.margin(outer)?;
-            push_indent_if(out, opens.has_indent(due, &node), margin.level)?;
-            write_first(out, &node, opens.pre_span(), margin, frames)?;
+            let margin = open_elements.margin(outer)?;
+            push_indent_if(out, open_elements.has_indent(due, &node), margin.level)?;
+            write_first(out, &node, open_elements.pre_span(), margin, frames)?;
             if let Some(element) = entered(&node, margin, due) {
-                opens.push(element)?;
+                open_elements.push(element)?;
                 due = true;
                 place += 1;
             } else {
@@ -90,8 +90,8 @@ fn write_tree<F: FrameWriter>(
 }
 
 /// Writes the end of an element that the walk leaves.
-fn write_close(out: &mut Output, element: &Open) -> Result<(), AllocError>
-    ensures { let o = open_view element.now in OnOk result (out.new ≡
+fn write_close(out: &mut Output, element: &OpenElement) -> Result<(), AllocError>
+    ensures { let o = open_element_view element.now in OnOk result (out.new ≡
         out.old ++ (indent_where o.margin.pretty o.margin.level ++ end_tag_text o.name)) }
 {
     push_indent_if(out, element.margin.pretty, element.margin.level)?;
@@ -99,7 +99,7 @@ fn write_close(out: &mut Output, element: &Open) -> Result<(), AllocError>
 }
 
 /// The element that the walk enters with that node, if it does.
-fn entered<'a>(node: &Node<'a>, margin: Margin, due: bool) -> Option<Open<'a>>
+fn entered<'a>(node: &Node<'a>, margin: Margin, due: bool) -> Option<OpenElement<'a>>
     ensures { Enters result (node_flat_view node.now) (siblings_view node.now.children) margin due }
 {
     let FlatNode::Element(flat) = node.flat else {
@@ -116,7 +116,7 @@ fn entered<'a>(node: &Node<'a>, margin: Margin, due: bool) -> Option<Open<'a>>
         head,
         children: node.children,
     };
-    Some(Open {
+    Some(OpenElement {
         tag: head.tag(),
         pre_span: flat.pre_span,
         past: flat.past,
@@ -195,7 +195,8 @@ fn write_frame<F: FrameWriter>(
     frames: &F,
 ) -> Result<(), ExportFault>
     ensures { let answer = F.drawing frames.now (html_frame_view frame.now) margin.pretty in
-        Writes result out.old out.new (frame_text margin answer) (frame_faults frame.now.span.0 answer) }
+        Writes result out.old out.new
+        (frame_text margin answer) (frame_faults frame.now.span.0 answer) }
 {
     match frames.write(frame, margin.pretty) {
         Ok(text) => {

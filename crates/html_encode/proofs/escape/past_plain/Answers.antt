@@ -12,7 +12,8 @@ loop-c-init c =
       is_text = c.past_common-rest.utf8;
       at = c.chars-left.ensures.rest;
       passed = passes_common escaping text text left c.requires
-          (passes_none escaping text c.utf8.text) c.past_common-rest.ensures c.past_common-rest.utf8;
+          (passes_none escaping text c.utf8.text) c.past_common-rest.ensures
+          c.past_common-rest.utf8;
     }
 
 pub loop-c-preserved : goal.loop-c-preserved

@@ -36,8 +36,8 @@ returns c =
     let b = c.args.before_first in
     let i = indent c.args.level in
     let text = c.args.text.now in
-    let end = YieldsList-end
-    (YieldsList-from_lines text cc) c.loop-line.yielded _ c.loop-line.yielded_by _ _ c.in-None.is c.next.ensures.steps in
+    let end = YieldsList-end (YieldsList-from_lines text cc) c.loop-line.yielded _
+    c.loop-line.yielded_by _ _ c.in-None.is c.next.ensures.steps in
     let all : map (λ x. chars x.now) c.loop-line.yielded ≡ lines (chars text) =
     sym (map-map chars (λ x. x.now) c.loop-line.yielded)
     ∙ (ap (map chars) end.0 ∙ chars_of_lines text c.utf8.text) in

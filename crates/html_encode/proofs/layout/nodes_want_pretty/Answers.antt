@@ -41,7 +41,8 @@ loop-index-preserved-in-Element c =
     let s = c.args.siblings.now in
     let d = c.index-siblings-index.result in
     let behind = ends_behind s.names.now s.nodes.now s.first c.loop-index.index _ d
-    c.in-Element.element c.loop-index-test.true refl c.loop-index.invariant.spells c.in-Element.is in
+    c.in-Element.element c.loop-index-test.true refl c.loop-index.invariant.spells
+    c.in-Element.is in
     let on = goes_on s.names.now s.nodes.now s.first c.loop-index.index
     (c.in-Element.element.past - s.first) _ d (siblings_view s) c.loop-index-test.true refl
     c.loop-index.invariant.spells c.loop-index.invariant.wants
@@ -53,8 +54,10 @@ loop-index-preserved c =
     let s = c.args.siblings.now in
     let d = c.index-siblings-index.result in
     let flat = get_or s.nodes.now c.loop-index.index d in
-    let to : s.first + (c.loop-index.index + 1) ≡ place_after (s.first + c.loop-index.index) (flat_node_view s.names.now flat)
-    = omega (arith, not_element s.names.now (s.first + c.loop-index.index) flat c.in_default.not-Element) in
+    let place = s.first + c.loop-index.index in
+    let alone = not_element s.names.now place flat c.in_default.not-Element in
+    let to : s.first + (c.loop-index.index + 1)
+    ≡ place_after place (flat_node_view s.names.now flat) = omega (arith, alone) in
     let on = goes_on s.names.now s.nodes.now s.first c.loop-index.index
     (c.loop-index.index + 1) flat d (siblings_view s) c.loop-index-test.true refl
     c.loop-index.invariant.spells c.loop-index.invariant.wants

@@ -48,8 +48,10 @@ returns c =
     let names = c.args.names.now in
     let nodes = c.args.nodes.now in
     let place = c.args.place in
+    let left = flat_nodes_view names (drop (place + 1) nodes) in
     let past = c.end_of-past.ensures
-    ∙ end_is names nodes place flat flat c.requires.spells c.requires.within c.index-nodes-place.is in
+    ∙ end_is names nodes place flat flat c.requires.spells c.requires.within
+    c.index-nodes-place.is in
     let kids = kids_view names nodes place flat flat c.requires.spells c.requires.within
     c.index-nodes-place.is c.end_of-past.result c.between.result.now c.end_of-past.ensures
     c.between.ensures in
@@ -58,5 +60,5 @@ returns c =
           c.index-nodes-place.is;
       past = past;
       children = ap (spelled_nodes (place + 1)) (kids
-          ∙ ap (λ p. take (p - (place + 1)) (flat_nodes_view names (drop (place + 1) nodes))) (sym past));
+          ∙ ap (λ p. take (p - (place + 1)) left) (sym past));
     }

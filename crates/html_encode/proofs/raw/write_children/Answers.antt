@@ -19,8 +19,8 @@ returns-in_err-write_child c =
       appended = rw failed.1 tt;
       clean = rw failed.1 tt;
       fault = rw (failed.1, failed.2) (child_refused c.args.escaping s.names.now s.nodes.now s.first
-          c.loop-node.node-index (siblings_view s) c.loop-node.out c.args.out.now c.node-item.result _
-          _ c.loop-node-test.true c.node-item.is c.loop-node.invariant
+          c.loop-node.node-index (siblings_view s) c.loop-node.out c.args.out.now
+          c.node-item.result _ _ c.loop-node-test.true c.node-item.is c.loop-node.invariant
           (c.in_err-write_child.ensures s.names.now).fault);
     }
 

@@ -14,5 +14,6 @@ returns-clause-writes g c =
 pub returns-clause-named : goal.returns-clause-named
 returns-clause-named g c =
     let e = element_view c.args.root.now in
-    on_ok_weaker c.write_tree.result (root_named (g.F.FrameWriter.drawing c.args.frames.now) c.args.margin e.0 e.1
+    let frames = g.F.FrameWriter.drawing c.args.frames.now in
+    on_ok_weaker c.write_tree.result (root_named frames c.args.margin e.0 e.1
     (tree_nodes c.in_ok-tree.tree) c.in_ok-tree.ensures) c.write_tree.ensures.named
