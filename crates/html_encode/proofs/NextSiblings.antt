@@ -71,64 +71,64 @@ next_sibling place f fs e =
 
 -- the same over the nodes of the program
 module _ (names : NamesView) (nodes : List FlatNode) (first index next : ℕ) (flat d : FlatNode)
-    where
-  abbrev f : FlatNodeView
-  f = flat_node_view names flat
+  where
+    abbrev f : FlatNodeView
+    f = flat_node_view names flat
 
-  abbrev left : ℕ → List FlatNodeView
-  left i = flat_nodes_view names (drop i nodes)
+    abbrev left : ℕ → List FlatNodeView
+    left i = flat_nodes_view names (drop i nodes)
 
-  pub left_first : index < length nodes → flat ≡ get_or nodes index d →
-      left index ≡ f ∷ left (index + 1)
-  left_first below is = ap (flat_nodes_view names) (drop_more nodes index d below)
-      ∙ ap (λ n. flat_node_view names n ∷ left (index + 1)) (sym is)
+    pub left_first : index < length nodes → flat ≡ get_or nodes index d →
+        left index ≡ f ∷ left (index + 1)
+    left_first below is = ap (flat_nodes_view names) (drop_more nodes index d below)
+        ∙ ap (λ n. flat_node_view names n ∷ left (index + 1)) (sym is)
 
-  pub next_is : index < length nodes → flat ≡ get_or nodes index d →
-      IsSpelling (first + index) (left index) → NextSibling (first + index) f (left (index + 1))
-  next_is below is spells = next_sibling (first + index) f (left (index + 1))
-      (subst (IsSpelling (first + index)) (left_first below is) spells)
+    pub next_is : index < length nodes → flat ≡ get_or nodes index d →
+        IsSpelling (first + index) (left index) → NextSibling (first + index) f (left (index + 1))
+    next_is below is spells = next_sibling (first + index) f (left (index + 1))
+        (subst (IsSpelling (first + index)) (left_first below is) spells)
 
-  pub next_left : index < length nodes → flat ≡ get_or nodes index d →
-      IsSpelling (first + index) (left index) → first + next ≡ place_after (first + index) f →
-      IsSpelling (first + next) (left next)
-      × (nodes_want_pretty (spelled_nodes (first + index) (left index))
-      ≡ (node_wants_pretty (node_with f none) || nodes_want_pretty
-      (spelled_nodes (first + next) (left next))))
-  next_left below is spells to =
-      let n = next_is below is spells in
-      let count : index + 1 + (place_after (first + index) f - (first + index + 1)) ≡ next
-      = omega (arith, to, n.later) in
-      let more = place_after (first + index) f - (first + index + 1) in
-      let skipped : drop more (left (index + 1)) ≡ left next
-      = drop-map (flat_node_view names) more (drop (index + 1) nodes)
-      ∙ (ap (flat_nodes_view names) (drop-drop more (index + 1) nodes) ∙ ap left count) in (
-        rw (to, ← skipped) n.spells,
+    pub next_left : index < length nodes → flat ≡ get_or nodes index d →
+        IsSpelling (first + index) (left index) → first + next ≡ place_after (first + index) f →
+        IsSpelling (first + next) (left next)
+        × (nodes_want_pretty (spelled_nodes (first + index) (left index))
+        ≡ (node_wants_pretty (node_with f none) || nodes_want_pretty
+        (spelled_nodes (first + next) (left next))))
+    next_left below is spells to =
+        let n = next_is below is spells in
+        let count : index + 1 + (place_after (first + index) f - (first + index + 1)) ≡ next
+        = omega (arith, to, n.later) in
+        let more = place_after (first + index) f - (first + index + 1) in
+        let skipped : drop more (left (index + 1)) ≡ left next
+        = drop-map (flat_node_view names) more (drop (index + 1) nodes)
+        ∙ (ap (flat_nodes_view names) (drop-drop more (index + 1) nodes) ∙ ap left count) in (
+          rw (to, ← skipped) n.spells,
+          ap (λ fs. nodes_want_pretty (spelled_nodes (first + index) fs)) (left_first below is)
+              ∙ (n.wants ∙ rw (to, ← skipped) refl),
+        )
+
+    pub wanted_here : index < length nodes → flat ≡ get_or nodes index d →
+        IsSpelling (first + index) (left index) → node_wants_pretty (node_with f none) ≡ true →
+        nodes_want_pretty (spelled_nodes (first + index) (left index)) ≡ true
+    wanted_here below is spells wanted =
+        let n = next_is below is spells in
+        let after = place_after (first + index) f in
+        let others = spelled_nodes after (drop (after - (first + index + 1)) (left (index + 1))) in
         ap (λ fs. nodes_want_pretty (spelled_nodes (first + index) fs)) (left_first below is)
-            ∙ (n.wants ∙ rw (to, ← skipped) refl),
-      )
+        ∙ (n.wants ∙ ap (λ b. b || nodes_want_pretty others) wanted)
 
-  pub wanted_here : index < length nodes → flat ≡ get_or nodes index d →
-      IsSpelling (first + index) (left index) → node_wants_pretty (node_with f none) ≡ true →
-      nodes_want_pretty (spelled_nodes (first + index) (left index)) ≡ true
-  wanted_here below is spells wanted =
-      let n = next_is below is spells in
-      let after = place_after (first + index) f in
-      let others = spelled_nodes after (drop (after - (first + index + 1)) (left (index + 1))) in
-      ap (λ fs. nodes_want_pretty (spelled_nodes (first + index) fs)) (left_first below is)
-      ∙ (n.wants ∙ ap (λ b. b || nodes_want_pretty others) wanted)
-
-  -- the search goes on behind a node that does not want it
-  pub goes_on : (all : NodesView) → index < length nodes → flat ≡ get_or nodes index d →
-      IsSpelling (first + index) (left index) →
-      nodes_want_pretty (spelled_nodes (first + index) (left index)) ≡ nodes_want_pretty all →
-      node_wants_pretty (node_with f none) ≡ false →
-      first + next ≡ place_after (first + index) f →
-      IsSpelling (first + next) (left next)
-      × (nodes_want_pretty (spelled_nodes (first + next) (left next)) ≡ nodes_want_pretty all)
-  goes_on all below is spells wants unwanted to =
-      let n = next_left below is spells to in
-      let others = spelled_nodes (first + next) (left next) in
-      (n.0, sym (n.1 ∙ ap (λ b. b || nodes_want_pretty others) unwanted) ∙ wants)
+    -- the search goes on behind a node that does not want it
+    pub goes_on : (all : NodesView) → index < length nodes → flat ≡ get_or nodes index d →
+        IsSpelling (first + index) (left index) →
+        nodes_want_pretty (spelled_nodes (first + index) (left index)) ≡ nodes_want_pretty all →
+        node_wants_pretty (node_with f none) ≡ false →
+        first + next ≡ place_after (first + index) f →
+        IsSpelling (first + next) (left next)
+        × (nodes_want_pretty (spelled_nodes (first + next) (left next)) ≡ nodes_want_pretty all)
+    goes_on all below is spells wants unwanted to =
+        let n = next_left below is spells to in
+        let others = spelled_nodes (first + next) (left next) in
+        (n.0, sym (n.1 ∙ ap (λ b. b || nodes_want_pretty others) unwanted) ∙ wants)
 
 -- where the node is an element, the search goes on at its end
 pub record EndsBehind (names : NamesView) (first index : ℕ) (flat : FlatNode) (e : FlatElement)

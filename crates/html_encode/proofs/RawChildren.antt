@@ -1,8 +1,8 @@
 -- The children of a raw or an escapable raw element, one after another.
-use Rattle.std.proofs.Common.{◌≡◌, ℕ, ◌+◌, ◌-◌, ◌<◌, ◌≤◌, List, [], ◌∷◌, ◌++◌, refl, sym, ap, ◌∙◌, append_assoc, append-nil, arith, drop, get_or, length, subst}
+use Rattle.std.proofs.Common.{◌≡◌, ℕ, ◌+◌, ◌<◌, ◌≤◌, List, [], ◌∷◌, ◌++◌, refl, sym, ap, ◌∙◌, append_assoc, append-nil, arith, drop, get_or, length, subst}
 use Rattle.std.proofs.lemmas.List.{drop_more, drop_all}
 use Rattle.html_dom.specs.Tree.{NodesView, none, node}
-use Rattle.html_flat.specs.Flat.{FlatNodeView, flat_tag, flat_text, flat_frame, flat_element, back, spelled_nodes}
+use Rattle.html_flat.specs.Flat.{FlatNodeView, flat_tag, flat_text, flat_frame, flat_element, spelled_nodes}
 use Rattle.html_names.specs.NameTables.{NamesView}
 use Rattle.html_flat.specs.FlatViews.{flat_node_view, flat_nodes_view}
 use Rattle.html_flat.specs.declared.flat_node.FlatNode.{FlatNode}

@@ -215,110 +215,110 @@ module _ {frames : Frames} {outer : Margin} {whole : NodesView} {start : List �
       (stands : Stands frames outer whole start place due opened (f ∷ fs) text)
       (later : EndsLater place opened)
       (kids_are : kids ≡ spelled_nodes (place + 1) (take (place_after place f - (place + 1)) fs))
-      where
-    abbrev here : NodeView
-    here = node_with f kids
+    where
+      abbrev here : NodeView
+      here = node_with f kids
 
-    abbrev after : ℕ
-    after = place_after place f
+      abbrev after : ℕ
+      after = place_after place f
 
-    record Next : Type 0 where
-      others : NodesView
-      first : rest_nodes stands.rest ≡ node here others
-      comes_is : let left = rest_flat (place + node_count here) (rest_with others stands.rest) in
-          Comes place f fs left here
+      record Next : Type 0 where
+        others : NodesView
+        first : rest_nodes stands.rest ≡ node here others
+        comes_is : let left = rest_flat (place + node_count here) (rest_with others stands.rest) in
+            Comes place f fs left here
 
-    next : Next
-    next =
-        let found = next_node stands.rest place f fs stands.flat_is stands.ends
-        (subst (EndsLater place) stands.opened_are later) in
-        let flat = stands.flat_is
-        ∙ rest_flat_first frames outer found.0 found.1 stands.rest place found.2 in
-        let left = λ (n : NodeView). rest_flat (place + node_count n) (rest_with found.1 stands.rest) in
-        let c = comes found.0 place f fs (left found.0) flat in
-        let kids_there = kids_are ∙ children_spelled c in
-        let is : found.0 ≡ here = c.is ∙ ap (node_with f) (sym kids_there) in
-        record {
-          others = found.1;
-          first = found.2 ∙ ap (λ n. node n found.1) is;
-          comes_is = subst (λ n. Comes place f fs (left n) n) is c;
-        }
+      next : Next
+      next =
+          let found = next_node stands.rest place f fs stands.flat_is stands.ends
+          (subst (EndsLater place) stands.opened_are later) in
+          let flat = stands.flat_is
+          ∙ rest_flat_first frames outer found.0 found.1 stands.rest place found.2 in
+          let left = λ (n : NodeView). rest_flat (place + node_count n) (rest_with found.1 stands.rest) in
+          let c = comes found.0 place f fs (left found.0) flat in
+          let kids_there = kids_are ∙ children_spelled c in
+          let is : found.0 ≡ here = c.is ∙ ap (node_with f) (sym kids_there) in
+          record {
+            others = found.1;
+            first = found.2 ∙ ap (λ n. node n found.1) is;
+            comes_is = subst (λ n. Comes place f fs (left n) n) is c;
+          }
 
-    pub place_is : after ≡ place + node_count here
-    place_is = next.comes_is.after
+      pub place_is : after ≡ place + node_count here
+      place_is = next.comes_is.after
 
-    -- the rest behind the node
-    abbrev left : Rest
-    left = rest_with next.others stands.rest
+      -- the rest behind the node
+      abbrev left : Rest
+      left = rest_with next.others stands.rest
 
-    left_are : drop (after - (place + 1)) fs ≡ rest_flat after left
-    left_are = others_left next.comes_is ∙ ap (λ p. rest_flat p left) (sym place_is)
+      left_are : drop (after - (place + 1)) fs ≡ rest_flat after left
+      left_are = others_left next.comes_is ∙ ap (λ p. rest_flat p left) (sym place_is)
 
-    abbrev margin : Margin
-    margin = next_margin outer opened
+      abbrev margin : Margin
+      margin = next_margin outer opened
 
-    -- the text before the node's own, and the text after it
-    text_left : text ++ (indent_where (next_has_indent opened due here) margin.level
-        ++ (node_text frames (next_pre_span opened) margin here
-        ++ rest_text frames outer (due_after due here) left))
-        ≡ start ++ outside_text frames outer whole
-    text_left =
-        let behind = rest_text frames outer (due_after due here) left in
-        let first = rest_text_first frames outer here next.others stands.rest due next.first in
-        subst (λ os. text
-        ++ (indent_where (next_has_indent os due here) (next_margin outer os).level
-        ++ (node_text frames (next_pre_span os) (next_margin outer os) here ++ behind))
-        ≡ start ++ outside_text frames outer whole) (sym stands.opened_are)
-        (ap (λ t. text ++ t) (sym first) ∙ stands.told)
+      -- the text before the node's own, and the text after it
+      text_left : text ++ (indent_where (next_has_indent opened due here) margin.level
+          ++ (node_text frames (next_pre_span opened) margin here
+          ++ rest_text frames outer (due_after due here) left))
+          ≡ start ++ outside_text frames outer whole
+      text_left =
+          let behind = rest_text frames outer (due_after due here) left in
+          let first = rest_text_first frames outer here next.others stands.rest due next.first in
+          subst (λ os. text
+          ++ (indent_where (next_has_indent os due here) (next_margin outer os).level
+          ++ (node_text frames (next_pre_span os) (next_margin outer os) here ++ behind))
+          ≡ start ++ outside_text frames outer whole) (sym stands.opened_are)
+          (ap (λ t. text ++ t) (sym first) ∙ stands.told)
 
-    faults_left : node_faults frames (next_pre_span opened) margin.pretty here
-        ++ rest_faults frames outer left
-        ≡ nodes_faults frames false outer.pretty whole
-    faults_left =
-        let first = rest_faults_first frames outer here next.others stands.rest next.first in
-        subst (λ os. node_faults frames (next_pre_span os) (next_margin outer os).pretty here
-        ++ rest_faults frames outer left ≡ nodes_faults frames false outer.pretty whole)
-        (sym stands.opened_are) (sym first ∙ stands.clean)
+      faults_left : node_faults frames (next_pre_span opened) margin.pretty here
+          ++ rest_faults frames outer left
+          ≡ nodes_faults frames false outer.pretty whole
+      faults_left =
+          let first = rest_faults_first frames outer here next.others stands.rest next.first in
+          subst (λ os. node_faults frames (next_pre_span os) (next_margin outer os).pretty here
+          ++ rest_faults frames outer left ≡ nodes_faults frames false outer.pretty whole)
+          (sym stands.opened_are) (sym first ∙ stands.clean)
 
-    opened_after : opened ≡ rest_open left
-    opened_after = stands.opened_are ∙ sym (rest_open_with next.others stands.rest)
+      opened_after : opened ≡ rest_open left
+      opened_after = stands.opened_are ∙ sym (rest_open_with next.others stands.rest)
 
-    ends_after : RestEnds after left
-    ends_after = subst (λ p. RestEnds p left) (sym place_is)
-        (rest_ends_after frames outer here next.others stands.rest place next.first stands.ends)
+      ends_after : RestEnds after left
+      ends_after = subst (λ p. RestEnds p left) (sym place_is)
+          (rest_ends_after frames outer here next.others stands.rest place next.first stands.ends)
 
-    named_after : NodeIsNamed here → RestIsNamed left → NodesAreNamed whole
-    named_after one others = stands.named
-        (rest_named_first frames outer here next.others stands.rest next.first one others)
+      named_after : NodeIsNamed here → RestIsNamed left → NodesAreNamed whole
+      named_after one others = stands.named
+          (rest_named_first frames outer here next.others stands.rest next.first one others)
 
-    -- a node that is written whole
-    pub passes : {new_text : List ℕ} → node_is_entered here ≡ false →
-        WritesNode frames outer opened due here text new_text →
-        Stands frames outer whole start after (due_after due here) opened
-        (drop (after - (place + 1)) fs) new_text
-    passes skipped w =
-        let pre_span = next_pre_span opened in
-        let one_text = skipped_text frames pre_span margin here skipped in
-        let one_faults = skipped_faults frames pre_span margin.pretty here skipped in
-        record {
-          rest = left;
-          opened_are = opened_after;
-          flat_is = left_are;
-          ends = ends_after;
-          told = rw (w.told, append_assoc, append_assoc) (rw one_text at text_left);
-          clean = rw (one_faults, w.clean) at faults_left;
-          named = named_after
-              (skipped_named frames pre_span margin.pretty here skipped w.named w.clean);
-        }
+      -- a node that is written whole
+      pub passes : {new_text : List ℕ} → node_is_entered here ≡ false →
+          WritesNode frames outer opened due here text new_text →
+          Stands frames outer whole start after (due_after due here) opened
+          (drop (after - (place + 1)) fs) new_text
+      passes skipped w =
+          let pre_span = next_pre_span opened in
+          let one_text = skipped_text frames pre_span margin here skipped in
+          let one_faults = skipped_faults frames pre_span margin.pretty here skipped in
+          record {
+            rest = left;
+            opened_are = opened_after;
+            flat_is = left_are;
+            ends = ends_after;
+            told = rw (w.told, append_assoc, append_assoc) (rw one_text at text_left);
+            clean = rw (one_faults, w.clean) at faults_left;
+            named = named_after
+                (skipped_named frames pre_span margin.pretty here skipped w.named w.clean);
+          }
 
-    -- a fault of a node is the first that is left
-    pub refused : (e : ExportFault) → IsFirst e (turn_faults frames outer opened here) →
-        IsFirst e (nodes_faults frames false outer.pretty whole)
-    refused e is =
-        let pre_span = next_pre_span opened in
-        let one = first_in_node frames pre_span margin.pretty here e is in
-        subst (IsFirst e) faults_left
-        (first_of_more e (node_faults frames pre_span margin.pretty here) _ one)
+      -- a fault of a node is the first that is left
+      pub refused : (e : ExportFault) → IsFirst e (turn_faults frames outer opened here) →
+          IsFirst e (nodes_faults frames false outer.pretty whole)
+      refused e is =
+          let pre_span = next_pre_span opened in
+          let one = first_in_node frames pre_span margin.pretty here e is in
+          subst (IsFirst e) faults_left
+          (first_of_more e (node_faults frames pre_span margin.pretty here) _ one)
 
   -- the walk enters an element of the list
   module _ {place : ℕ} {due : Bool} {opened : List OpenElementView} {h : Head} {past : ℕ}

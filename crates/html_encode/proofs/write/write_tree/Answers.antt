@@ -1,9 +1,8 @@
-use Rattle.std.proofs.Common.{◌+◌, ◌∙◌, sym, ap, subst, refl, arith, length, drop, true}
+use Rattle.std.proofs.Common.{◌∙◌, ap, refl, arith, length}
 use Rattle.std.proofs.lemmas.Result.{err_from_is_err_and}
 use Rattle.html_flat.specs.FlatTrees.{tree_nodes}
 use Rattle.html_flat.specs.FlatViews.{flat_nodes_view}
-use Rattle.html_encode.specs.OpenElements.{open_element_view}
-use Rattle.html_encode.specs.Walk.{Stands, outside}
+use Rattle.html_encode.specs.Walk.{outside}
 use Rattle.html_encode.proofs.Turns.{leaves}
 use Rattle.html_encode.proofs.Visits.{past_later, wrote, refused_at, visits_whole, visits_start, all_visited}
 use Rattle.html_encode.proofs.write.write_tree.Goals as goal
