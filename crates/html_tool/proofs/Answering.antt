@@ -14,7 +14,8 @@ use Rattle.html_tool.specs.declared.run.Reply.{Reply}
 use Rattle.html_tool.specs.declared.status.Status.TheVariants.{Done, Refused}
 
 pub reply_done : (pretty : Bool) (e : ElementView) (bytes : List ℕ) (reply : Reply)
-    → element_refusals e ≡ [] → export_refusals pretty e ≡ [] → IsUtf8 bytes → chars bytes ≡ export_text pretty e
+    → element_refusals e ≡ [] → export_refusals pretty e ≡ [] → IsUtf8 bytes
+    → chars bytes ≡ export_text pretty e
     → (reply.status ≡ Done) × (reply.text.items ≡ bytes) → IsReply reply (tree_answer pretty e)
 unfolding tree_answer
 reply_done pretty e bytes reply named clean utf8 text h =

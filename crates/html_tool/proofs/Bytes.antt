@@ -8,7 +8,8 @@ use Rattle.html_tool.specs.Json.{json_of}
 pub json_of-text : (bytes : List ℕ) → IsUtf8 bytes → json_of bytes ≡ read bytes
 json_of-text bytes text = rw (is_utf8-from_IsUtf8 bytes text)
 
-by_test : (bytes : List ℕ) (b : Bool) → is_utf8 bytes ≡ b → (IsUtf8 bytes → ⊥) → json_of bytes ≡ None
+by_test : (bytes : List ℕ) (b : Bool) → is_utf8 bytes ≡ b → (IsUtf8 bytes → ⊥)
+    → json_of bytes ≡ None
 by_test bytes true is no_text = absurd (no_text (IsUtf8-from_is_utf8 bytes is))
 by_test bytes false is no_text = rw is
 

@@ -1,9 +1,10 @@
 -- The forms of a value, by the length of its list.
-use Rattle.std.proofs.Common.{◌≡◌, ◌≢◌, ℕ, ◌+◌, List, [], ◌∷◌, length, get_or, Option, Some, None, option_map, map, drop, suc, ◌<◌, refl, sym, ap, ◌∙◌, ◌++◌, add-one, drop-cons, ◌≤◌, rules, arith, String}
+use Rattle.std.proofs.Common.{◌≡◌, ◌≢◌, ℕ, ◌+◌, List, [], ◌∷◌, length, get_or, Option, Some, None, option_map, map, drop, suc, ◌<◌, refl, sym, ap, ◌∙◌, ◌++◌, add-one, drop-cons, ◌≤◌, rules, arith, String, chars}
 use Rattle.std.proofs.lemmas.List.{map-append, drop_all}
 use Rattle.std.specs.declared.alloc.Global.{Global}
 use Rattle.serde_json.specs.declared.value.Value.{Value}
 use Rattle.serde_json.specs.View.{view, items_view}
+use Rattle.serde_json.specs.Find.{as_str}
 use Rattle.html_dom.specs.Tree.{NodeView, tag_node, text_node, element_node, NodesView, none, node}
 use Rattle.html_dom.specs.Views.{text_view, tag_view, nodes_of, node_view, nodes_view, element_view}
 use Rattle.html_dom.specs.declared.introspection.Tag.{Tag}
@@ -53,6 +54,16 @@ element_form-three (v ∷ []) n t a c h p q r = absurd (omega arith)
 element_form-three (v ∷ w ∷ []) n t a c h p q r = absurd (omega arith)
 element_form-three (v ∷ w ∷ x ∷ []) n t a c h p q r = rw (p, q, r)
 element_form-three (v ∷ w ∷ x ∷ y ∷ vs) n t a c h p q r = absurd (omega arith)
+
+-- whose first is a text
+pub element_form-named : (vs : List Value) (n : ℕ) (t a c : Value) (tag : List ℕ) → length vs ≡ 3
+    → t ≡ get_or vs 0 t → a ≡ get_or vs 1 a → c ≡ get_or vs 2 c → as_str (view t) ≡ Some tag
+    → element_form (items_view vs) n
+    ≡ element_from (Some (chars tag)) (pairs_at (view a)) (list_at (view c) (n + 1)) n
+element_form-named vs n t a c tag long p q r named =
+    element_form-three vs n t a c long p q r
+    ∙ ap (λ text. element_from (option_map chars text) (pairs_at (view a))
+    (list_at (view c) (n + 1)) n) named
 
 pub joined-append : (ns : List NodeView) (n : NodeView) (others : NodesView)
     → joined (ns ++ n ∷ []) others ≡ joined ns (node n others)

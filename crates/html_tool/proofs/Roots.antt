@@ -143,7 +143,8 @@ pub three_parts : (vs : List Value) (t a c : Value) → length vs ≡ 3
     → is_some (list_at (view c) 0) ≡ is_some (element_form (items_view vs) 0)
 three_parts vs t a c long p q r h k =
     list_at-some (view c) 0 1
-    ∙ from_parts (text_at (view t)) (pairs_at (view a)) (list_at (view c) 1) 0 (text_some (view t) h) k
+    ∙ from_parts (text_at (view t)) (pairs_at (view a)) (list_at (view c) 1) 0
+    (text_some (view t) h) k
     ∙ ap is_some (sym (element_form-three vs 0 t a c long p q r))
 
 then_rest : (first : Option (NodeView × ℕ)) (rest : ℕ → Option (NodesView × ℕ))

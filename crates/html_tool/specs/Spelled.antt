@@ -1,5 +1,6 @@
 -- The tree that a JSON value spells, by the shape of its lists. Names are not judged here.
---     ["text", t]   ["el", tag, [[name, value], ..], [node, ..]]   ["start", n]   ["start", n, dest]   ["end", n]
+--     ["text", t]   ["el", tag, [[name, value], ..], [node, ..]]
+--     ["start", n]   ["start", n, dest]   ["end", n]
 -- The spans are the numbers of these lists, from 1 on, in the order of their opening brackets.
 use Rattle.std.specs.Prelude.{ℕ, ◌+◌, List, [], ◌∷◌, false, chars, codes, bytes_eq, Option, Some, None, option_map, option_and_then, if◌then◌else◌}
 use Rattle.serde_json.specs.Data.{Data, array, Items, no_items, item}
@@ -56,8 +57,8 @@ head_of tag pairs span =
 abbrev pub element_from : (tag : Option (List ℕ)) (pairs : Option (List TextPair))
     (children : Option (NodesView × ℕ)) → ℕ → Option (NodeView × ℕ)
 element_from tag pairs children n =
-    option_and_then (λ t. option_and_then (λ ps. option_map (λ c. (element_node (head_of t ps n) c.0, c.1))
-    children) pairs) tag
+    option_and_then (λ t. option_and_then (λ ps.
+    option_map (λ c. (element_node (head_of t ps n) c.0, c.1)) children) pairs) tag
 
 abbrev pub form_from : (kind : Option (List ℕ))
     (as_text as_element as_start as_end : Option (NodeView × ℕ)) → Option (NodeView × ℕ)

@@ -48,8 +48,8 @@ impl<W: Write> Recorded<W> {
     pub fn write(&mut self, bytes: &[u8]) -> Result<usize, WriteFailed>
         requires { 0 < length bytes.now }
         ensures count { IfOk result (λ n. (0 < n) × (n ≤ length bytes.now)) }
-        ensures taken { IfOk result (λ n. (self.new.last ≡ LastCall.Wrote)
-            × Appends (W.contents self.old.writer) (W.contents self.new.writer) (take n bytes.now)) }
+        ensures taken { IfOk result (λ n. (self.new.last ≡ LastCall.Wrote) × Appends
+            (W.contents self.old.writer) (W.contents self.new.writer) (take n bytes.now)) }
         ensures failed { OnErr result ((self.new.last ≡ LastCall.Failed)
             × Keeps (W.contents self.old.writer) (W.contents self.new.writer)) }
     {
@@ -85,8 +85,8 @@ impl<W: Write> Recorded<W> {
 
     /// Writes all of the bytes, and flushes after the last of them. Nothing is tried again.
     pub fn write_all(&mut self, bytes: &[u8]) -> Result<(), WriteFailed>
-        ensures { WritesAll result bytes.now (W.contents self.old.writer) (W.contents self.new.writer)
-            self.new.last }
+        ensures { WritesAll result bytes.now
+            (W.contents self.old.writer) (W.contents self.new.writer) self.new.last }
     {
         let mut at = 0;
         while at < bytes.len() {

@@ -2,7 +2,7 @@ use Rattle.std.proofs.Common.{◌≡◌, ◌+◌, Some, chars, option_map, arith
 use Rattle.std.proofs.lemmas.Result.{err_from_is_err_and}
 use Rattle.serde_json.specs.View.{view}
 use Rattle.serde_json.proofs.Views.{view-Array}
-use Rattle.html_tool.proofs.Forms.{element_form-three, spelled_more, spelled_whole, node_view-Element, done_none}
+use Rattle.html_tool.proofs.Forms.{element_form-named, spelled_more, spelled_whole, node_view-Element, done_none}
 use Rattle.html_tool.proofs.Wrong.{wrong_tag, wrong_attrs, wrong_children, wrong_node, clean_more}
 use Rattle.html_tool.specs.Names.{name_refusals, all_name_refusals}
 use Rattle.html_tool.specs.Spelled.{text_at, pairs_at, list_at}
@@ -12,14 +12,12 @@ pub element_of-returns-in_err-tag : goal.element_of-returns-in_err-tag
 element_of-returns-in_err-tag t c =
     let failed = err_from_is_err_and c.from_residual-in_err-tag.result
     c.from_residual-in_err-tag.ensures.1 in
-    let text : text_at (view c.tag-item.result) ≡ Some (chars c.in-Some.tag.now) =
-    ap (option_map chars) (sym c.in-Some.ensures) in
     rw (
       failed.1,
       failed.2,
-      element_form-three c.args.fields.now c.args.number c.tag-item.result c.attrs-item.result
-          c.children-item.result (omega arith) c.tag-item.is c.attrs-item.is c.children-item.is,
-      text,
+      element_form-named c.args.fields.now c.args.number c.tag-item.result c.attrs-item.result
+          c.children-item.result _ (omega arith) c.tag-item.is c.attrs-item.is
+          c.children-item.is (sym c.in-Some.ensures),
     )
     (wrong_tag (chars c.in-Some.tag.now) (pairs_at (view c.attrs-item.result))
     (list_at (view c.children-item.result) (c.args.number + 1)) c.args.number
@@ -29,14 +27,12 @@ pub element_of-returns-in_err-attrs : goal.element_of-returns-in_err-attrs
 element_of-returns-in_err-attrs t c =
     let failed = err_from_is_err_and c.from_residual-in_err-attrs.result
     c.from_residual-in_err-attrs.ensures.1 in
-    let text : text_at (view c.tag-item.result) ≡ Some (chars c.in-Some.tag.now) =
-    ap (option_map chars) (sym c.in-Some.ensures) in
     rw (
       failed.1,
       failed.2,
-      element_form-three c.args.fields.now c.args.number c.tag-item.result c.attrs-item.result
-          c.children-item.result (omega arith) c.tag-item.is c.attrs-item.is c.children-item.is,
-      text,
+      element_form-named c.args.fields.now c.args.number c.tag-item.result c.attrs-item.result
+          c.children-item.result _ (omega arith) c.tag-item.is c.attrs-item.is
+          c.children-item.is (sym c.in-Some.ensures),
     )
     (wrong_attrs (chars c.in-Some.tag.now) (pairs_at (view c.attrs-item.result))
     (list_at (view c.children-item.result) (c.args.number + 1)) c.args.number
@@ -47,15 +43,13 @@ element_of-returns-in_err-children t c =
     let failed = err_from_is_err_and c.from_residual-in_err-children.result
     c.from_residual-in_err-children.ensures.1 in
     let is_first : c.in_ok-first.first ≡ c.args.number + 1 = search rules in
-    let text : text_at (view c.tag-item.result) ≡ Some (chars c.in-Some.tag.now) =
-    ap (option_map chars) (sym c.in-Some.ensures) in
     rw (
       failed.1,
       failed.2,
-      element_form-three c.args.fields.now c.args.number c.tag-item.result c.attrs-item.result
-          c.children-item.result (omega arith) c.tag-item.is c.attrs-item.is c.children-item.is,
+      element_form-named c.args.fields.now c.args.number c.tag-item.result c.attrs-item.result
+          c.children-item.result _ (omega arith) c.tag-item.is c.attrs-item.is
+          c.children-item.is (sym c.in-Some.ensures),
       ← is_first,
-      text,
       c.in_ok-attrs.ensures.0,
     )
     (wrong_children (chars c.in-Some.tag.now) _
@@ -66,14 +60,12 @@ element_of-returns-in_err-children t c =
 pub element_of-returns : goal.element_of-returns
 unfolding name_refusals
 element_of-returns t c =
-    let is_first : c.in_ok-first.first ≡ c.args.number + 1 = search rules in
-    let text : text_at (view c.tag-item.result) ≡ Some (chars c.in-Some.tag.now) =
-    ap (option_map chars) (sym c.in-Some.ensures) in (
+    let is_first : c.in_ok-first.first ≡ c.args.number + 1 = search rules in (
       rw (
-        element_form-three c.args.fields.now c.args.number c.tag-item.result c.attrs-item.result
-            c.children-item.result (omega arith) c.tag-item.is c.attrs-item.is c.children-item.is,
+        element_form-named c.args.fields.now c.args.number c.tag-item.result c.attrs-item.result
+            c.children-item.result _ (omega arith) c.tag-item.is c.attrs-item.is
+            c.children-item.is (sym c.in-Some.ensures),
         ← is_first,
-        text,
         c.in_ok-attrs.ensures.0,
         c.in_ok-children.ensures.0,
         node_view-Element,

@@ -6,7 +6,8 @@ use Rattle.html_tool.proofs.recorded.Recorded.write_all.Goals as goal
 
 pub loop-at-preserved : goal.loop-at-preserved
 loop-at-preserved g c =
-    let written = rw (take_rest c.args.bytes.now c.loop-at.at) at c.in_ok-at.ensures.taken.1 in record {
+    let written = rw (take_rest c.args.bytes.now c.loop-at.at) at c.in_ok-at.ensures.taken.1 in
+    record {
       within = omega (arith, c.in_ok-at.ensures.count.1);
       written =
           rw (take-add c.loop-at.at c.in_ok-at.field-0 c.args.bytes.now)
