@@ -1,11 +1,11 @@
-use Rattle.std.proofs.Common.{◌≡◌, ◌+◌, Some, chars, option_map, arith, rules, refl, sym, ap}
+use Rattle.std.proofs.Common.{◌≡◌, ◌+◌, chars, arith, rules, refl, sym}
 use Rattle.std.proofs.lemmas.Result.{err_from_is_err_and}
 use Rattle.serde_json.specs.View.{view}
 use Rattle.serde_json.proofs.Views.{view-Array}
 use Rattle.html_tool.proofs.Forms.{element_form-named, spelled_more, spelled_whole, node_view-Element, done_none}
 use Rattle.html_tool.proofs.Wrong.{wrong_tag, wrong_attrs, wrong_children, wrong_node, clean_more}
 use Rattle.html_tool.specs.Names.{name_refusals, all_name_refusals}
-use Rattle.html_tool.specs.Spelled.{text_at, pairs_at, list_at}
+use Rattle.html_tool.specs.Spelled.{pairs_at, list_at}
 use Rattle.html_tool.proofs.spell.+spell.Goals as goal
 
 pub element_of-returns-in_err-tag : goal.element_of-returns-in_err-tag
