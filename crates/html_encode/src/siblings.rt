@@ -20,7 +20,8 @@ pub(crate) struct Siblings<'a> {
     pub(crate) first: usize,
     ghost given: { are_given names.now nodes.now ≡ true },
     ghost spells: { let list = flat_nodes_view names.now nodes.now in
-        nodes_flat first (spelled_nodes first list) ≡ list } by { Prim.hlevel (props, flat_node_is_set) },
+        nodes_flat first (spelled_nodes first list)
+        ≡ list } by { Prim.hlevel (props, flat_node_is_set) },
 }
 
 /// A node of a flat tree, with all that stands in it.
