@@ -1,13 +1,13 @@
 -- What is appended to a writer, one after another.
-use Rattle.std.proofs.Common.{◌≡◌, ℕ, List, [], ◌∷◌, ◌++◌, length, take, drop, Bool, true, false, ◌||◌, if◌then◌else◌, Result, Ok, Err, is_ok, refl, sym, ap, subst, ◌∙◌, append_assoc, append-nil, chars, IsUtf8}
+use Rattle.std.proofs.Common.{◌≡◌, ℕ, List, [], ◌∷◌, ◌++◌, Bool, true, false, ◌||◌, if◌then◌else◌, Result, Ok, Err, is_ok, refl, sym, ap, subst, ◌∙◌, append_assoc, append-nil, chars, IsUtf8}
 use Rattle.std.specs.Result.{OnOk}
 use Rattle.std.specs.declared.alloc.AllocError.{AllocError}
 use Rattle.html_names.proofs.Texts.{chars_add}
-use Rattle.html_css.specs.Sink.{StartsWith, Answers, Given, Interrupted, Hands}
+use Rattle.html_css.specs.Sink.{Answers}
 use Rattle.html_css.specs.Writer.{State, Emits, fails}
 use Rattle.html_css.specs.declared.sink.Warning.{Warning}
 use Rattle.html_css.proofs.Beginnings.{StartsWith-same, StartsWith-append, StartsWith-trans}
-use Rattle.html_css.proofs.Giving.{unchanged, handed_none, not_begun, hands_then, interrupted_more, hands_one}
+use Rattle.html_css.proofs.Giving.{not_begun, hands_then, interrupted_more, hands_one}
 
 flag_stays : (a b : Bool) → b ≡ a → b ≡ (a || false)
 flag_stays true b e = e
@@ -43,35 +43,36 @@ module _ {S : Type 0} (takes : Answers S) where
   pub pushed : (r : Result (Unit {0}) AllocError) (old new : State S) (b d s : List ℕ)
       → IsUtf8 b → old.text ≡ chars b → new.text ≡ chars d → d ≡ (if is_ok r then b ++ s else b)
       → new.failed ≡ old.failed → new.sink ≡ old.sink → Emits takes r old new (chars s) []
-  pushed (Ok u) old new b d s v p q e f w =
+  pushed (Ok u) old new b d s utf8 old_is new_is grew same_flag same_sink =
       let grown : new.text ≡ old.text ++ chars s =
-      q ∙ (chars_add b d s v e ∙ ap (λ t. t ++ chars s) (sym p)) in
+      new_is ∙ (chars_add b d s utf8 grew ∙ ap (λ t. t ++ chars s) (sym old_is)) in
       record {
         appended = grown;
         kept = rw grown (StartsWith-append old.text (chars s));
-        failed = flag_stays old.failed new.failed f;
-        steady = λ _. f;
-        given = w;
+        failed = flag_stays old.failed new.failed same_flag;
+        steady = λ _. same_flag;
+        given = same_sink;
       }
-  pushed (Err x) old new b d s v p q e f w = record {
+  pushed (Err x) old new b d s utf8 old_is new_is grew same_flag same_sink = record {
     appended = tt;
-    kept = StartsWith-same old.text new.text (q ∙ (ap chars e ∙ sym p));
+    kept = StartsWith-same old.text new.text (new_is ∙ (ap chars grew ∙ sym old_is));
     failed = tt;
-    steady = λ _. f;
-    given = w;
+    steady = λ _. same_flag;
+    given = same_sink;
   }
 
   pub Emits-then : (r : Result (Unit {0}) AllocError) (a b d : State S) (x y : List ℕ)
       (first second : List Warning)
       → Emits takes (Ok tt) a b x first → Emits takes r b d y second
       → Emits takes r a d (x ++ y) (first ++ second)
-  Emits-then r a b d x y first second p q = record {
-    appended = appended_then r a.text b.text d.text x y p.appended q.appended;
-    kept = StartsWith-trans d.text b.text a.text q.kept p.kept;
-    failed = failed_then r a.failed b.failed d.failed _ _ _ (fails_append first second) p.failed
-        q.failed;
-    steady = λ none. let both = both_none first second none in q.steady both.1 ∙ p.steady both.0;
-    given = hands_then takes r a.sink b.sink d.sink first second p.given q.given;
+  Emits-then r a b d x y first second earlier later = record {
+    appended = appended_then r a.text b.text d.text x y earlier.appended later.appended;
+    kept = StartsWith-trans d.text b.text a.text later.kept earlier.kept;
+    failed = failed_then r a.failed b.failed d.failed _ _ _ (fails_append first second)
+        earlier.failed later.failed;
+    steady = λ none. let both = both_none first second none in
+        later.steady both.1 ∙ earlier.steady both.0;
+    given = hands_then takes r a.sink b.sink d.sink first second earlier.given later.given;
   }
 
 -- the same, where the first went well and the texts are known by other names
@@ -80,19 +81,20 @@ pub then_emits : {S : Type 0} {takes : Answers S} {q r : Result (Unit {0}) Alloc
     {x y : List ℕ} {first second : List Warning} {u : Unit {0}} (v w : List ℕ)
     → Emits takes q a b x first → q ≡ Ok u → x ≡ v → Emits takes r b d y second → y ≡ w
     → Emits takes r a d (v ++ w) (first ++ second)
-then_emits {S} {takes} {q} {r} {a} {b} {d} {x} {y} {first} {second} {u} v w p was left q' right =
-    let p' : Emits takes (Ok u) a b x first = subst
-    (λ (s : Result (Unit {0}) AllocError). Emits takes s a b x first) was p in
-    rw (← left, ← right) (Emits-then takes r a b d x y first second p' q')
+then_emits {S} {takes} {q} {r} {a} {b} {d} {x} {y} {first} {second} {u} v w
+    earlier was left later right =
+    let went : Emits takes (Ok u) a b x first = subst
+    (λ (s : Result (Unit {0}) AllocError). Emits takes s a b x first) was earlier in
+    rw (← left, ← right) (Emits-then takes r a b d x y first second went later)
 
 -- at a refusal the text to be written does not matter, nor the warnings to come
 pub refused_emits : {S : Type 0} {takes : Answers S} {q r : Result (Unit {0}) AllocError}
     {a b : State S}
     {x : List ℕ} {first : List Warning} {e e' : AllocError} (y : List ℕ) (second : List Warning)
     → Emits takes r a b x first → r ≡ Err e → q ≡ Err e' → Emits takes q a b y (first ++ second)
-refused_emits {S} {takes} {q} {r} {a} {b} {x} {first} {e} {e'} y second p was is =
+refused_emits {S} {takes} {q} {r} {a} {b} {x} {first} {e} {e'} y second emitted was is =
     let at : Emits takes (Err e) a b x first = subst
-    (λ (s : Result (Unit {0}) AllocError). Emits takes s a b x first) was p in
+    (λ (s : Result (Unit {0}) AllocError). Emits takes s a b x first) was emitted in
     rw is record {
       appended = tt;
       kept = at.kept;

@@ -1,8 +1,8 @@
 -- Warnings that a sink is handed, one list after another.
-use Rattle.std.proofs.Common.{◌≡◌, ◌⊎◌, List, [], ◌∷◌, ◌++◌, Result, Ok, Err, inl, inr, refl, sym, ap, subst, ◌∙◌, append_assoc, append-nil, Vec, Global, Option}
+use Rattle.std.proofs.Common.{◌≡◌, List, [], ◌∷◌, ◌++◌, Result, Ok, Err, inl, inr, refl, sym, ap, subst, ◌∙◌, append_assoc, append-nil, Vec, Global, Option}
 use base.Fml.{GName}
 use Rattle.std.specs.declared.alloc.AllocError.{AllocError}
-use Rattle.html_css.specs.Sink.{Answers, Takes, Given, Refuses, Interrupted, Hands, Keeps, AddsAtMost, StartsWith, GivenVector, HandsBegin}
+use Rattle.html_css.specs.Sink.{Answers, Takes, Given, Interrupted, Hands, Keeps, AddsAtMost, StartsWith, GivenVector, HandsBegin}
 use Rattle.html_css.proofs.Beginnings.{StartsWith-same, StartsWith-append, StartsWith-trans}
 use Rattle.html_css.specs.declared.sink.Warning.{Warning}
 
@@ -99,24 +99,18 @@ module _ {S : Type 0} (warnings : S → List Warning) (borrow : S → Option GNa
   Begins old new = StartsWith (warnings new) (warnings old) × (borrow new ≡ borrow old)
 
   same_begins : (old new : S) → new ≡ old → Begins old new
-  same_begins old new same = (
-    StartsWith-same (warnings old) (warnings new) (ap warnings same),
-    ap
-        borrow same,
-  )
+  same_begins old new same =
+      (StartsWith-same (warnings old) (warnings new) (ap warnings same), ap borrow same)
 
   step_begins : (old new : S) (w : Warning) (r : Result (Unit {0}) AllocError)
       → Takes warnings borrow emit_gives old w r new → Begins old new
-  step_begins old new w r took = (
-    begins (warnings old) (warnings new) w took.adds,
-    took.same_borrow,
-  )
+  step_begins old new w r took =
+      (begins (warnings old) (warnings new) w took.adds, took.same_borrow)
 
   then_begins : (old middle new : S) → Begins old middle → Begins middle new → Begins old new
   then_begins old middle new first second = (
     StartsWith-trans (warnings new) (warnings middle) (warnings old) second.0 first.0,
-    second.1
-        ∙ first.1,
+    second.1 ∙ first.1,
   )
 
   given_begins : (old new : S) (ws : List Warning)

@@ -51,30 +51,30 @@ module _ {A K X : Type 0} {R : K → K → Ordering} (o : IsTotalOrder R) (f : A
   before_found : (l : List A) (name : K) (at : ℕ) → Listed l → at < length l
       → HoldsAt (λ a. R name (key a) ≡ Equal) l at
       → AllWithin (λ a. R name (key a) ≡ Greater) l 0 at
-  before_found [] name at s h e k d low high = absurd (omega (arith, h))
-  before_found (a ∷ l) name zero s h e k d low high = absurd (omega (arith, high))
-  before_found (a ∷ l) name (suc at) s h e zero d low high =
-      let here : R name (key (get_or l at d)) ≡ Equal = e d in
+  before_found [] name at sorted within equal k d low high = absurd (omega (arith, within))
+  before_found (a ∷ l) name zero sorted within equal k d low high = absurd (omega (arith, high))
+  before_found (a ∷ l) name (suc at) sorted within equal zero d low high =
+      let here : R name (key (get_or l at d)) ≡ Equal = equal d in
       let below : R (key a) (key (get_or l at d)) ≡ Less =
-      at_index (λ y. R (key a) y ≡ Less) l at d (sorted_head R (key a) (keys_of (map f l)) s)
-      (omega (arith, h)) in
+      at_index (λ y. R (key a) y ≡ Less) l at d (sorted_head R (key a) (keys_of (map f l)) sorted)
+      (omega (arith, within)) in
       o.congr name (key (get_or l at d)) (key a) here ∙ turned (key a) (key (get_or l at d)) below
-  before_found (a ∷ l) name (suc at) s h e (suc k) d low high =
-      before_found l name at (sorted_tail R (key a) (keys_of (map f l)) s) (omega (arith, h)) e k d
-      (omega arith) (omega (arith, high))
+  before_found (a ∷ l) name (suc at) sorted within equal (suc k) d low high =
+      before_found l name at (sorted_tail R (key a) (keys_of (map f l)) sorted)
+      (omega (arith, within)) equal k d (omega arith) (omega (arith, high))
 
   -- what a binary search answers
   pub searched : (l : List A) (name : K) (r : Result ℕ ℕ) → Listed l → IsSearchInRange r (length l)
       → IsBinarySearchResult (λ a. R (key a) name) l r
       → MatchResult r (IsFound R key l name) (IsGap R key l name)
-  searched l name (Ok at) s h e =
+  searched l name (Ok at) sorted within answer =
       let here : HoldsAt (λ a. R name (key a) ≡ Equal) l at =
-      λ d. tied_back o (key (get_or l at d)) name (e d) in
-      record { within = h; before = before_found l name at s h here; here = here }
-  searched l name (Err at) s h e =
-      let parts = e (searchable_from_sorted o key l name (adjacent l s)) in
+      λ d. tied_back o (key (get_or l at d)) name (answer d) in
+      record { within = within; before = before_found l name at sorted within here; here = here }
+  searched l name (Err at) sorted within answer =
+      let parts = answer (searchable_from_sorted o key l name (adjacent l sorted)) in
       record {
-        within = h;
+        within = within;
         before = λ k d low high. turned (key (get_or l k d)) name (parts.0 k d low high);
         after = λ k d low high. turned_back (key (get_or l k d)) name (parts.1 k d low high);
       }
@@ -89,47 +89,48 @@ module _ {A K X : Type 0} {R : K → K → Ordering} (o : IsTotalOrder R) (f : A
       → AllWithin (λ a. R name (key a) ≡ Greater) l 0 at
       → HoldsAt (λ a. R name (key a) ≡ Equal) l at
       → f b ≡ (key (get_or l at d), x) → insert_entry R (map f l) name x ≡ map f (set l at b)
-  put_found [] name x at b d h above e v = absurd (omega (arith, h))
-  put_found (a ∷ l) name x zero b d h above e v = rw (e a, v) refl
-  put_found (a ∷ l) name x (suc at) b d h above e v =
+  put_found [] name x at b d within above equal value_is = absurd (omega (arith, within))
+  put_found (a ∷ l) name x zero b d within above equal value_is = rw (equal a, value_is) refl
+  put_found (a ∷ l) name x (suc at) b d within above equal value_is =
       rw (above 0 a (omega arith) (omega arith)) (ap (λ t. f a ∷ t)
-      (put_found l name x at b d (omega (arith, h)) (before_tail a l name at above) e v))
+      (put_found l name x at b d (omega (arith, within)) (before_tail a l name at above)
+      equal value_is))
 
   -- a new pair in a gap
   pub put_gap : (l : List A) (at : ℕ) (b : A) → at ≤ length l
       → AllWithin (λ a. R (key b) (key a) ≡ Greater) l 0 at
       → AllWithin (λ a. R (key b) (key a) ≡ Less) l at (length l)
       → insert_entry R (map f l) (key b) (f b).1 ≡ map f (insert l at b)
-  put_gap [] zero b h above below = refl
-  put_gap [] (suc at) b h above below = absurd (omega (arith, h))
-  put_gap (a ∷ l) zero b h above below = rw (below 0 a (omega arith) (omega arith)) refl
-  put_gap (a ∷ l) (suc at) b h above below =
+  put_gap [] zero b within above below = refl
+  put_gap [] (suc at) b within above below = absurd (omega (arith, within))
+  put_gap (a ∷ l) zero b within above below = rw (below 0 a (omega arith) (omega arith)) refl
+  put_gap (a ∷ l) (suc at) b within above below =
       rw (above 0 a (omega arith) (omega arith))
-      (ap (λ t. f a ∷ t) (put_gap l at b (omega (arith, h)) (before_tail a l (key b) at above)
+      (ap (λ t. f a ∷ t) (put_gap l at b (omega (arith, within)) (before_tail a l (key b) at above)
       (λ k d low high. below (suc k) d (omega (arith, low)) (omega (arith, high)))))
 
   pub drop_found : (l : List A) (name : K) (at : ℕ) → at < length l
       → AllWithin (λ a. R name (key a) ≡ Greater) l 0 at
       → HoldsAt (λ a. R name (key a) ≡ Equal) l at
       → remove_entry (is_at (R name)) (map f l) ≡ map f (remove l at)
-  drop_found [] name at h above e = absurd (omega (arith, h))
-  drop_found (a ∷ l) name zero h above e = rw (e a) refl
-  drop_found (a ∷ l) name (suc at) h above e =
+  drop_found [] name at within above equal = absurd (omega (arith, within))
+  drop_found (a ∷ l) name zero within above equal = rw (equal a) refl
+  drop_found (a ∷ l) name (suc at) within above equal =
       rw (above 0 a (omega arith) (omega arith)) (ap (λ t. f a ∷ t)
-      (drop_found l name at (omega (arith, h)) (before_tail a l name at above) e))
+      (drop_found l name at (omega (arith, within)) (before_tail a l name at above) equal))
 
   pub drop_gap : (l : List A) (name : K) (at : ℕ) → at ≤ length l
       → AllWithin (λ a. R name (key a) ≡ Greater) l 0 at
       → AllWithin (λ a. R name (key a) ≡ Less) l at (length l)
       → remove_entry (is_at (R name)) (map f l) ≡ map f l
-  drop_gap [] name at h above below = refl
-  drop_gap (a ∷ l) name zero h above below =
+  drop_gap [] name at within above below = refl
+  drop_gap (a ∷ l) name zero within above below =
       rw (below 0 a (omega arith) (omega arith)) (ap (λ t. f a ∷ t)
       (drop_gap l name zero (omega arith) (λ k d low high. absurd (omega (arith, high)))
       (λ k d low high. below (suc k) d (omega arith) (omega (arith, high)))))
-  drop_gap (a ∷ l) name (suc at) h above below =
+  drop_gap (a ∷ l) name (suc at) within above below =
       rw (above 0 a (omega arith) (omega arith))
-      (ap (λ t. f a ∷ t) (drop_gap l name at (omega (arith, h)) (before_tail a l name at above)
+      (ap (λ t. f a ∷ t) (drop_gap l name at (omega (arith, within)) (before_tail a l name at above)
       (λ k d low high. below (suc k) d (omega (arith, low)) (omega (arith, high)))))
 
 -- the order is kept

@@ -18,10 +18,10 @@ use Rattle.html_css.proofs.Beginnings.{StartsWith-append, StartsWith-trans, rest
 -- a text whose characters begin with those of another begins with it
 grown : (b d : List ℕ) → IsUtf8 b → IsUtf8 d → StartsWith (chars d) (chars b) → d ≡ b
     ++ encodes (drop (length (chars b)) (chars d))
-grown b d u v h =
+grown b d utf8_b utf8_d begins =
     let more = drop (length (chars b)) (chars d) in
-    sym (encodes-chars d v) ∙ ap encodes (rest_of (chars d) (chars b) h)
-    ∙ encodes-append (chars b) more ∙ ap (λ l. l ++ encodes more) (encodes-chars b u)
+    sym (encodes-chars d utf8_d) ∙ ap encodes (rest_of (chars d) (chars b) begins)
+    ∙ encodes-append (chars b) more ∙ ap (λ l. l ++ encodes more) (encodes-chars b utf8_b)
 
 module _ (at : ℕ) (b d : List ℕ) (within : at ≤ length b) where
   pub kept_front : IsUtf8 b → IsUtf8 d → StartsWith (chars d) (chars b) → take at d ≡ take at b
@@ -62,12 +62,12 @@ module _ (at : ℕ) (b d : List ℕ) (u : IsUtf8 (take at b)) (front : take at d
       → Emits takes r (record old { text = chars b }) (record new { text = chars d }) t ws
       → Emits takes r (record old { text = chars (drop at b) })
       (record new { text = chars (drop at d) }) t ws
-  emits_from r old new t ws e = record {
-    appended = from_appended r t e.appended;
-    kept = from_kept e.kept;
-    failed = e.failed;
-    steady = e.steady;
-    given = e.given;
+  emits_from r old new t ws emitted = record {
+    appended = from_appended r t emitted.appended;
+    kept = from_kept emitted.kept;
+    failed = emitted.failed;
+    steady = emitted.steady;
+    given = emitted.given;
   }
 
 is_text : IsUtf8 (codes "calc(")
@@ -77,11 +77,11 @@ is_text = (codes "calc(", (refl, refl))
 -- what stands after a place where the opening was put
 pub after_opening : (at : ℕ) (b d : List ℕ) → at ≤ length b → d ≡ take at b
     ++ (codes "calc(" ++ drop at b) → chars (drop at d) ≡ codes "calc(" ++ chars (drop at b)
-after_opening at b d within e =
+after_opening at b d within opened_is =
     let t = codes "calc(" in
     let long : length (take at b) ≡ at = length-take-le at b within in
     let rest : drop at d ≡ t ++ drop at b = subst (λ n. drop n d ≡ t ++ drop at b) long
-    (rw e (drop-append_seam (take at b) (t ++ drop at b))) in
+    (rw opened_is (drop-append_seam (take at b) (t ++ drop at b))) in
     ap chars rest ∙ chars-append t (drop at b) is_text
     ∙ ap (λ l. l ++ chars (drop at b)) (chars_ascii t refl)
 
@@ -105,13 +105,13 @@ pub Adds-then : {S : Type 0} {takes : Answers S} (r : Result (Unit {0}) AllocErr
     (t : List ℕ) (opened : List ℕ → List ℕ) (ws : List Warning)
     → Emits takes (Ok tt) a b t ws → Adds takes r b d (opened b.text) []
     → Adds takes r a d (opened (a.text ++ t)) ws
-Adds-then {S} {takes} r a b d t opened ws p q = record {
-  written = subst (λ x. OnOk r (d.text ≡ opened x)) p.appended q.written;
-  kept = then_kept r a.text b.text d.text p.kept q.kept;
-  failed = then_failed r a.failed b.failed d.failed (fails ws) p.failed q.failed;
-  steady = λ none. q.steady refl ∙ p.steady none;
+Adds-then {S} {takes} r a b d t opened ws emitted added = record {
+  written = subst (λ x. OnOk r (d.text ≡ opened x)) emitted.appended added.written;
+  kept = then_kept r a.text b.text d.text emitted.kept added.kept;
+  failed = then_failed r a.failed b.failed d.failed (fails ws) emitted.failed added.failed;
+  steady = λ none. added.steady refl ∙ emitted.steady none;
   given = subst (λ vs. Hands takes r a.sink vs d.sink) (append-nil ws)
-      (hands_then takes r a.sink b.sink d.sink ws [] p.given q.given);
+      (hands_then takes r a.sink b.sink d.sink ws [] emitted.given added.given);
 }
 
 -- what a part appends, behind the opening, is the sum with that part
@@ -125,12 +125,12 @@ with_appended More own p = refl
 pub Adds-refused : {S : Type 0} {takes : Answers S} (e e' : AllocError) (a b : State S)
     (t s : List ℕ) (ws : List Warning)
     → Emits takes (Err e) a b t ws → Adds takes (Err e') a b s ws
-Adds-refused e e' a b t s ws p = record {
+Adds-refused e e' a b t s ws emitted = record {
   written = tt;
-  kept = p.kept;
+  kept = emitted.kept;
   failed = tt;
-  steady = p.steady;
-  given = p.given;
+  steady = emitted.steady;
+  given = emitted.given;
 }
 
 -- the opening, at the second part
@@ -168,10 +168,11 @@ pub emits_whole : {S : Type 0} {takes : Answers S} (r : Result (Unit {0}) AllocE
     (old new : State S) (t : List ℕ) (ws : List Warning) → IsUtf8 (take at b)
     → Emits takes r (record old { text = chars b }) new t ws
     → Emits takes r (record old { text = chars (take at b) }) new (chars (drop at b) ++ t) ws
-emits_whole r at b old new t ws u e = record {
-  appended = whole_text r at b new.text t u e.appended;
-  kept = StartsWith-trans new.text (chars b) (chars (take at b)) e.kept (begins_before at b u);
-  failed = e.failed;
-  steady = e.steady;
-  given = e.given;
+emits_whole r at b old new t ws utf8 emitted = record {
+  appended = whole_text r at b new.text t utf8 emitted.appended;
+  kept = StartsWith-trans new.text (chars b) (chars (take at b)) emitted.kept
+      (begins_before at b utf8);
+  failed = emitted.failed;
+  steady = emitted.steady;
+  given = emitted.given;
 }

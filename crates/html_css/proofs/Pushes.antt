@@ -122,18 +122,18 @@ still_listed (p ∷ ps) old s = still_listed ps (with_value old p.0 p.1)
 -- a value in one order is the value in another
 found_in_both : (ps qs : List TextPair) (q v : List ℕ) → IsDistinct (eq_by_cmp by_name) (keys_of qs)
     → IsPermutation ps qs → value_of ps q ≡ Some v → value_of qs q ≡ Some v
-found_in_both ps qs q v d h e =
-    let there = place_from_lookup (eq_by_cmp by_name q) ps v e in
+found_in_both ps qs q v distinct permuted found =
+    let there = place_from_lookup (eq_by_cmp by_name q) ps v found in
     let name = there.1 in
     let inside : Contains ps (name, v) = (
       there.0,
       slice_get_within ps there.0 (name, v) there.2,
       get_or_from_slice_get ps there.0 (name, v) (name, v) there.2,
     ) in
-    let here = Contains-permutation ps qs (name, v) h inside in
+    let here = Contains-permutation ps qs (name, v) permuted inside in
     let same : eq_by_cmp by_name q ≡ eq_by_cmp by_name name =
     λ i z. ties_equiv.congr q name z there.3 i in
-    ap (λ t. lookup t qs) same ∙ lookup_from_place ties_equiv qs here.0 name v d
+    ap (λ t. lookup t qs) same ∙ lookup_from_place ties_equiv qs here.0 name v distinct
     (slice_get_read qs (length qs) here.0 (name, v) refl here.1 (sym here.2))
 
 some_none : (v : List ℕ) → Some v ≡ None → ⊥
@@ -152,15 +152,16 @@ alike ps qs q d c h = by (value_of ps q) (value_of qs q) refl refl
         (found_in_both qs ps q v d (IsPermutation-sym ps qs h) f) ∙ e))
 
 pub any_order : AnyOrder
-any_order old ps qs s distinct h =
-    let d : IsDistinct (eq_by_cmp by_name) (keys_of ps) =
+any_order old ps qs listed distinct permuted =
+    let distinct_ps : IsDistinct (eq_by_cmp by_name) (keys_of ps) =
     subst (λ (e : List ℕ → List ℕ → Bool). IsDistinct e (keys_of ps))
     (λ i a b. sym (same_test a b) i) distinct in
-    let c : IsDistinct (eq_by_cmp by_name) (keys_of qs) =
+    let distinct_qs : IsDistinct (eq_by_cmp by_name) (keys_of qs) =
     IsDistinct-IsPermutation (eq_by_cmp by_name) ties_equiv.symm (keys_of ps) (keys_of qs)
-    (IsPermutation-map (λ (p : TextPair). p.0) ps qs h) d in
+    (IsPermutation-map (λ (p : TextPair). p.0) ps qs permuted) distinct_ps in
     let same : pushed old ps ≡ pushed old qs = values_decide (pushed old ps) (pushed old qs)
-    (still_listed ps old s) (still_listed qs old s)
-    (λ q. last_value ps old q d ∙ ap (λ o. option_or o (value_of old q)) (alike ps qs q d c h)
-    ∙ sym (last_value qs old q c)) in
+    (still_listed ps old listed) (still_listed qs old listed)
+    (λ q. last_value ps old q distinct_ps
+    ∙ ap (λ o. option_or o (value_of old q)) (alike ps qs q distinct_ps distinct_qs permuted)
+    ∙ sym (last_value qs old q distinct_qs)) in
     (same, ap inline_text same)

@@ -81,8 +81,7 @@ never_warns One text z = either (is_zero z) _ (either (is_negative z) [] refl)
 never_warns More text z = either (is_zero z) _ (either (is_negative z) [] refl)
 
 -- A sum of `all` that still lacks `left`, which began at a writer in `start`: what stood before it,
--- how many parts
--- it has, and what it has written.
+-- how many parts it has, and what it has written.
 pub record Going {S : Type 0} (start : State S) (all left : List Part) (before : List ℕ)
     (parts : Parts) (own : State S) : Type 0 where
   pub at : before ≡ start.text
@@ -104,10 +103,10 @@ begun {S} start all before parts own b o p = record {
 added_text : {S : Type 0} (takes : Answers S) (q : Result (Unit {0}) AllocError) (u : Unit {0})
     (a b : State S) (t : List ℕ) (ws : List Warning)
     → q ≡ Ok u → Adds takes q a b t ws → b.text ≡ t
-added_text takes q u a b t ws e h =
-    let h' : Adds takes (Ok u) a b t ws = subst (λ (s : Result (Unit {0}) AllocError). Adds takes s
-    a b t ws) e h in
-    h'.written
+added_text takes q u a b t ws ok added =
+    let done : Adds takes (Ok u) a b t ws
+    = subst (λ (r : Result (Unit {0}) AllocError). Adds takes r a b t ws) ok added in
+    done.written
 
 pub going : {S : Type 0} {takes : Answers S} {q : Result (Unit {0}) AllocError} {u : Unit {0}}
     {start : State S} {all qs : List Part}
@@ -116,12 +115,12 @@ pub going : {S : Type 0} {takes : Answers S} {q : Result (Unit {0}) AllocError} 
     ≡ next_parts parts p
     → Adds takes q own own' (next_text parts own.text p) (next_warnings parts p)
     → next_warnings parts p ≡ [] → Going start all qs before' parts' own'
-going {S} {takes} {q} {u} {start} {all} {qs} {before} {before'} {parts} {parts'} {own} {own'} p g ok
-    b n h none = record {
-      at = b ∙ g.at;
-      told = rw (n, added_text takes q u own own' _ _ ok h) g.told;
-      failed = h.steady none ∙ g.failed;
-      sink = handed_none takes q own.sink own'.sink _ none h.given ∙ g.sink;
+going {S} {takes} {q} {u} {start} {all} {qs} {before} {before'} {parts} {parts'} {own} {own'} p
+    held ok stays counted added none = record {
+      at = stays ∙ held.at;
+      told = rw (counted, added_text takes q u own own' _ _ ok added) held.told;
+      failed = added.steady none ∙ held.failed;
+      sink = handed_none takes q own.sink own'.sink _ none added.given ∙ held.sink;
     }
 
 pub done : {S : Type 0} {takes : Answers S} {r : Result (Unit {0}) AllocError} {start : State S}
@@ -130,10 +129,10 @@ pub done : {S : Type 0} {takes : Answers S} {r : Result (Unit {0}) AllocError} {
     → Going start all [] before parts own → Emits takes r (record own { text = before }) final
     (own.text ++ closed parts) []
     → Emits takes r start final (sum_text all) []
-done {S} {takes} {r} {start} {all} {before} {parts} {own} {final} g h =
-    let same : record own { text = before } ≡ start = as_state g.at g.failed g.sink in
-    subst (λ (t : List ℕ). Emits takes r start final t []) g.told
-    (subst (λ (s : State S). Emits takes r s final (own.text ++ closed parts) []) same h)
+done {S} {takes} {r} {start} {all} {before} {parts} {own} {final} held closes =
+    let same : record own { text = before } ≡ start = as_state held.at held.failed held.sink in
+    subst (λ (t : List ℕ). Emits takes r start final t []) held.told
+    (subst (λ (s : State S). Emits takes r s final (own.text ++ closed parts) []) same closes)
   where
     as_state : before ≡ start.text → own.failed ≡ start.failed → own.sink ≡ start.sink
         → record own { text = before } ≡ start
@@ -149,11 +148,11 @@ pub broken : {S : Type 0} {takes : Answers S} {q r : Result (Unit {0}) AllocErro
     → next_warnings parts p ≡ []
     → Emits takes r start (record own' { text = final }) text []
 broken {S} {takes} {q} {r} {e} {e'} {start} {all} {qs} {before} {before'} {parts} {own} {own'} p
-    text final g was is b s h none =
+    text final held was is stays begins added none =
     rw is record {
       appended = tt;
-      kept = rw (← g.at, ← b) s;
+      kept = rw (← held.at, ← stays) begins;
       failed = tt;
-      steady = λ _. h.steady none ∙ g.failed;
-      given = handed_none takes q own.sink own'.sink _ none h.given ∙ g.sink;
+      steady = λ _. added.steady none ∙ held.failed;
+      given = handed_none takes q own.sink own'.sink _ none added.given ∙ held.sink;
     }

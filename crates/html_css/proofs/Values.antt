@@ -125,14 +125,13 @@ behind_unit n (c ∷ cs) h = rw h.1 refl
 behind_is : (k f m n : ℕ) (u : List ℕ) → f < 10 ^ k → IsUnit u
     → decimals 100000 (fraction_digits k f) ≡ f * m → behind n (point_text k f ++ u)
     ≡ in_unit u (n + f * m)
-behind_is k zero m n u h i e = behind_unit n u i ∙ ap (in_unit u) (omega arith)
-behind_is k (suc f) m n u h i e =
-    let a = fraction_all k (suc f) h in
+behind_is k zero m n u fits is_unit places = behind_unit n u is_unit ∙ ap (in_unit u) (omega arith)
+behind_is k (suc f) m n u fits is_unit places =
+    let a = fraction_all k (suc f) fits in
     rw (
-      digits_first (fraction_digits k (suc f)) u a (ends_unit u i),
-      digits_past
-          (fraction_digits k (suc f)) u a (ends_unit u i),
-      e,
+      digits_first (fraction_digits k (suc f)) u a (ends_unit u is_unit),
+      digits_past (fraction_digits k (suc f)) u a (ends_unit u is_unit),
+      places,
     ) refl
 
 module _ (k m : ℕ) (u : List ℕ) (amount : ℤ → Amounts) (is_unit : IsUnit u)
@@ -146,9 +145,9 @@ module _ (k m : ℕ) (u : List ℕ) (amount : ℤ → Amounts) (is_unit : IsUnit
   number_value : (r : ℕ) → r / 10 ^ k < 2 ^ 64 → unsigned (digits_of (number r))
       (after_digits (number r)) ≡ Some (amount (pos (r * 100)))
   unfolding number
-  number_value r h =
+  number_value r fits =
       let above = power_above k in
-      let whole = decimal_is_IsNumeral (r / 10 ^ k) h in
+      let whole = decimal_is_IsNumeral (r / 10 ^ k) fits in
       unsigned_is (decimal (r / 10 ^ k)) (point_text k (r % 10 ^ k) ++ u) whole.0.0 whole.0.1
       (ends_point k (r % 10 ^ k) u is_unit)
       ∙ ap (λ n. behind (n * 1000000) (point_text k (r % 10 ^ k) ++ u)) whole.1
@@ -159,21 +158,21 @@ module _ (k m : ℕ) (u : List ℕ) (amount : ℤ → Amounts) (is_unit : IsUnit
   plain_value : (r : ℕ) → r / 10 ^ k < 2 ^ 64 → part_value (number r)
       ≡ Some (amount (pos (r * 100)))
   unfolding number
-  plain_value r h =
-      let whole = decimal_is_IsNumeral (r / 10 ^ k) h in
+  plain_value r fits =
+      let whole = decimal_is_IsNumeral (r / 10 ^ k) fits in
       without_sign (decimal (r / 10 ^ k)) (point_text k (r % 10 ^ k) ++ u) whole.0.0 whole.0.1
-      ∙ number_value r h
+      ∙ number_value r fits
 
   below_zero : (n r : ℕ) → r / 10 ^ k < 2 ^ 64 → part_value
       (sign_text (negsuc n) r ++ decimal (r / 10 ^ k) ++ point_text k (r % 10 ^ k) ++ u)
       ≡ Some (amount (neg_ℤ (pos (r * 100))))
   unfolding number
-  below_zero n zero h = ap part_value (append_assoc (decimal (0 / 10 ^ k))
-      (point_text k (0 % 10 ^ k)) u) ∙ plain_value 0 h
-  below_zero n (suc r) h =
+  below_zero n zero fits = ap part_value (append_assoc (decimal (0 / 10 ^ k))
+      (point_text k (0 % 10 ^ k)) u) ∙ plain_value 0 fits
+  below_zero n (suc r) fits =
       ap (λ t. option_map negated (unsigned (digits_of t) (after_digits t)))
       (append_assoc (decimal (suc r / 10 ^ k)) (point_text k (suc r % 10 ^ k)) u)
-      ∙ ap (option_map negated) (number_value (suc r) h) ∙ ap Some (turns (pos (suc r * 100)))
+      ∙ ap (option_map negated) (number_value (suc r) fits) ∙ ap Some (turns (pos (suc r * 100)))
 
   pub quantity_value : (z : ℤ) → IsQuantity z → part_value (fixed_text k z ++ u)
       ≡ Some (amount (round z))

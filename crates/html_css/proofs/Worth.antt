@@ -315,8 +315,7 @@ rel_value ratio em abs o p q =
     (added_nothing (of_abs (round abs))) ∙ rw (
       +ℤ_idr (round ratio),
       +ℤ_idr (round em),
-      +ℤ_idl
-          (round em),
+      +ℤ_idl (round em),
       +ℤ_idl (round abs),
       +ℤ_idl (round abs),
     ) refl)

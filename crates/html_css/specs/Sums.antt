@@ -1,5 +1,5 @@
 -- The css text of a sum (CSS Values 4, section 10.1, `calc()`).
-use Rattle.std.specs.Prelude.{◌≡◌, ℕ, ℤ, neg_ℤ, List, [], ◌∷◌, ◌++◌, codes, Bool, not, if◌then◌else◌}
+use Rattle.std.specs.Prelude.{◌≡◌, ℕ, ℤ, neg_ℤ, List, [], ◌∷◌, ◌++◌, codes, not, if◌then◌else◌}
 use Rattle.std.specs.List.{filter, flat_map}
 use Rattle.html_css.specs.Quantities.{is_zero, is_negative, abs_text, em_text, ratio_text}
 use Rattle.html_css.specs.declared.sink.Warning.{Warning}

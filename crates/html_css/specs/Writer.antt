@@ -27,8 +27,7 @@ fails [] = false
 fails (w ∷ ws) = true
 
 -- The text grows by `text`, or by a beginning of whatever where the call is refused. The sink is
--- handed the
--- warnings. Where there are none, the flag stays.
+-- handed the warnings. Where there are none, the flag stays.
 pub record Emits {S : Type 0} (takes : Answers S) (r : Result (Unit {0}) AllocError)
     (old new : State S) (text : List ℕ) (warnings : List Warning) : Type 0 where
   pub appended : OnOk r (new.text ≡ old.text ++ text)
@@ -38,8 +37,7 @@ pub record Emits {S : Type 0} (takes : Answers S) (r : Result (Unit {0}) AllocEr
   pub given : Hands takes r old.sink warnings new.sink
 
 -- A step of a sum: what the sum itself has written becomes `text`; where the step is refused, it
--- has still what
--- it had at its beginning.
+-- has still what it had at its beginning.
 pub record Adds {S : Type 0} (takes : Answers S) (r : Result (Unit {0}) AllocError)
     (old new : State S) (text : List ℕ) (warnings : List Warning) : Type 0 where
   pub written : OnOk r (new.text ≡ text)

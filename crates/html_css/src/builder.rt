@@ -74,9 +74,10 @@ impl<S: WarningSink> PropertiesBuilder<S> {
             then self.properties else with_value self.properties (chars name.now)
             (T.text value.now))) }
         ensures back { IfErr result (λ refused. refused.back.properties ≡ self.properties) }
-        ensures given { IfOk result (λ made. Given (Takes S.warnings S.borrow S.emit_gives) self.sink
-            (T.warnings value.now) made.sink) }
-        ensures given_back { IfErr result (λ refused. Interrupted (Takes S.warnings S.borrow S.emit_gives) self.sink
+        ensures given { IfOk result (λ made. Given (Takes S.warnings S.borrow S.emit_gives)
+            self.sink (T.warnings value.now) made.sink) }
+        ensures given_back { IfErr result (λ refused.
+            Interrupted (Takes S.warnings S.borrow S.emit_gives) self.sink
             (T.warnings value.now) refused.back.sink) }
     {
         match self.push(name, value) {

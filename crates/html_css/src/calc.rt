@@ -86,7 +86,8 @@ impl<S: WarningSink> CssWriter<S> {
     pub fn calc(&mut self) -> Calc<'_, S>
         ensures same_writer { result.out.ghost_name ≡ self.entry.ghost_name }
         ensures before { text_before result.start result.out.now ≡ text_of self.old }
-        ensures nothing { written_from result.start result.out.now ≡ record (state self.old) { text = [] } }
+        ensures nothing { written_from result.start result.out.now
+            ≡ record (state self.old) { text = [] } }
         ensures parts { result.parts ≡ Zero }
     {
         let start = self.text.as_str().len();
@@ -110,7 +111,8 @@ impl<S: WarningSink> Calc<'_, S> {
         ensures same_writer { self.new.out.ghost_name ≡ self.old.out.ghost_name }
         ensures before { text_before self.new.start self.new.out.now
             ≡ text_before self.old.start self.old.out.now }
-        ensures begins { StartsWith (text_of self.new.out.now) (text_before self.new.start self.new.out.now) }
+        ensures begins { StartsWith (text_of self.new.out.now)
+            (text_before self.new.start self.new.out.now) }
         ensures parts { OnOk result (self.new.parts ≡ next_parts self.old.parts
             (part_of T.number T.text T.warnings T.opposite value.now)) }
         ensures adds { let part = part_of T.number T.text T.warnings T.opposite value.now in
@@ -130,8 +132,8 @@ impl<S: WarningSink> Calc<'_, S> {
 
     /// Closes the sum: what it has written and its closing text follow what stood before it.
     pub fn finish(self) -> Result<(), AllocError>
-        ensures closing { Emits (Takes S.warnings S.borrow S.emit_gives) result (state self.entry.out.now)
-            (state self.exit.0.now) (closed self.entry.parts) [] }
+        ensures closing { Emits (Takes S.warnings S.borrow S.emit_gives) result
+            (state self.entry.out.now) (state self.exit.0.now) (closed self.entry.parts) [] }
         ensures whole { let old = written_from self.entry.start self.entry.out.now in
             Emits (Takes S.warnings S.borrow S.emit_gives) result
             (record old { text = text_before self.entry.start self.entry.out.now })

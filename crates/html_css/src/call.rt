@@ -58,8 +58,8 @@ impl<S: WarningSink> CssWriter<S> {
     }
 
     fn open(&mut self, name: &str) -> Result<(), AllocError>
-        ensures { Emits (Takes S.warnings S.borrow S.emit_gives) result (state self.old) (state self.new)
-            (chars name.now ++ codes "(") [] }
+        ensures { Emits (Takes S.warnings S.borrow S.emit_gives) result
+            (state self.old) (state self.new) (chars name.now ++ codes "(") [] }
     {
         self.write(name)?;
         self.write_ascii("(")
@@ -72,9 +72,10 @@ impl<S: WarningSink> Call<'_, S> {
         ensures same_writer { self.new.out.ghost_name ≡ self.old.out.ghost_name }
         ensures separator { self.new.separator ≡ self.old.separator }
         ensures begun { self.new.has_argument ≡ true }
-        ensures emits { Emits (Takes S.warnings S.borrow S.emit_gives) result (state self.old.out.now)
-            (state self.new.out.now) (before_argument self.old.has_argument self.old.separator
-            ++ T.text value.now) (T.warnings value.now) }
+        ensures emits { Emits (Takes S.warnings S.borrow S.emit_gives) result
+            (state self.old.out.now) (state self.new.out.now)
+            (before_argument self.old.has_argument self.old.separator ++ T.text value.now)
+            (T.warnings value.now) }
     {
         self.arg_with(value, self.separator)
     }
@@ -84,9 +85,10 @@ impl<S: WarningSink> Call<'_, S> {
         ensures same_writer { self.new.out.ghost_name ≡ self.old.out.ghost_name }
         ensures separator { self.new.separator ≡ self.old.separator }
         ensures begun { self.new.has_argument ≡ true }
-        ensures emits { Emits (Takes S.warnings S.borrow S.emit_gives) result (state self.old.out.now)
-            (state self.new.out.now) (before_argument self.old.has_argument separator
-            ++ T.text value.now) (T.warnings value.now) }
+        ensures emits { Emits (Takes S.warnings S.borrow S.emit_gives) result
+            (state self.old.out.now) (state self.new.out.now)
+            (before_argument self.old.has_argument separator ++ T.text value.now)
+            (T.warnings value.now) }
     {
         let had = self.has_argument;
         self.has_argument = true;

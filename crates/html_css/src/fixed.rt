@@ -3,8 +3,8 @@ ghost use Rattle.html_css.specs.Quantities.{fixed_text, fraction_digits, sign_te
 
 use std::alloc::{AllocError, Global};
 
-/// The decimal text of a number of millionths: a whole number of hundreds of them, rounded half away
-/// from zero, whose last `decimals` digits stand behind the point, without zeros at the end.
+/// The decimal text of a number of millionths: a whole number of hundreds of them, rounded half
+/// away from zero, whose last `decimals` digits stand behind the point, without zeros at the end.
 #[tactic(auto, using(crate::proofs::Digits::append_steps))]
 pub(crate) fn fixed(alloc: Global, millionths: i64, decimals: u32) -> Result<String, AllocError>
     requires few { decimals < 5 }
@@ -36,7 +36,8 @@ fn power_of_ten(exponent: u32) -> u64
 }
 
 fn push_sign(text: &mut String, millionths: i64, hundreds: u64) -> Result<(), AllocError>
-    ensures { OnOk result (string_bytes text.new ≡ string_bytes text.old ++ sign_text millionths hundreds) }
+    ensures { OnOk result (string_bytes text.new
+        ≡ string_bytes text.old ++ sign_text millionths hundreds) }
 {
     if millionths < 0 && hundreds > 0 {
         text.push('-')?;
@@ -47,7 +48,8 @@ fn push_sign(text: &mut String, millionths: i64, hundreds: u64) -> Result<(), Al
 fn push_point(text: &mut String, rest: u64, decimals: u32) -> Result<(), AllocError>
     requires few { decimals < 5 }
     requires below { rest < 10 ^ decimals }
-    ensures { OnOk result (string_bytes text.new ≡ string_bytes text.old ++ point_text decimals rest) }
+    ensures { OnOk result (string_bytes text.new
+        ≡ string_bytes text.old ++ point_text decimals rest) }
 {
     if rest == 0 {
         return Ok(());
@@ -60,7 +62,8 @@ fn push_point(text: &mut String, rest: u64, decimals: u32) -> Result<(), AllocEr
 fn push_fraction(text: &mut String, rest: u64, decimals: u32) -> Result<(), AllocError>
     requires few { decimals < 5 }
     requires below { rest < 10 ^ decimals }
-    ensures { OnOk result (string_bytes text.new ≡ string_bytes text.old ++ fraction_digits decimals rest) }
+    ensures { OnOk result (string_bytes text.new
+        ≡ string_bytes text.old ++ fraction_digits decimals rest) }
 {
     let mut rest = rest;
     let mut left = decimals;

@@ -8,8 +8,7 @@ ghost use Rattle.html_css.specs.Sums.{SumWritten};
 ghost use Rattle.std.specs.Prelude.{◌≡◌, ◌↔◌, IsTrue};
 
 use crate::{
-    Abs, Angle, Dir, Em, Length, Paint, Properties, Property, Ratio, Rel, Rgba, Separator, Warning,
-    WarningSink,
+    Dir, Length, Paint, Properties, Property, Quantity, Rel, Rgba, Separator, Warning, WarningSink,
 };
 
 /// A push gives its name that value, and no other name another.
@@ -64,29 +63,8 @@ pub fn hands_begin<S: WarningSink>(_sink: &S)
     ensures { HandsBegin S.warnings S.borrow S.emit_gives }
 {}
 
-/// Absolute lengths are equal where all their fields are.
-pub fn equal_abs(a: Abs, b: Abs) -> bool
-    ensures { IsTrue result ↔ (a ≡ b) }
-{
-    a == b
-}
-
-/// Ems are equal where all their fields are.
-pub fn equal_ems(a: Em, b: Em) -> bool
-    ensures { IsTrue result ↔ (a ≡ b) }
-{
-    a == b
-}
-
-/// Ratios are equal where all their fields are.
-pub fn equal_ratios(a: Ratio, b: Ratio) -> bool
-    ensures { IsTrue result ↔ (a ≡ b) }
-{
-    a == b
-}
-
-/// Angles are equal where all their fields are.
-pub fn equal_angles(a: Angle, b: Angle) -> bool
+/// Quantities of one unit are equal where their numbers are.
+pub fn equal_quantities<U: Copy + PartialEq>(a: Quantity<U>, b: Quantity<U>) -> bool
     ensures { IsTrue result ↔ (a ≡ b) }
 {
     a == b

@@ -25,7 +25,6 @@ mod paint;
 mod properties;
 mod property;
 mod quantity;
-mod same;
 mod sink;
 mod to_css;
 mod writer;

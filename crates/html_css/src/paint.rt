@@ -77,8 +77,8 @@ impl ToCss for Rgba {
 
 /// What something is painted with.
 ///
-/// The css text of a solid colour is the colour's. A gradient and a tiling have none: they fail with
-/// their warning.
+/// The css text of a solid colour is the colour's. A gradient and a tiling have none: they fail
+/// with their warning.
 #[derive(Clone, Copy, Debug, PartialEq, Eq, Hash)]
 pub enum Paint {
     /// One colour.
@@ -97,8 +97,8 @@ impl ToCss for Paint {
     ghost warnings = { paint_warnings };
 
     fn emit<S: WarningSink>(&self, out: &mut CssWriter<S>) -> Result<(), AllocError>
-        ensures emits { Emits (Takes S.warnings S.borrow S.emit_gives) result (state out.old) (state out.new)
-            (paint_text self.now) (paint_warnings self.now) }
+        ensures emits { Emits (Takes S.warnings S.borrow S.emit_gives) result
+            (state out.old) (state out.new) (paint_text self.now) (paint_warnings self.now) }
         ensures warns { PaintWarns (S.warnings out.old.sink) (S.warnings out.new.sink) self.now }
         ensures gives { PaintGives S.emit_gives out.old.sink out.new.sink result self.now }
     {

@@ -1,4 +1,4 @@
-ghost use Rattle.std.specs.Prelude.{◌≡◌, ℕ, [], chars, MatchResult, OnOk, OnErr, IfOk, IfErr};
+ghost use Rattle.std.specs.Prelude.{◌≡◌, ◌↔◌, ℕ, [], IsTrue, chars, MatchResult, OnOk, OnErr, IfOk, IfErr};
 ghost use Rattle.html_names.specs.Texts.{text_view};
 ghost use Rattle.html_css.specs.Properties.{list_view, property_view, by_name, name_of, IsListed, with_value, without, inline_text};
 ghost use lib.Utf8.{encodes};
@@ -9,6 +9,7 @@ use crate::property::Property;
 use html_names::Refused;
 use std::alloc::{AllocError, AllocFailed, Global};
 use std::cmp::Ordering;
+use std::hash::{Hash, Hasher};
 use std::marker::Model;
 
 /// Css properties, listed by the byte order of their names. No name stands twice.
@@ -52,7 +53,8 @@ impl Properties {
     /// Gives a name that value, instead of the one that it had. Where an allocation fails, the
     /// properties stay and the value comes back.
     pub fn push(&mut self, name: &str, value: String) -> Result<(), Refused<String>>
-        ensures ok { OnOk result (self.new ≡ with_value self.old (chars name.now) (text_view value)) }
+        ensures ok { OnOk result (self.new
+            ≡ with_value self.old (chars name.now) (text_view value)) }
         ensures err { OnErr result (self.new ≡ self.old) }
         ensures back { IfErr result (λ refused. refused.back ≡ value) }
     {
@@ -74,7 +76,8 @@ impl Properties {
     ) -> Result<Properties, Refused<(Properties, String)>>
         ensures ok { IfOk result (λ properties. properties ≡ with_value self (chars name.now)
             (text_view value)) }
-        ensures back { IfErr result (λ refused. (refused.back.0 ≡ self) × (refused.back.1 ≡ value)) }
+        ensures back { IfErr result (λ refused.
+            (refused.back.0 ≡ self) × (refused.back.1 ≡ value)) }
     {
         match self.push(name, value) {
             Ok(()) => Ok(self),
@@ -110,6 +113,38 @@ impl Properties {
         Ok(Properties {
             list: copies(&self.list)?,
         })
+    }
+}
+
+impl PartialEq for Properties {
+    ghost use Rattle.std.specs.Cmp.{partial_equiv_from_equiv};
+    ghost use Rattle.html_names.specs.Equal.{same, same_equiv, pairs_discrete};
+
+    ghost eq = { same (λ p. p) pairs_discrete };
+
+    ghost laws = { partial_equiv_from_equiv (same_equiv (λ p. p) pairs_discrete) };
+
+    fn eq(&self, other: &Properties) -> bool {
+        same_list(self.as_slice(), other.as_slice())
+    }
+}
+
+impl Eq for Properties {
+    ghost use Rattle.html_names.specs.Equal.{same_equiv, pairs_discrete};
+
+    ghost laws = { same_equiv (λ p. p) pairs_discrete };
+}
+
+impl Hash for Properties {
+    ghost use Rattle.html_names.specs.Hashes.{pairs_fed};
+    ghost use Rattle.html_css.specs.Hashes.{equal_fed};
+
+    ghost hash_input = { λ p. pairs_fed p };
+
+    ghost respects_eq = { equal_fed };
+
+    fn hash<H: Hasher>(&self, state: &mut H) {
+        self.as_slice().hash(state);
     }
 }
 
@@ -191,4 +226,11 @@ fn copies(list: &Vec<Property>) -> Result<Vec<Property>, AllocError>
         copies.push(property.try_clone()?)?;
     }
     Ok(copies)
+}
+
+/// Whether two lists have the same names and values.
+fn same_list(a: &[Property], b: &[Property]) -> bool
+    ensures { IsTrue result ↔ (list_view a.now ≡ list_view b.now) }
+{
+    *a == *b
 }

@@ -24,15 +24,15 @@ pub trait ToCss {
 
     /// Appends the value's text, and hands its warnings to the writer's sink.
     fn emit<S: WarningSink>(&self, out: &mut CssWriter<S>) -> Result<(), AllocError>
-        ensures { Emits (Takes S.warnings S.borrow S.emit_gives) result (state out.old) (state out.new)
-            (text self.now) (warnings self.now) };
+        ensures { Emits (Takes S.warnings S.borrow S.emit_gives) result
+            (state out.old) (state out.new) (text self.now) (warnings self.now) };
 
     /// The value's text. Its warnings go to the sink, in order. Where the sink refuses one, or an
     /// allocation fails, the sink was handed a beginning of them.
     fn to_css<S: WarningSink>(&self, alloc: Global, sink: &mut S) -> Result<String, AllocError>
         ensures text { IfOk result (λ css. text_view css ≡ text self.now) }
-        ensures given { Hands (Takes S.warnings S.borrow S.emit_gives) result sink.old (warnings self.now)
-            sink.new }
+        ensures given { Hands (Takes S.warnings S.borrow S.emit_gives) result
+            sink.old (warnings self.now) sink.new }
     {
         let mut out = CssWriter::new(alloc, Vec::new(alloc));
         self.emit(&mut out)?;

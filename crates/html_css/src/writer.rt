@@ -50,8 +50,8 @@ impl<S: WarningSink> CssWriter<S> {
 
     /// Appends a text as it is.
     pub fn write(&mut self, text: &str) -> Result<(), AllocError>
-        ensures { Emits (Takes S.warnings S.borrow S.emit_gives) result (state self.old) (state self.new)
-            (chars text.now) [] }
+        ensures { Emits (Takes S.warnings S.borrow S.emit_gives) result
+            (state self.old) (state self.new) (chars text.now) [] }
     {
         self.text.push_str(text)
     }
@@ -60,8 +60,8 @@ impl<S: WarningSink> CssWriter<S> {
     #[tactic(auto, using(html_names::proofs::Lists::chars_ascii))]
     pub(crate) fn write_ascii(&mut self, text: &str) -> Result<(), AllocError>
         requires { IsTrue (is_ascii text.now) }
-        ensures { Emits (Takes S.warnings S.borrow S.emit_gives) result (state self.old) (state self.new)
-            text.now [] }
+        ensures { Emits (Takes S.warnings S.borrow S.emit_gives) result
+            (state self.old) (state self.new) text.now [] }
     {
         self.write(text)
     }
@@ -71,8 +71,8 @@ impl<S: WarningSink> CssWriter<S> {
     pub(crate) fn write_fixed(&mut self, millionths: i64, decimals: u32) -> Result<(), AllocError>
         requires few { decimals < 5 }
         requires quantity { IsQuantity millionths }
-        ensures { Emits (Takes S.warnings S.borrow S.emit_gives) result (state self.old) (state self.new)
-            (fixed_text decimals millionths) [] }
+        ensures { Emits (Takes S.warnings S.borrow S.emit_gives) result
+            (state self.old) (state self.new) (fixed_text decimals millionths) [] }
     {
         let text = fixed(*self.text.allocator(), millionths, decimals)?;
         self.write(text.as_str())
@@ -80,16 +80,16 @@ impl<S: WarningSink> CssWriter<S> {
 
     /// Appends a value's text.
     pub fn emit<T: ToCss>(&mut self, value: &T) -> Result<(), AllocError>
-        ensures { Emits (Takes S.warnings S.borrow S.emit_gives) result (state self.old) (state self.new)
-            (T.text value.now) (T.warnings value.now) }
+        ensures { Emits (Takes S.warnings S.borrow S.emit_gives) result
+            (state self.old) (state self.new) (T.text value.now) (T.warnings value.now) }
     {
         value.emit(self)
     }
 
     /// Hands a warning to the sink, and sets `failed`.
     pub fn fail(&mut self, warning: Warning) -> Result<(), AllocError>
-        ensures emits { Emits (Takes S.warnings S.borrow S.emit_gives) result (state self.old) (state self.new)
-            [] (warning ∷ []) }
+        ensures emits { Emits (Takes S.warnings S.borrow S.emit_gives) result
+            (state self.old) (state self.new) [] (warning ∷ []) }
         ensures warns { AddsAtMost (S.warnings self.old.sink) (S.warnings self.new.sink) warning }
         ensures gives { S.emit_gives self.old.sink warning result self.new.sink }
     {

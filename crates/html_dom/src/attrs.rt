@@ -91,7 +91,8 @@ impl HtmlAttrs {
     /// The value of the pair at that place, to be changed.
     fn value_mut(&mut self, place: usize) -> &mut String
         requires { place < vec_len self.old.0 }
-        ensures* writes_back { sem 𝓛 (Lends the_row text_row self.entry result (with_text self.old place)) }
+        ensures* writes_back { sem 𝓛 (Lends the_row text_row self.entry result
+            (with_text self.old place)) }
         ensures value { result.now ≡ (slice_index_or self.old.0.items place ([], result.now)).1 }
     {
         &mut self.0[place].1

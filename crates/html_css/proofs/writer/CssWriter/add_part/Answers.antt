@@ -1,4 +1,4 @@
-use Rattle.std.proofs.Common.{ℕ, List, subst, chars, drop, string_bytes}
+use Rattle.std.proofs.Common.{ℕ, List, subst}
 use Rattle.html_css.specs.Calc.{written_from, part_of, opened}
 use Rattle.html_css.specs.Sink.{Takes}
 use Rattle.html_css.specs.Sums.{part_warnings}

@@ -1,6 +1,6 @@
 use Rattle.std.proofs.Common.{sym, ◌∙◌}
 use Rattle.html_css.proofs.Equals.{list_decides}
-use Rattle.html_css.proofs.same.same_list.Goals as goal
+use Rattle.html_css.proofs.properties.same_list.Goals as goal
 
 pub returns : goal.returns
 returns c =

@@ -2,7 +2,7 @@ use Rattle.std.proofs.Common.{ap, ◌∙◌}
 use Rattle.std.specs.Hash.{fed_along}
 use Rattle.html_names.specs.Hashes.{pairs_fed}
 use Rattle.html_css.proofs.Equals.{list_hashed}
-use Rattle.html_css.proofs.same.PropertiesHash.hash.Goals as goal
+use Rattle.html_css.proofs.properties.PropertiesHash.hash.Goals as goal
 
 pub returns : goal.returns
 returns g c =
