@@ -235,7 +235,7 @@ module _ {frames : Frames} {outer : Margin} {whole : NodesView} {start : List �
           let flat = stands.flat_is
           ∙ rest_flat_first frames outer found.0 found.1 stands.rest place found.2 in
           let left = λ (n : NodeView).
-              rest_flat (place + node_count n) (rest_with found.1 stands.rest) in
+          rest_flat (place + node_count n) (rest_with found.1 stands.rest) in
           let c = comes found.0 place f fs (left found.0) flat in
           let kids_there = kids_are ∙ children_spelled c in
           let is : found.0 ≡ here = c.is ∙ ap (node_with f) (sym kids_there) in
