@@ -1,57 +1,67 @@
 //! Maps of properties, and what builds them.
 
+use super::{assert_inline, assert_warned, pushed};
+use crate::asserts::{assert_text, text_of};
 use html_css::{Abs, Paint, Properties, PropertiesBuilder, Property, Warning};
-use std::alloc::AllocError;
+use std::alloc::Global;
 use std::hash::{DefaultHasher, Hash, Hasher};
-use std::test::Fail;
+use std::process::Abort;
 
-#[test]
-fn a_name_has_its_last_value(rt: HostRuntime) -> Result<(), Fail> {
-    let alloc = rt.alloc();
-    let mut properties = Properties::new(alloc);
-    properties.push("display", String::from_str(alloc, "block")?)?;
-    properties.push("color", String::from_str(alloc, "red")?)?;
-    properties.push("display", String::from_str(alloc, "none")?)?;
-    assert_eq!(rt;
-        properties.to_inline().to_string(alloc)?.as_str(),
-        "color: red; display: none"
-    );
-    assert_eq!(rt; properties.as_slice().len(), 2);
-    assert_eq!(rt; properties.as_slice()[0].name.as_str(), "color");
-    Ok(())
+/// Names that are not in the order of their bytes.
+static UNSORTED: [(&str, &str); 6] = [
+    ("é", "1"),
+    ("z", "1"),
+    ("-a", "1"),
+    ("a", "1"),
+    ("Z", "1"),
+    ("ab", "1"),
+];
+
+/// Asserts how properties are written that are pushed in that order.
+fn assert_pushed(rt: &impl Abort, alloc: Global, pairs: &[(&str, &str)], wanted: &str) {
+    assert_inline(rt, alloc, &pushed(rt, alloc, pairs), wanted);
 }
 
 #[test]
-fn names_are_listed_by_their_bytes(rt: HostRuntime) -> Result<(), Fail> {
-    let alloc = rt.alloc();
-    let mut properties = Properties::new(alloc);
-    for name in ["é", "z", "-a", "a", "Z", "ab"] {
-        properties.push(name, String::from_str(alloc, "1")?)?;
-    }
-    assert_eq!(rt;
-        properties.to_inline().to_string(alloc)?.as_str(),
-        "-a: 1; Z: 1; a: 1; ab: 1; z: 1; é: 1"
-    );
+fn names_are_listed_by_their_bytes(rt: HostRuntime) {
+    let wanted = "-a: 1; Z: 1; a: 1; ab: 1; z: 1; é: 1";
+    assert_pushed(&rt, rt.alloc(), &UNSORTED, wanted);
+    assert_pushed(&rt, rt.alloc(), &[], "");
+}
+
+/// A name that is pushed again.
+static REPEATED: [(&str, &str); 3] = [("display", "block"), ("color", "red"), ("display", "none")];
+
+#[test]
+fn a_name_has_its_last_value(rt: HostRuntime) {
+    let properties = pushed(&rt, rt.alloc(), &REPEATED);
+    assert_inline(&rt, rt.alloc(), &properties, "color: red; display: none");
+    let slice = properties.as_slice();
+    assert!(rt; slice.len() == 2);
+    assert_text(&rt, &slice[0].name, "color");
+}
+
+#[test]
+fn a_name_is_removed_where_it_is_there(rt: HostRuntime) {
+    let mut properties = pushed(&rt, rt.alloc(), &UNSORTED);
     properties.remove("z");
     properties.remove("none");
-    assert_eq!(rt;
-        properties.to_inline().to_string(alloc)?.as_str(),
-        "-a: 1; Z: 1; a: 1; ab: 1; é: 1"
-    );
-    Ok(())
+    let wanted = "-a: 1; Z: 1; a: 1; ab: 1; é: 1";
+    assert_inline(&rt, rt.alloc(), &properties, wanted);
 }
 
-#[test]
-fn no_properties_have_an_empty_text(rt: HostRuntime) -> Result<(), Fail> {
-    let alloc = rt.alloc();
-    assert_eq!(rt;
-        Properties::new(alloc)
-            .to_inline()
-            .to_string(alloc)?
-            .as_str(),
-        ""
-    );
-    Ok(())
+/// The properties with that value for a name.
+fn with(
+    rt: &impl Abort,
+    alloc: Global,
+    properties: Properties,
+    name: &str,
+    value: &str,
+) -> Properties {
+    let value = text_of(rt, alloc, value);
+    properties
+        .with(name, value)
+        .expect(rt, "memory for a property")
 }
 
 /// What a hasher makes of properties.
@@ -62,76 +72,61 @@ fn hash_of(properties: &Properties) -> u64 {
 }
 
 #[test]
-fn the_order_of_pushes_does_not_matter(rt: HostRuntime) -> Result<(), Fail> {
+fn the_order_of_pushes_does_not_matter(rt: HostRuntime) {
     let alloc = rt.alloc();
-    let one = Properties::new(alloc)
-        .with("color", String::from_str(alloc, "red")?)?
-        .with("width", String::from_str(alloc, "1pt")?)?;
-    let other = Properties::new(alloc)
-        .with("width", String::from_str(alloc, "1pt")?)?
-        .with("color", String::from_str(alloc, "red")?)?;
+    let one = with(&rt, alloc, Properties::new(alloc), "color", "red");
+    let one = with(&rt, alloc, one, "width", "1pt");
+    let other = with(&rt, alloc, Properties::new(alloc), "width", "1pt");
+    let other = with(&rt, alloc, other, "color", "red");
     assert!(rt; one == other);
-    assert_eq!(rt; hash_of(&one), hash_of(&other));
-    Ok(())
+    assert!(rt; hash_of(&one) == hash_of(&other));
 }
 
 #[test]
-fn a_copy_is_equal_until_it_is_changed(rt: HostRuntime) -> Result<(), Fail> {
+fn a_copy_is_equal_until_it_is_changed(rt: HostRuntime) {
     let alloc = rt.alloc();
-    let one = Properties::new(alloc).with("width", String::from_str(alloc, "1pt")?)?;
-    let copy = one.try_clone()?;
+    let one = pushed(&rt, alloc, &[("width", "1pt")]);
+    let copy = one.try_clone().expect(&rt, "memory for the copy");
     assert!(rt; copy == one);
-    let more = copy.with("width", String::from_str(alloc, "2pt")?)?;
+    let more = with(&rt, alloc, copy, "width", "2pt");
     assert!(rt; one != more);
-    Ok(())
+}
+
+/// A property of a name and a value.
+fn property(rt: &impl Abort, alloc: Global, name: &str, value: &str) -> Property {
+    Property::new(text_of(rt, alloc, name), text_of(rt, alloc, value))
 }
 
 #[test]
-fn a_property_is_its_name_and_its_value(rt: HostRuntime) -> Result<(), Fail> {
-    let alloc = rt.alloc();
-    let property = Property::new(
-        String::from_str(alloc, "color")?,
-        String::from_str(alloc, "red")?,
-    );
-    let same = property.try_clone()?;
-    assert!(rt; property == same);
-    let other = Property::new(
-        String::from_str(alloc, "color")?,
-        String::from_str(alloc, "blue")?,
-    );
-    assert!(rt; property != other);
-    Ok(())
+fn a_property_is_its_name_and_its_value(rt: HostRuntime) {
+    let red = property(&rt, rt.alloc(), "color", "red");
+    let same = red.try_clone().expect(&rt, "memory for the copy");
+    assert!(rt; red == same);
+    assert!(rt; red != property(&rt, rt.alloc(), "color", "blue"));
 }
 
 #[test]
-fn a_value_that_fails_is_not_pushed(rt: HostRuntime) -> Result<(), Fail> {
-    let alloc = rt.alloc();
-    let mut warnings = Vec::new(alloc);
-    let mut builder = Properties::build(alloc, &mut warnings);
-    builder.push("color", &Paint::Gradient)?;
-    builder.push("width", &Abs::from_millionths(1_000_000))?;
-    let properties = builder.finish();
-    assert_eq!(rt;
-        properties.to_inline().to_string(alloc)?.as_str(),
-        "width: 1pt"
+fn a_value_that_fails_is_not_pushed(rt: HostRuntime) {
+    let mut warnings = Vec::new(rt.alloc());
+    let mut builder = Properties::build(rt.alloc(), &mut warnings);
+    assert!(rt; builder.push("color", &Paint::Gradient).is_ok());
+    assert!(rt;
+        builder
+            .push("width", &Abs::from_millionths(1_000_000))
+            .is_ok()
     );
-    assert_eq!(rt; warnings.as_slice(), [Warning::Gradient].as_slice());
-    Ok(())
+    assert_inline(&rt, rt.alloc(), &builder.finish(), "width: 1pt");
+    assert_warned(&rt, &warnings, &[Warning::Gradient]);
 }
 
 #[test]
-fn an_earlier_value_stays_where_one_fails(rt: HostRuntime) -> Result<(), Fail> {
-    let alloc = rt.alloc();
-    let made = PropertiesBuilder::new(alloc, ())
+fn an_earlier_value_stays_where_one_fails(rt: HostRuntime) {
+    let builder = PropertiesBuilder::new(rt.alloc(), ())
         .with("color", &"red")
-        .and_then(|builder| builder.with("color", &Paint::Tiling));
-    let Ok(builder) = made else {
-        return Err(AllocError.into());
-    };
-    let properties = builder.finish();
-    assert_eq!(rt;
-        properties.to_inline().to_string(alloc)?.as_str(),
-        "color: red"
-    );
-    Ok(())
+        .ok()
+        .expect(&rt, "memory for a property")
+        .with("color", &Paint::Tiling)
+        .ok()
+        .expect(&rt, "no memory is needed");
+    assert_inline(&rt, rt.alloc(), &builder.finish(), "color: red");
 }

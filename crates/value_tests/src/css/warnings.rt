@@ -1,8 +1,10 @@
 //! What values warn of, and what a sink is handed.
 
+use super::{assert_inline, assert_warned, assert_written};
+use crate::asserts::assert_text;
 use html_css::{CssWriter, Paint, Properties, ToCss, Warning, WarningSink};
 use std::alloc::{AllocError, Global};
-use std::test::Fail;
+use std::process::Abort;
 
 /// A sink that refuses a warning when it holds `room` of them.
 #[derive(Drop)]
@@ -40,6 +42,7 @@ impl Shelf {
 }
 
 /// Two paints, one after another.
+#[derive(Drop)]
 struct Pair(Paint, Paint);
 
 impl ToCss for Pair {
@@ -57,128 +60,106 @@ impl ToCss for Pair {
 }
 
 #[test]
-fn a_gradient_and_a_tiling_have_no_text(rt: HostRuntime) -> Result<(), Fail> {
+fn a_gradient_and_a_tiling_have_no_text(rt: HostRuntime) {
     let mut warnings = Vec::new(rt.alloc());
-    assert_eq!(rt;
-        Paint::Gradient.to_css(rt.alloc(), &mut warnings)?.as_str(),
-        ""
-    );
-    assert_eq!(rt;
-        Paint::Tiling.to_css(rt.alloc(), &mut warnings)?.as_str(),
-        ""
-    );
-    assert_eq!(rt;
-        warnings.as_slice(),
-        [Warning::Gradient, Warning::Tiling].as_slice()
-    );
-    Ok(())
+    for paint in [Paint::Gradient, Paint::Tiling] {
+        let css = paint.to_css(rt.alloc(), &mut warnings);
+        assert_text(&rt, &css.expect(&rt, "memory for the text"), "");
+    }
+    assert_warned(&rt, &warnings, &[Warning::Gradient, Warning::Tiling]);
+}
+
+/// Asserts what becomes of a tiling and a gradient where the sink has that room: the text, and what
+/// the sink has taken.
+fn assert_taken(
+    rt: &impl Abort,
+    alloc: Global,
+    room: usize,
+    wanted: Option<&str>,
+    taken: &[Warning],
+) {
+    let mut sink = Shelf::with_room(alloc, room);
+    let css = Pair(Paint::Tiling, Paint::Gradient).to_css(alloc, &mut sink);
+    assert!(rt; css.ok().as_deref() == wanted);
+    assert_warned(rt, &sink.taken, taken);
 }
 
 #[test]
-fn a_sink_with_room_is_handed_all_in_order(rt: HostRuntime) -> Result<(), Fail> {
-    let mut sink = Shelf::with_room(rt.alloc(), 2);
-    let css = Pair(Paint::Tiling, Paint::Gradient).to_css(rt.alloc(), &mut sink)?;
-    assert_eq!(rt; css.as_str(), "");
-    assert_eq!(rt;
-        sink.taken.as_slice(),
-        [Warning::Tiling, Warning::Gradient].as_slice()
+fn a_sink_is_handed_all_in_order_up_to_the_first_that_it_refuses(rt: HostRuntime) {
+    let alloc = rt.alloc();
+    assert_taken(&rt, alloc, 0, None, &[]);
+    assert_taken(&rt, alloc, 1, None, &[Warning::Tiling]);
+    assert_taken(
+        &rt,
+        alloc,
+        2,
+        Some(""),
+        &[Warning::Tiling, Warning::Gradient],
     );
-    Ok(())
 }
 
 #[test]
-fn a_sink_that_refuses_its_first_warning_is_answered(rt: HostRuntime) -> Result<(), Fail> {
-    let mut sink = Shelf::with_room(rt.alloc(), 0);
-    assert!(rt; Paint::Gradient.to_css(rt.alloc(), &mut sink).is_err());
-    assert_eq!(rt; sink.taken.len(), 0);
-    Ok(())
-}
-
-#[test]
-fn a_sink_that_refuses_its_second_warning_is_answered(rt: HostRuntime) -> Result<(), Fail> {
-    let mut sink = Shelf::with_room(rt.alloc(), 1);
-    assert!(rt;
-        Pair(Paint::Tiling, Paint::Gradient)
-            .to_css(rt.alloc(), &mut sink)
-            .is_err()
-    );
-    assert_eq!(rt; sink.taken.as_slice(), [Warning::Tiling].as_slice());
-    Ok(())
-}
-
-#[test]
-fn a_builder_answers_a_sink_that_refuses(rt: HostRuntime) -> Result<(), Fail> {
+fn a_builder_answers_a_sink_that_refuses(rt: HostRuntime) {
     let mut sink = Shelf::with_room(rt.alloc(), 1);
     let mut builder = Properties::build(rt.alloc(), &mut sink);
-    builder.push("color", &"red")?;
-    assert!(rt;
-        builder
-            .push("color", &Pair(Paint::Tiling, Paint::Gradient))
-            .is_err()
-    );
-    let properties = builder.finish();
-    assert_eq!(rt;
-        properties.to_inline().to_string(rt.alloc())?.as_str(),
-        "color: red"
-    );
-    assert_eq!(rt; sink.taken.as_slice(), [Warning::Tiling].as_slice());
-    Ok(())
+    let both = Pair(Paint::Tiling, Paint::Gradient);
+    assert!(rt; builder.push("color", &"red").is_ok());
+    assert!(rt; builder.push("color", &both).is_err());
+    assert_inline(&rt, rt.alloc(), &builder.finish(), "color: red");
+    assert_warned(&rt, &sink.taken, &[Warning::Tiling]);
 }
 
 #[test]
-fn with_hands_the_builder_back_where_the_sink_refuses(rt: HostRuntime) -> Result<(), Fail> {
+fn with_hands_the_builder_back_where_the_sink_refuses(rt: HostRuntime) {
     let mut sink = Shelf::with_room(rt.alloc(), 0);
-    let mut builder = Properties::build(rt.alloc(), &mut sink);
-    builder.push("color", &"red")?;
-    let Err(refused) = builder.with("color", &Paint::Gradient) else {
-        return Err(AllocError.into());
-    };
-    let properties = refused.back.finish();
-    assert_eq!(rt;
-        properties.to_inline().to_string(rt.alloc())?.as_str(),
-        "color: red"
-    );
-    assert_eq!(rt; sink.taken.len(), 0);
-    Ok(())
+    let builder = Properties::build(rt.alloc(), &mut sink)
+        .with("color", &"red")
+        .ok()
+        .expect(&rt, "memory for a property");
+    let refused = builder
+        .with("color", &Paint::Gradient)
+        .err()
+        .expect(&rt, "no room");
+    assert_inline(&rt, rt.alloc(), &refused.back.finish(), "color: red");
+    assert!(rt; sink.taken.is_empty());
 }
 
 #[test]
-fn with_hands_each_warning_once(rt: HostRuntime) -> Result<(), Fail> {
+fn with_hands_each_warning_once(rt: HostRuntime) {
     let mut sink = Shelf::with_room(rt.alloc(), 2);
-    let builder = Properties::build(rt.alloc(), &mut sink);
-    let Ok(builder) = builder.with("color", &Pair(Paint::Gradient, Paint::Tiling)) else {
-        return Err(AllocError.into());
-    };
-    assert_eq!(rt; builder.finish().as_slice().len(), 0);
-    assert_eq!(rt;
-        sink.taken.as_slice(),
-        [Warning::Gradient, Warning::Tiling].as_slice()
-    );
-    Ok(())
+    let builder = Properties::build(rt.alloc(), &mut sink)
+        .with("color", &Pair(Paint::Gradient, Paint::Tiling))
+        .ok()
+        .expect(&rt, "room for both");
+    assert!(rt; builder.finish().as_slice().is_empty());
+    assert_warned(&rt, &sink.taken, &[Warning::Gradient, Warning::Tiling]);
 }
 
 #[test]
-fn a_caller_may_fail(rt: HostRuntime) -> Result<(), Fail> {
+fn a_caller_may_fail(rt: HostRuntime) {
     let mut warnings = Vec::new(rt.alloc());
     let mut out = CssWriter::new(rt.alloc(), &mut warnings);
-    out.write("a")?;
-    out.fail(Warning::Tiling)?;
-    out.write("b")?;
+    out.write("a").expect(&rt, "memory");
+    out.fail(Warning::Tiling).expect(&rt, "memory");
+    out.write("b").expect(&rt, "memory");
     assert!(rt; out.failed());
-    assert_eq!(rt; out.text(), "ab");
+    assert_written(&rt, &out, "ab");
     drop(out);
-    assert_eq!(rt; warnings.as_slice(), [Warning::Tiling].as_slice());
-    Ok(())
+    assert_warned(&rt, &warnings, &[Warning::Tiling]);
 }
 
+/// Warnings and their texts.
+const TEXTS: [(Warning, &str); 2] = [
+    (Warning::Gradient, "gradient was ignored during HTML export"),
+    (Warning::Tiling, "tiling was ignored during HTML export"),
+];
+
 #[test]
-fn texts_of_warnings(rt: HostRuntime) -> Result<(), Fail> {
-    let gradient = Warning::Gradient.to_string(rt.alloc())?;
-    assert_eq!(rt;
-        gradient.as_str(),
-        "gradient was ignored during HTML export"
-    );
-    let tiling = Warning::Tiling.to_string(rt.alloc())?;
-    assert_eq!(rt; tiling.as_str(), "tiling was ignored during HTML export");
-    Ok(())
+fn texts_of_warnings(rt: HostRuntime) {
+    for (warning, wanted) in TEXTS {
+        let text = warning
+            .to_string(rt.alloc())
+            .expect(&rt, "memory for the text");
+        assert_text(&rt, &text, wanted);
+    }
 }

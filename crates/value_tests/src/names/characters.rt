@@ -3,7 +3,7 @@
 use html_names::charsets;
 
 /// The characters that are not shown by default: first and last of each range.
-const IGNORABLE: [(char, char); 17] = [
+static IGNORABLE: [(char, char); 17] = [
     ('\u{00ad}', '\u{00ad}'),
     ('\u{034f}', '\u{034f}'),
     ('\u{061c}', '\u{061c}'),
@@ -34,14 +34,14 @@ fn is_listed(c: char) -> bool {
 fn ignorable_characters(rt: HostRuntime) {
     for code in 0..0x11_0000u32 {
         if let Some(c) = char::from_u32(code) {
-            assert_eq!(rt; charsets::is_default_ignorable(c), is_listed(c), "{code}");
+            assert!(rt; charsets::is_default_ignorable(c) == is_listed(c), "{code}");
         }
     }
 }
 
 /// Characters, and whether they may stand in a tag name, an attribute name, a text, a value and an
 /// ordinary element's text.
-const CHARACTERS: [(char, bool, bool, bool, bool, bool); 24] = [
+static CHARACTERS: [(char, bool, bool, bool, bool, bool); 24] = [
     ('a', true, true, true, true, true),
     ('Z', true, true, true, true, true),
     ('7', true, true, true, true, true),
@@ -70,27 +70,32 @@ const CHARACTERS: [(char, bool, bool, bool, bool, bool); 24] = [
 
 #[test]
 fn characters_of_names(rt: HostRuntime) {
-    for (c, in_tag, in_attr, _, _, _) in CHARACTERS {
-        let code = u32::from(c);
-        assert_eq!(rt; charsets::is_valid_in_tag_name(c), in_tag, "{code}");
-        assert_eq!(rt; charsets::is_valid_in_attribute_name(c), in_attr, "{code}");
+    for (c, in_tag, in_attr, _, _, _) in &CHARACTERS {
+        assert!(rt; charsets::is_valid_in_tag_name(*c) == *in_tag, "{c:?}");
+        assert!(rt;
+            charsets::is_valid_in_attribute_name(*c) == *in_attr,
+            "{c:?}"
+        );
     }
 }
 
 #[test]
 fn characters_of_texts(rt: HostRuntime) {
-    for (c, _, _, in_text, in_value, in_element) in CHARACTERS {
-        let code = u32::from(c);
-        assert_eq!(rt; charsets::is_w3c_text_char(c), in_text, "{code}");
-        assert_eq!(rt;
-            charsets::is_valid_in_attribute_value(c),
-            in_value,
-            "{code}"
+    for (c, _, _, in_text, _, in_element) in &CHARACTERS {
+        assert!(rt; charsets::is_w3c_text_char(*c) == *in_text, "{c:?}");
+        assert!(rt;
+            charsets::is_valid_in_normal_element_text(*c) == *in_element,
+            "{c:?}"
         );
-        assert_eq!(rt;
-            charsets::is_valid_in_normal_element_text(c),
-            in_element,
-            "{code}"
+    }
+}
+
+#[test]
+fn characters_of_values(rt: HostRuntime) {
+    for (c, _, _, _, in_value, _) in &CHARACTERS {
+        assert!(rt;
+            charsets::is_valid_in_attribute_value(*c) == *in_value,
+            "{c:?}"
         );
     }
 }

@@ -1,11 +1,11 @@
 //! Default displays against their lists, and the texts of displays.
 
 use super::{NAMES, holds, tag_of};
+use crate::asserts::assert_text;
 use html_names::property::Display;
-use std::test::Fail;
 
 /// The tags of each default display.
-const DEFAULTS: [(Display, &str); 19] = [
+static DEFAULTS: [(Display, &str); 19] = [
     (
         Display::None,
         "area base datalist head link meta rp script style template title",
@@ -45,25 +45,24 @@ const DEFAULTS: [(Display, &str); 19] = [
 
 /// The display whose list has the name.
 fn listed(name: &str) -> Option<Display> {
-    for (display, list) in DEFAULTS {
+    for (display, list) in &DEFAULTS {
         if holds(list, name) {
-            return Some(display);
+            return Some(*display);
         }
     }
     None
 }
 
 #[test]
-fn default_displays(rt: HostRuntime) -> Result<(), Fail> {
+fn default_displays(rt: HostRuntime) {
     for text in NAMES.split_whitespace() {
-        let tag = tag_of(rt.alloc(), text)?;
-        assert_eq!(rt; Display::default_for(&tag), listed(text), "{text}");
+        let tag = tag_of(&rt, rt.alloc(), text);
+        assert!(rt; Display::default_for(&tag) == listed(text), "{text}");
     }
-    Ok(())
 }
 
 /// Each display with its text, and whether it is tabular.
-const DISPLAYS: [(Display, &str, bool); 28] = [
+static DISPLAYS: [(Display, &str, bool); 28] = [
     (Display::Block, "block", false),
     (Display::Inline, "inline", false),
     (Display::RunIn, "run-in", false),
@@ -96,8 +95,8 @@ const DISPLAYS: [(Display, &str, bool); 28] = [
 
 #[test]
 fn displays(rt: HostRuntime) {
-    for (display, text, is_tabular) in DISPLAYS {
-        assert_eq!(rt; display.as_str(), text);
-        assert_eq!(rt; display.is_tabular(), is_tabular, "{display:?}");
+    for (display, text, is_tabular) in &DISPLAYS {
+        assert_text(&rt, display.as_str(), text);
+        assert!(rt; display.is_tabular() == *is_tabular, "{text}");
     }
 }

@@ -1,9 +1,12 @@
 //! Names made of texts, what they are shown as, and what is wrong with a text.
 
+use super::{assert_no_tag, tag_of};
+use crate::asserts::{assert_number, assert_text};
 use html_names::{HtmlAttr, HtmlTag, NameFault, Refused, attr, tag};
 use std::alloc::Global;
 use std::collections::HashMap;
-use std::test::Fail;
+use std::fmt::{Debug, Display};
+use std::process::Abort;
 
 /// Texts that are no tag names.
 const BAD_TAGS: [(&str, NameFault); 8] = [
@@ -18,35 +21,43 @@ const BAD_TAGS: [(&str, NameFault); 8] = [
 ];
 
 #[test]
-fn refused_tags(rt: HostRuntime) -> Result<(), Fail> {
+fn refused_tags(rt: HostRuntime) {
     for (text, wanted) in &BAD_TAGS {
-        match HtmlTag::intern(rt.alloc(), text) {
-            Ok(_) => assert!(rt; false, "{text}"),
-            Err(fault) => assert!(rt; fault == *wanted, "{text}"),
-        }
+        assert_no_tag(&rt, rt.alloc(), text, wanted);
     }
-    Ok(())
+}
+
+/// Asserts that the text is the name of a tag, which is equal to its copy.
+fn assert_tag(rt: &impl Abort, alloc: Global, text: &str) {
+    let tag = HtmlTag::intern(alloc, text).expect(rt, "a name");
+    assert_text(rt, tag.resolve(), text);
+    assert!(rt; tag == tag.try_clone().expect(rt, "memory for the copy"));
 }
 
 #[test]
-fn interned_tags(rt: HostRuntime) -> Result<(), Fail> {
-    let alloc = rt.alloc();
+fn interned_tags(rt: HostRuntime) {
     for text in ["1x", "p", "P", "my-el", "x"] {
-        let tag = HtmlTag::intern(alloc, text)?;
-        assert_eq!(rt; tag.resolve(), text);
-        assert!(rt; tag == tag.try_clone()?);
+        assert_tag(&rt, rt.alloc(), text);
     }
-    assert!(rt; HtmlTag::intern(alloc, "wbr")? == tag::wbr);
-    Ok(())
 }
 
 #[test]
-fn tags_shown(rt: HostRuntime) -> Result<(), Fail> {
-    let alloc = rt.alloc();
-    let own = HtmlTag::constant(alloc, "font-face")?;
-    assert_eq!(rt; own.to_string(alloc)?.as_str(), "<font-face>");
-    assert_eq!(rt; format!(in alloc; "{own:?}")?.as_str(), "<font-face>");
-    Ok(())
+fn known_tags_are_constants(rt: HostRuntime) {
+    assert!(rt; tag_of(&rt, rt.alloc(), "wbr") == tag::wbr);
+}
+
+/// Asserts what a value is shown as, for users and for programmers.
+fn assert_shown<T: Display + Debug>(rt: &impl Abort, alloc: Global, value: &T, wanted: &str) {
+    let shown = value.to_string(alloc).expect(rt, "memory for the text");
+    assert_text(rt, &shown, wanted);
+    let shown = format!(in alloc; "{value:?}").expect(rt, "memory for the text");
+    assert_text(rt, &shown, wanted);
+}
+
+#[test]
+fn tags_shown(rt: HostRuntime) {
+    let own = HtmlTag::constant(rt.alloc(), "font-face").expect(&rt, "a name");
+    assert_shown(&rt, rt.alloc(), &own, "<font-face>");
 }
 
 /// Texts that are no attribute names.
@@ -56,43 +67,56 @@ const BAD_ATTRS: [(&str, NameFault); 3] = [
     ("a\u{fffe}=", NameFault::BadAttrChar('\u{fffe}')),
 ];
 
+/// Asserts that the text is no name of an attribute, for that reason.
+fn assert_no_attr(rt: &impl Abort, alloc: Global, text: &str, wanted: &NameFault) {
+    let fault = HtmlAttr::intern(alloc, text).err().expect(rt, "no name");
+    assert!(rt; fault == *wanted, "{text}");
+}
+
 #[test]
-fn refused_attributes(rt: HostRuntime) -> Result<(), Fail> {
+fn refused_attributes(rt: HostRuntime) {
     for (text, wanted) in &BAD_ATTRS {
-        match HtmlAttr::intern(rt.alloc(), text) {
-            Ok(_) => assert!(rt; false, "{text}"),
-            Err(fault) => assert!(rt; fault == *wanted, "{text}"),
-        }
+        assert_no_attr(&rt, rt.alloc(), text, wanted);
     }
-    Ok(())
+}
+
+/// Asserts that the text is the name of an attribute, which is shown as the text, and is equal to
+/// its copy.
+fn assert_attr(rt: &impl Abort, alloc: Global, text: &str) {
+    let attr = HtmlAttr::intern(alloc, text).expect(rt, "a name");
+    assert_text(rt, attr.resolve(), text);
+    assert_shown(rt, alloc, &attr, text);
+    assert!(rt; attr == attr.try_clone().expect(rt, "memory for the copy"));
 }
 
 #[test]
-fn interned_attributes(rt: HostRuntime) -> Result<(), Fail> {
-    let alloc = rt.alloc();
+fn interned_attributes(rt: HostRuntime) {
     for text in ["class", "a<", "\u{e9}t\u{e9}", "Class"] {
-        let attr = HtmlAttr::intern(alloc, text)?;
-        assert_eq!(rt; attr.resolve(), text);
-        assert!(rt; attr == attr.try_clone()?);
-        assert_eq!(rt; attr.to_string(alloc)?.as_str(), text);
-        assert_eq!(rt; format!(in alloc; "{attr:?}")?.as_str(), text);
+        assert_attr(&rt, rt.alloc(), text);
     }
-    assert!(rt; attr::class == HtmlAttr::constant(alloc, "class")?);
-    assert!(rt; attr::mathml::width == attr::width);
-    Ok(())
 }
 
 #[test]
-fn names_are_keys(rt: HostRuntime) -> Result<(), Fail> {
-    let alloc = rt.alloc();
-    let mut tags = HashMap::new(alloc);
-    tags.insert(tag::p, 1u8)?;
-    assert!(rt; tags.get(&HtmlTag::intern(alloc, "p")?) == Some(&1u8));
-    assert!(rt; tags.get(&HtmlTag::intern(alloc, "P")?).is_none());
-    let mut attrs = HashMap::new(alloc);
-    attrs.insert(HtmlAttr::intern(alloc, "id")?, 2u8)?;
+fn known_attributes_are_constants(rt: HostRuntime) {
+    let class = HtmlAttr::constant(rt.alloc(), "class").expect(&rt, "a name");
+    assert!(rt; attr::class == class);
+    assert!(rt; attr::mathml::width == attr::width);
+}
+
+#[test]
+fn tags_are_keys(rt: HostRuntime) {
+    let mut tags = HashMap::new(rt.alloc());
+    assert!(rt; tags.insert(tag::p, 1u8).is_ok());
+    assert!(rt; tags.get(&tag_of(&rt, rt.alloc(), "p")) == Some(&1u8));
+    assert!(rt; tags.get(&tag_of(&rt, rt.alloc(), "P")).is_none());
+}
+
+#[test]
+fn attributes_are_keys(rt: HostRuntime) {
+    let mut attrs = HashMap::new(rt.alloc());
+    let id = HtmlAttr::intern(rt.alloc(), "id").expect(&rt, "a name");
+    assert!(rt; attrs.insert(id, 2u8).is_ok());
     assert!(rt; attrs.get(&attr::id) == Some(&2u8));
-    Ok(())
 }
 
 /// Each fault and its text, in the order of their numbers.
@@ -122,13 +146,28 @@ const FAULTS: [(NameFault, &str); 8] = [
     ),
 ];
 
+/// Asserts that the fault has that number and that text.
+fn assert_fault(rt: &impl Abort, alloc: Global, fault: &NameFault, number: usize, wanted: &str) {
+    assert_number(rt, usize::from(fault.number()), number);
+    let text = fault.to_string(alloc).expect(rt, "memory for the text");
+    assert_text(rt, &text, wanted);
+}
+
 #[test]
-fn texts_of_faults(rt: HostRuntime) -> Result<(), Fail> {
-    for (i, (fault, text)) in FAULTS.iter().enumerate() {
-        assert_eq!(rt; fault.to_string(rt.alloc())?.as_str(), *text);
-        assert_eq!(rt; usize::from(fault.number()), i);
+fn numbers_and_texts_of_faults(rt: HostRuntime) {
+    for (number, (fault, text)) in FAULTS.iter().enumerate() {
+        assert_fault(&rt, rt.alloc(), fault, number, text);
     }
-    Ok(())
+}
+
+#[test]
+fn refused_calls_have_a_number_and_a_text(rt: HostRuntime) {
+    let answer = Refused { back: 7u8 };
+    assert!(rt; answer.number() == 0);
+    let text = answer
+        .to_string(rt.alloc())
+        .expect(&rt, "memory for the text");
+    assert_text(&rt, &text, "out of memory");
 }
 
 /// The name of the text, or the number 7 that comes back.
@@ -140,15 +179,7 @@ fn refused(alloc: Global, text: &str) -> Result<HtmlTag, NameFault> {
 }
 
 #[test]
-fn refused_calls(rt: HostRuntime) -> Result<(), Fail> {
-    let alloc = rt.alloc();
-    let answer = Refused { back: 7u8 };
-    assert_eq!(rt; answer.to_string(alloc)?.as_str(), "out of memory");
-    assert_eq!(rt; answer.number(), 0);
-    match refused(alloc, "") {
-        Ok(_) => assert!(rt; false),
-        Err(fault) => assert!(rt; fault == NameFault::OutOfMemory),
-    }
-    assert!(rt; refused(alloc, "p")? == tag::p);
-    Ok(())
+fn refused_calls_are_faults_of_names(rt: HostRuntime) {
+    assert!(rt; refused(rt.alloc(), "").err() == Some(NameFault::OutOfMemory));
+    assert!(rt; refused(rt.alloc(), "p").ok() == Some(tag::p));
 }

@@ -1,12 +1,13 @@
 //! Numbers of names: known and own ones, and what is asked by number.
 
 use super::tag_of;
+use crate::asserts::{assert_number, assert_text};
 use html_names::property::Display;
-use html_names::{HtmlAttr, NameTable, attr, tag};
-use std::test::Fail;
+use html_names::{HtmlAttr, HtmlTag, NameTable, attr, tag};
+use std::process::Abort;
 
 /// Tags in the order in which they are given, each with its number.
-const TAGS: [(&str, usize); 9] = [
+static TAGS: [(&str, usize); 9] = [
     ("p", 0),
     ("my-el", 1),
     ("p", 0),
@@ -19,7 +20,7 @@ const TAGS: [(&str, usize); 9] = [
 ];
 
 /// Attributes in the order in which they are given, each with its number.
-const ATTRS: [(&str, usize); 7] = [
+static ATTRS: [(&str, usize); 7] = [
     ("wrap", 0),
     ("p", 1),
     ("class", 2),
@@ -29,39 +30,46 @@ const ATTRS: [(&str, usize); 7] = [
     ("wrap", 0),
 ];
 
-#[test]
-fn numbered_tags(rt: HostRuntime) -> Result<(), Fail> {
-    let alloc = rt.alloc();
-    let mut names = NameTable::new(alloc);
-    for (text, number) in &TAGS {
-        let tag = tag_of(alloc, text)?;
-        assert_eq!(rt; names.tag(&tag)?, *number, "{text}");
-        assert!(rt; *number < names.tags(), "{text}");
-        assert_eq!(rt; names.tag_at(*number).resolve(), *text);
-    }
-    assert_eq!(rt; names.tags(), 6);
-    assert_eq!(rt; names.attrs(), 0);
-    Ok(())
+/// Asserts that the table gives the tag that number, and the tag back for it.
+fn assert_tag(rt: &impl Abort, names: &mut NameTable, tag: &HtmlTag, number: usize) {
+    let given = names.tag(tag).expect(rt, "memory for a tag");
+    assert_number(rt, given, number);
+    assert!(rt; number < names.tags());
+    assert_text(rt, names.tag_at(number).resolve(), tag.resolve());
 }
 
 #[test]
-fn numbered_attributes(rt: HostRuntime) -> Result<(), Fail> {
-    let alloc = rt.alloc();
-    let mut names = NameTable::new(alloc);
-    assert_eq!(rt; names.tag(&tag::p)?, 0);
-    for (text, number) in &ATTRS {
-        let attr = HtmlAttr::intern(alloc, text)?;
-        assert_eq!(rt; names.attr(&attr)?, *number, "{text}");
-        assert!(rt; *number < names.attrs(), "{text}");
-        assert_eq!(rt; names.attr_at(*number).resolve(), *text);
+fn numbered_tags(rt: HostRuntime) {
+    let mut names = NameTable::new(rt.alloc());
+    for (text, number) in &TAGS {
+        assert_tag(&rt, &mut names, &tag_of(&rt, rt.alloc(), text), *number);
     }
-    assert_eq!(rt; names.tags(), 1);
-    assert_eq!(rt; names.attrs(), 5);
-    Ok(())
+    assert_number(&rt, names.tags(), 6);
+    assert_number(&rt, names.attrs(), 0);
+}
+
+/// Asserts that the table gives the attribute that number, and the attribute back for it.
+fn assert_attr(rt: &impl Abort, names: &mut NameTable, attr: &HtmlAttr, number: usize) {
+    let given = names.attr(attr).expect(rt, "memory for an attribute");
+    assert_number(rt, given, number);
+    assert!(rt; number < names.attrs());
+    assert_text(rt, names.attr_at(number).resolve(), attr.resolve());
+}
+
+#[test]
+fn numbered_attributes(rt: HostRuntime) {
+    let mut names = NameTable::new(rt.alloc());
+    assert_tag(&rt, &mut names, &tag::p, 0);
+    for (text, number) in &ATTRS {
+        let attr = HtmlAttr::intern(rt.alloc(), text).expect(&rt, "a name");
+        assert_attr(&rt, &mut names, &attr, *number);
+    }
+    assert_number(&rt, names.tags(), 1);
+    assert_number(&rt, names.attrs(), 5);
 }
 
 /// Tags, and whether each is void, raw, escapable raw and foreign self-closing, and its display.
-const KINDS: [(&str, [bool; 4], Option<Display>); 6] = [
+static KINDS: [(&str, [bool; 4], Option<Display>); 6] = [
     ("br", [true, false, false, false], Some(Display::Inline)),
     ("script", [false, true, false, false], Some(Display::None)),
     ("title", [false, false, true, false], Some(Display::None)),
@@ -70,34 +78,41 @@ const KINDS: [(&str, [bool; 4], Option<Display>); 6] = [
     ("my-el", [false, false, false, false], None),
 ];
 
+/// The four kinds of the tag of that number.
+fn kinds_of(rt: &impl Abort, names: &NameTable, number: usize) -> [bool; 4] {
+    assert!(rt; number < names.tags());
+    [
+        names.is_void(number),
+        names.is_raw(number),
+        names.is_escapable_raw(number),
+        names.is_foreign_self_closing(number),
+    ]
+}
+
+/// Asserts that the tag of that number has that display.
+fn assert_display(rt: &impl Abort, names: &NameTable, number: usize, wanted: Option<Display>) {
+    assert!(rt; number < names.tags());
+    assert!(rt; names.default_for(number) == wanted);
+}
+
 #[test]
-fn kinds_by_number(rt: HostRuntime) -> Result<(), Fail> {
-    let alloc = rt.alloc();
-    let mut names = NameTable::new(alloc);
-    for (text, kinds, display) in &KINDS {
-        let number = names.tag(&tag_of(alloc, text)?)?;
-        assert!(rt; number < names.tags(), "{text}");
-        assert_eq!(rt; names.is_void(number), kinds[0], "{text}");
-        assert_eq!(rt; names.is_raw(number), kinds[1], "{text}");
-        assert_eq!(rt; names.is_escapable_raw(number), kinds[2], "{text}");
-        assert_eq!(rt; names.is_foreign_self_closing(number), kinds[3], "{text}");
-        assert!(rt; names.default_for(number) == *display, "{text}");
+fn kinds_by_number(rt: HostRuntime) {
+    let mut names = NameTable::new(rt.alloc());
+    for (number, (text, kinds, display)) in KINDS.iter().enumerate() {
+        assert_tag(&rt, &mut names, &tag_of(&rt, rt.alloc(), text), number);
+        assert!(rt; kinds_of(&rt, &names, number) == *kinds, "{text}");
+        assert_display(&rt, &names, number, *display);
     }
-    Ok(())
 }
 
 /// The example of the type.
 #[test]
-fn example_of_name_table(rt: HostRuntime) -> Result<(), Fail> {
-    let alloc = rt.alloc();
-    let mut names = NameTable::new(alloc);
-    let own = tag_of(alloc, "my-el")?;
-    assert_eq!(rt; names.tag(&tag::br)?, 0);
-    assert_eq!(rt; names.tag(&own)?, 1);
-    assert_eq!(rt; names.tag(&tag::br)?, 0);
-    assert_eq!(rt; names.attr(&attr::class)?, 0);
+fn example_of_name_table(rt: HostRuntime) {
+    let mut names = NameTable::new(rt.alloc());
+    assert_tag(&rt, &mut names, &tag::br, 0);
+    assert_tag(&rt, &mut names, &tag_of(&rt, rt.alloc(), "my-el"), 1);
+    assert_tag(&rt, &mut names, &tag::br, 0);
+    assert_attr(&rt, &mut names, &attr::class, 0);
     assert!(rt; names.tags() == 2);
     assert!(rt; names.is_void(0));
-    assert_eq!(rt; names.tag_at(1).resolve(), "my-el");
-    Ok(())
 }

@@ -1,136 +1,123 @@
 //! Casts to presence, listed texts and unions.
 
-use super::{cast, strings, text};
-use html_values::{AttrType, CastFault, NativeType, Value};
-use std::alloc::Global;
-use std::test::Fail;
+use super::{Sample, assert_castable, assert_casts, strings};
+use crate::asserts::assert_text;
+use html_values::{AttrType, CastFault, NativeType};
+use std::alloc::{AllocError, Global};
+use std::process::Abort;
+
+/// Values, and what a cast to presence answers.
+static PRESENCES: [(Sample, &str); 3] = [
+    (Sample::Bool(true), "''"),
+    (Sample::Bool(false), "nothing"),
+    (Sample::None, "16"),
+];
 
 #[test]
-fn presence(rt: HostRuntime) -> Result<(), Fail> {
-    let alloc = rt.alloc();
-    assert_eq!(rt;
-        cast(alloc, &AttrType::Presence, &Value::Bool(true))?.as_str(),
-        "''"
-    );
-    assert_eq!(rt;
-        cast(alloc, &AttrType::Presence, &Value::Bool(false))?.as_str(),
-        "nothing"
-    );
-    assert_eq!(rt;
-        cast(alloc, &AttrType::Presence, &Value::None)?.as_str(),
-        "16"
-    );
-    Ok(())
+fn presence(rt: HostRuntime) {
+    assert_casts(&rt, rt.alloc(), &AttrType::Presence, &PRESENCES);
 }
 
+/// Values, and what a cast to `auto` or `none` answers.
+static AUTO_OR_NONE: [(Sample, &str); 3] = [
+    (Sample::Text("none"), "'none'"),
+    (Sample::Text("no"), "17"),
+    (Sample::None, "16"),
+];
+
+/// Values, and whether they may be cast to `auto` or `none`.
+static MAY_BE_AUTO_OR_NONE: [(Sample, bool); 2] = [
+    (Sample::Text("auto"), true),
+    (Sample::Text("x"), false),
+];
+
 #[test]
-fn listed_texts(rt: HostRuntime) -> Result<(), Fail> {
+fn listed_texts(rt: HostRuntime) {
     let alloc = rt.alloc();
-    let allowed = strings(alloc, &["auto", "none"])?;
-    assert_eq!(rt;
-        cast(alloc, &allowed, &text(alloc, "none")?)?.as_str(),
-        "'none'"
-    );
-    assert_eq!(rt; cast(alloc, &allowed, &text(alloc, "no")?)?.as_str(), "17");
-    assert_eq!(rt; cast(alloc, &allowed, &Value::None)?.as_str(), "16");
-    assert!(rt; allowed.castable(&text(alloc, "auto")?));
-    assert!(rt; !allowed.castable(&text(alloc, "x")?));
-    Ok(())
+    let allowed = strings(alloc, &["auto", "none"]).expect(&rt, "memory for the type");
+    assert_casts(&rt, alloc, &allowed, &AUTO_OR_NONE);
+    assert_castable(&rt, alloc, &allowed, &MAY_BE_AUTO_OR_NONE);
 }
 
 /// A whole number, or the text `auto`.
-fn number_or_auto(alloc: Global) -> Result<AttrType, Fail> {
+fn number_or_auto(alloc: Global) -> Result<AttrType, AllocError> {
     let mut members = Vec::new(alloc);
     members.push(AttrType::Native(NativeType::Int))?;
     members.push(strings(alloc, &["auto"])?)?;
     Ok(AttrType::Union(members))
 }
 
-#[test]
-fn unions(rt: HostRuntime) -> Result<(), Fail> {
-    let alloc = rt.alloc();
-    let union = number_or_auto(alloc)?;
-    assert_eq!(rt;
-        cast(alloc, &union, &text(alloc, "auto")?)?.as_str(),
-        "'auto'"
-    );
-    assert_eq!(rt; cast(alloc, &union, &text(alloc, "x")?)?.as_str(), "16");
-    assert_eq!(rt; cast(alloc, &union, &Value::Int(3))?.as_str(), "'3'");
-    Ok(())
-}
+/// Values, and what a cast to a whole number or `auto` answers.
+static NUMBER_OR_AUTO: [(Sample, &str); 3] = [
+    (Sample::Text("auto"), "'auto'"),
+    (Sample::Text("x"), "16"),
+    (Sample::Int(3), "'3'"),
+];
 
 #[test]
-fn unions_refuse_by_their_first_type(rt: HostRuntime) -> Result<(), Fail> {
-    let alloc = rt.alloc();
+fn unions(rt: HostRuntime) {
+    let union = number_or_auto(rt.alloc()).expect(&rt, "memory for the type");
+    assert_casts(&rt, rt.alloc(), &union, &NUMBER_OR_AUTO);
+    assert!(rt; !union.has_presence());
+}
+
+/// One character, a text, or presence.
+fn character_text_or_presence(alloc: Global) -> Result<AttrType, AllocError> {
     let mut members = Vec::new(alloc);
     members.push(AttrType::Native(NativeType::Char))?;
     members.push(AttrType::Native(NativeType::Str))?;
     members.push(AttrType::Presence)?;
-    let union = AttrType::Union(members);
-    assert_eq!(rt; cast(alloc, &union, &text(alloc, "ab")?)?.as_str(), "19");
-    assert!(rt; union.has_presence());
-    Ok(())
+    Ok(AttrType::Union(members))
 }
 
 #[test]
-fn types_with_presence(rt: HostRuntime) -> Result<(), Fail> {
-    let alloc = rt.alloc();
+fn unions_refuse_by_their_first_type(rt: HostRuntime) {
+    let union = character_text_or_presence(rt.alloc()).expect(&rt, "memory for the type");
+    assert_casts(&rt, rt.alloc(), &union, &[(Sample::Text("ab"), "19")]);
+    assert!(rt; union.has_presence());
+}
+
+#[test]
+fn types_with_presence(rt: HostRuntime) {
     assert!(rt; AttrType::Presence.has_presence());
     assert!(rt; !AttrType::Native(NativeType::TrueFalse).has_presence());
-    assert!(rt; !number_or_auto(alloc)?.has_presence());
-    Ok(())
+}
+
+/// Each fault with its number and its text.
+static FAULTS: [(CastFault, u8, &str); 9] = [
+    (CastFault::OutOfMemory, 0, "out of memory"),
+    (CastFault::WrongKind, 16, "the value has the wrong kind"),
+    (
+        CastFault::NotInStrings,
+        17,
+        "the text is not one of the allowed ones",
+    ),
+    (CastFault::NumberRange, 18, "the number is out of range"),
+    (CastFault::NotOneChar, 19, "expected exactly one character"),
+    (CastFault::VerticalDir, 20, "direction must be horizontal"),
+    (
+        CastFault::BadImageSource,
+        21,
+        "src must not be empty or start or end with a comma",
+    ),
+    (
+        CastFault::SeparatorInItem,
+        22,
+        "array item may not contain the separator",
+    ),
+    (CastFault::YearRange, 23, "the year is out of range"),
+];
+
+/// Asserts that the fault has that number and that text.
+fn assert_fault(rt: &impl Abort, alloc: Global, fault: CastFault, number: u8, wanted: &str) {
+    assert!(rt; fault.number() == number);
+    let text = fault.to_string(alloc).expect(rt, "memory for the text");
+    assert_text(rt, &text, wanted);
 }
 
 #[test]
-fn numbers_of_faults(rt: HostRuntime) -> Result<(), Fail> {
-    assert_eq!(rt; CastFault::OutOfMemory.number(), 0);
-    assert_eq!(rt; CastFault::WrongKind.number(), 16);
-    assert_eq!(rt; CastFault::NotInStrings.number(), 17);
-    assert_eq!(rt; CastFault::NumberRange.number(), 18);
-    assert_eq!(rt; CastFault::NotOneChar.number(), 19);
-    assert_eq!(rt; CastFault::VerticalDir.number(), 20);
-    assert_eq!(rt; CastFault::BadImageSource.number(), 21);
-    assert_eq!(rt; CastFault::SeparatorInItem.number(), 22);
-    assert_eq!(rt; CastFault::YearRange.number(), 23);
-    Ok(())
-}
-
-#[test]
-fn texts_of_faults(rt: HostRuntime) -> Result<(), Fail> {
-    let alloc = rt.alloc();
-    let cases = [
-        (CastFault::OutOfMemory, "out of memory"),
-        (CastFault::WrongKind, "the value has the wrong kind"),
-        (
-            CastFault::NotInStrings,
-            "the text is not one of the allowed ones",
-        ),
-        (CastFault::NumberRange, "the number is out of range"),
-        (CastFault::NotOneChar, "expected exactly one character"),
-    ];
-    for (fault, text) in cases {
-        assert_eq!(rt; fault.to_string(alloc)?.as_str(), text);
+fn numbers_and_texts_of_faults(rt: HostRuntime) {
+    for (fault, number, text) in &FAULTS {
+        assert_fault(&rt, rt.alloc(), *fault, *number, text);
     }
-    Ok(())
-}
-
-#[test]
-fn texts_of_other_faults(rt: HostRuntime) -> Result<(), Fail> {
-    let alloc = rt.alloc();
-    let cases = [
-        (CastFault::VerticalDir, "direction must be horizontal"),
-        (
-            CastFault::BadImageSource,
-            "src must not be empty or start or end with a comma",
-        ),
-        (
-            CastFault::SeparatorInItem,
-            "array item may not contain the separator",
-        ),
-        (CastFault::YearRange, "the year is out of range"),
-    ];
-    for (fault, text) in cases {
-        assert_eq!(rt; fault.to_string(alloc)?.as_str(), text);
-    }
-    Ok(())
 }

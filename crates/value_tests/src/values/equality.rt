@@ -1,5 +1,6 @@
 //! What `==` tells apart.
 
+use crate::asserts::text_of;
 use html_values::civil::{date, time};
 use html_values::laws::{
     equal_cast_faults, equal_durations, equal_horizontal_dirs, equal_icon_sizes,
@@ -10,19 +11,17 @@ use html_values::{
     YesNoBool,
 };
 use std::num::NonZeroU64;
-use std::test::Fail;
 
 #[test]
-fn faults_and_types(rt: HostRuntime) -> Result<(), Fail> {
+fn faults_and_types(rt: HostRuntime) {
     assert!(rt; equal_cast_faults(CastFault::WrongKind, CastFault::WrongKind));
     assert!(rt; !equal_cast_faults(CastFault::WrongKind, CastFault::YearRange));
     assert!(rt; equal_native_types(NativeType::Int, NativeType::Int));
     assert!(rt; !equal_native_types(NativeType::Int, NativeType::Char));
-    Ok(())
 }
 
 #[test]
-fn moments_and_durations(rt: HostRuntime) -> Result<(), Fail> {
+fn moments_and_durations(rt: HostRuntime) {
     let same = equal_moments(
         Moment::Date(date(2024, 2, 9)),
         Moment::Date(date(2024, 2, 9)),
@@ -39,11 +38,10 @@ fn moments_and_durations(rt: HostRuntime) -> Result<(), Fail> {
     );
     assert!(rt; !mixed);
     assert!(rt; !equal_durations(Duration(1), Duration(2)));
-    Ok(())
 }
 
 #[test]
-fn small_values(rt: HostRuntime) -> Result<(), Fail> {
+fn small_values(rt: HostRuntime) {
     assert!(rt; !equal_yes_no(YesNoBool(true), YesNoBool(false)));
     assert!(rt; !equal_horizontal_dirs(HorizontalDir::LTR, HorizontalDir::RTL));
     let wide = IconSize {
@@ -56,24 +54,21 @@ fn small_values(rt: HostRuntime) -> Result<(), Fail> {
     };
     assert!(rt; equal_icon_sizes(wide, wide));
     assert!(rt; !equal_icon_sizes(wide, high));
-    Ok(())
 }
 
 #[test]
-fn texts_and_images(rt: HostRuntime) -> Result<(), Fail> {
-    let alloc = rt.alloc();
-    let a = Str(String::from_str(alloc, "a")?);
-    let b = Str(String::from_str(alloc, "b")?);
+fn texts_and_images(rt: HostRuntime) {
+    let a = Str(text_of(&rt, rt.alloc(), "a"));
+    let b = Str(text_of(&rt, rt.alloc(), "b"));
     assert!(rt; !equal_strs(&a, &b));
     let image = ImageCandidate {
         src: a.0,
         width: None,
     };
     let wide = ImageCandidate {
-        src: String::from_str(alloc, "a")?,
+        src: text_of(&rt, rt.alloc(), "a"),
         width: NonZeroU64::new(1),
     };
     assert!(rt; equal_image_candidates(&image, &image));
     assert!(rt; !equal_image_candidates(&image, &wide));
-    Ok(())
 }

@@ -1,43 +1,23 @@
 //! The examples of the documentation.
 
-use html_values::{
-    AttrType, CastFault, Datetime, Duration, IntoAttr, Moment, NativeType, Value, civil,
-};
-use std::test::Fail;
+use super::texts::assert_attr;
+use html_values::{AttrType, CastFault, Datetime, Duration, Moment, NativeType, Value, civil};
 
 #[test]
-fn example_of_the_crate(rt: HostRuntime) -> Result<(), Fail> {
-    let alloc = rt.alloc();
+fn example_of_the_crate(rt: HostRuntime) {
     let day = Moment::Date(civil::date(2024, 2, 9));
-    assert_eq!(rt;
-        Datetime::new(day)?.into_attr(alloc)?.as_str(),
-        "2024-02-09"
-    );
-    assert_eq!(rt;
-        Duration(694_861).into_attr(alloc)?.as_str(),
-        "1w 1d 1h 1m 1s"
-    );
-    Ok(())
+    let day = Datetime::new(day).expect(&rt, "a year in range");
+    assert_attr(&rt, rt.alloc(), &day, "2024-02-09");
+    assert_attr(&rt, rt.alloc(), &Duration(694_861), "1w 1d 1h 1m 1s");
 }
 
 #[test]
-fn example_of_cast(rt: HostRuntime) -> Result<(), Fail> {
-    let alloc = rt.alloc();
+fn example_of_cast(rt: HostRuntime) {
     let id = Value::Int(7);
-    assert_eq!(rt;
-        AttrType::Native(NativeType::Int)
-            .cast(alloc, &id)?
-            .as_deref(),
-        Some("7")
-    );
-    assert!(rt;
-        AttrType::Presence
-            .cast(alloc, &Value::Bool(false))?
-            .is_none()
-    );
-    assert_eq!(rt;
-        AttrType::Presence.cast(alloc, &id).err(),
-        Some(CastFault::WrongKind)
-    );
-    Ok(())
+    let text = AttrType::Native(NativeType::Int).cast(rt.alloc(), &id);
+    assert!(rt; text.ok().flatten().as_deref() == Some("7"));
+    let absent = AttrType::Presence.cast(rt.alloc(), &Value::Bool(false));
+    assert!(rt; absent == Ok(None));
+    let refused = AttrType::Presence.cast(rt.alloc(), &id);
+    assert!(rt; refused == Err(CastFault::WrongKind));
 }

@@ -1,61 +1,44 @@
 //! Casts of arrays to lists of texts.
 
-use super::{cast, pair, text, texts_by};
+use super::{Sample, array_of, assert_array_casts, assert_casts, texts_by};
 use html_values::Value;
-use std::test::Fail;
+
+/// Arrays, and what a cast to texts between commas answers.
+static BY_COMMAS: [(&[Sample], &str); 2] = [
+    (&[Sample::Text("a"), Sample::Text("b")], "'a, b'"),
+    (&[], "''"),
+];
 
 #[test]
-fn separated_by_commas(rt: HostRuntime) -> Result<(), Fail> {
-    let alloc = rt.alloc();
-    let commas = texts_by(alloc, ',', false)?;
-    let letters = pair(alloc, text(alloc, "a")?, text(alloc, "b")?)?;
-    assert_eq!(rt; cast(alloc, &commas, &letters)?.as_str(), "'a, b'");
-    let empty = Value::Array(Vec::new(alloc));
-    assert_eq!(rt; cast(alloc, &commas, &empty)?.as_str(), "''");
-    Ok(())
+fn separated_by_commas(rt: HostRuntime) {
+    let commas = texts_by(rt.alloc(), ',', false).expect(&rt, "memory for the type");
+    assert_array_casts(&rt, rt.alloc(), &commas, &BY_COMMAS);
+    assert_casts(&rt, rt.alloc(), &commas, &[(Sample::Text("a"), "16")]);
+}
+
+/// Arrays, and what a cast to texts between spaces answers: items with a space are refused, and the
+/// first wrong item decides.
+static BY_SPACES: [(&[Sample], &str); 3] = [
+    (&[Sample::Text("a"), Sample::Text("b")], "'a b'"),
+    (&[Sample::Text("a b")], "22"),
+    (&[Sample::Int(1), Sample::Text("a b")], "16"),
+];
+
+/// Values that are no arrays, where a text stands for an array of itself.
+static FOR_AN_ARRAY: [(Sample, &str); 2] = [(Sample::Text("a b"), "'a b'"), (Sample::Int(1), "16")];
+
+#[test]
+fn separated_by_spaces(rt: HostRuntime) {
+    let spaces = texts_by(rt.alloc(), ' ', true).expect(&rt, "memory for the type");
+    assert_array_casts(&rt, rt.alloc(), &spaces, &BY_SPACES);
+    assert_casts(&rt, rt.alloc(), &spaces, &FOR_AN_ARRAY);
 }
 
 #[test]
-fn separated_by_spaces(rt: HostRuntime) -> Result<(), Fail> {
+fn arrays_may_be_cast_whatever_their_items(rt: HostRuntime) {
     let alloc = rt.alloc();
-    let spaces = texts_by(alloc, ' ', true)?;
-    let letters = pair(alloc, text(alloc, "a")?, text(alloc, "b")?)?;
-    assert_eq!(rt; cast(alloc, &spaces, &letters)?.as_str(), "'a b'");
-    Ok(())
-}
-
-#[test]
-fn a_value_for_an_array_of_itself(rt: HostRuntime) -> Result<(), Fail> {
-    let alloc = rt.alloc();
-    let spaces = texts_by(alloc, ' ', true)?;
-    assert_eq!(rt;
-        cast(alloc, &spaces, &text(alloc, "a b")?)?.as_str(),
-        "'a b'"
-    );
-    assert_eq!(rt; cast(alloc, &spaces, &Value::Int(1))?.as_str(), "16");
-    let commas = texts_by(alloc, ',', false)?;
-    assert_eq!(rt; cast(alloc, &commas, &text(alloc, "a")?)?.as_str(), "16");
-    Ok(())
-}
-
-#[test]
-fn items_with_the_separator(rt: HostRuntime) -> Result<(), Fail> {
-    let alloc = rt.alloc();
-    let spaces = texts_by(alloc, ' ', true)?;
-    let mut items = Vec::new(alloc);
-    items.push(text(alloc, "a b")?)?;
-    assert_eq!(rt; cast(alloc, &spaces, &Value::Array(items))?.as_str(), "22");
-    Ok(())
-}
-
-#[test]
-fn the_first_wrong_item_decides(rt: HostRuntime) -> Result<(), Fail> {
-    let alloc = rt.alloc();
-    let spaces = texts_by(alloc, ' ', true)?;
-    let mixed = pair(alloc, Value::Int(1), text(alloc, "a b")?)?;
-    assert_eq!(rt; cast(alloc, &spaces, &mixed)?.as_str(), "16");
-    let commas = texts_by(alloc, ',', false)?;
-    assert!(rt; commas.castable(&mixed));
+    let commas = texts_by(alloc, ',', false).expect(&rt, "memory for the type");
+    let mixed = array_of(alloc, &[Sample::Int(1), Sample::Text("a b")]);
+    assert!(rt; commas.castable(&mixed.expect(&rt, "memory for the array")));
     assert!(rt; !commas.castable(&Value::Int(1)));
-    Ok(())
 }

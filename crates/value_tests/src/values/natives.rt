@@ -1,226 +1,187 @@
-//! Casts to types of one kind of values.
+//! Casts to types of one kind of values: what a cast to the type answers for the value.
 
-use super::{native, pair, text};
-use html_values::{Dir, NativeType, Rgba, Value};
-use std::alloc::{AllocError, Global};
-use std::test::Fail;
+use super::{Sample, assert_array_casts, assert_native_casts};
+use html_values::{AttrType, Dir, NativeType, Rgba};
 
-fn image(alloc: Global, src: &str, width: Option<i64>) -> Result<String, AllocError> {
-    let src = String::from_str(alloc, src)?;
-    native(
-        alloc,
+/// Types, and what casts of none to them answer.
+static NONES: [(NativeType, Sample, &str); 5] = [
+    (NativeType::NoValue, Sample::None, "'none'"),
+    (NativeType::NoneEmpty, Sample::None, "''"),
+    (NativeType::NoneUndefined, Sample::None, "'undefined'"),
+    (NativeType::Auto, Sample::None, "16"),
+    (NativeType::TrueFalse, Sample::None, "16"),
+];
+
+#[test]
+fn none(rt: HostRuntime) {
+    assert_native_casts(&rt, rt.alloc(), &NONES);
+}
+
+/// Types, and what casts of auto to them answer.
+static AUTOS: [(NativeType, Sample, &str); 5] = [
+    (NativeType::Auto, Sample::Auto, "'auto'"),
+    (NativeType::NoValue, Sample::Auto, "16"),
+    (NativeType::NoneEmpty, Sample::Auto, "16"),
+    (NativeType::OnOff, Sample::Auto, "16"),
+    (NativeType::Color, Sample::Auto, "16"),
+];
+
+#[test]
+fn auto(rt: HostRuntime) {
+    assert_native_casts(&rt, rt.alloc(), &AUTOS);
+}
+
+/// Booleans that are cast.
+static BOOLEANS: [(NativeType, Sample, &str); 7] = [
+    (NativeType::TrueFalse, Sample::Bool(true), "'true'"),
+    (NativeType::YesNo, Sample::Bool(true), "'yes'"),
+    (NativeType::OnOff, Sample::Bool(true), "'on'"),
+    (NativeType::TrueFalse, Sample::Bool(false), "'false'"),
+    (NativeType::YesNo, Sample::Bool(false), "'no'"),
+    (NativeType::OnOff, Sample::Bool(false), "'off'"),
+    (NativeType::NoneUndefined, Sample::Bool(false), "16"),
+];
+
+#[test]
+fn booleans(rt: HostRuntime) {
+    assert_native_casts(&rt, rt.alloc(), &BOOLEANS);
+}
+
+/// Whole numbers that are cast.
+static WHOLE_NUMBERS: [(NativeType, Sample, &str); 5] = [
+    (NativeType::Int, Sample::Int(-1), "'-1'"),
+    (NativeType::Int, Sample::Int(0), "'0'"),
+    (
+        NativeType::Int,
+        Sample::Int(i64::MAX),
+        "'9223372036854775807'",
+    ),
+    (NativeType::Str, Sample::Int(0), "16"),
+    (NativeType::Duration, Sample::Int(1), "16"),
+];
+
+#[test]
+fn whole_numbers(rt: HostRuntime) {
+    assert_native_casts(&rt, rt.alloc(), &WHOLE_NUMBERS);
+}
+
+/// Whole numbers from 0 or from 1 on.
+static IN_RANGE: [(NativeType, Sample, &str); 5] = [
+    (NativeType::NonNegativeInt, Sample::Int(-1), "18"),
+    (NativeType::NonNegativeInt, Sample::Int(0), "'0'"),
+    (NativeType::PositiveInt, Sample::Int(-1), "18"),
+    (NativeType::PositiveInt, Sample::Int(0), "18"),
+    (NativeType::PositiveInt, Sample::Int(1), "'1'"),
+];
+
+#[test]
+fn numbers_in_range(rt: HostRuntime) {
+    assert_native_casts(&rt, rt.alloc(), &IN_RANGE);
+}
+
+/// Texts, and texts of one character.
+static TEXTS: [(NativeType, Sample, &str); 5] = [
+    (NativeType::Str, Sample::Text(""), "''"),
+    (NativeType::Str, Sample::Text("ab"), "'ab'"),
+    (NativeType::Char, Sample::Text(""), "19"),
+    (NativeType::Char, Sample::Text("é"), "'é'"),
+    (NativeType::Char, Sample::Text("ab"), "19"),
+];
+
+#[test]
+fn texts(rt: HostRuntime) {
+    assert_native_casts(&rt, rt.alloc(), &TEXTS);
+}
+
+const RED: Rgba = Rgba {
+    r: 255,
+    g: 0,
+    b: 16,
+    a: 128,
+};
+
+/// A span of time and a colour.
+static DURATIONS_AND_COLOURS: [(NativeType, Sample, &str); 2] = [
+    (
+        NativeType::Duration,
+        Sample::Seconds(694_861),
+        "'1w 1d 1h 1m 1s'",
+    ),
+    (NativeType::Color, Sample::Color(RED), "'#ff001080'"),
+];
+
+#[test]
+fn durations_and_colours(rt: HostRuntime) {
+    assert_native_casts(&rt, rt.alloc(), &DURATIONS_AND_COLOURS);
+}
+
+/// Directions of lines.
+static DIRECTIONS: [(NativeType, Sample, &str); 4] = [
+    (NativeType::HorizontalDir, Sample::Dir(Dir::LTR), "'ltr'"),
+    (NativeType::HorizontalDir, Sample::Dir(Dir::RTL), "'rtl'"),
+    (NativeType::HorizontalDir, Sample::Dir(Dir::TTB), "20"),
+    (NativeType::HorizontalDir, Sample::Dir(Dir::BTT), "20"),
+];
+
+#[test]
+fn directions(rt: HostRuntime) {
+    assert_native_casts(&rt, rt.alloc(), &DIRECTIONS);
+}
+
+/// Images with and without a width.
+static IMAGES: [(NativeType, Sample, &str); 9] = [
+    (
         NativeType::ImageCandidate,
-        &Value::Image { src, width },
-    )
-}
-
-fn size(alloc: Global, width: Value, height: Value) -> Result<String, Fail> {
-    Ok(native(alloc, NativeType::IconSize, &pair(alloc, width, height)?)?)
-}
-
-#[test]
-fn none(rt: HostRuntime) -> Result<(), Fail> {
-    let alloc = rt.alloc();
-    let none = Value::None;
-    assert_eq!(rt;
-        native(alloc, NativeType::NoValue, &none)?.as_str(),
-        "'none'"
-    );
-    assert_eq!(rt; native(alloc, NativeType::NoneEmpty, &none)?.as_str(), "''");
-    assert_eq!(rt;
-        native(alloc, NativeType::NoneUndefined, &none)?.as_str(),
-        "'undefined'"
-    );
-    assert_eq!(rt; native(alloc, NativeType::Auto, &none)?.as_str(), "16");
-    assert_eq!(rt; native(alloc, NativeType::TrueFalse, &none)?.as_str(), "16");
-    Ok(())
-}
-
-#[test]
-fn auto(rt: HostRuntime) -> Result<(), Fail> {
-    let alloc = rt.alloc();
-    let auto = Value::Auto;
-    assert_eq!(rt; native(alloc, NativeType::Auto, &auto)?.as_str(), "'auto'");
-    assert_eq!(rt; native(alloc, NativeType::NoValue, &auto)?.as_str(), "16");
-    assert_eq!(rt; native(alloc, NativeType::NoneEmpty, &auto)?.as_str(), "16");
-    assert_eq!(rt; native(alloc, NativeType::OnOff, &auto)?.as_str(), "16");
-    assert_eq!(rt; native(alloc, NativeType::Color, &auto)?.as_str(), "16");
-    Ok(())
-}
+        Sample::Image("x.png", Some(480)),
+        "'x.png 480w'",
+    ),
+    (
+        NativeType::ImageCandidate,
+        Sample::Image("x.png", Some(1)),
+        "'x.png 1w'",
+    ),
+    (
+        NativeType::ImageCandidate,
+        Sample::Image("x.png", Some(0)),
+        "18",
+    ),
+    (NativeType::ImageCandidate, Sample::Image("", Some(0)), "18"),
+    (
+        NativeType::ImageCandidate,
+        Sample::Image("x,", Some(2)),
+        "21",
+    ),
+    (
+        NativeType::ImageCandidate,
+        Sample::Image("x.png", None),
+        "'x.png'",
+    ),
+    (NativeType::ImageCandidate, Sample::Image("", None), "21"),
+    (NativeType::ImageCandidate, Sample::Image(",x", None), "21"),
+    (
+        NativeType::ImageCandidate,
+        Sample::Image("x,y", None),
+        "'x,y'",
+    ),
+];
 
 #[test]
-fn booleans_that_hold(rt: HostRuntime) -> Result<(), Fail> {
-    let alloc = rt.alloc();
-    let on = Value::Bool(true);
-    assert_eq!(rt;
-        native(alloc, NativeType::TrueFalse, &on)?.as_str(),
-        "'true'"
-    );
-    assert_eq!(rt; native(alloc, NativeType::YesNo, &on)?.as_str(), "'yes'");
-    assert_eq!(rt; native(alloc, NativeType::OnOff, &on)?.as_str(), "'on'");
-    Ok(())
+fn images(rt: HostRuntime) {
+    assert_native_casts(&rt, rt.alloc(), &IMAGES);
 }
 
-#[test]
-fn booleans_that_fail(rt: HostRuntime) -> Result<(), Fail> {
-    let alloc = rt.alloc();
-    let off = Value::Bool(false);
-    assert_eq!(rt;
-        native(alloc, NativeType::TrueFalse, &off)?.as_str(),
-        "'false'"
-    );
-    assert_eq!(rt; native(alloc, NativeType::YesNo, &off)?.as_str(), "'no'");
-    assert_eq!(rt; native(alloc, NativeType::OnOff, &off)?.as_str(), "'off'");
-    assert_eq!(rt;
-        native(alloc, NativeType::NoneUndefined, &off)?.as_str(),
-        "16"
-    );
-    Ok(())
-}
+/// Arrays, and what they are as sizes of icons.
+static SIZES: [(&[Sample], &str); 6] = [
+    (&[Sample::Int(16), Sample::Int(16)], "'16x16'"),
+    (&[Sample::Int(0), Sample::Int(7)], "'0x7'"),
+    (&[Sample::Int(-1), Sample::Int(3)], "18"),
+    (&[Sample::Int(3), Sample::Int(-1)], "18"),
+    (&[Sample::Int(-1), Sample::None], "16"),
+    (&[], "16"),
+];
 
 #[test]
-fn whole_numbers(rt: HostRuntime) -> Result<(), Fail> {
-    let alloc = rt.alloc();
-    let int = NativeType::Int;
-    assert_eq!(rt; native(alloc, int, &Value::Int(-1))?.as_str(), "'-1'");
-    assert_eq!(rt; native(alloc, int, &Value::Int(0))?.as_str(), "'0'");
-    assert_eq!(rt;
-        native(alloc, int, &Value::Int(i64::MAX))?.as_str(),
-        "'9223372036854775807'"
-    );
-    assert_eq!(rt;
-        native(alloc, NativeType::Str, &Value::Int(0))?.as_str(),
-        "16"
-    );
-    assert_eq!(rt;
-        native(alloc, NativeType::Duration, &Value::Int(1))?.as_str(),
-        "16"
-    );
-    Ok(())
-}
-
-#[test]
-fn numbers_in_range(rt: HostRuntime) -> Result<(), Fail> {
-    let alloc = rt.alloc();
-    let (natural, positive) = (NativeType::NonNegativeInt, NativeType::PositiveInt);
-    assert_eq!(rt; native(alloc, natural, &Value::Int(-1))?.as_str(), "18");
-    assert_eq!(rt; native(alloc, natural, &Value::Int(0))?.as_str(), "'0'");
-    assert_eq!(rt; native(alloc, positive, &Value::Int(-1))?.as_str(), "18");
-    assert_eq!(rt; native(alloc, positive, &Value::Int(0))?.as_str(), "18");
-    assert_eq!(rt; native(alloc, positive, &Value::Int(1))?.as_str(), "'1'");
-    Ok(())
-}
-
-#[test]
-fn texts(rt: HostRuntime) -> Result<(), Fail> {
-    let alloc = rt.alloc();
-    assert_eq!(rt;
-        native(alloc, NativeType::Str, &text(alloc, "")?)?.as_str(),
-        "''"
-    );
-    assert_eq!(rt;
-        native(alloc, NativeType::Str, &text(alloc, "ab")?)?.as_str(),
-        "'ab'"
-    );
-    assert_eq!(rt;
-        native(alloc, NativeType::Char, &text(alloc, "")?)?.as_str(),
-        "19"
-    );
-    assert_eq!(rt;
-        native(alloc, NativeType::Char, &text(alloc, "é")?)?.as_str(),
-        "'é'"
-    );
-    assert_eq!(rt;
-        native(alloc, NativeType::Char, &text(alloc, "ab")?)?.as_str(),
-        "19"
-    );
-    Ok(())
-}
-
-#[test]
-fn durations(rt: HostRuntime) -> Result<(), Fail> {
-    let alloc = rt.alloc();
-    let value = Value::Duration(694_861);
-    let made = native(alloc, NativeType::Duration, &value)?;
-    assert_eq!(rt; made.as_str(), "'1w 1d 1h 1m 1s'");
-    Ok(())
-}
-
-#[test]
-fn colours(rt: HostRuntime) -> Result<(), Fail> {
-    let alloc = rt.alloc();
-    let color = Value::Color(Rgba {
-        r: 255,
-        g: 0,
-        b: 16,
-        a: 128,
-    });
-    assert_eq!(rt;
-        native(alloc, NativeType::Color, &color)?.as_str(),
-        "'#ff001080'"
-    );
-    Ok(())
-}
-
-#[test]
-fn directions(rt: HostRuntime) -> Result<(), Fail> {
-    let alloc = rt.alloc();
-    let kind = NativeType::HorizontalDir;
-    assert_eq!(rt;
-        native(alloc, kind, &Value::Dir(Dir::LTR))?.as_str(),
-        "'ltr'"
-    );
-    assert_eq!(rt;
-        native(alloc, kind, &Value::Dir(Dir::RTL))?.as_str(),
-        "'rtl'"
-    );
-    assert_eq!(rt; native(alloc, kind, &Value::Dir(Dir::TTB))?.as_str(), "20");
-    assert_eq!(rt; native(alloc, kind, &Value::Dir(Dir::BTT))?.as_str(), "20");
-    Ok(())
-}
-
-#[test]
-fn images_with_a_width(rt: HostRuntime) -> Result<(), Fail> {
-    let alloc = rt.alloc();
-    assert_eq!(rt; image(alloc, "x.png", Some(480))?.as_str(), "'x.png 480w'");
-    assert_eq!(rt; image(alloc, "x.png", Some(1))?.as_str(), "'x.png 1w'");
-    assert_eq!(rt; image(alloc, "x.png", Some(0))?.as_str(), "18");
-    assert_eq!(rt; image(alloc, "", Some(0))?.as_str(), "18");
-    assert_eq!(rt; image(alloc, "x,", Some(2))?.as_str(), "21");
-    Ok(())
-}
-
-#[test]
-fn images_without_a_width(rt: HostRuntime) -> Result<(), Fail> {
-    let alloc = rt.alloc();
-    assert_eq!(rt; image(alloc, "x.png", None)?.as_str(), "'x.png'");
-    assert_eq!(rt; image(alloc, "", None)?.as_str(), "21");
-    assert_eq!(rt; image(alloc, ",x", None)?.as_str(), "21");
-    assert_eq!(rt; image(alloc, "x,y", None)?.as_str(), "'x,y'");
-    Ok(())
-}
-
-#[test]
-fn sizes_of_icons(rt: HostRuntime) -> Result<(), Fail> {
-    let alloc = rt.alloc();
-    assert_eq!(rt;
-        size(alloc, Value::Int(16), Value::Int(16))?.as_str(),
-        "'16x16'"
-    );
-    assert_eq!(rt;
-        size(alloc, Value::Int(0), Value::Int(7))?.as_str(),
-        "'0x7'"
-    );
-    assert_eq!(rt; size(alloc, Value::Int(-1), Value::Int(3))?.as_str(), "18");
-    assert_eq!(rt; size(alloc, Value::Int(3), Value::Int(-1))?.as_str(), "18");
-    Ok(())
-}
-
-#[test]
-fn arrays_that_are_no_sizes(rt: HostRuntime) -> Result<(), Fail> {
-    let alloc = rt.alloc();
-    assert_eq!(rt; size(alloc, Value::Int(-1), Value::None)?.as_str(), "16");
-    let empty = Value::Array(Vec::new(alloc));
-    assert_eq!(rt; native(alloc, NativeType::IconSize, &empty)?.as_str(), "16");
-    Ok(())
+fn sizes_of_icons(rt: HostRuntime) {
+    let size = AttrType::Native(NativeType::IconSize);
+    assert_array_casts(&rt, rt.alloc(), &size, &SIZES);
 }

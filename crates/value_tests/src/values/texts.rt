@@ -1,130 +1,121 @@
 //! Texts of typed values.
 
+use crate::asserts::{assert_text, text_of};
 use html_values::{
     AutoValue, Dir, Duration, HorizontalDir, IconSize, ImageCandidate, IntoAttr, NoneEmpty,
     NoneUndefined, NoneValue, OnOffBool, Rgba, Str, TrueFalseBool, YesNoBool,
 };
+use std::alloc::Global;
 use std::num::{NonZeroI64, NonZeroU64};
-use std::test::Fail;
+use std::process::Abort;
+
+/// Asserts that the value has that text as an attribute.
+pub(super) fn assert_attr<T: IntoAttr>(rt: &impl Abort, alloc: Global, value: &T, wanted: &str) {
+    let text = value.into_attr(alloc).expect(rt, "memory for the text");
+    assert_text(rt, &text, wanted);
+}
+
+/// Seconds, and their texts.
+static DURATIONS: [(u64, &str); 7] = [
+    (59, "59s"),
+    (60, "1m"),
+    (604_800, "1w"),
+    (518_400, "6d"),
+    (694_861, "1w 1d 1h 1m 1s"),
+    (0, "0s"),
+    (3_661, "1h 1m 1s"),
+];
 
 #[test]
-fn durations_with_one_unit(rt: HostRuntime) -> Result<(), Fail> {
-    let alloc = rt.alloc();
-    let cases = [(59u64, "59s"), (60, "1m"), (604_800, "1w"), (518_400, "6d")];
-    for (seconds, text) in cases {
-        assert_eq!(rt; Duration(seconds).into_attr(alloc)?.as_str(), text);
+fn durations(rt: HostRuntime) {
+    for (seconds, text) in &DURATIONS {
+        assert_attr(&rt, rt.alloc(), &Duration(*seconds), text);
     }
-    Ok(())
 }
 
 #[test]
-fn durations_with_several_units(rt: HostRuntime) -> Result<(), Fail> {
+fn none_and_auto(rt: HostRuntime) {
     let alloc = rt.alloc();
-    let cases = [
-        (694_861u64, "1w 1d 1h 1m 1s"),
-        (0, "0s"),
-        (3_661, "1h 1m 1s"),
-    ];
-    for (seconds, text) in cases {
-        assert_eq!(rt; Duration(seconds).into_attr(alloc)?.as_str(), text);
+    assert_attr(&rt, alloc, &NoneValue, "none");
+    assert_attr(&rt, alloc, &NoneEmpty, "");
+    assert_attr(&rt, alloc, &NoneUndefined, "undefined");
+    assert_attr(&rt, alloc, &AutoValue, "auto");
+}
+
+#[test]
+fn booleans(rt: HostRuntime) {
+    let alloc = rt.alloc();
+    assert_attr(&rt, alloc, &TrueFalseBool(true), "true");
+    assert_attr(&rt, alloc, &TrueFalseBool(false), "false");
+    assert_attr(&rt, alloc, &YesNoBool(true), "yes");
+    assert_attr(&rt, alloc, &YesNoBool(false), "no");
+    assert_attr(&rt, alloc, &OnOffBool(true), "on");
+    assert_attr(&rt, alloc, &OnOffBool(false), "off");
+}
+
+#[test]
+fn directions(rt: HostRuntime) {
+    let alloc = rt.alloc();
+    assert_attr(&rt, alloc, &HorizontalDir::LTR, "ltr");
+    assert_attr(&rt, alloc, &HorizontalDir::RTL, "rtl");
+    assert_attr(&rt, alloc, &Dir::LTR, "ltr");
+    assert_attr(&rt, alloc, &Dir::RTL, "rtl");
+    assert_attr(&rt, alloc, &Dir::TTB, "ttb");
+    assert_attr(&rt, alloc, &Dir::BTT, "btt");
+}
+
+#[test]
+fn numbers(rt: HostRuntime) {
+    let alloc = rt.alloc();
+    assert_attr(&rt, alloc, &0u64, "0");
+    assert_attr(&rt, alloc, &u64::MAX, "18446744073709551615");
+    assert_attr(&rt, alloc, &-12i64, "-12");
+    assert_attr(&rt, alloc, &i64::MIN, "-9223372036854775808");
+}
+
+#[test]
+fn numbers_that_are_not_zero(rt: HostRuntime) {
+    let alloc = rt.alloc();
+    let seven = NonZeroU64::new(7).expect(&rt, "not zero");
+    assert_attr(&rt, alloc, &seven, "7");
+    let less = NonZeroI64::new(-7).expect(&rt, "not zero");
+    assert_attr(&rt, alloc, &less, "-7");
+}
+
+#[test]
+fn texts_and_characters(rt: HostRuntime) {
+    let alloc = rt.alloc();
+    assert_attr(&rt, alloc, &'é', "é");
+    assert_attr(&rt, alloc, &Str(text_of(&rt, alloc, "<a b")), "<a b");
+}
+
+/// Sources and widths of images, and their texts.
+static IMAGES: [(&str, u64, &str); 2] = [(",é", 480, ",é 480w"), ("x.png", 0, "x.png")];
+
+/// A width of zero stands for none.
+#[test]
+fn images(rt: HostRuntime) {
+    for (src, width, wanted) in &IMAGES {
+        let image = ImageCandidate {
+            src: text_of(&rt, rt.alloc(), src),
+            width: NonZeroU64::new(*width),
+        };
+        assert_attr(&rt, rt.alloc(), &image, wanted);
     }
-    Ok(())
 }
 
 #[test]
-fn none_and_auto(rt: HostRuntime) -> Result<(), Fail> {
-    let alloc = rt.alloc();
-    assert_eq!(rt; NoneValue.into_attr(alloc)?.as_str(), "none");
-    assert_eq!(rt; NoneEmpty.into_attr(alloc)?.as_str(), "");
-    assert_eq!(rt; NoneUndefined.into_attr(alloc)?.as_str(), "undefined");
-    assert_eq!(rt; AutoValue.into_attr(alloc)?.as_str(), "auto");
-    Ok(())
-}
-
-#[test]
-fn booleans(rt: HostRuntime) -> Result<(), Fail> {
-    let alloc = rt.alloc();
-    assert_eq!(rt; TrueFalseBool(true).into_attr(alloc)?.as_str(), "true");
-    assert_eq!(rt; TrueFalseBool(false).into_attr(alloc)?.as_str(), "false");
-    assert_eq!(rt; YesNoBool(true).into_attr(alloc)?.as_str(), "yes");
-    assert_eq!(rt; YesNoBool(false).into_attr(alloc)?.as_str(), "no");
-    assert_eq!(rt; OnOffBool(true).into_attr(alloc)?.as_str(), "on");
-    assert_eq!(rt; OnOffBool(false).into_attr(alloc)?.as_str(), "off");
-    Ok(())
-}
-
-#[test]
-fn directions(rt: HostRuntime) -> Result<(), Fail> {
-    let alloc = rt.alloc();
-    assert_eq!(rt; HorizontalDir::LTR.into_attr(alloc)?.as_str(), "ltr");
-    assert_eq!(rt; HorizontalDir::RTL.into_attr(alloc)?.as_str(), "rtl");
-    assert_eq!(rt; Dir::LTR.into_attr(alloc)?.as_str(), "ltr");
-    assert_eq!(rt; Dir::RTL.into_attr(alloc)?.as_str(), "rtl");
-    assert_eq!(rt; Dir::TTB.into_attr(alloc)?.as_str(), "ttb");
-    assert_eq!(rt; Dir::BTT.into_attr(alloc)?.as_str(), "btt");
-    Ok(())
-}
-
-#[test]
-fn numbers(rt: HostRuntime) -> Result<(), Fail> {
-    let alloc = rt.alloc();
-    assert_eq!(rt; 0u64.into_attr(alloc)?.as_str(), "0");
-    assert_eq!(rt; u64::MAX.into_attr(alloc)?.as_str(), "18446744073709551615");
-    assert_eq!(rt; (-12i64).into_attr(alloc)?.as_str(), "-12");
-    assert_eq!(rt; i64::MIN.into_attr(alloc)?.as_str(), "-9223372036854775808");
-    Ok(())
-}
-
-#[test]
-fn numbers_that_are_not_zero(rt: HostRuntime) -> Result<(), Fail> {
-    let alloc = rt.alloc();
-    if let Some(n) = NonZeroU64::new(7) {
-        assert_eq!(rt; n.into_attr(alloc)?.as_str(), "7");
-    }
-    if let Some(n) = NonZeroI64::new(-7) {
-        assert_eq!(rt; n.into_attr(alloc)?.as_str(), "-7");
-    }
-    Ok(())
-}
-
-#[test]
-fn texts_and_characters(rt: HostRuntime) -> Result<(), Fail> {
-    let alloc = rt.alloc();
-    assert_eq!(rt; 'é'.into_attr(alloc)?.as_str(), "é");
-    let text = Str(String::from_str(alloc, "<a b")?);
-    assert_eq!(rt; text.into_attr(alloc)?.as_str(), "<a b");
-    Ok(())
-}
-
-#[test]
-fn images(rt: HostRuntime) -> Result<(), Fail> {
-    let alloc = rt.alloc();
-    let src = String::from_str(alloc, ",é")?;
-    let image = ImageCandidate {
-        src,
-        width: NonZeroU64::new(480),
-    };
-    assert_eq!(rt; image.into_attr(alloc)?.as_str(), ",é 480w");
-    let src = String::from_str(alloc, "x.png")?;
-    let image = ImageCandidate { src, width: None };
-    assert_eq!(rt; image.into_attr(alloc)?.as_str(), "x.png");
-    Ok(())
-}
-
-#[test]
-fn sizes_and_colours(rt: HostRuntime) -> Result<(), Fail> {
-    let alloc = rt.alloc();
+fn sizes_and_colours(rt: HostRuntime) {
     let size = IconSize {
         width: 16,
         height: 0,
     };
-    assert_eq!(rt; size.into_attr(alloc)?.as_str(), "16x0");
+    assert_attr(&rt, rt.alloc(), &size, "16x0");
     let color = Rgba {
         r: 255,
         g: 0,
         b: 16,
         a: 128,
     };
-    assert_eq!(rt; color.into_attr(alloc)?.as_str(), "#ff001080");
-    Ok(())
+    assert_attr(&rt, rt.alloc(), &color, "#ff001080");
 }
