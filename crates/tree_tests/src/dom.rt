@@ -1,345 +1,292 @@
 //! Tests of trees.
 
+use crate::asserts::{add, around, assert_number, assert_text, attrs_of, text_of};
 use html_css::{Abs, Properties};
 use html_dom::{
     Frame, FrameItem, HtmlAttrs, HtmlElement, HtmlFrame, HtmlNode, Location, Point, Span, Tag,
     resolve_inline_styles,
 };
-use html_names::{HtmlAttr, attr, tag};
-use std::alloc::{AllocError, Global};
+use html_names::{attr, tag};
+use std::alloc::Global;
 use std::collections::HashMap;
-use std::test::Fail;
+use std::process::Abort;
 
-fn text(alloc: Global, text: &str) -> Result<String, AllocError> {
-    String::from_str(alloc, text)
+/// Asserts that a list has these names and values.
+fn assert_attrs(rt: &impl Abort, list: &HtmlAttrs, wanted: &[(&str, &str)]) {
+    let alloc = *list.0.allocator();
+    assert!(rt; *list == attrs_of(rt, alloc, wanted));
 }
 
-/// Adds a pair whose name and value are these texts.
-fn push(alloc: Global, attrs: &mut HtmlAttrs, name: &str, value: &str) -> Result<(), Fail> {
-    let name = HtmlAttr::intern(alloc, name)?;
-    attrs.push(name, text(alloc, value)?)?;
-    Ok(())
-}
-
-fn attrs(alloc: Global, pairs: &[(&str, &str)]) -> Result<HtmlAttrs, Fail> {
-    let mut list = HtmlAttrs::new(alloc);
-    for (name, value) in pairs {
-        push(alloc, &mut list, name, value)?;
-    }
-    Ok(list)
-}
-
-/// Whether a fold of two lists is a third.
-fn folds_to(
+/// Asserts what a fold of two lists is.
+fn assert_fold(
+    rt: &impl Abort,
     alloc: Global,
     inner: &[(&str, &str)],
     outer: &[(&str, &str)],
-    expected: &[(&str, &str)],
-) -> Result<bool, Fail> {
-    let folded = attrs(alloc, inner)?.fold(attrs(alloc, outer)?)?;
-    Ok(folded == attrs(alloc, expected)?)
+    wanted: &[(&str, &str)],
+) {
+    let inner = attrs_of(rt, alloc, inner);
+    let outer = attrs_of(rt, alloc, outer);
+    let folded = inner.fold(outer).expect(rt, "memory for the fold");
+    assert_attrs(rt, &folded, wanted);
 }
 
 #[test]
-fn fold_keeps_inner_values(rt: HostRuntime) -> Result<(), Fail> {
+fn fold_keeps_inner_values(rt: HostRuntime) {
     let outer = [("id", "2"), ("class", "3"), ("class", "4")];
-    let expected = [("id", "1"), ("class", "3")];
-    assert!(rt; folds_to(rt.alloc(), &[("id", "1")], &outer, &expected)?);
-    Ok(())
+    let wanted = [("id", "1"), ("class", "3")];
+    assert_fold(&rt, rt.alloc(), &[("id", "1")], &outer, &wanted);
 }
 
 #[test]
-fn fold_keeps_inner_repeats(rt: HostRuntime) -> Result<(), Fail> {
+fn fold_keeps_inner_repeats(rt: HostRuntime) {
     let inner = [("id", "1"), ("id", "5")];
-    assert!(rt; folds_to(rt.alloc(), &inner, &[], &inner)?);
-    Ok(())
+    assert_fold(&rt, rt.alloc(), &inner, &[], &inner);
 }
 
 #[test]
-fn first_pairs_are_pushed(rt: HostRuntime) -> Result<(), Fail> {
-    let alloc = rt.alloc();
-    let mut list = attrs(alloc, &[("id", "1")])?;
-    list.push_front(attr::lang, text(alloc, "en")?)?;
-    assert!(rt; list == attrs(alloc, &[("lang", "en"), ("id", "1")])?);
-    Ok(())
-}
-
-/// Whether the first pair of that name has that value.
-fn has_value(list: &HtmlAttrs, name: &HtmlAttr, value: &str) -> bool {
-    match list.get(name) {
-        Some(found) => found.as_str() == value,
-        None => false,
-    }
+fn first_pairs_are_pushed(rt: HostRuntime) {
+    let mut list = attrs_of(&rt, rt.alloc(), &[("id", "1")]);
+    let value = text_of(&rt, rt.alloc(), "en");
+    list.push_front(attr::lang, value)
+        .expect(&rt, "memory for an attribute");
+    assert_attrs(&rt, &list, &[("lang", "en"), ("id", "1")]);
 }
 
 #[test]
-fn first_values_are_found(rt: HostRuntime) -> Result<(), Fail> {
-    let list = attrs(rt.alloc(), &[("class", "2"), ("id", "1"), ("id", "3")])?;
-    assert!(rt; has_value(&list, &attr::id, "1"));
-    assert!(rt; !has_value(&list, &attr::title, "1"));
-    Ok(())
+fn first_values_are_found(rt: HostRuntime) {
+    let list = attrs_of(&rt, rt.alloc(), &[("class", "2"), ("id", "1"), ("id", "3")]);
+    let value = list.get(&attr::id).expect(&rt, "a value");
+    assert_text(&rt, value, "1");
+    assert!(rt; list.get(&attr::title).is_none());
 }
 
 #[test]
-fn first_values_are_changed(rt: HostRuntime) -> Result<(), Fail> {
-    let alloc = rt.alloc();
-    let mut list = attrs(alloc, &[("class", "2"), ("id", "1"), ("id", "3")])?;
-    if let Some(value) = list.get_mut(&attr::id) {
-        value.push('0')?;
-    }
+fn first_values_are_changed(rt: HostRuntime) {
+    let mut list = attrs_of(&rt, rt.alloc(), &[("class", "2"), ("id", "1"), ("id", "3")]);
+    let value = list.get_mut(&attr::id).expect(&rt, "a value");
+    value.push('0').expect(&rt, "memory for a character");
     assert!(rt; list.get_mut(&attr::title).is_none());
-    assert!(rt; list == attrs(alloc, &[("class", "2"), ("id", "10"), ("id", "3")])?);
-    Ok(())
+    assert_attrs(&rt, &list, &[("class", "2"), ("id", "10"), ("id", "3")]);
 }
 
 #[test]
-fn attribute_lists_are_keys(rt: HostRuntime) -> Result<(), Fail> {
+fn attribute_lists_are_keys(rt: HostRuntime) {
     let alloc = rt.alloc();
     let mut lists = HashMap::new(alloc);
-    lists.insert(attrs(alloc, &[("id", "1")])?, 7u8)?;
-    assert!(rt; lists.get(&attrs(alloc, &[("id", "1")])?) == Some(&7u8));
-    assert!(rt; lists.get(&attrs(alloc, &[("id", "2")])?).is_none());
-    Ok(())
+    assert!(rt;
+        lists
+            .insert(attrs_of(&rt, alloc, &[("id", "1")]), 7u8)
+            .is_ok()
+    );
+    assert!(rt; lists.get(&attrs_of(&rt, alloc, &[("id", "1")])) == Some(&7u8));
+    assert!(rt; lists.get(&attrs_of(&rt, alloc, &[("id", "2")])).is_none());
 }
 
 /// Where the element 4 starts, with a label and a link.
-fn start(alloc: Global) -> Result<Tag, AllocError> {
-    Ok(Tag::Start {
+fn start(rt: &impl Abort, alloc: Global) -> Tag {
+    Tag::Start {
         location: Location(4),
-        label: Some(text(alloc, "sec")?),
+        label: Some(text_of(rt, alloc, "sec")),
         dest: Some(Location(5)),
-    })
-}
-
-/// Where the element 4 ends.
-fn end() -> Tag {
-    Tag::End {
-        location: Location(4),
     }
 }
 
 /// A child of each kind: two tags, a text and an element.
-fn children(alloc: Global, word: &str, span: Span) -> Result<Vec<HtmlNode>, Fail> {
+fn children(rt: &impl Abort, alloc: Global, word: &str, span: Span) -> Vec<HtmlNode> {
+    let location = Location(4);
+    let em = HtmlElement::new(alloc, tag::em).spanned(span);
     let mut children = Vec::new(alloc);
-    children.push(HtmlNode::from(start(alloc)?))?;
-    children.push(HtmlNode::text(text(alloc, word)?, Span(2)))?;
-    children.push(HtmlNode::from(HtmlElement::new(alloc, tag::em).spanned(span)))?;
-    children.push(HtmlNode::from(end()))?;
-    Ok(children)
-}
-
-fn paragraph(alloc: Global, word: &str, span: Span) -> Result<HtmlElement, Fail> {
-    let element = HtmlElement::new(alloc, tag::p)
-        .with_children(children(alloc, word, span)?)
-        .spanned(Span(1));
-    Ok(element.with_attr(attr::class, text(alloc, "note")?)?)
-}
-
-#[test]
-fn nodes_have_spans(rt: HostRuntime) -> Result<(), Fail> {
-    let mut spans = Vec::new(rt.alloc());
-    for child in &children(rt.alloc(), "word", Span(3))? {
-        spans.push(child.span())?;
-    }
-    assert_eq!(rt;
-        spans.as_slice(),
-        [Span(0), Span(2), Span(3), Span(0)].as_slice()
+    add(rt, &mut children, HtmlNode::from(start(rt, alloc)));
+    add(
+        rt,
+        &mut children,
+        HtmlNode::text(text_of(rt, alloc, word), Span(2)),
     );
-    Ok(())
+    add(rt, &mut children, HtmlNode::from(em));
+    add(rt, &mut children, HtmlNode::from(Tag::End { location }));
+    children
 }
 
-/// Whether an element is the paragraph with that word and that span in it.
-fn is_paragraph(element: &HtmlElement, word: &str, span: Span) -> Result<bool, Fail> {
-    let alloc = *element.children.allocator();
-    Ok(*element == paragraph(alloc, word, span)?)
-}
-
-#[test]
-fn elements_are_equal_where_all_fields_are(rt: HostRuntime) -> Result<(), Fail> {
-    let element = paragraph(rt.alloc(), "word", Span(3))?;
-    assert!(rt; is_paragraph(&element, "word", Span(3))?);
-    assert!(rt; !is_paragraph(&element, "word", Span(4))?);
-    Ok(())
-}
-
-/// Whether a copy is equal to what was copied.
-fn copies(element: &HtmlElement) -> Result<bool, AllocError> {
-    Ok(element.try_clone()? == *element)
-}
-
-/// Whether a copy is equal to what was copied.
-fn copies_node(node: &HtmlNode) -> Result<bool, AllocError> {
-    Ok(node.try_clone()? == *node)
+/// A paragraph with a class and such children.
+fn paragraph(rt: &impl Abort, alloc: Global, word: &str, span: Span) -> HtmlElement {
+    let value = text_of(rt, alloc, "note");
+    HtmlElement::new(alloc, tag::p)
+        .with_children(children(rt, alloc, word, span))
+        .spanned(Span(1))
+        .with_attr(attr::class, value)
+        .expect(rt, "memory for an attribute")
 }
 
 #[test]
-fn copies_are_equal(rt: HostRuntime) -> Result<(), Fail> {
-    let element = paragraph(rt.alloc(), "word", Span(3))?;
-    assert!(rt; copies(&element)?);
-    assert!(rt; copies_node(&HtmlNode::from(element))?);
-    Ok(())
+fn nodes_have_spans(rt: HostRuntime) {
+    let spans = [Span(0), Span(2), Span(3), Span(0)];
+    let children = children(&rt, rt.alloc(), "word", Span(3));
+    assert_number(&rt, children.len(), spans.len());
+    for (child, span) in children.iter().zip(spans.iter()) {
+        assert!(rt; child.span() == *span);
+    }
 }
 
 #[test]
-fn nodes_are_shown(rt: HostRuntime) -> Result<(), Fail> {
+fn elements_are_equal_where_all_fields_are(rt: HostRuntime) {
+    let element = paragraph(&rt, rt.alloc(), "word", Span(3));
+    assert!(rt; element == paragraph(&rt, rt.alloc(), "word", Span(3)));
+    assert!(rt; element != paragraph(&rt, rt.alloc(), "word", Span(4)));
+}
+
+/// Asserts that a copy of the element is equal to it.
+fn assert_copied(rt: &impl Abort, element: &HtmlElement) {
+    assert!(rt; element.try_clone().expect(rt, "memory for the copy") == *element);
+}
+
+/// Asserts that a copy of the node is equal to it.
+fn assert_node_copied(rt: &impl Abort, node: &HtmlNode) {
+    assert!(rt; node.try_clone().expect(rt, "memory for the copy") == *node);
+}
+
+#[test]
+fn copies_are_equal(rt: HostRuntime) {
+    let element = paragraph(&rt, rt.alloc(), "word", Span(3));
+    assert_copied(&rt, &element);
+    assert_node_copied(&rt, &HtmlNode::from(element));
+}
+
+#[test]
+fn nodes_are_shown(rt: HostRuntime) {
     let alloc = rt.alloc();
-    let node = HtmlNode::text(text(alloc, "word")?, Span(3));
-    let shown = format!(in alloc; "{node:?}")?;
-    assert_eq!(rt; shown.as_str(), "Text(\"word\", Span(3))");
-    Ok(())
+    let node = HtmlNode::text(text_of(&rt, alloc, "word"), Span(3));
+    let shown = format!(in alloc; "{node:?}").expect(&rt, "memory for the text");
+    assert_text(&rt, &shown, "Text(\"word\", Span(3))");
 }
 
 /// A list of one item, a point to the right and two down.
-fn only(alloc: Global, item: FrameItem) -> Result<Vec<(Point, FrameItem)>, AllocError> {
+fn only(rt: &impl Abort, alloc: Global, item: FrameItem) -> Vec<(Point, FrameItem)> {
     let position = Point {
         x: Abs::from_millionths(1_000_000),
         y: Abs::from_millionths(2_000_000),
     };
     let mut items = Vec::new(alloc);
-    items.push((position, item))?;
-    Ok(items)
+    items
+        .push((position, item))
+        .expect(rt, "memory for an item");
+    items
 }
 
 /// A frame with a group with a link in it.
-fn frame(alloc: Global, picture: u64) -> Result<Frame, AllocError> {
+fn frame(rt: &impl Abort, alloc: Global, picture: u64) -> Frame {
     let link = FrameItem::Link(Some(Location(7)));
     let group = FrameItem::Group(Frame {
         picture: 3,
-        items: only(alloc, link)?,
+        items: only(rt, alloc, link),
     });
-    let items = only(alloc, group)?;
-    Ok(Frame { picture, items })
+    let items = only(rt, alloc, group);
+    Frame { picture, items }
 }
 
-fn html_frame(alloc: Global, picture: u64) -> Result<HtmlFrame, AllocError> {
-    let inner = frame(alloc, picture)?;
+fn html_frame(rt: &impl Abort, alloc: Global, picture: u64) -> HtmlFrame {
     let text_size = Abs::from_millionths(11_000_000);
-    Ok(HtmlFrame::new(alloc, inner, text_size, Span(5)))
-}
-
-/// Whether a frame is the one of that picture.
-fn is_frame(frame: &HtmlFrame, picture: u64) -> Result<bool, AllocError> {
-    let alloc = *frame.anchors.allocator();
-    Ok(*frame == html_frame(alloc, picture)?)
+    HtmlFrame::new(alloc, frame(rt, alloc, picture), text_size, Span(5))
 }
 
 #[test]
-fn frames_are_equal_where_all_fields_are(rt: HostRuntime) -> Result<(), Fail> {
-    let frame = html_frame(rt.alloc(), 1)?;
-    assert!(rt; is_frame(&frame, 1)?);
-    assert!(rt; !is_frame(&frame, 2)?);
-    Ok(())
+fn frames_are_equal_where_all_fields_are(rt: HostRuntime) {
+    let frame = html_frame(&rt, rt.alloc(), 1);
+    assert!(rt; frame == html_frame(&rt, rt.alloc(), 1));
+    assert!(rt; frame != html_frame(&rt, rt.alloc(), 2));
 }
 
 #[test]
-fn frame_nodes_are_copied(rt: HostRuntime) -> Result<(), Fail> {
-    let node = HtmlNode::from(html_frame(rt.alloc(), 1)?);
-    assert_eq!(rt; node.span(), Span(5));
-    assert!(rt; copies_node(&node)?);
-    Ok(())
+fn frame_nodes_are_copied(rt: HostRuntime) {
+    let node = HtmlNode::from(html_frame(&rt, rt.alloc(), 1));
+    assert!(rt; node.span() == Span(5));
+    assert_node_copied(&rt, &node);
 }
 
-/// A paragraph with `display: block` as its css and these attributes.
-fn block(alloc: Global, pairs: &[(&str, &str)]) -> Result<HtmlElement, Fail> {
-    let css = Properties::new(alloc).with("display", text(alloc, "block")?)?;
-    let mut element = HtmlElement::new(alloc, tag::p).with_css(css);
-    element.attrs = attrs(alloc, pairs)?;
-    Ok(element)
+/// The css `display: block`.
+fn display(rt: &impl Abort, alloc: Global) -> Properties {
+    let mut css = Properties::new(alloc);
+    css.push("display", text_of(rt, alloc, "block"))
+        .expect(rt, "memory for a property");
+    css
 }
 
-/// Whether the attributes of `block` become the expected ones when its css is written into them.
-fn resolves_to(
+/// Asserts what the attributes of a paragraph become when its css is written into them.
+fn assert_resolved(
+    rt: &impl Abort,
     alloc: Global,
     pairs: &[(&str, &str)],
-    expected: &[(&str, &str)],
-) -> Result<bool, Fail> {
-    let mut element = block(alloc, pairs)?;
-    resolve_inline_styles(alloc, &mut element)?;
-    Ok(element.attrs == attrs(alloc, expected)?)
+    wanted: &[(&str, &str)],
+) {
+    let mut element = HtmlElement::new(alloc, tag::p).with_css(display(rt, alloc));
+    element.attrs = attrs_of(rt, alloc, pairs);
+    resolve_inline_styles(alloc, &mut element).expect(rt, "memory for styles");
+    assert_attrs(rt, &element.attrs, wanted);
 }
 
 #[test]
-fn css_takes_the_place_of_an_empty_style(rt: HostRuntime) -> Result<(), Fail> {
+fn css_takes_the_place_of_an_empty_style(rt: HostRuntime) {
     let pairs = [("style", ""), ("style", "x")];
-    let expected = [("style", "display: block"), ("style", "x")];
-    assert!(rt; resolves_to(rt.alloc(), &pairs, &expected)?);
-    Ok(())
+    let wanted = [("style", "display: block"), ("style", "x")];
+    assert_resolved(&rt, rt.alloc(), &pairs, &wanted);
 }
 
 #[test]
-fn css_is_a_last_attribute(rt: HostRuntime) -> Result<(), Fail> {
-    let expected = [("id", "1"), ("style", "display: block")];
-    assert!(rt; resolves_to(rt.alloc(), &[("id", "1")], &expected)?);
-    Ok(())
-}
-
-/// A list of texts.
-fn texts(alloc: Global, length: u64) -> Result<Vec<HtmlNode>, AllocError> {
-    let mut nodes = Vec::new(alloc);
-    for place in 0..length {
-        nodes.push(HtmlNode::text(text(alloc, "x")?, Span(place)))?;
-    }
-    Ok(nodes)
-}
-
-#[test]
-fn long_lists_are_copied(rt: HostRuntime) -> Result<(), Fail> {
-    let alloc = rt.alloc();
-    let element = HtmlElement::new(alloc, tag::p).with_children(texts(alloc, 10_000)?);
-    assert!(rt; copies(&element)?);
-    Ok(())
-}
-
-/// The element as the only child of another.
-fn wrapped(alloc: Global, element: HtmlElement) -> Result<HtmlElement, AllocError> {
-    let mut children = Vec::new(alloc);
-    children.push(HtmlNode::from(element))?;
-    Ok(HtmlElement::new(alloc, tag::div).with_children(children))
-}
-
-/// An element that many levels deep.
-fn nested(alloc: Global, levels: u64) -> Result<HtmlElement, AllocError> {
-    let mut element = HtmlElement::new(alloc, tag::p);
-    for _ in 0..levels {
-        element = wrapped(alloc, element)?;
-    }
-    Ok(element)
-}
-
-#[test]
-fn deep_trees_are_copied(rt: HostRuntime) -> Result<(), Fail> {
-    let element = nested(rt.alloc(), 5_000)?;
-    assert!(rt; copies(&element)?);
-    Ok(())
-}
-
-/// The example of the crate's documentation.
-#[test]
-fn elements_are_built(rt: HostRuntime) -> Result<(), Fail> {
-    let alloc = rt.alloc();
-    let mut children = Vec::new(alloc);
-    children.push(HtmlNode::text(String::from_str(alloc, "Hello")?, Span(1)))?;
-    let paragraph = HtmlElement::new(alloc, tag::p)
-        .with_children(children)
-        .with_attr(attr::class, String::from_str(alloc, "intro")?)?;
-    let class = paragraph
-        .attrs
-        .get(&attr::class)
-        .map(|value| value.as_str());
-    assert_eq!(rt; class, Some("intro"));
-    Ok(())
+fn css_is_a_last_attribute(rt: HostRuntime) {
+    let wanted = [("id", "1"), ("style", "display: block")];
+    assert_resolved(&rt, rt.alloc(), &[("id", "1")], &wanted);
 }
 
 /// The example of `resolve_inline_styles`.
 #[test]
-fn styles_are_resolved(rt: HostRuntime) -> Result<(), Fail> {
-    let alloc = rt.alloc();
-    let css = Properties::new(alloc).with("display", String::from_str(alloc, "block")?)?;
-    let mut element = HtmlElement::new(alloc, tag::p)
-        .with_css(css)
-        .with_attr(attr::style, String::from_str(alloc, "color: red")?)?;
-    resolve_inline_styles(alloc, &mut element)?;
-    let style = element.attrs.get(&attr::style).map(|value| value.as_str());
-    assert_eq!(rt; style, Some("display: block; color: red"));
-    Ok(())
+fn css_comes_before_a_style(rt: HostRuntime) {
+    let wanted = [("style", "display: block; color: red")];
+    assert_resolved(&rt, rt.alloc(), &[("style", "color: red")], &wanted);
+}
+
+/// A list of texts.
+fn texts(rt: &impl Abort, alloc: Global, length: u64) -> Vec<HtmlNode> {
+    let mut nodes = Vec::new(alloc);
+    for place in 0..length {
+        add(
+            rt,
+            &mut nodes,
+            HtmlNode::text(text_of(rt, alloc, "x"), Span(place)),
+        );
+    }
+    nodes
+}
+
+#[test]
+fn long_lists_are_copied(rt: HostRuntime) {
+    let texts = texts(&rt, rt.alloc(), 10_000);
+    assert_copied(
+        &rt,
+        &HtmlElement::new(rt.alloc(), tag::p).with_children(texts),
+    );
+}
+
+/// An element that many levels deep.
+fn nested(rt: &impl Abort, alloc: Global, levels: u64) -> HtmlElement {
+    let mut element = HtmlElement::new(alloc, tag::p);
+    for _ in 0..levels {
+        element = around(rt, alloc, tag::div, HtmlNode::from(element));
+    }
+    element
+}
+
+#[test]
+fn deep_trees_are_copied(rt: HostRuntime) {
+    assert_copied(&rt, &nested(&rt, rt.alloc(), 5_000));
+}
+
+/// The example of the crate's documentation.
+#[test]
+fn elements_are_built(rt: HostRuntime) {
+    let hello = HtmlNode::text(text_of(&rt, rt.alloc(), "Hello"), Span(1));
+    let paragraph = around(&rt, rt.alloc(), tag::p, hello)
+        .with_attr(attr::class, text_of(&rt, rt.alloc(), "intro"))
+        .expect(&rt, "memory for an attribute");
+    assert_attrs(&rt, &paragraph.attrs, &[("class", "intro")]);
+    assert_number(&rt, paragraph.children.len(), 1);
 }

@@ -1,131 +1,146 @@
 //! Tests of flat trees.
 
+use crate::asserts::{add, around, assert_number, attrs_of, tag_of, text_of};
 use html_css::Properties;
 use html_dom::{HtmlElement, HtmlNode, Location, Span, Tag};
 use html_flat::{FlatElement, FlatNode, FlatTree};
-use html_names::{HtmlTag, attr, tag};
-use std::alloc::{AllocError, Global};
-use std::test::Fail;
+use html_names::tag;
+use std::alloc::Global;
+use std::process::Abort;
 
-fn text(alloc: Global, text: &str) -> Result<HtmlNode, AllocError> {
-    Ok(HtmlNode::text(String::from_str(alloc, text)?, Span(7)))
+/// A text of span 7.
+fn text(rt: &impl Abort, alloc: Global, text: &str) -> HtmlNode {
+    HtmlNode::text(text_of(rt, alloc, text), Span(7))
 }
 
-/// `<ul class="a" id="b"><li class="c">x</li><my-li></my-li></ul>y`, with a tag and css.
-fn sample(alloc: Global) -> Result<Vec<HtmlNode>, Fail> {
-    let mut css = Properties::new(alloc);
-    css.push("color", String::from_str(alloc, "red")?)?;
-    let mut item = HtmlElement::new(alloc, tag::li).with_attr(
-        attr::class,
-        String::from_str(alloc, "c")?,
-    )?;
-    item.children.push(text(alloc, "x")?)?;
-    let own = HtmlElement::new(alloc, HtmlTag::intern(alloc, "my-li")?);
-    let mut list = HtmlElement::new(alloc, tag::ul)
-        .with_attr(attr::class, String::from_str(alloc, "a")?)?
-        .with_attr(attr::id, String::from_str(alloc, "b")?)?
-        .with_css(css)
-        .spanned(Span(3));
+/// `<li class="c">x</li>`.
+fn item(rt: &impl Abort, alloc: Global) -> HtmlElement {
+    let mut item = around(rt, alloc, tag::li, text(rt, alloc, "x"));
+    item.attrs = attrs_of(rt, alloc, &[("class", "c")]);
+    item
+}
+
+/// `<ul class="a" id="b"><li class="c">x</li><my-li></my-li></ul>`, with css.
+fn list(rt: &impl Abort, alloc: Global) -> HtmlElement {
+    let mut list = around(rt, alloc, tag::ul, HtmlNode::from(item(rt, alloc)));
+    let own = HtmlElement::new(alloc, tag_of(rt, alloc, "my-li"));
+    add(rt, &mut list.children, HtmlNode::from(own));
+    list.attrs = attrs_of(rt, alloc, &[("class", "a"), ("id", "b")]);
     list.parent = Some(Location(5));
-    list.children.push(HtmlNode::from(item))?;
-    list.children.push(HtmlNode::from(own))?;
+    list.span = Span(3);
+    list.css = color(rt, alloc);
+    list
+}
+
+/// The css `color: red`.
+fn color(rt: &impl Abort, alloc: Global) -> Properties {
+    let mut css = Properties::new(alloc);
+    css.push("color", text_of(rt, alloc, "red"))
+        .expect(rt, "memory for a property");
+    css
+}
+
+/// The list, a tag, and the text `y`.
+fn sample(rt: &impl Abort, alloc: Global) -> Vec<HtmlNode> {
+    let location = Location(5);
     let mut nodes = Vec::new(alloc);
-    nodes.push(HtmlNode::from(list))?;
-    nodes.push(HtmlNode::from(Tag::End {
-        location: Location(5),
-    }))?;
-    nodes.push(text(alloc, "y")?)?;
-    Ok(nodes)
+    add(rt, &mut nodes, HtmlNode::from(list(rt, alloc)));
+    add(rt, &mut nodes, HtmlNode::from(Tag::End { location }));
+    add(rt, &mut nodes, text(rt, alloc, "y"));
+    nodes
+}
+
+/// The flat tree of these nodes.
+fn flat(rt: &impl Abort, alloc: Global, nodes: &[HtmlNode]) -> FlatTree {
+    FlatTree::from_nodes(alloc, nodes).expect(rt, "memory for the tree")
+}
+
+/// The nodes that the tree spells.
+fn spelled(rt: &impl Abort, tree: &FlatTree) -> Vec<HtmlNode> {
+    tree.to_nodes().expect(rt, "memory for the nodes")
 }
 
 /// The element at that place.
-fn element(nodes: &[FlatNode], place: usize) -> Result<&FlatElement, Fail> {
-    match nodes.get(place) {
-        Some(FlatNode::Element(element)) => Ok(element),
-        _ => Err(Fail::from("an element stands there")),
-    }
-}
-
-#[test]
-fn comes_back(rt: HostRuntime) -> Result<(), Fail> {
-    let alloc = rt.alloc();
-    let nodes = sample(alloc)?;
-    let tree = FlatTree::from_nodes(alloc, &nodes)?;
-    assert_eq!(rt; tree.nodes().len(), 6);
-    assert!(rt; tree.to_nodes()? == nodes);
-    Ok(())
-}
-
-#[test]
-fn nothing_comes_back(rt: HostRuntime) -> Result<(), Fail> {
-    let alloc = rt.alloc();
-    let tree = FlatTree::from_nodes(alloc, &[])?;
-    assert_eq!(rt; tree.nodes().len(), 0);
-    assert_eq!(rt; tree.to_nodes()?.len(), 0);
-    Ok(())
-}
-
-#[test]
-fn one_element_comes_back(rt: HostRuntime) -> Result<(), Fail> {
-    let alloc = rt.alloc();
-    let nodes = sample(alloc)?;
-    let Some(HtmlNode::Element(list)) = nodes.first() else {
-        return Err(Fail::from("the list stands first"));
+fn element<'a>(rt: &impl Abort, tree: &'a FlatTree, place: usize) -> &'a FlatElement {
+    let node = tree.nodes().get(place);
+    let element = match node {
+        Some(FlatNode::Element(element)) => Some(element),
+        _ => None,
     };
-    let tree = FlatTree::from_element(alloc, list)?;
-    assert_eq!(rt; tree.nodes().len(), 4);
-    let back = tree.to_nodes()?;
-    assert_eq!(rt; back.len(), 1);
-    assert!(rt; back[0] == HtmlNode::from(list.try_clone()?));
-    Ok(())
+    element.expect(rt, "an element")
+}
+
+#[test]
+fn comes_back(rt: HostRuntime) {
+    let nodes = sample(&rt, rt.alloc());
+    let tree = flat(&rt, rt.alloc(), &nodes);
+    assert_number(&rt, tree.nodes().len(), 6);
+    assert!(rt; spelled(&rt, &tree) == nodes);
+}
+
+#[test]
+fn nothing_comes_back(rt: HostRuntime) {
+    let tree = flat(&rt, rt.alloc(), &[]);
+    assert_number(&rt, tree.nodes().len(), 0);
+    assert_number(&rt, spelled(&rt, &tree).len(), 0);
+}
+
+#[test]
+fn one_element_comes_back(rt: HostRuntime) {
+    let list = list(&rt, rt.alloc());
+    let tree = FlatTree::from_element(rt.alloc(), &list).expect(&rt, "memory for the tree");
+    assert_number(&rt, tree.nodes().len(), 4);
+    let back = spelled(&rt, &tree);
+    assert!(rt; back.len() == 1);
+    assert!(rt; back[0] == HtmlNode::from(list));
+}
+
+/// Asserts the place after the last node in the element at that place.
+fn assert_past(rt: &impl Abort, tree: &FlatTree, place: usize, wanted: usize) {
+    assert_number(rt, element(rt, tree, place).past, wanted);
 }
 
 /// The list ends before the tag, the item in it before the next one, and that one at once.
 #[test]
-fn elements_end_after_their_children(rt: HostRuntime) -> Result<(), Fail> {
-    let alloc = rt.alloc();
-    let tree = FlatTree::from_nodes(alloc, &sample(alloc)?)?;
-    let nodes = tree.nodes();
-    assert_eq!(rt; element(nodes, 0)?.past, 4);
-    assert_eq!(rt; element(nodes, 1)?.past, 3);
-    assert_eq!(rt; element(nodes, 3)?.past, 4);
-    Ok(())
+fn elements_end_after_their_children(rt: HostRuntime) {
+    let tree = flat(&rt, rt.alloc(), &sample(&rt, rt.alloc()));
+    assert_past(&rt, &tree, 0, 4);
+    assert_past(&rt, &tree, 1, 3);
+    assert_past(&rt, &tree, 3, 4);
+}
+
+/// Asserts that the names of the two elements are numbered apart, but for their first attributes.
+fn assert_numbers(rt: &impl Abort, list: &FlatElement, item: &FlatElement) {
+    assert!(rt; list.tag != item.tag);
+    let (outer, inner) = (&list.attrs, &item.attrs);
+    assert!(rt; outer.len() == 2);
+    assert!(rt; inner.len() == 1);
+    assert!(rt; outer[0].0 == inner[0].0);
+    assert!(rt; outer[0].0 != outer[1].0);
 }
 
 /// Names are numbered in the order in which they come, and a repeated one keeps its number.
 #[test]
-fn repeated_names_have_one_number(rt: HostRuntime) -> Result<(), Fail> {
-    let alloc = rt.alloc();
-    let tree = FlatTree::from_nodes(alloc, &sample(alloc)?)?;
-    let nodes = tree.nodes();
-    let list = element(nodes, 0)?;
-    let item = element(nodes, 1)?;
-    assert_eq!(rt; list.attrs.len(), 2);
-    assert_eq!(rt; item.attrs.len(), 1);
-    assert_eq!(rt; list.attrs[0].0, item.attrs[0].0);
-    assert!(rt; list.attrs[0].0 != list.attrs[1].0);
-    assert!(rt; list.tag != item.tag);
-    assert_eq!(rt; tree.names().tags(), 3);
-    assert_eq!(rt; tree.names().attrs(), 2);
-    Ok(())
+fn repeated_names_have_one_number(rt: HostRuntime) {
+    let tree = flat(&rt, rt.alloc(), &sample(&rt, rt.alloc()));
+    assert_numbers(&rt, element(&rt, &tree, 0), element(&rt, &tree, 1));
+    assert_number(&rt, tree.names().tags(), 3);
+    assert_number(&rt, tree.names().attrs(), 2);
 }
 
 /// That many `div`, one in another.
-fn nested(alloc: Global, depth: u32) -> Result<HtmlElement, AllocError> {
+fn nested(rt: &impl Abort, alloc: Global, depth: u32) -> HtmlElement {
     let mut root = HtmlElement::new(alloc, tag::div);
     for _ in 1..depth {
-        let mut outer = HtmlElement::new(alloc, tag::div);
-        outer.children.push(HtmlNode::from(root))?;
-        root = outer;
+        root = around(rt, alloc, tag::div, HtmlNode::from(root));
     }
-    Ok(root)
+    root
 }
 
 #[test]
-fn deep_trees_come_back(rt: HostRuntime) -> Result<(), Fail> {
-    let alloc = rt.alloc();
-    let tree = FlatTree::from_element(alloc, &nested(alloc, 5_000)?)?;
-    assert_eq!(rt; tree.nodes().len(), 5_000);
-    assert_eq!(rt; tree.to_nodes()?.len(), 1);
-    Ok(())
+fn deep_trees_come_back(rt: HostRuntime) {
+    let root = nested(&rt, rt.alloc(), 5_000);
+    let tree = FlatTree::from_element(rt.alloc(), &root).expect(&rt, "memory for the tree");
+    assert_number(&rt, tree.nodes().len(), 5_000);
+    assert_number(&rt, spelled(&rt, &tree).len(), 1);
 }

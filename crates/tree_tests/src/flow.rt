@@ -6,62 +6,98 @@ mod examples;
 mod faults;
 mod items;
 
+use crate::asserts::{assert_text, text_of};
 use html_dom::Span;
 use html_flow::{
     Arg, ArgValue, Args, ConstructFault, ElementInfo, HtmlElem, Item, Pair, Role, construct,
 };
-use html_names::HtmlTag;
 use html_values::Value;
 use std::alloc::{AllocError, Global};
-use std::test::Fail;
+use std::process::Abort;
 
-fn text(alloc: Global, text: &str) -> Result<ArgValue, AllocError> {
-    Ok(ArgValue::Plain(Value::Str(String::from_str(alloc, text)?)))
+/// A value of an argument, as it stands in a table.
+#[derive(Clone, Copy)]
+enum Sample {
+    None,
+    Bool(bool),
+    Int(i64),
+    Text(&'static str),
+    Hole,
 }
 
-fn named(alloc: Global, name: &str, span: u64, value: ArgValue) -> Result<Arg, AllocError> {
-    Ok(Arg {
-        name: Some(String::from_str(alloc, name)?),
-        span: Span(span),
-        value,
-    })
+/// An argument, as it stands in a table: its name or nothing, its span and its value.
+type Row = (&'static str, u64, Sample);
+
+/// A body of one hole.
+fn hole(rt: &impl Abort, alloc: Global) -> ArgValue {
+    let mut body = Vec::new(alloc);
+    let (item, role) = (Item::Hole, Role::Unset);
+    body.push(Pair { item, role })
+        .expect(rt, "memory for an item");
+    ArgValue::Body(body)
 }
 
-fn unnamed(span: u64, value: ArgValue) -> Arg {
-    Arg {
-        name: None,
-        span: Span(span),
-        value,
+/// The value that a table means.
+fn value_of(rt: &impl Abort, alloc: Global, sample: Sample) -> ArgValue {
+    match sample {
+        Sample::None => ArgValue::Plain(Value::None),
+        Sample::Bool(on) => ArgValue::Plain(Value::Bool(on)),
+        Sample::Int(n) => ArgValue::Plain(Value::Int(n)),
+        Sample::Text(text) => ArgValue::Plain(Value::Str(text_of(rt, alloc, text))),
+        Sample::Hole => hole(rt, alloc),
     }
 }
 
-/// A body of one hole.
-fn hole(alloc: Global) -> Result<ArgValue, Fail> {
-    let mut body = Vec::new(alloc);
-    body.push(Pair {
-        item: Item::Hole,
-        role: Role::Unset,
-    })?;
-    Ok(ArgValue::Body(body))
+/// The argument that a table means.
+fn arg_of(rt: &impl Abort, alloc: Global, row: Row) -> Arg {
+    let (name, span, sample) = row;
+    let name = if name.is_empty() {
+        None
+    } else {
+        Some(text_of(rt, alloc, name))
+    };
+    Arg {
+        name,
+        span: Span(span),
+        value: value_of(rt, alloc, sample),
+    }
+}
+
+/// The arguments that a table means.
+fn args_of(rt: &impl Abort, alloc: Global, rows: &[Row]) -> Args {
+    let mut items = Vec::new(alloc);
+    for row in rows {
+        items
+            .push(arg_of(rt, alloc, *row))
+            .expect(rt, "memory for an argument");
+    }
+    Args { items }
+}
+
+/// Adds an item of a body: a text or a hole.
+fn show_item(shown: &mut String, item: &Item) -> Result<(), AllocError> {
+    match item {
+        Item::Text(text, span) => write!(shown, " '{text}' at {}", span.0),
+        Item::Hole => shown.push_str(" hole"),
+        _ => shown.push_str(" other"),
+    }
+}
+
+/// Adds a role, unless it is that of the parent.
+fn show_role(shown: &mut String, role: &Role) -> Result<(), AllocError> {
+    match role {
+        Role::Inherit => Ok(()),
+        Role::Set(role) => write!(shown, " of {role}"),
+        Role::Unset => shown.push_str(" of none"),
+    }
 }
 
 /// Adds a body, as the texts and holes in it.
-fn show_body(shown: &mut String, body: &Option<Vec<Pair>>) -> Result<(), AllocError> {
-    let Some(pairs) = body else {
-        return Ok(());
-    };
+fn show_body(shown: &mut String, pairs: &[Pair]) -> Result<(), AllocError> {
     shown.push_str(" {")?;
     for pair in pairs {
-        match &pair.item {
-            Item::Text(text, span) => write!(shown, " '{text}' at {}", span.0)?,
-            Item::Hole => shown.push_str(" hole")?,
-            _ => shown.push_str(" other")?,
-        }
-        match &pair.role {
-            Role::Inherit => {}
-            Role::Set(role) => write!(shown, " of {role}")?,
-            Role::Unset => shown.push_str(" of none")?,
-        }
+        show_item(shown, &pair.item)?;
+        show_role(shown, &pair.role)?;
     }
     shown.push_str(" }")
 }
@@ -72,7 +108,9 @@ fn show_element(shown: &mut String, element: &HtmlElem) -> Result<(), AllocError
     for (name, value) in &element.attrs.0 {
         write!(shown, " {name}='{value}'")?;
     }
-    show_body(shown, &element.body)?;
+    if let Some(body) = &element.body {
+        show_body(shown, body)?;
+    }
     write!(shown, " at {}", element.span.0)
 }
 
@@ -104,10 +142,16 @@ fn shown(alloc: Global, info: &ElementInfo, args: &mut Args) -> Result<String, A
     Ok(shown)
 }
 
-/// What an element of that name without attributes becomes of one argument.
-fn shown_of(alloc: Global, tag: HtmlTag, arg: Arg) -> Result<String, Fail> {
-    let mut items = Vec::new(alloc);
-    items.push(arg)?;
-    let mut args = Args { items };
-    Ok(shown(alloc, &ElementInfo::new(tag, Vec::new(alloc)), &mut args)?)
+/// Asserts what constructing of these arguments answers, in words.
+fn assert_made(rt: &impl Abort, alloc: Global, info: &ElementInfo, rows: &[Row], wanted: &str) {
+    let mut args = args_of(rt, alloc, rows);
+    let answer = shown(alloc, info, &mut args).expect(rt, "memory for the answer");
+    assert_text(rt, &answer, wanted);
+}
+
+/// Asserts what an element in words is.
+fn assert_element(rt: &impl Abort, alloc: Global, element: &HtmlElem, wanted: &str) {
+    let mut shown = String::new(alloc);
+    show_element(&mut shown, element).expect(rt, "memory for the words");
+    assert_text(rt, &shown, wanted);
 }

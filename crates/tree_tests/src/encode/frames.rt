@@ -4,13 +4,13 @@ ghost use Rattle.std.specs.Prelude.{◌==◌, ◌||◌, [], Some, None, if◌the
 ghost use Rattle.html_dom.specs.Views.{text_view};
 ghost use Rattle.html_encode.specs.Frames.{no_frames, picture_of};
 
-use crate::encode::{PLAIN, PRETTY};
+use crate::asserts::{add, tag_of, text_of};
+use crate::encode::{PLAIN, PRETTY, assert_answer};
 use html_css::Abs;
 use html_dom::{Frame, FrameItem, HtmlElement, HtmlFrame, HtmlNode, Location, Point, Span, Tag};
-use html_encode::{ExportFault, FrameFault, FrameWriter, html_in_bundle};
-use html_names::{HtmlTag, tag};
+use html_encode::{FrameFault, FrameWriter};
 use std::alloc::{AllocError, Global};
-use std::test::Fail;
+use std::process::Abort;
 
 /// Refuses every frame.
 pub(crate) struct NoFrames;
@@ -78,20 +78,6 @@ impl FrameWriter for Exhausted {
     }
 }
 
-fn one_text(alloc: Global, text: &str, refused: u64) -> Result<OneText, AllocError> {
-    Ok(OneText {
-        text: String::from_str(alloc, text)?,
-        refused,
-    })
-}
-
-fn two_texts(alloc: Global, plain: &str, pretty: &str) -> Result<TwoTexts, AllocError> {
-    Ok(TwoTexts {
-        plain: String::from_str(alloc, plain)?,
-        pretty: String::from_str(alloc, pretty)?,
-    })
-}
-
 fn corner() -> Point {
     Point {
         x: Abs::from_millionths(0),
@@ -99,139 +85,174 @@ fn corner() -> Point {
     }
 }
 
-/// A frame of that picture, with a tag and a link, for which nothing is written.
-fn frame(alloc: Global, picture: u64, span: u64) -> Result<HtmlNode, AllocError> {
-    let mut items = Vec::new(alloc);
+/// A tag and a link, for which nothing is written.
+fn items(rt: &impl Abort, alloc: Global) -> Vec<(Point, FrameItem)> {
     let location = Location(7);
-    items.push((corner(), FrameItem::Tag(Tag::End { location })))?;
-    items.push((corner(), FrameItem::Link(Some(Location(7)))))?;
-    let drawing = Frame { picture, items };
+    let tag = FrameItem::Tag(Tag::End { location });
+    let link = FrameItem::Link(Some(location));
+    let mut items = Vec::new(alloc);
+    items.push((corner(), tag)).expect(rt, "memory for an item");
+    items
+        .push((corner(), link))
+        .expect(rt, "memory for an item");
+    items
+}
+
+/// A frame of that picture.
+fn frame(rt: &impl Abort, alloc: Global, picture: u64, span: u64) -> HtmlNode {
+    let items = items(rt, alloc);
     let size = Abs::from_millionths(11_000_000);
-    Ok(HtmlNode::from(HtmlFrame::new(alloc, drawing, size, Span(span))))
+    let drawing = Frame { picture, items };
+    HtmlNode::from(HtmlFrame::new(alloc, drawing, size, Span(span)))
 }
 
-/// An element of span 1 with a frame of picture 1 and span 3.
-fn with_frame(alloc: Global, tag: HtmlTag) -> Result<HtmlElement, AllocError> {
-    let mut element = HtmlElement::new(alloc, tag).spanned(Span(1));
-    element.children.push(frame(alloc, 1, 3)?)?;
-    Ok(element)
-}
-
-/// Such an element with another frame, of picture 2 and span 5.
-fn with_two_frames(alloc: Global, tag: HtmlTag) -> Result<HtmlElement, AllocError> {
-    let mut element = with_frame(alloc, tag)?;
-    element.children.push(frame(alloc, 2, 5)?)?;
-    Ok(element)
-}
-
-#[test]
-fn a_frame_is_its_writers_text(rt: HostRuntime) -> Result<(), Fail> {
-    let alloc = rt.alloc();
-    let div = with_frame(alloc, tag::div)?;
-    let writer = one_text(alloc, "<svg>\n  <g/>\n</svg>", 0)?;
-    assert_eq!(rt;
-        html_in_bundle(alloc, &div, &PLAIN, &writer)?.as_str(),
-        "<!DOCTYPE html><div><svg>\n  <g/>\n</svg></div>"
-    );
-    Ok(())
-}
-
-#[test]
-fn frames_follow_one_another(rt: HostRuntime) -> Result<(), Fail> {
-    let alloc = rt.alloc();
-    let pre = with_two_frames(alloc, tag::pre)?;
-    let writer = one_text(alloc, "<svg></svg>", 0)?;
-    assert_eq!(rt;
-        html_in_bundle(alloc, &pre, &PLAIN, &writer)?.as_str(),
-        "<!DOCTYPE html><pre><svg></svg><svg></svg></pre>"
-    );
-    Ok(())
-}
-
-#[test]
-fn a_refused_frame_tells_its_span(rt: HostRuntime) -> Result<(), Fail> {
-    let alloc = rt.alloc();
-    let div = with_two_frames(alloc, tag::div)?;
-    let writer = one_text(alloc, "<svg></svg>", 2)?;
-    let refused = html_in_bundle(alloc, &div, &PLAIN, &writer);
-    assert_eq!(rt; refused, Err(ExportFault::FrameRefused { span: Span(5) }));
-    Ok(())
-}
-
-#[test]
-fn a_writer_may_be_out_of_memory(rt: HostRuntime) -> Result<(), Fail> {
-    let alloc = rt.alloc();
-    let div = with_frame(alloc, tag::div)?;
-    let exhausted = html_in_bundle(alloc, &div, &PLAIN, &Exhausted);
-    assert_eq!(rt; exhausted, Err(ExportFault::OutOfMemory));
-    Ok(())
-}
-
-#[test]
-fn frames_are_no_text(rt: HostRuntime) -> Result<(), Fail> {
-    let alloc = rt.alloc();
-    let writer = one_text(alloc, "<svg></svg>", 1)?;
-    for raw in [tag::script, tag::title] {
-        let element = with_two_frames(alloc, raw)?;
-        let refused = html_in_bundle(alloc, &element, &PLAIN, &writer);
-        assert_eq!(rt; refused, Err(ExportFault::RawChild { span: Span(3) }));
+/// An element of span 1 with as many frames: of the pictures 1, 2 and so on, and of the spans 3, 5
+/// and so on.
+fn with_frames(rt: &impl Abort, alloc: Global, name: &str, count: u64) -> HtmlElement {
+    let mut element = HtmlElement::new(alloc, tag_of(rt, alloc, name)).spanned(Span(1));
+    let mut span = 1u64;
+    for number in 0..count {
+        span = span.saturating_add(2);
+        let frame = frame(rt, alloc, number.saturating_add(1), span);
+        add(rt, &mut element.children, frame);
     }
-    Ok(())
+    element
+}
+
+/// An element and how many frames it has, what is written for each, the picture that is refused, and
+/// the answer.
+type PlainRow = (&'static str, u64, &'static str, u64, &'static str);
+
+/// Asserts what plain writing answers.
+fn assert_plain_rows(rt: &impl Abort, alloc: Global, rows: &[PlainRow]) {
+    for (name, count, text, refused, wanted) in rows {
+        let writer = OneText {
+            text: text_of(rt, alloc, text),
+            refused: *refused,
+        };
+        let root = with_frames(rt, alloc, name, *count);
+        assert_answer(rt, &root, &PLAIN, &writer, wanted);
+    }
 }
 
 #[test]
-fn a_frame_is_a_child(rt: HostRuntime) -> Result<(), Fail> {
-    let alloc = rt.alloc();
-    let void = with_frame(alloc, tag::br)?;
-    let writer = one_text(alloc, "<svg></svg>", 1)?;
-    let refused = html_in_bundle(alloc, &void, &PLAIN, &writer);
-    assert_eq!(rt; refused, Err(ExportFault::VoidChildren { span: Span(1) }));
-    Ok(())
-}
-
-/// The lines of a frame are joined by the indents of its level.
-#[test]
-fn lines_of_a_frame_are_indented(rt: HostRuntime) -> Result<(), Fail> {
-    let alloc = rt.alloc();
-    let writer = two_texts(alloc, "<svg/>", "<svg>\n  <g/>\n</svg>")?;
-    let div = with_frame(alloc, tag::div)?;
-    assert_eq!(rt;
-        html_in_bundle(alloc, &div, &PRETTY, &writer)?.as_str(),
-        "<!DOCTYPE html>\n<div>\n  <svg>\n    <g/>\n  </svg>\n</div>\n"
+fn frames_are_their_writers_texts(rt: HostRuntime) {
+    assert_plain_rows(
+        &rt,
+        rt.alloc(),
+        &[
+            (
+                "div",
+                1,
+                "<svg>\n  <g/>\n</svg>",
+                0,
+                "<!DOCTYPE html><div><svg>\n  <g/>\n</svg></div>",
+            ),
+            (
+                "pre",
+                2,
+                "<svg></svg>",
+                0,
+                "<!DOCTYPE html><pre><svg></svg><svg></svg></pre>",
+            ),
+        ],
     );
-    Ok(())
 }
 
 #[test]
-fn a_last_line_feed_of_a_frame_is_dropped(rt: HostRuntime) -> Result<(), Fail> {
-    let alloc = rt.alloc();
-    let writer = two_texts(alloc, "", "<svg>\r\n</svg>\n")?;
-    let pair = with_two_frames(alloc, tag::div)?;
-    assert_eq!(rt;
-        html_in_bundle(alloc, &pair, &PRETTY, &writer)?.as_str(),
-        "<!DOCTYPE html>\n<div>\n  <svg>\n  </svg><svg>\n  </svg>\n</div>\n"
+fn a_refused_frame_tells_its_span(rt: HostRuntime) {
+    assert_plain_rows(
+        &rt,
+        rt.alloc(),
+        &[("div", 2, "<svg></svg>", 2, "FrameRefused { span: Span(5) }")],
     );
-    Ok(())
+}
+
+/// Frames are no text, and a frame is a child: both are told before it is written.
+#[test]
+fn frames_where_none_may_be(rt: HostRuntime) {
+    assert_plain_rows(
+        &rt,
+        rt.alloc(),
+        &[
+            ("script", 2, "<svg></svg>", 1, "RawChild { span: Span(3) }"),
+            ("title", 2, "<svg></svg>", 1, "RawChild { span: Span(3) }"),
+            ("br", 1, "<svg></svg>", 1, "VoidChildren { span: Span(1) }"),
+        ],
+    );
+}
+
+#[test]
+fn a_writer_may_be_out_of_memory(rt: HostRuntime) {
+    let div = with_frames(&rt, rt.alloc(), "div", 1);
+    assert_answer(&rt, &div, &PLAIN, &Exhausted, "OutOfMemory");
+}
+
+/// An element and how many frames it has, what is written for each where pretty writing is off and
+/// where it is on, and the answer.
+type PrettyRow = (&'static str, u64, &'static str, &'static str, &'static str);
+
+/// Asserts what pretty writing answers.
+fn assert_pretty_rows(rt: &impl Abort, alloc: Global, rows: &[PrettyRow]) {
+    for (name, count, plain, pretty, wanted) in rows {
+        let writer = TwoTexts {
+            plain: text_of(rt, alloc, plain),
+            pretty: text_of(rt, alloc, pretty),
+        };
+        let root = with_frames(rt, alloc, name, *count);
+        assert_answer(rt, &root, &PRETTY, &writer, wanted);
+    }
+}
+
+/// The lines of a frame are joined by the indents of its level, and a last line feed is dropped.
+#[test]
+fn lines_of_a_frame_are_indented(rt: HostRuntime) {
+    assert_pretty_rows(
+        &rt,
+        rt.alloc(),
+        &[
+            (
+                "div",
+                1,
+                "<svg/>",
+                "<svg>\n  <g/>\n</svg>",
+                "<!DOCTYPE html>\n<div>\n  <svg>\n    <g/>\n  </svg>\n</div>\n",
+            ),
+            (
+                "div",
+                2,
+                "",
+                "<svg>\r\n</svg>\n",
+                "<!DOCTYPE html>\n<div>\n  <svg>\n  </svg><svg>\n  </svg>\n</div>\n",
+            ),
+        ],
+    );
 }
 
 /// Where pretty writing is off inside an element, the writer of a frame is told so.
 #[test]
-fn a_frame_has_the_mode_of_its_element(rt: HostRuntime) -> Result<(), Fail> {
-    let alloc = rt.alloc();
-    let writer = two_texts(alloc, "<svg>\n</svg>", "<g>\n</g>")?;
-    let span = with_frame(alloc, tag::span)?;
-    assert_eq!(rt;
-        html_in_bundle(alloc, &span, &PRETTY, &writer)?.as_str(),
-        "<!DOCTYPE html>\n<span><svg>\n</svg></span>\n"
+fn a_frame_has_the_mode_of_its_element(rt: HostRuntime) {
+    assert_pretty_rows(
+        &rt,
+        rt.alloc(),
+        &[(
+            "span",
+            1,
+            "<svg>\n</svg>",
+            "<g>\n</g>",
+            "<!DOCTYPE html>\n<span><svg>\n</svg></span>\n",
+        )],
     );
-    Ok(())
 }
 
 #[test]
-fn frames_may_be_refused_in_pretty_writing(rt: HostRuntime) -> Result<(), Fail> {
-    let alloc = rt.alloc();
-    let div = with_frame(alloc, tag::div)?;
-    let refused = html_in_bundle(alloc, &div, &PRETTY, &NoFrames);
-    assert_eq!(rt; refused, Err(ExportFault::FrameRefused { span: Span(3) }));
-    Ok(())
+fn frames_may_be_refused_in_pretty_writing(rt: HostRuntime) {
+    let div = with_frames(&rt, rt.alloc(), "div", 1);
+    assert_answer(
+        &rt,
+        &div,
+        &PRETTY,
+        &NoFrames,
+        "FrameRefused { span: Span(3) }",
+    );
 }

@@ -1,91 +1,79 @@
 //! Deep trees, long lists and long texts: no size is refused.
 
-use crate::encode::{element, plain, pretty};
+use crate::asserts::{add, around, assert_number};
+use crate::encode::frames::NoFrames;
+use crate::encode::{PLAIN, PRETTY, element};
 use html_dom::{HtmlElement, HtmlNode, Span};
+use html_encode::{HtmlOptions, html_in_bundle};
 use html_names::tag;
-use std::alloc::{AllocError, Global};
-use std::test::Fail;
+use std::alloc::Global;
+use std::process::Abort;
+
+/// Asserts how many bytes are written for the element.
+fn assert_length(rt: &impl Abort, root: &HtmlElement, options: &HtmlOptions, wanted: usize) {
+    let alloc = *root.children.allocator();
+    let text = html_in_bundle(alloc, root, options, &NoFrames).expect(rt, "a text");
+    assert_number(rt, text.as_str().len(), wanted);
+}
 
 /// That many `div`, one in another.
-fn nested(alloc: Global, depth: u32) -> Result<HtmlElement, AllocError> {
+fn nested(rt: &impl Abort, alloc: Global, depth: u32) -> HtmlElement {
     let mut root = HtmlElement::new(alloc, tag::div);
     for _ in 1..depth {
-        let mut outer = HtmlElement::new(alloc, tag::div);
-        outer.children.push(HtmlNode::from(root))?;
-        root = outer;
+        root = around(rt, alloc, tag::div, HtmlNode::from(root));
     }
-    Ok(root)
+    root
 }
 
 /// A `ul` of that many `li`, each with the text `x`.
-fn list(alloc: Global, length: u32) -> Result<HtmlElement, AllocError> {
+fn list(rt: &impl Abort, alloc: Global, length: u32) -> HtmlElement {
     let mut list = HtmlElement::new(alloc, tag::ul);
     for _ in 0..length {
-        list.children
-            .push(HtmlNode::from(element(alloc, tag::li, &["x"])?))?;
+        let item = element(rt, alloc, "li", &["x"]);
+        add(rt, &mut list.children, HtmlNode::from(item));
     }
-    Ok(list)
+    list
 }
 
 /// A text of that many `x`.
-fn long_text(alloc: Global, length: u32) -> Result<String, AllocError> {
+fn long_text(rt: &impl Abort, alloc: Global, length: u32) -> String {
     let mut text = String::new(alloc);
     for _ in 0..length {
-        text.push('x')?;
+        text.push('x').expect(rt, "memory for a character");
     }
-    Ok(text)
-}
-
-/// A `p` with a text of ten million characters.
-fn long_paragraph(alloc: Global) -> Result<HtmlElement, AllocError> {
-    let mut p = HtmlElement::new(alloc, tag::p);
-    p.children
-        .push(HtmlNode::text(long_text(alloc, 10_000_000)?, Span(1)))?;
-    Ok(p)
+    text
 }
 
 /// 15 characters of the document type, and 5 and 6 of each element's tags.
 #[test]
-fn plain_and_5000_deep(rt: HostRuntime) -> Result<(), Fail> {
-    let alloc = rt.alloc();
-    let text = plain(alloc, &nested(alloc, 5_000)?)?;
-    assert_eq!(rt; text.as_str().len(), 55_015);
-    Ok(())
+fn plain_and_5000_deep(rt: HostRuntime) {
+    assert_length(&rt, &nested(&rt, rt.alloc(), 5_000), &PLAIN, 55_015);
 }
 
 /// Beside that a line feed after each line, and 2 spaces a level before it: the n-th element from
 /// outside stands on level n - 1, and all but the innermost have two lines.
 #[test]
-fn pretty_and_5000_deep(rt: HostRuntime) -> Result<(), Fail> {
-    let alloc = rt.alloc();
-    let text = pretty(alloc, &nested(alloc, 5_000)?)?;
-    assert_eq!(rt; text.as_str().len(), 55_015 + 10_000 + 49_980_002);
-    Ok(())
+fn pretty_and_5000_deep(rt: HostRuntime) {
+    let length = 55_015 + 10_000 + 49_980_002;
+    assert_length(&rt, &nested(&rt, rt.alloc(), 5_000), &PRETTY, length);
 }
 
 /// 15 and 9 characters, and 10 for each item.
 #[test]
-fn a_plain_list_of_100000(rt: HostRuntime) -> Result<(), Fail> {
-    let alloc = rt.alloc();
-    let text = plain(alloc, &list(alloc, 100_000)?)?;
-    assert_eq!(rt; text.as_str().len(), 1_000_024);
-    Ok(())
+fn a_plain_list_of_100000(rt: HostRuntime) {
+    assert_length(&rt, &list(&rt, rt.alloc(), 100_000), &PLAIN, 1_000_024);
 }
 
 /// Beside that 3 characters of an indent before each item, and 3 line feeds.
 #[test]
-fn a_pretty_list_of_100000(rt: HostRuntime) -> Result<(), Fail> {
-    let alloc = rt.alloc();
-    let text = pretty(alloc, &list(alloc, 100_000)?)?;
-    assert_eq!(rt; text.as_str().len(), 1_300_027);
-    Ok(())
+fn a_pretty_list_of_100000(rt: HostRuntime) {
+    assert_length(&rt, &list(&rt, rt.alloc(), 100_000), &PRETTY, 1_300_027);
 }
 
 /// 15 and 7 characters beside the text's.
 #[test]
-fn a_text_of_ten_million_characters(rt: HostRuntime) -> Result<(), Fail> {
-    let alloc = rt.alloc();
-    let text = plain(alloc, &long_paragraph(alloc)?)?;
-    assert_eq!(rt; text.as_str().len(), 10_000_022);
-    Ok(())
+fn a_text_of_ten_million_characters(rt: HostRuntime) {
+    let text = long_text(&rt, rt.alloc(), 10_000_000);
+    let p = around(&rt, rt.alloc(), tag::p, HtmlNode::text(text, Span(1)));
+    assert_length(&rt, &p, &PLAIN, 10_000_022);
 }

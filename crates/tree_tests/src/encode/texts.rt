@@ -1,122 +1,69 @@
 //! Texts, with and without the flag `pre_span`.
 
-use crate::encode::{element, kept, plain};
-use html_dom::{HtmlElement, HtmlNode, Location, Span, Tag};
-use html_encode::ExportFault;
-use html_names::{HtmlTag, tag};
-use std::alloc::{AllocError, Global};
-use std::test::Fail;
+use crate::asserts::{around, tag_of};
+use crate::encode::{assert_plain, element};
+use html_dom::{HtmlNode, Location, Tag};
+use std::alloc::Global;
+use std::process::Abort;
+
+/// An element and its texts, and what writing it answers.
+type Row = (&'static str, &'static [&'static str], &'static str);
+
+/// Elements with the flag: each character of their texts is a reference, by a name or a number. A
+/// carriage return and a noncharacter have none. On `pre` and on raw text the flag may be forged.
+static KEPT: [Row; 6] = [
+    ("p", &["a"], "<!DOCTYPE html><p>&#x61;</p>"),
+    (
+        "p",
+        &["&<>\"' \t\u{10fffd}"],
+        "<!DOCTYPE html><p>&amp;&lt;&gt;&quot;&apos;&#x20;&#x9;&#x10fffd;</p>",
+    ),
+    (
+        "p",
+        &["&<>\"' \t\u{10ffff}"],
+        "Unencodable { c: '\\u{10ffff}', span: Span(2) }",
+    ),
+    ("p", &["a", "\r"], "Unencodable { c: '\\r', span: Span(3) }"),
+    ("pre", &["\nx"], "<!DOCTYPE html><pre>\n&#xa;&#x78;</pre>"),
+    ("script", &["a<b"], "<!DOCTYPE html><script>a<b</script>"),
+];
 
 #[test]
-fn references_alone(rt: HostRuntime) -> Result<(), Fail> {
-    let alloc = rt.alloc();
-    let p = kept(alloc, tag::p, &["a"])?;
-    assert_eq!(rt; plain(alloc, &p)?.as_str(), "<!DOCTYPE html><p>&#x61;</p>");
-    Ok(())
+fn references_alone(rt: HostRuntime) {
+    for (name, texts, wanted) in &KEPT {
+        let mut root = element(&rt, rt.alloc(), name, texts);
+        root.pre_span = true;
+        assert_plain(&rt, &root, wanted);
+    }
 }
 
 #[test]
-fn references_by_name_and_number(rt: HostRuntime) -> Result<(), Fail> {
-    let alloc = rt.alloc();
-    let p = kept(alloc, tag::p, &["&<>\"' \t\u{10fffd}"])?;
-    assert_eq!(rt;
-        plain(alloc, &p)?.as_str(),
-        "<!DOCTYPE html><p>&amp;&lt;&gt;&quot;&apos;&#x20;&#x9;&#x10fffd;</p>"
-    );
-    Ok(())
+fn ordinary_escapes(rt: HostRuntime) {
+    let root = element(&rt, rt.alloc(), "p", &["&<>\"'"]);
+    assert_plain(&rt, &root, "<!DOCTYPE html><p>&amp;&lt;>\"'</p>");
 }
 
-#[test]
-fn a_noncharacter_is_refused(rt: HostRuntime) -> Result<(), Fail> {
-    let alloc = rt.alloc();
-    let fault = plain(alloc, &kept(alloc, tag::p, &["&<>\"' \t\u{10ffff}"])?);
-    assert_eq!(rt;
-        fault,
-        Err(ExportFault::Unencodable {
-            c: '\u{10ffff}',
-            span: Span(2)
-        })
-    );
-    Ok(())
-}
+/// Elements that hold a tag alone, which is a child, and is not written. A name may be one's own.
+static WITH_TAGS: [(&str, &str); 3] = [
+    ("p", "<!DOCTYPE html><p></p>"),
+    ("1X", "<!DOCTYPE html><1X></1X>"),
+    ("br", "VoidChildren { span: Span(0) }"),
+];
 
-#[test]
-fn a_carriage_return_has_no_reference(rt: HostRuntime) -> Result<(), Fail> {
-    let alloc = rt.alloc();
-    let fault = plain(alloc, &kept(alloc, tag::p, &["a", "\r"])?);
-    assert_eq!(rt;
-        fault,
-        Err(ExportFault::Unencodable {
-            c: '\r',
-            span: Span(3)
-        })
-    );
-    Ok(())
-}
-
-#[test]
-fn ordinary_escapes(rt: HostRuntime) -> Result<(), Fail> {
-    let alloc = rt.alloc();
-    let p = element(alloc, tag::p, &["&<>\"'"])?;
-    assert_eq!(rt;
-        plain(alloc, &p)?.as_str(),
-        "<!DOCTYPE html><p>&amp;&lt;>\"'</p>"
-    );
-    Ok(())
-}
-
-#[test]
-fn a_forged_flag_on_pre(rt: HostRuntime) -> Result<(), Fail> {
-    let alloc = rt.alloc();
-    let pre = kept(alloc, tag::pre, &["\nx"])?;
-    assert_eq!(rt;
-        plain(alloc, &pre)?.as_str(),
-        "<!DOCTYPE html><pre>\n&#xa;&#x78;</pre>"
-    );
-    Ok(())
-}
-
-#[test]
-fn a_forged_flag_on_a_script(rt: HostRuntime) -> Result<(), Fail> {
-    let alloc = rt.alloc();
-    let script = kept(alloc, tag::script, &["a<b"])?;
-    assert_eq!(rt;
-        plain(alloc, &script)?.as_str(),
-        "<!DOCTYPE html><script>a<b</script>"
-    );
-    Ok(())
-}
-
-/// An element that holds a tag alone.
-fn with_tag(alloc: Global, tag: HtmlTag) -> Result<HtmlElement, AllocError> {
-    let mut element = HtmlElement::new(alloc, tag);
+/// Asserts what writing an element answers that holds a tag alone.
+fn assert_with_tag(rt: &impl Abort, alloc: Global, name: &str, wanted: &str) {
     let location = Location(7);
-    element
-        .children
-        .push(HtmlNode::from(Tag::End { location }))?;
-    Ok(element)
+    let child = HtmlNode::from(Tag::End { location });
+    assert_plain(
+        rt,
+        &around(rt, alloc, tag_of(rt, alloc, name), child),
+        wanted,
+    );
 }
 
 #[test]
-fn a_tag_is_not_written(rt: HostRuntime) -> Result<(), Fail> {
-    let alloc = rt.alloc();
-    let p = with_tag(alloc, tag::p)?;
-    assert_eq!(rt; plain(alloc, &p)?.as_str(), "<!DOCTYPE html><p></p>");
-    Ok(())
-}
-
-#[test]
-fn a_name_of_ones_own(rt: HostRuntime) -> Result<(), Fail> {
-    let alloc = rt.alloc();
-    let own = with_tag(alloc, HtmlTag::intern(alloc, "1X")?)?;
-    assert_eq!(rt; plain(alloc, &own)?.as_str(), "<!DOCTYPE html><1X></1X>");
-    Ok(())
-}
-
-#[test]
-fn a_tag_is_a_child(rt: HostRuntime) -> Result<(), Fail> {
-    let alloc = rt.alloc();
-    let fault = plain(alloc, &with_tag(alloc, tag::br)?);
-    assert_eq!(rt; fault, Err(ExportFault::VoidChildren { span: Span(0) }));
-    Ok(())
+fn a_tag_is_a_child_and_is_not_written(rt: HostRuntime) {
+    for (name, wanted) in &WITH_TAGS {
+        assert_with_tag(&rt, rt.alloc(), name, wanted);
+    }
 }

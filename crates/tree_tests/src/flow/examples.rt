@@ -1,36 +1,29 @@
 //! The examples of the documentation.
 
+use super::{Sample, args_of};
+use crate::asserts::text_of;
 use html_dom::Span;
-use html_flow::{Arg, ArgValue, Args, ElementInfo, HtmlElem, Item, construct};
+use html_flow::{ElementInfo, HtmlElem, Item, construct};
 use html_names::{attr, tag};
-use html_values::{AttrType, NativeType, Value};
-use std::test::Fail;
+use html_values::{AttrType, NativeType};
 
 #[test]
-fn example_of_the_crate(rt: HostRuntime) -> Result<(), Fail> {
-    let alloc = rt.alloc();
-    let link = HtmlElem::new(alloc, tag::a).with_attr(attr::href, String::from_str(alloc, "x")?)?;
-    let item = Item::Element(link);
-    assert_eq!(rt; item.span(), Span(0));
-    Ok(())
+fn example_of_the_crate(rt: HostRuntime) {
+    let link = HtmlElem::new(rt.alloc(), tag::a)
+        .with_attr(attr::href, text_of(&rt, rt.alloc(), "x"))
+        .expect(&rt, "memory for an attribute");
+    assert!(rt; Item::Element(link).span() == Span(0));
 }
 
 #[test]
-fn example_of_construct(rt: HostRuntime) -> Result<(), Fail> {
-    let alloc = rt.alloc();
-    let mut attrs = Vec::new(alloc);
-    attrs.push((attr::href, AttrType::Native(NativeType::Str)))?;
-    let info = ElementInfo::new(tag::a, attrs);
-    let mut items = Vec::new(alloc);
-    items.push(Arg {
-        name: Some(String::from_str(alloc, "href")?),
-        span: Span(1),
-        value: ArgValue::Plain(Value::Str(String::from_str(alloc, "x")?)),
-    })?;
-    let mut args = Args { items };
-    let element = construct(alloc, &info, &mut args)?;
-    assert_eq!(rt; element.attrs.0.len(), 1);
+fn example_of_construct(rt: HostRuntime) {
+    let mut attrs = Vec::new(rt.alloc());
+    let href = (attr::href, AttrType::Native(NativeType::Str));
+    attrs.push(href).ok().expect(&rt, "memory for a type");
+    let mut args = args_of(&rt, rt.alloc(), &[("href", 1, Sample::Text("x"))]);
+    let element = construct(rt.alloc(), &ElementInfo::new(tag::a, attrs), &mut args);
+    let element = element.expect(&rt, "an element");
+    assert!(rt; element.attrs.0.len() == 1);
     assert!(rt; element.body.is_none());
     assert!(rt; args.items.is_empty());
-    Ok(())
 }

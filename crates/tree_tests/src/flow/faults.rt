@@ -1,48 +1,46 @@
 //! Faults of constructing.
 
+use crate::asserts::assert_text;
 use html_dom::Span;
 use html_flow::ConstructFault;
 use html_flow::laws::equal_construct_faults;
 use html_values::CastFault;
 use std::alloc::Global;
-use std::test::Fail;
+use std::process::Abort;
 
 /// A refusal with that fault of a cast.
-fn of_cast(alloc: Global, fault: CastFault) -> Result<ConstructFault, Fail> {
+fn of_cast(rt: &impl Abort, alloc: Global, fault: CastFault) -> ConstructFault {
     let mut faults = Vec::new(alloc);
-    faults.push((fault, Span(1)))?;
-    Ok(ConstructFault::Casts(faults))
+    faults
+        .push((fault, Span(1)))
+        .expect(rt, "memory for a fault");
+    ConstructFault::Casts(faults)
+}
+
+/// Asserts that the fault has that number and that text.
+fn assert_fault(rt: &impl Abort, alloc: Global, fault: &ConstructFault, number: u8, wanted: &str) {
+    let text = fault.to_string(alloc).expect(rt, "memory for the text");
+    assert_text(rt, &text, wanted);
+    assert!(rt; fault.number() == number, "{wanted}");
 }
 
 #[test]
-fn numbers(rt: HostRuntime) -> Result<(), Fail> {
+fn numbers_and_texts_of_faults(rt: HostRuntime) {
     let alloc = rt.alloc();
-    assert_eq!(rt; of_cast(alloc, CastFault::NumberRange)?.number(), 18);
-    assert_eq!(rt; ConstructFault::Casts(Vec::new(alloc)).number(), 0);
-    assert_eq!(rt; ConstructFault::BodyKind { span: Span(7) }.number(), 24);
-    assert_eq!(rt; ConstructFault::OutOfMemory.number(), 0);
-    Ok(())
+    let range = of_cast(&rt, alloc, CastFault::NumberRange);
+    let nothing = ConstructFault::Casts(Vec::new(alloc));
+    let body = ConstructFault::BodyKind { span: Span(7) };
+    assert_fault(&rt, alloc, &range, 18, "arguments could not be cast");
+    assert_fault(&rt, alloc, &nothing, 0, "arguments could not be cast");
+    assert_fault(&rt, alloc, &body, 24, "the body has the wrong kind");
+    assert_fault(&rt, alloc, &ConstructFault::OutOfMemory, 0, "out of memory");
 }
 
 #[test]
-fn texts(rt: HostRuntime) -> Result<(), Fail> {
-    let alloc = rt.alloc();
-    let casts = of_cast(alloc, CastFault::NumberRange)?.to_string(alloc)?;
-    assert_eq!(rt; casts.as_str(), "arguments could not be cast");
-    let body = ConstructFault::BodyKind { span: Span(7) }.to_string(alloc)?;
-    assert_eq!(rt; body.as_str(), "the body has the wrong kind");
-    let memory = ConstructFault::OutOfMemory.to_string(alloc)?;
-    assert_eq!(rt; memory.as_str(), "out of memory");
-    Ok(())
-}
-
-#[test]
-fn equality(rt: HostRuntime) -> Result<(), Fail> {
-    let alloc = rt.alloc();
-    let range = of_cast(alloc, CastFault::NumberRange)?;
-    let kind = of_cast(alloc, CastFault::WrongKind)?;
+fn equality(rt: HostRuntime) {
+    let range = of_cast(&rt, rt.alloc(), CastFault::NumberRange);
+    let kind = of_cast(&rt, rt.alloc(), CastFault::WrongKind);
     assert!(rt; equal_construct_faults(&range, &range));
     assert!(rt; !equal_construct_faults(&range, &kind));
     assert!(rt; !equal_construct_faults(&range, &ConstructFault::OutOfMemory));
-    Ok(())
 }

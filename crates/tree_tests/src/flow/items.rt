@@ -1,46 +1,50 @@
 //! Items, and elements that are built.
 
-use super::show_element;
+use super::assert_element;
+use crate::asserts::text_of;
 use html_dom::{Location, Span, Tag};
 use html_flow::{HtmlElem, Item};
 use html_names::{attr, tag};
 use std::alloc::Global;
-use std::test::Fail;
+use std::process::Abort;
 
 /// A paragraph with an id and a language, and without a title.
-fn paragraph(alloc: Global) -> Result<HtmlElem, Fail> {
-    let element = HtmlElem::new(alloc, tag::p);
-    let element = element.with_attr(attr::id, String::from_str(alloc, "a")?)?;
-    let element = element.with_optional_attr(attr::title, None)?;
-    Ok(element.with_optional_attr(attr::lang, Some(String::from_str(alloc, "b")?))?)
+fn paragraph(rt: &impl Abort, alloc: Global) -> HtmlElem {
+    HtmlElem::new(alloc, tag::p)
+        .with_attr(attr::id, text_of(rt, alloc, "a"))
+        .expect(rt, "memory for an attribute")
+        .with_optional_attr(attr::title, None)
+        .expect(rt, "no memory is needed")
+        .with_optional_attr(attr::lang, Some(text_of(rt, alloc, "b")))
+        .expect(rt, "memory for an attribute")
 }
 
 #[test]
-fn optional_attributes(rt: HostRuntime) -> Result<(), Fail> {
-    let alloc = rt.alloc();
-    let mut shown = String::new(alloc);
-    show_element(&mut shown, &paragraph(alloc)?)?;
-    assert_eq!(rt; shown.as_str(), "<p> id='a' lang='b' at 0");
-    Ok(())
+fn optional_attributes(rt: HostRuntime) {
+    let p = paragraph(&rt, rt.alloc());
+    assert_element(&rt, rt.alloc(), &p, "<p> id='a' lang='b' at 0");
 }
 
 #[test]
-fn copies(rt: HostRuntime) -> Result<(), Fail> {
-    let alloc = rt.alloc();
-    let mut shown = String::new(alloc);
-    show_element(&mut shown, &paragraph(alloc)?.try_clone()?)?;
-    assert_eq!(rt; shown.as_str(), "<p> id='a' lang='b' at 0");
-    Ok(())
+fn copies(rt: HostRuntime) {
+    let copy = paragraph(&rt, rt.alloc())
+        .try_clone()
+        .expect(&rt, "memory for the copy");
+    assert_element(&rt, rt.alloc(), &copy, "<p> id='a' lang='b' at 0");
+}
+
+/// Asserts that the item has that span.
+fn assert_span(rt: &impl Abort, item: Item, wanted: u64) {
+    assert!(rt; item.span() == Span(wanted));
 }
 
 #[test]
-fn spans_of_items(rt: HostRuntime) -> Result<(), Fail> {
+fn spans_of_items(rt: HostRuntime) {
     let location = Location(1);
-    assert_eq!(rt; Item::Tag(Tag::End { location }).span(), Span(0));
-    assert_eq!(rt; Item::Hole.span(), Span(0));
-    assert_eq!(rt; Item::Space(Span(1)).span(), Span(1));
-    assert_eq!(rt; Item::LineBreak(Span(2)).span(), Span(2));
-    assert_eq!(rt; Item::Box(None, Span(3)).span(), Span(3));
-    assert_eq!(rt; Item::Block(None, Span(4)).span(), Span(4));
-    Ok(())
+    assert_span(&rt, Item::Tag(Tag::End { location }), 0);
+    assert_span(&rt, Item::Hole, 0);
+    assert_span(&rt, Item::Space(Span(1)), 1);
+    assert_span(&rt, Item::LineBreak(Span(2)), 2);
+    assert_span(&rt, Item::Box(None, Span(3)), 3);
+    assert_span(&rt, Item::Block(None, Span(4)), 4);
 }
