@@ -1,8 +1,9 @@
 use crate::recorded::Recorded;
 use crate::run::run;
 use crate::status::Status;
-use std::alloc::{AllocError, Global};
-use std::test::Fail;
+use std::alloc::Global;
+use std::io::Read;
+use std::process::Abort;
 
 mod devices;
 mod examples;
@@ -11,35 +12,95 @@ mod refused;
 mod rows;
 mod wrong;
 
-fn words(alloc: Global, list: &[&str]) -> Result<Vec<String>, AllocError> {
-    let mut words = Vec::new(alloc);
-    for word in list {
-        words.push(String::from_str(alloc, word)?)?;
-    }
-    Ok(words)
+// A test that calls a few small functions is proved in a second or two; the time grows with the
+// square of what one function does itself.
+
+/// How the rows of a table are run: the program's words, the status, and what is written before and
+/// after the text of each row.
+struct Group {
+    words: &'static [&'static str],
+    status: Status,
+    before: &'static str,
+    after: &'static str,
 }
 
-/// How many rows from the first on a run with those words answers with that status and with what
-/// stands beside the input, between the two texts of `around`.
-fn first_right(
+/// Trees in plain text.
+static PLAIN: Group = Group {
+    words: &["tree"],
+    status: Status::Done,
+    before: "<!DOCTYPE html>",
+    after: "",
+};
+
+/// Trees in pretty text.
+static PRETTY: Group = Group {
+    words: &["tree", "--pretty"],
+    status: Status::Done,
+    before: "<!DOCTYPE html>\n",
+    after: "\n",
+};
+
+/// Trees that are refused, with the number of the fault and the span.
+static REFUSED: Group = Group {
+    words: &["tree"],
+    status: Status::Refused,
+    before: "refused: ",
+    after: "\n",
+};
+
+/// The same in pretty mode.
+static REFUSED_PRETTY: Group = Group {
+    words: &["tree", "--pretty"],
+    status: Status::Refused,
+    before: "refused: ",
+    after: "\n",
+};
+
+/// The program's words.
+fn words(rt: &impl Abort, alloc: Global, list: &[&str]) -> Vec<String> {
+    let mut words = Vec::new(alloc);
+    for word in list {
+        let word = String::from_str(alloc, word).expect(rt, "memory for a word");
+        words.push(word).expect(rt, "memory for the words");
+    }
+    words
+}
+
+/// The status of a run with those words, and what was written.
+fn answer<R: Read>(
+    rt: &impl Abort,
     alloc: Global,
     list: &[&str],
-    status: Status,
-    around: (&str, &str),
-    rows: &[(&str, &str)],
-) -> Result<usize, Fail> {
-    let words = words(alloc, list)?;
-    let (before, after) = around;
-    for (number, (input, text)) in rows.iter().enumerate() {
-        let mut out = Vec::new(alloc);
-        let mut bytes = input.as_bytes();
-        let told = run(alloc, &mut bytes, &mut Recorded::new(&mut out), &words);
-        let wanted = format!(in alloc; "{before}{text}{after}")?;
-        if told != status || out.as_slice() != wanted.as_bytes() {
-            return Ok(number);
-        }
+    reader: &mut R,
+) -> (Status, Vec<u8>) {
+    let mut out = Vec::new(alloc);
+    let words = words(rt, alloc, list);
+    let status = run(alloc, reader, &mut Recorded::new(&mut out), &words);
+    (status, out)
+}
+
+/// Asserts how a run of `tree` on the reader ends, and what is written.
+fn assert_run<R: Read>(rt: &impl Abort, alloc: Global, reader: &mut R, wanted: Status, text: &str) {
+    let (status, out) = answer(rt, alloc, &["tree"], reader);
+    assert!(rt; status == wanted);
+    assert!(rt; out.as_slice() == text.as_bytes());
+}
+
+/// Asserts that a run on the input answers as the group says.
+fn assert_row(rt: &impl Abort, alloc: Global, group: &Group, input: &str, text: &str) {
+    let mut bytes = input.as_bytes();
+    let (status, out) = answer(rt, alloc, group.words, &mut bytes);
+    assert!(rt; status == group.status, "{input}");
+    let wanted = format!(in alloc; "{}{text}{}", group.before, group.after);
+    let wanted = wanted.expect(rt, "memory for the text");
+    assert!(rt; out.as_slice() == wanted.as_bytes(), "{input}");
+}
+
+/// Asserts that a run on each input answers as the group says, with the text that stands beside it.
+fn assert_rows(rt: &impl Abort, alloc: Global, group: &Group, rows: &[(&str, &str)]) {
+    for (input, text) in rows {
+        assert_row(rt, alloc, group, input, text);
     }
-    Ok(rows.len())
 }
 
 #[test]
@@ -51,6 +112,6 @@ fn codes(rt: HostRuntime) {
         Status::Failed,
     ];
     for (code, status) in statuses.iter().enumerate() {
-        assert_eq!(rt; usize::from(status.code()), code);
+        assert!(rt; usize::from(status.code()) == code);
     }
 }

@@ -1,31 +1,27 @@
 //! Wrong words, and inputs that spell no tree.
 
-use crate::recorded::Recorded;
-use crate::run::run;
 use crate::status::Status;
-use crate::tests::{first_right, words};
+use crate::tests::{answer, assert_run};
 use std::alloc::Global;
-use std::test::Fail;
+use std::process::Abort;
 
 const INPUT: &str = r#"["el","p",[],[]]"#;
 
-/// How many lists of words from the first on are answered with `bad input` and leave the input.
-fn wrong(alloc: Global, lists: &[&[&str]]) -> Result<usize, Fail> {
-    for (number, list) in lists.iter().enumerate() {
-        let mut out = Vec::new(alloc);
+const BAD_INPUT: &str = "bad input\n";
+
+/// Asserts that each list of words is answered with `bad input` and leaves the input.
+fn assert_wrong(rt: &impl Abort, alloc: Global, lists: &[&[&str]]) {
+    for list in lists {
         let mut input = INPUT.as_bytes();
-        let words = words(alloc, list)?;
-        let status = run(alloc, &mut input, &mut Recorded::new(&mut out), &words);
-        let is_told = status == Status::BadInput && out.as_slice() == b"bad input\n".as_slice();
-        if !is_told || input != INPUT.as_bytes() {
-            return Ok(number);
-        }
+        let (status, out) = answer(rt, alloc, list, &mut input);
+        assert!(rt; status == Status::BadInput);
+        assert!(rt; out.as_slice() == BAD_INPUT.as_bytes());
+        assert!(rt; input == INPUT.as_bytes());
     }
-    Ok(lists.len())
 }
 
 #[test]
-fn wrong_tasks(rt: HostRuntime) -> Result<(), Fail> {
+fn wrong_tasks(rt: HostRuntime) {
     let lists: [&[&str]; 5] = [
         &[],
         &["doc"],
@@ -33,184 +29,188 @@ fn wrong_tasks(rt: HostRuntime) -> Result<(), Fail> {
         &["--pretty"],
         &["--pretty", "tree"],
     ];
-    assert_eq!(rt; wrong(rt.alloc(), &lists)?, lists.len());
-    Ok(())
+    assert_wrong(&rt, rt.alloc(), &lists);
 }
 
 #[test]
-fn wrong_options(rt: HostRuntime) -> Result<(), Fail> {
+fn wrong_options(rt: HostRuntime) {
     let lists: [&[&str]; 4] = [
         &["tree", "tree"],
         &["tree", "pretty"],
         &["tree", "--Pretty"],
         &["tree", "--pretty", "--pretty"],
     ];
-    assert_eq!(rt; wrong(rt.alloc(), &lists)?, lists.len());
-    Ok(())
+    assert_wrong(&rt, rt.alloc(), &lists);
 }
 
-/// How many rows from the first on spell no tree.
-fn bad(alloc: Global, rows: &[(&str, &str)]) -> Result<usize, Fail> {
-    first_right(
-        alloc,
-        &["tree"],
-        Status::BadInput,
-        ("bad input\n", ""),
-        rows,
-    )
-}
-
-#[test]
-fn no_json(rt: HostRuntime) -> Result<(), Fail> {
-    let rows = [
-        ("", ""),
-        ("[] []", ""),
-        (r#"["el","p",[],[]] x"#, ""),
-        (r#"["el","p",[],[]"#, ""),
-        ("[\"el\",\"p\",[],[[\"text\",\"\\ud800\"]]]", ""),
-    ];
-    assert_eq!(rt; bad(rt.alloc(), &rows)?, rows.len());
-    Ok(())
+/// Asserts that each input spells no tree.
+fn assert_bad(rt: &impl Abort, alloc: Global, inputs: &[&str]) {
+    for input in inputs {
+        assert_run(
+            rt,
+            alloc,
+            &mut input.as_bytes(),
+            Status::BadInput,
+            BAD_INPUT,
+        );
+    }
 }
 
 #[test]
-fn no_list(rt: HostRuntime) -> Result<(), Fail> {
-    let rows = [("{}", ""), ("null", ""), ("[]", "")];
-    assert_eq!(rt; bad(rt.alloc(), &rows)?, rows.len());
-    Ok(())
+fn no_json(rt: HostRuntime) {
+    assert_bad(
+        &rt,
+        rt.alloc(),
+        &[
+            "",
+            "[] []",
+            r#"["el","p",[],[]] x"#,
+            r#"["el","p",[],[]"#,
+            "[\"el\",\"p\",[],[[\"text\",\"\\ud800\"]]]",
+        ],
+    );
 }
 
 #[test]
-fn parts_of_elements(rt: HostRuntime) -> Result<(), Fail> {
-    let rows = [
-        (r#"["el","p"]"#, ""),
-        (r#"["el","p",[],[],[]]"#, ""),
-        (r#"["el",7,[],[]]"#, ""),
-        (r#"["el","p",{},[]]"#, ""),
-        (r#"["el","p",[],{}]"#, ""),
-    ];
-    assert_eq!(rt; bad(rt.alloc(), &rows)?, rows.len());
-    Ok(())
+fn no_list(rt: HostRuntime) {
+    assert_bad(&rt, rt.alloc(), &["{}", "null", "[]"]);
 }
 
 #[test]
-fn parts_of_attributes(rt: HostRuntime) -> Result<(), Fail> {
-    let rows = [
-        (r#"["el","p",[["id"]],[]]"#, ""),
-        (r#"["el","p",[["id",7]],[]]"#, ""),
-        (r#"["el","p",[["id","a","b"]],[]]"#, ""),
-    ];
-    assert_eq!(rt; bad(rt.alloc(), &rows)?, rows.len());
-    Ok(())
+fn parts_of_elements(rt: HostRuntime) {
+    assert_bad(
+        &rt,
+        rt.alloc(),
+        &[
+            r#"["el","p"]"#,
+            r#"["el","p",[],[],[]]"#,
+            r#"["el",7,[],[]]"#,
+            r#"["el","p",{},[]]"#,
+            r#"["el","p",[],{}]"#,
+        ],
+    );
+}
+
+#[test]
+fn parts_of_attributes(rt: HostRuntime) {
+    assert_bad(
+        &rt,
+        rt.alloc(),
+        &[
+            r#"["el","p",[["id"]],[]]"#,
+            r#"["el","p",[["id",7]],[]]"#,
+            r#"["el","p",[["id","a","b"]],[]]"#,
+        ],
+    );
 }
 
 /// The whole shape is judged before any name.
 #[test]
-fn shape_before_names(rt: HostRuntime) -> Result<(), Fail> {
-    let rows = [
-        (r#"["el","",[],[7]]"#, ""),
-        (r#"["el","",[],[["el","p"]]]"#, ""),
-    ];
-    assert_eq!(rt; bad(rt.alloc(), &rows)?, rows.len());
-    Ok(())
+fn shape_before_names(rt: HostRuntime) {
+    assert_bad(
+        &rt,
+        rt.alloc(),
+        &[r#"["el","",[],[7]]"#, r#"["el","",[],[["el","p"]]]"#],
+    );
 }
 
 #[test]
-fn no_element(rt: HostRuntime) -> Result<(), Fail> {
-    let rows = [
-        (r#"["EL","p",[],[]]"#, ""),
-        (r#"["text","x"]"#, ""),
-        (r#"["start",1]"#, ""),
-        (r#"["end",1]"#, ""),
-        (r#"["space"]"#, ""),
-        (r#"["el","p",[],[["space"]]]"#, ""),
-    ];
-    assert_eq!(rt; bad(rt.alloc(), &rows)?, rows.len());
-    Ok(())
+fn no_element(rt: HostRuntime) {
+    assert_bad(
+        &rt,
+        rt.alloc(),
+        &[
+            r#"["EL","p",[],[]]"#,
+            r#"["text","x"]"#,
+            r#"["start",1]"#,
+            r#"["end",1]"#,
+            r#"["space"]"#,
+            r#"["el","p",[],[["space"]]]"#,
+        ],
+    );
 }
 
 #[test]
-fn parts_of_texts(rt: HostRuntime) -> Result<(), Fail> {
-    let rows = [
-        (r#"["el","p",[],[["text"]]]"#, ""),
-        (r#"["el","p",[],[["text",1]]]"#, ""),
-    ];
-    assert_eq!(rt; bad(rt.alloc(), &rows)?, rows.len());
-    Ok(())
+fn parts_of_texts(rt: HostRuntime) {
+    assert_bad(
+        &rt,
+        rt.alloc(),
+        &[
+            r#"["el","p",[],[["text"]]]"#,
+            r#"["el","p",[],[["text",1]]]"#,
+        ],
+    );
 }
 
 #[test]
-fn parts_of_starts(rt: HostRuntime) -> Result<(), Fail> {
-    let rows = [
-        (r#"["el","p",[],[["start"]]]"#, ""),
-        (r#"["el","p",[],[["start",1,2,3]]]"#, ""),
-        (r#"["el","p",[],[["start",1,null]]]"#, ""),
-    ];
-    assert_eq!(rt; bad(rt.alloc(), &rows)?, rows.len());
-    Ok(())
+fn parts_of_starts(rt: HostRuntime) {
+    assert_bad(
+        &rt,
+        rt.alloc(),
+        &[
+            r#"["el","p",[],[["start"]]]"#,
+            r#"["el","p",[],[["start",1,2,3]]]"#,
+            r#"["el","p",[],[["start",1,null]]]"#,
+        ],
+    );
 }
 
 /// Whole numbers from 0 to 18446744073709551615, in digits alone.
 #[test]
-fn locations(rt: HostRuntime) -> Result<(), Fail> {
-    let rows = [
-        (r#"["el","p",[],[["start",1.0]]]"#, ""),
-        (r#"["el","p",[],[["start",1e2]]]"#, ""),
-        (r#"["el","p",[],[["start",-1]]]"#, ""),
-        (r#"["el","p",[],[["start",-0]]]"#, ""),
-        (r#"["el","p",[],[["start",18446744073709551616]]]"#, ""),
-    ];
-    assert_eq!(rt; bad(rt.alloc(), &rows)?, rows.len());
-    Ok(())
+fn locations(rt: HostRuntime) {
+    assert_bad(
+        &rt,
+        rt.alloc(),
+        &[
+            r#"["el","p",[],[["start",1.0]]]"#,
+            r#"["el","p",[],[["start",1e2]]]"#,
+            r#"["el","p",[],[["start",-1]]]"#,
+            r#"["el","p",[],[["start",-0]]]"#,
+            r#"["el","p",[],[["start",18446744073709551616]]]"#,
+        ],
+    );
 }
 
 #[test]
-fn parts_of_ends(rt: HostRuntime) -> Result<(), Fail> {
-    let rows = [
-        (r#"["el","p",[],[["end","1"]]]"#, ""),
-        (r#"["el","p",[],[["end",1,2]]]"#, ""),
-    ];
-    assert_eq!(rt; bad(rt.alloc(), &rows)?, rows.len());
-    Ok(())
+fn parts_of_ends(rt: HostRuntime) {
+    assert_bad(
+        &rt,
+        rt.alloc(),
+        &[
+            r#"["el","p",[],[["end","1"]]]"#,
+            r#"["el","p",[],[["end",1,2]]]"#,
+        ],
+    );
 }
 
 #[test]
-fn no_utf8(rt: HostRuntime) -> Result<(), Fail> {
-    let alloc = rt.alloc();
-    let words = words(alloc, &["tree"])?;
+fn no_utf8(rt: HostRuntime) {
     let mut input = b"[\"el\",\"p\",[],[]]\xff".as_slice();
-    let mut out = Vec::new(alloc);
-    let status = run(alloc, &mut input, &mut Recorded::new(&mut out), &words);
-    assert_eq!(rt; status, Status::BadInput);
-    assert_eq!(rt; out.as_slice(), b"bad input\n".as_slice());
-    Ok(())
+    assert_run(&rt, rt.alloc(), &mut input, Status::BadInput, BAD_INPUT);
 }
 
 /// The status for elements nested that deep, each in the list of the one around it.
-fn nested(alloc: Global, levels: usize) -> Result<Status, Fail> {
-    let words = words(alloc, &["tree"])?;
+fn nested(rt: &impl Abort, alloc: Global, levels: usize) -> Status {
     let mut input = String::new(alloc);
     for _ in 0..levels {
-        input.push_str(r#"["el","em",[],["#)?;
+        input
+            .push_str(r#"["el","em",[],["#)
+            .expect(rt, "memory for the input");
     }
     for _ in 0..levels {
-        input.push_str("]]")?;
+        input.push_str("]]").expect(rt, "memory for the input");
     }
-    let mut out = Vec::new(alloc);
-    let mut bytes = input.as_bytes();
-    Ok(run(alloc, &mut bytes, &mut Recorded::new(&mut out), &words))
+    answer(rt, alloc, &["tree"], &mut input.as_bytes()).0
 }
 
 #[test]
-fn sixty_two_levels(rt: HostRuntime) -> Result<(), Fail> {
-    assert_eq!(rt; nested(rt.alloc(), 62)?, Status::Done);
-    Ok(())
+fn sixty_two_levels(rt: HostRuntime) {
+    assert!(rt; nested(&rt, rt.alloc(), 62) == Status::Done);
 }
 
 /// JSON that is nested deeper than its reader goes is bad input.
 #[test]
-fn too_many_levels(rt: HostRuntime) -> Result<(), Fail> {
-    assert_eq!(rt; nested(rt.alloc(), 66)?, Status::BadInput);
-    assert_eq!(rt; nested(rt.alloc(), 5000)?, Status::BadInput);
-    Ok(())
+fn too_many_levels(rt: HostRuntime) {
+    assert!(rt; nested(&rt, rt.alloc(), 66) == Status::BadInput);
+    assert!(rt; nested(&rt, rt.alloc(), 5000) == Status::BadInput);
 }

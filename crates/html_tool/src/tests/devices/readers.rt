@@ -1,12 +1,10 @@
 use super::{INPUT, OUTPUT};
-use crate::recorded::Recorded;
-use crate::run::run;
 use crate::status::Status;
-use crate::tests::words;
+use crate::tests::{answer, assert_run};
 use std::alloc::Global;
 use std::io;
 use std::io::{Error, ErrorKind, Read};
-use std::test::Fail;
+use std::process::Abort;
 
 /// Gives one byte a read. The read numbered `fails_at`, and that one alone, fails.
 #[derive(Drop)]
@@ -71,99 +69,72 @@ impl Read for Asked<'_> {
 }
 
 /// The input whose only text is that many letters.
-fn long_input(alloc: Global, letters: usize) -> Result<String, Fail> {
-    let mut input = String::from_str(alloc, r#"["el","p",[],[["text",""#)?;
+fn long_input(rt: &impl Abort, alloc: Global, letters: usize) -> String {
+    let mut input = String::new(alloc);
+    input
+        .push_str(r#"["el","p",[],[["text",""#)
+        .expect(rt, "memory for the input");
     for _ in 0..letters {
-        input.push('x')?;
+        input.push('x').expect(rt, "memory for the input");
     }
-    input.push_str(r#""]]]"#)?;
-    Ok(input)
+    input.push_str(r#""]]]"#).expect(rt, "memory for the input");
+    input
 }
 
-/// Each read in turn fails: nothing is written, and nothing is read after that.
+/// Asserts that a read that fails ends the run: nothing is written, and nothing is read after that.
+fn assert_failed(rt: &impl Abort, alloc: Global, fails_at: usize, kind: ErrorKind) {
+    let mut reader = Drip::new(INPUT.as_bytes(), fails_at, kind);
+    assert_run(rt, alloc, &mut reader, Status::Failed, "");
+    assert!(rt; reader.reads == fails_at.saturating_add(1));
+}
+
 #[test]
-fn each_read_fails(rt: HostRuntime) -> Result<(), Fail> {
-    let alloc = rt.alloc();
-    let words = words(alloc, &["tree"])?;
+fn each_read_fails(rt: HostRuntime) {
     for fails_at in 0..=INPUT.len() {
-        let mut reader = Drip::new(INPUT.as_bytes(), fails_at, ErrorKind::Other);
-        let mut out = Vec::new(alloc);
-        let status = run(alloc, &mut reader, &mut Recorded::new(&mut out), &words);
-        assert_eq!(rt; status, Status::Failed);
-        assert!(rt; out.is_empty());
-        assert_eq!(rt; reader.reads, fails_at.saturating_add(1));
+        assert_failed(&rt, rt.alloc(), fails_at, ErrorKind::Other);
     }
-    Ok(())
 }
 
 /// A read that was interrupted is not tried again.
 #[test]
-fn interrupted_read(rt: HostRuntime) -> Result<(), Fail> {
-    let alloc = rt.alloc();
-    let words = words(alloc, &["tree"])?;
-    let mut reader = Drip::new(INPUT.as_bytes(), 5, ErrorKind::Interrupted);
-    let mut out = Vec::new(alloc);
-    let status = run(alloc, &mut reader, &mut Recorded::new(&mut out), &words);
-    assert_eq!(rt; status, Status::Failed);
-    assert!(rt; out.is_empty());
-    assert_eq!(rt; reader.reads, 6);
-    Ok(())
+fn interrupted_read(rt: HostRuntime) {
+    assert_failed(&rt, rt.alloc(), 5, ErrorKind::Interrupted);
 }
 
 #[test]
-fn one_byte_a_read(rt: HostRuntime) -> Result<(), Fail> {
-    let alloc = rt.alloc();
-    let words = words(alloc, &["tree"])?;
+fn one_byte_a_read(rt: HostRuntime) {
     let mut reader = Drip::new(INPUT.as_bytes(), usize::MAX, ErrorKind::Other);
-    let mut out = Vec::new(alloc);
-    let status = run(alloc, &mut reader, &mut Recorded::new(&mut out), &words);
-    assert_eq!(rt; status, Status::Done);
-    assert_eq!(rt; out.as_slice(), OUTPUT.as_bytes());
-    Ok(())
+    assert_run(&rt, rt.alloc(), &mut reader, Status::Done, OUTPUT);
+}
+
+/// Asserts that a run on the reader of 9,000 letters writes them all.
+fn assert_long<R: Read>(rt: &impl Abort, alloc: Global, reader: &mut R) {
+    let (status, out) = answer(rt, alloc, &["tree"], reader);
+    assert!(rt; status == Status::Done);
+    assert!(rt; out.len() == 9022);
 }
 
 #[test]
-fn thousands_of_reads(rt: HostRuntime) -> Result<(), Fail> {
-    let alloc = rt.alloc();
-    let words = words(alloc, &["tree"])?;
-    let input = long_input(alloc, 9000)?;
+fn thousands_of_reads(rt: HostRuntime) {
+    let input = long_input(&rt, rt.alloc(), 9000);
     let mut reader = Drip::new(input.as_bytes(), usize::MAX, ErrorKind::Other);
-    let mut out = Vec::new(alloc);
-    let status = run(alloc, &mut reader, &mut Recorded::new(&mut out), &words);
-    assert_eq!(rt; status, Status::Done);
-    assert_eq!(rt; out.len(), 9022);
-    assert_eq!(rt; reader.reads, input.len().saturating_add(1));
-    Ok(())
+    assert_long(&rt, rt.alloc(), &mut reader);
+    assert!(rt; reader.reads == input.len().saturating_add(1));
 }
 
 /// Each read asks for 4,096 bytes.
 #[test]
-fn lengths_of_reads(rt: HostRuntime) -> Result<(), Fail> {
-    let alloc = rt.alloc();
-    let words = words(alloc, &["tree"])?;
-    let input = long_input(alloc, 9000)?;
+fn lengths_of_reads(rt: HostRuntime) {
+    let input = long_input(&rt, rt.alloc(), 9000);
     let mut reader = Asked {
         rest: input.as_bytes(),
-        lengths: Vec::new(alloc),
+        lengths: Vec::new(rt.alloc()),
     };
-    let mut out = Vec::new(alloc);
-    let status = run(alloc, &mut reader, &mut Recorded::new(&mut out), &words);
-    assert_eq!(rt; status, Status::Done);
-    assert_eq!(rt; out.len(), 9022);
-    assert_eq!(rt;
-        reader.lengths.as_slice(),
-        [4096usize, 4096, 4096, 4096].as_slice()
-    );
-    Ok(())
+    assert_long(&rt, rt.alloc(), &mut reader);
+    assert!(rt; reader.lengths.as_slice() == [4096usize, 4096, 4096, 4096].as_slice());
 }
 
 #[test]
-fn endless_input(rt: HostRuntime) -> Result<(), Fail> {
-    let alloc = rt.alloc();
-    let words = words(alloc, &["tree"])?;
-    let mut out = Vec::new(alloc);
-    let status = run(alloc, &mut Endless, &mut Recorded::new(&mut out), &words);
-    assert_eq!(rt; status, Status::Failed);
-    assert!(rt; out.is_empty());
-    Ok(())
+fn endless_input(rt: HostRuntime) {
+    assert_run(&rt, rt.alloc(), &mut Endless, Status::Failed, "");
 }

@@ -6,7 +6,7 @@ use crate::tests::words;
 use std::alloc::Global;
 use std::io;
 use std::io::{Error, ErrorKind, Write};
-use std::test::Fail;
+use std::process::Abort;
 
 /// Takes at most `most` bytes a write. The write numbered `fails_at`, and that one alone, fails; so
 /// does each flush where `flush_fails`.
@@ -59,67 +59,78 @@ impl Write for Slow {
     }
 }
 
-/// Runs the program's work on the input, and answers the status.
-fn status_of(alloc: Global, writer: &mut Slow) -> Result<Status, Fail> {
-    let words = words(alloc, &["tree"])?;
+/// Asserts how the program's work on the input ends, and what the writer has taken.
+fn assert_taken(rt: &impl Abort, alloc: Global, writer: &mut Slow, wanted: Status, taken: &[u8]) {
+    let words = words(rt, alloc, &["tree"]);
     let mut input = INPUT.as_bytes();
-    Ok(run(alloc, &mut input, &mut Recorded::new(writer), &words))
+    let status = run(alloc, &mut input, &mut Recorded::new(&mut *writer), &words);
+    assert!(rt; status == wanted);
+    assert!(rt; writer.taken.as_slice() == taken);
 }
 
-/// Each write in turn fails: a beginning was written, nothing is tried again, nothing is flushed.
+/// Asserts that a write that fails ends the run: a beginning was written, nothing is tried again,
+/// nothing is flushed.
+fn assert_failed(rt: &impl Abort, alloc: Global, fails_at: usize) {
+    let mut writer = Slow::new(alloc, 1);
+    writer.fails_at = fails_at;
+    let beginning = OUTPUT.as_bytes().get(..fails_at).expect(rt, "a beginning");
+    assert_taken(rt, alloc, &mut writer, Status::Failed, beginning);
+    assert!(rt; writer.flushes == 0);
+}
+
 #[test]
-fn each_write_fails(rt: HostRuntime) -> Result<(), Fail> {
-    let alloc = rt.alloc();
+fn each_write_fails(rt: HostRuntime) {
     for fails_at in 0..OUTPUT.len() {
-        let mut writer = Slow::new(alloc, 1);
-        writer.fails_at = fails_at;
-        assert_eq!(rt; status_of(alloc, &mut writer)?, Status::Failed);
-        assert!(rt; OUTPUT.as_bytes().starts_with(&writer.taken));
-        assert_eq!(rt; writer.taken.len(), fails_at);
-        assert_eq!(rt; writer.flushes, 0);
+        assert_failed(&rt, rt.alloc(), fails_at);
     }
-    Ok(())
 }
 
 #[test]
-fn no_byte_a_write(rt: HostRuntime) -> Result<(), Fail> {
-    let alloc = rt.alloc();
-    let mut writer = Slow::new(alloc, 0);
-    assert_eq!(rt; status_of(alloc, &mut writer)?, Status::Failed);
-    assert!(rt; writer.taken.is_empty());
-    assert_eq!(rt; writer.writes, 1);
-    Ok(())
+fn no_byte_a_write(rt: HostRuntime) {
+    let mut writer = Slow::new(rt.alloc(), 0);
+    assert_taken(&rt, rt.alloc(), &mut writer, Status::Failed, b"");
+    assert!(rt; writer.writes == 1);
 }
 
 #[test]
-fn few_bytes_a_write(rt: HostRuntime) -> Result<(), Fail> {
-    let alloc = rt.alloc();
+fn few_bytes_a_write(rt: HostRuntime) {
     for most in 1usize..=OUTPUT.len() {
-        let mut writer = Slow::new(alloc, most);
-        assert_eq!(rt; status_of(alloc, &mut writer)?, Status::Done);
-        assert_eq!(rt; writer.taken.as_slice(), OUTPUT.as_bytes());
+        let mut writer = Slow::new(rt.alloc(), most);
+        assert_taken(
+            &rt,
+            rt.alloc(),
+            &mut writer,
+            Status::Done,
+            OUTPUT.as_bytes(),
+        );
     }
-    Ok(())
 }
 
 /// The flush comes once, after the last write.
 #[test]
-fn flush_comes_last(rt: HostRuntime) -> Result<(), Fail> {
-    let alloc = rt.alloc();
-    let mut writer = Slow::new(alloc, 7);
-    assert_eq!(rt; status_of(alloc, &mut writer)?, Status::Done);
+fn flush_comes_last(rt: HostRuntime) {
+    let mut writer = Slow::new(rt.alloc(), 7);
+    assert_taken(
+        &rt,
+        rt.alloc(),
+        &mut writer,
+        Status::Done,
+        OUTPUT.as_bytes(),
+    );
     assert!(rt; writer.is_flushed);
-    assert_eq!(rt; writer.flushes, 1);
-    Ok(())
+    assert!(rt; writer.flushes == 1);
 }
 
 #[test]
-fn flush_fails(rt: HostRuntime) -> Result<(), Fail> {
-    let alloc = rt.alloc();
-    let mut writer = Slow::new(alloc, 7);
+fn flush_fails(rt: HostRuntime) {
+    let mut writer = Slow::new(rt.alloc(), 7);
     writer.flush_fails = true;
-    assert_eq!(rt; status_of(alloc, &mut writer)?, Status::Failed);
-    assert_eq!(rt; writer.taken.as_slice(), OUTPUT.as_bytes());
-    assert_eq!(rt; writer.flushes, 1);
-    Ok(())
+    assert_taken(
+        &rt,
+        rt.alloc(),
+        &mut writer,
+        Status::Failed,
+        OUTPUT.as_bytes(),
+    );
+    assert!(rt; writer.flushes == 1);
 }
