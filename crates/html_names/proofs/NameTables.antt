@@ -149,12 +149,6 @@ pub number_in-told : (names : List (List ℕ)) (name : List ℕ) →
     number_in (with_name names name) name ≡ number_in names name
 number_in-told names name = number_by names name (stands_in names name) refl
 
-pub number_below-told : (names : List (List ℕ)) (name : List ℕ) →
-    number_in names name < length (with_name names name)
-number_below-told names name =
-    let told : List (List ℕ) = with_name names name in
-    omega (arith, number_in-told names name, number_below told name (stands_in-told names name))
-
 pub name_at-told : (names : List (List ℕ)) (name : List ℕ) →
     name_at (with_name names name) (number_in names name) ≡ name
 name_at-told names name =
