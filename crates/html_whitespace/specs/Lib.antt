@@ -1,0 +1,10 @@
+pub mod Nodes
+pub mod Pieces
+pub mod Runs
+pub mod BareSpaces
+pub mod Looks
+pub mod Lines
+pub mod Protected
+pub mod Stretches
+pub mod OpenRuns
+pub mod AnswerLists

@@ -1,0 +1,46 @@
+//! Elements that are made where white space is processed.
+
+ghost use Rattle.std.specs.Prelude.{◌≡◌, [], ◌∷◌, IfOk, codes};
+ghost use Rattle.html_dom.specs.Tree.{element_node, none};
+ghost use Rattle.html_dom.specs.Views.{node_view, nodes_view, element_view};
+ghost use Rattle.html_whitespace.specs.Nodes.{plain_head, pre_wrap_head};
+
+use html_css::Properties;
+use html_dom::{HtmlElement, HtmlNode, Span};
+use html_names::tag;
+use std::alloc::{AllocError, Global};
+
+/// A forced line break.
+#[tactic(auto, unfolding(html_names::specs::Tables::known_tags))]
+pub fn break_element(alloc: Global, span: Span) -> HtmlElement
+    ensures { element_view result ≡ (plain_head (codes "br") [] span.0, none) }
+{
+    HtmlElement::new(alloc, tag::br).spanned(span)
+}
+
+/// The css `white-space: pre-wrap`.
+fn pre_wrap_css(alloc: Global) -> Result<Properties, AllocError>
+    ensures { IfOk result (λ css. css ≡ (codes "white-space", codes "pre-wrap") ∷ []) }
+{
+    let kept = String::from_str(alloc, "pre-wrap")?;
+    Ok(Properties::new(alloc).with("white-space", kept)?)
+}
+
+/// A `span` in which white space stays, with these children. Each character of the texts directly in
+/// it is written as a character reference.
+#[tactic(auto, unfolding(html_names::specs::Tables::known_tags))]
+pub fn pre_wrap_span(
+    alloc: Global,
+    children: Vec<HtmlNode>,
+    span: Span,
+) -> Result<HtmlElement, AllocError>
+    ensures { IfOk result (λ element.
+        element_view element ≡ (pre_wrap_head span.0, nodes_view children.items)) }
+{
+    let mut element = HtmlElement::new(alloc, tag::span)
+        .with_css(pre_wrap_css(alloc)?)
+        .with_children(children)
+        .spanned(span);
+    element.pre_span = true;
+    Ok(element)
+}

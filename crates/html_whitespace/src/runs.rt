@@ -1,0 +1,123 @@
+//! Runs of blanks.
+
+ghost use Rattle.std.specs.Prelude.{◌≡◌, ◌++◌, OnOk, IfOk, map};
+ghost use Rattle.std.specs.List.{filter};
+ghost use Rattle.html_dom.specs.Views.{node_view};
+ghost use Rattle.html_whitespace.specs.Nodes.{is_tag};
+ghost use Rattle.html_whitespace.specs.OpenRuns.{goes_on};
+ghost use Rattle.html_whitespace.specs.Runs.{is_space, is_tab, is_blank_node, are_kept, first_span, run_nodes, nodes_with_runs};
+
+use crate::made::pre_wrap_span;
+use crate::one::is_one;
+use html_dom::{HtmlNode, Span};
+use std::alloc::{AllocError, Global};
+
+/// Whether the node is a text of exactly one space.
+fn is_space(node: &HtmlNode) -> bool
+    ensures { result ≡ is_space (node_view node.now) }
+{
+    match node {
+        HtmlNode::Text(text, _) => is_one(' ', text),
+        _ => false,
+    }
+}
+
+/// Whether the node is a text of exactly one tab.
+fn is_tab(node: &HtmlNode) -> bool
+    ensures { result ≡ is_tab (node_view node.now) }
+{
+    match node {
+        HtmlNode::Text(text, _) => is_one('\t', text),
+        _ => false,
+    }
+}
+
+/// Whether the node is a text of exactly one space or tab.
+fn is_blank(node: &HtmlNode) -> bool
+    ensures { result ≡ is_blank_node (node_view node.now) }
+{
+    is_space(node) || is_tab(node)
+}
+
+/// Whether the node is a tag.
+fn is_tag(node: &HtmlNode) -> bool
+    ensures { result ≡ is_tag (node_view node.now) }
+{
+    matches!(node, HtmlNode::Tag(_))
+}
+
+/// Whether the node belongs to the run before it, which may be empty.
+fn goes_on(run: &[HtmlNode], node: &HtmlNode) -> bool
+    ensures { result ≡ goes_on (map node_view run.now) (node_view node.now) }
+{
+    is_blank(node) || (is_tag(node) && !run.is_empty())
+}
+
+/// Whether the blanks of a run are kept: two or more, or a tab as the only one.
+fn are_kept(run: &[HtmlNode]) -> bool
+    ensures { result ≡ are_kept (filter is_blank_node (map node_view run.now)) }
+{
+    let mut has_space = false;
+    for node in run {
+        if is_tab(node) || (has_space && is_space(node)) {
+            return true;
+        }
+        has_space = has_space || is_space(node);
+    }
+    false
+}
+
+/// The first span of these nodes that is not 0, or 0.
+fn first_span(nodes: &[HtmlNode]) -> Span
+    ensures { result.0 ≡ first_span (map node_view nodes.now) }
+{
+    for node in nodes {
+        if node.span() != Span(0) {
+            return node.span();
+        }
+    }
+    Span(0)
+}
+
+/// Adds the nodes of a run: in a `span` that keeps them, if its blanks are kept.
+fn push_run(
+    alloc: Global,
+    made: &mut Vec<HtmlNode>,
+    mut run: Vec<HtmlNode>,
+) -> Result<(), AllocError>
+    ensures { OnOk result (map node_view made.new.items
+        ≡ map node_view made.old.items ++ run_nodes (map node_view run.items)) }
+{
+    if !are_kept(&run) {
+        return made.append(&mut run);
+    }
+    let span = first_span(&run);
+    let kept = pre_wrap_span(alloc, run, span)?;
+    made.push(HtmlNode::Element(kept))?;
+    Ok(())
+}
+
+/// The nodes, in which each run of two blanks or more, or of one tab, stands in a `span` that keeps
+/// them. A run begins with a text of exactly one space or tab and goes on over such texts and tags
+/// up to another node. The `span` has the first span of its nodes that is not 0. It fails only where
+/// an allocation does.
+///
+/// Cost: grows with the number of nodes; each is moved twice at most.
+pub fn keep_runs(alloc: Global, nodes: Vec<HtmlNode>) -> Result<Vec<HtmlNode>, AllocError>
+    ensures { IfOk result (λ made.
+        map node_view made.items ≡ nodes_with_runs (map node_view nodes.items)) }
+{
+    let mut made = Vec::new(alloc);
+    let mut run = Vec::new(alloc);
+    for node in nodes {
+        if goes_on(&run, &node) {
+            run.push(node)?;
+        } else {
+            push_run(alloc, &mut made, run)?;
+            run = Vec::new(alloc);
+            made.push(node)?;
+        }
+    }
+    push_run(alloc, &mut made, run)?;
+    Ok(made)
+}
