@@ -1,3 +1,5 @@
 pub mod Equals
+pub mod Levels
+pub mod LoneNodes
 pub mod Others
 pub mod Unnamed

@@ -1,5 +1,9 @@
 pub mod Construct
+pub mod Converted
+pub mod Converts
+pub mod Depth
 pub mod Faults
 pub mod Items
+pub mod LoneNode
 pub mod Pieces
 pub mod Views

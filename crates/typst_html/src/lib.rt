@@ -8,8 +8,9 @@ pub use html_dom::{
 pub use html_encode::{ExportFault, FrameFault, FrameWriter, HtmlOptions, html_in_bundle, laws};
 pub use html_flat::{FlatElement, FlatNode, FlatTree};
 pub use html_flow::{
-    Arg, ArgValue, Args, ConstructFault, ElementInfo, FrameElem, HtmlElem, Item, Pair, Role,
-    construct,
+    Arg, ArgValue, Args, Bareness, ConstructFault, ConversionLevel, ElementInfo, FlowFault,
+    FrameElem, HtmlElem, Item, Pair, Role, Whitespace, bare_spaces, construct, convert_to_nodes,
+    html_block_fragment, html_inline_fragment, html_math_fragment,
 };
 pub use html_names::{
     HtmlAttr, HtmlTag, NameFault, NameTable, Output, Refused, attr, charsets, property, tag,

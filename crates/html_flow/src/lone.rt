@@ -1,0 +1,308 @@
+//! Boxes and blocks, and nodes that stand for one (this project's rule).
+
+ghost use Rattle.std.specs.Prelude.{◌≡◌, ◌++◌, ◌∷◌, [], IfOk, OnOk, bytes_eq, codes, map, option_map};
+ghost use Rattle.std.specs.List.{list_all};
+ghost use Rattle.html_dom.specs.Tree.{element_node};
+ghost use Rattle.html_dom.specs.Views.{node_view, nodes_view, element_view, text_view};
+ghost use Rattle.html_whitespace.specs.Nodes.{is_tag};
+ghost use Rattle.html_flow.specs.LoneNode.{change_view, css_displayed, node_displayed};
+ghost use Rattle.html_flow.specs.LoneNode.{lone_alone, lone_node, is_math, is_shown_as_block};
+ghost use Rattle.html_flow.specs.LoneNode.{box_change, change_by_display, block_change};
+ghost use Rattle.html_flow.specs.LoneNode.{box_change_of, block_change_of, box_head, block_head, box_nodes, block_nodes};
+
+use html_css::Properties;
+use html_dom::{HtmlElement, HtmlNode, Span};
+use html_names::property::Display;
+use html_names::{attr, tag};
+use std::alloc::{AllocError, Global};
+
+/// What becomes of `display` in the css of a node.
+#[derive(Clone, Copy)]
+enum DisplayChange {
+    /// It goes.
+    Removed,
+    /// It has that value.
+    SetTo(&'static str),
+}
+
+impl DisplayChange {
+    /// Changes the css. Nothing is allocated where `display` goes.
+    fn apply(self, alloc: Global, css: &mut Properties) -> Result<(), AllocError>
+        ensures { OnOk result (css.new ≡ css_displayed (change_view self) css.old) }
+    {
+        match self {
+            DisplayChange::Removed => css.remove("display"),
+            DisplayChange::SetTo(value) => css.push("display", String::from_str(alloc, value)?)?,
+        }
+        Ok(())
+    }
+}
+
+/// Whether the node is a tag.
+fn is_tag(node: &HtmlNode) -> bool
+    ensures { result ≡ is_tag (node_view node.now) }
+{
+    matches!(node, HtmlNode::Tag(_))
+}
+
+/// Whether all nodes are tags.
+fn are_tags(nodes: &[HtmlNode]) -> bool
+    ensures { result ≡ list_all (λ node. is_tag (node_view node)) nodes.now }
+{
+    nodes.iter().all(|node| is_tag(node))
+}
+
+/// The node, if it is an element or frame.
+fn element_or_frame(node: &HtmlNode) -> Option<&HtmlNode>
+    ensures { option_map (λ lone. node_view lone.now) result ≡ lone_alone (node_view node.now) }
+{
+    match node {
+        HtmlNode::Tag(_) | HtmlNode::Text(_, _) => None,
+        HtmlNode::Element(_) | HtmlNode::Frame(_) => Some(node),
+    }
+}
+
+/// The one node that is left when tags at both ends are cut off, if it is an element or frame.
+fn lone_node(nodes: &[HtmlNode]) -> Option<&HtmlNode>
+    ensures { option_map (λ lone. node_view lone.now) result ≡ lone_node (nodes_view nodes.now) }
+{
+    for (place, node) in nodes.iter().enumerate() {
+        if is_tag(node) {
+            continue;
+        }
+        if are_tags(&nodes[place + 1..]) {
+            return element_or_frame(node);
+        }
+        return None;
+    }
+    None
+}
+
+/// Whether the element is a formula.
+#[tactic(auto, unfolding(html_names::specs::Tables::known_tags))]
+fn is_math(element: &HtmlElement) -> bool
+    ensures { result ≡ is_math (element_view element.now).0 }
+{
+    element.tag == tag::mathml::math
+}
+
+/// Whether the text is `block`.
+fn is_block(text: &String) -> bool
+    ensures { result ≡ bytes_eq (text_view text.now) (codes "block") }
+{
+    text.as_str() == "block"
+}
+
+/// Whether the first attribute `display` is `block`.
+#[tactic(auto, unfolding(html_names::specs::Tables::known_attrs))]
+fn is_shown_as_block(element: &HtmlElement) -> bool
+    ensures { result ≡ is_shown_as_block (element_view element.now).0 }
+{
+    match element.attrs.get(&attr::mathml::display) {
+        Some(value) => is_block(value),
+        None => false,
+    }
+}
+
+/// The change of a lone element of a box.
+#[tactic(auto, using(crate::proofs::LoneNodes::inline_math_word))]
+fn element_box_change(element: &HtmlElement) -> DisplayChange
+    ensures { let view = element_view element.now in
+        change_view result ≡ box_change (element_node view.0 view.1) }
+{
+    if is_math(element) && is_shown_as_block(element) {
+        DisplayChange::SetTo("inline math")
+    } else {
+        DisplayChange::Removed
+    }
+}
+
+/// The change of a lone node of a box.
+fn box_change(node: &HtmlNode) -> DisplayChange
+    ensures { change_view result ≡ box_change (node_view node.now) }
+{
+    match node {
+        HtmlNode::Element(element) => element_box_change(element),
+        HtmlNode::Tag(_) | HtmlNode::Text(_, _) | HtmlNode::Frame(_) => DisplayChange::Removed,
+    }
+}
+
+/// The change of the lone node of a box's body, if it has one.
+fn change_in_box(body: &[HtmlNode]) -> Option<DisplayChange>
+    ensures { option_map change_view result ≡ box_change_of (lone_node (nodes_view body.now)) }
+{
+    let lone = lone_node(body)?;
+    Some(box_change(lone))
+}
+
+/// The change of a lone element of a block, by its default display.
+#[tactic(auto, using(crate::proofs::LoneNodes::block_word))]
+fn change_by_display(display: Option<Display>) -> Option<DisplayChange>
+    ensures { option_map change_view result ≡ change_by_display display }
+{
+    match display {
+        Some(
+            Display::None | Display::Block | Display::Table | Display::ListItem | Display::Contents,
+        ) => Some(DisplayChange::Removed),
+        None | Some(Display::Inline | Display::InlineBlock) => Some(DisplayChange::SetTo("block")),
+        Some(_) => None,
+    }
+}
+
+/// The change of a lone element of a block, if it can stand for the block.
+#[tactic(auto, using(crate::proofs::LoneNodes::block_math_word))]
+fn element_block_change(element: &HtmlElement) -> Option<DisplayChange>
+    ensures { let view = element_view element.now in
+        option_map change_view result ≡ block_change (element_node view.0 view.1) }
+{
+    if !is_math(element) {
+        return change_by_display(Display::default_for(&element.tag));
+    }
+    if is_shown_as_block(element) {
+        Some(DisplayChange::Removed)
+    } else {
+        Some(DisplayChange::SetTo("block math"))
+    }
+}
+
+/// The change of a lone node of a block, if it can stand for the block.
+fn block_change(node: &HtmlNode) -> Option<DisplayChange>
+    ensures { option_map change_view result ≡ block_change (node_view node.now) }
+{
+    match node {
+        HtmlNode::Tag(_) | HtmlNode::Text(_, _) => None,
+        HtmlNode::Element(element) => element_block_change(element),
+        HtmlNode::Frame(_) => Some(DisplayChange::SetTo("block")),
+    }
+}
+
+/// The change of the lone node of a block's body, if it has one that can stand for the block.
+fn change_in_block(body: &[HtmlNode]) -> Option<DisplayChange>
+    ensures { option_map change_view result ≡ block_change_of (lone_node (nodes_view body.now)) }
+{
+    block_change(lone_node(body)?)
+}
+
+/// The element with its css changed.
+fn element_displayed(
+    alloc: Global,
+    mut element: HtmlElement,
+    change: DisplayChange,
+) -> Result<HtmlElement, AllocError>
+    ensures { let view = element_view element in IfOk result (λ changed. element_view changed
+        ≡ (record view.0 { css = css_displayed (change_view change) view.0.css }, view.1)) }
+{
+    change.apply(alloc, &mut element.css)?;
+    Ok(element)
+}
+
+/// The node with its css changed; a tag or text has none.
+fn node_displayed(
+    alloc: Global,
+    node: HtmlNode,
+    change: DisplayChange,
+) -> Result<HtmlNode, AllocError>
+    ensures { IfOk result
+        (λ changed. node_view changed ≡ node_displayed (change_view change) (node_view node)) }
+{
+    match node {
+        HtmlNode::Element(element) => {
+            Ok(HtmlNode::Element(element_displayed(alloc, element, change)?))
+        }
+        HtmlNode::Frame(mut frame) => {
+            change.apply(alloc, &mut frame.css)?;
+            Ok(HtmlNode::Frame(frame))
+        }
+        node => Ok(node),
+    }
+}
+
+/// Moves nodes to the end of others, with their css changed.
+fn push_displayed(
+    alloc: Global,
+    nodes: &mut Vec<HtmlNode>,
+    body: Vec<HtmlNode>,
+    change: DisplayChange,
+) -> Result<(), AllocError>
+    ensures { OnOk result (map node_view nodes.new.items ≡ map node_view nodes.old.items
+        ++ map (node_displayed (change_view change)) (map node_view body.items)) }
+{
+    for node in body {
+        nodes.push(node_displayed(alloc, node, change)?)?;
+    }
+    Ok(())
+}
+
+/// The css `display: inline-block`.
+fn inline_block_css(alloc: Global) -> Result<Properties, AllocError>
+    ensures { IfOk result (λ css. css ≡ (codes "display", codes "inline-block") ∷ []) }
+{
+    let value = String::from_str(alloc, "inline-block")?;
+    Ok(Properties::new(alloc).with("display", value)?)
+}
+
+/// A `span` that is a box, with these children.
+#[tactic(auto, unfolding(html_names::specs::Tables::known_tags))]
+fn box_element(
+    alloc: Global,
+    children: Vec<HtmlNode>,
+    span: Span,
+) -> Result<HtmlElement, AllocError>
+    ensures { IfOk result
+        (λ element. element_view element ≡ (box_head span.0, nodes_view children.items)) }
+{
+    let css = inline_block_css(alloc)?;
+    let element = HtmlElement::new(alloc, tag::span).with_css(css);
+    Ok(element.with_children(children).spanned(span))
+}
+
+/// A `div` that is a block, with these children.
+#[tactic(auto, unfolding(html_names::specs::Tables::known_tags))]
+fn block_element(alloc: Global, children: Vec<HtmlNode>, span: Span) -> HtmlElement
+    ensures { element_view result ≡ (block_head span.0, nodes_view children.items) }
+{
+    HtmlElement::new(alloc, tag::div)
+        .with_children(children)
+        .spanned(span)
+}
+
+/// Adds the nodes of a box, by those of its body: the one element or frame in it, tags at both ends
+/// aside, whose css then leaves `display` out, or is `inline math` on a formula that would be a
+/// block, else a `span`.
+pub(crate) fn push_box(
+    alloc: Global,
+    nodes: &mut Vec<HtmlNode>,
+    body: Vec<HtmlNode>,
+    span: Span,
+) -> Result<(), AllocError>
+    ensures { OnOk result (map node_view nodes.new.items
+        ≡ map node_view nodes.old.items ++ box_nodes span.0 (nodes_view body.items)) }
+{
+    match change_in_box(&body) {
+        Some(change) => push_displayed(alloc, nodes, body, change),
+        None => {
+            nodes.push(HtmlNode::from(box_element(alloc, body, span)?))?;
+            Ok(())
+        }
+    }
+}
+
+/// Adds the nodes of a block, by those of its body: the one element or frame in it, tags at both
+/// ends aside, with css that makes it a block where it is none, else a `div`.
+pub(crate) fn push_block(
+    alloc: Global,
+    nodes: &mut Vec<HtmlNode>,
+    body: Vec<HtmlNode>,
+    span: Span,
+) -> Result<(), AllocError>
+    ensures { OnOk result (map node_view nodes.new.items
+        ≡ map node_view nodes.old.items ++ block_nodes span.0 (nodes_view body.items)) }
+{
+    match change_in_block(&body) {
+        Some(change) => push_displayed(alloc, nodes, body, change),
+        None => {
+            nodes.push(HtmlNode::from(block_element(alloc, body, span)))?;
+            Ok(())
+        }
+    }
+}
