@@ -1,0 +1,19 @@
+//! Tests of items that become nodes, each over public calls.
+#![tactic(auto)]
+
+#[cfg(test)]
+mod bare;
+#[cfg(test)]
+mod blanks;
+#[cfg(test)]
+mod boxes;
+#[cfg(test)]
+mod depth;
+#[cfg(test)]
+mod given;
+#[cfg(test)]
+mod roles;
+#[cfg(test)]
+mod shown;
+#[cfg(test)]
+mod spans;
