@@ -68,7 +68,8 @@ fn lines(rt: HostRuntime) {
     );
 }
 
-static KEPT_ROWS: [(&str, &str); 3] = [
+static KEPT_ROWS: [(&str, &str); 4] = [
+    (r#"[["text","a\r\n b"]]"#, "a\r\n b"),
     (r#"[["text","a \t\u200b  b"]]"#, "a \t\u{200b}  b"),
     (r#"[["text","a"],["break"],["space"],["space"]]"#, "a\n  "),
     (r#"[["el","p",[],[["text","a  b"]]]]"#, "<p>a  b</p>"),

@@ -20,6 +20,10 @@ fn blocks(rt: HostRuntime) {
                 r#"[["block",[["space"]]]]"#,
                 r#"<span style="display: block; white-space: pre-wrap">&#x20;</span>"#,
             ),
+            (
+                r#"[["block",[["el","em",[],[["text","x"]]]]],["block",[["text","x"]]],["block",[["el","tr",[],[]]]],["box",[["text","y"]]]]"#,
+                r#"<em style="display: block">x</em><div>x</div><div><tr></tr></div><span style="display: inline-block">y</span>"#,
+            ),
             (r#"[["block",null]]"#, "<div></div>"),
             (r#"[["block",[]]]"#, "<div></div>"),
             (

@@ -42,6 +42,7 @@ fn spans_of_nodes(rt: HostRuntime) {
                 r#"[["text","a\nb c"],["hole"],["break"]]"#,
                 " 1 1 ( ) 1 3 ( )",
             ),
+            (r#"[["space"],["start",7],["space"]]"#, " 1 ( 1 0 3 )"),
             (r#"[["text","a"],["space"],["space"]]"#, " 1 2 ( 2 3 )"),
             (
                 r#"[["text","a"],["start",7],["text","  "]]"#,
