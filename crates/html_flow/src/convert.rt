@@ -57,8 +57,8 @@ pub enum Whitespace {
 /// with the span of the first item, in document order, that has a body, even an empty one, deeper
 /// than `limit`.
 ///
-/// Cost: grows with the number of items and the length of their texts; where blocks stand in one
-/// another, each with one `slot`, `math` or hidden element alone in it, also with how many do.
+/// Cost: grows with the number of items and the length of their texts; where boxes or blocks stand
+/// in one another, each with one element alone in it, it may also grow with how many do.
 ///
 /// ```
 /// use html_dom::Span;
