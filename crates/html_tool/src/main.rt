@@ -1,23 +1,7 @@
 //! The program: HTML text of a tree that standard input spells in JSON.
 #![tactic(auto)]
 
-mod frames;
-mod json;
-mod names;
-mod recorded;
-mod refusal;
-mod run;
-mod shape;
-mod spell;
-mod status;
-#[cfg(test)]
-mod tests;
-mod words;
-
-use crate::recorded::Recorded;
-use crate::run::run;
-use crate::status::Status;
-use crate::words::words_of;
+use html_run::{Recorded, Status, run, words_of};
 use std::env;
 use std::io::ErrorKind;
 use std::process::ExitCode;

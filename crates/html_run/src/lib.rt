@@ -1,0 +1,18 @@
+//! A run of the program on any reader and writer: HTML text of a tree that JSON spells.
+#![tactic(auto)]
+
+mod frames;
+mod json;
+mod names;
+mod program;
+mod recorded;
+mod refusal;
+mod shape;
+mod spell;
+mod status;
+mod words;
+
+pub use program::run;
+pub use recorded::{LastCall, Recorded, WriteFailed};
+pub use status::Status;
+pub use words::{wants_pretty, words_of};

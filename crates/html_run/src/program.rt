@@ -1,0 +1,188 @@
+//! A run of the program on any reader and writer.
+
+ghost use Rattle.std.specs.Prelude.{◌≡◌, [], None, IfSome, IfOk};
+ghost use Rattle.html_dom.specs.Views.{text_view, element_view};
+ghost use Rattle.html_run.specs.Answers.{EndsAs, EndsOn, bad_input, input_answer, element_answer, refusal_line, export_text, export_refusals, tree_answer};
+ghost use Rattle.serde_json.specs.View.{view};
+ghost use Rattle.html_run.specs.Names.{element_refusals};
+ghost use Rattle.html_run.specs.Refusals.{Makes};
+ghost use Rattle.html_run.specs.Replies.{IsReply, RepliesOn, shown};
+ghost use Rattle.html_run.specs.Spelled.{element_spelled};
+ghost use Rattle.html_run.specs.Words.{texts_of, wants_pretty};
+
+use crate::frames::NoFrames;
+use crate::json::parse;
+use crate::recorded::{Recorded, WriteFailed};
+use crate::refusal::Refusal;
+use crate::spell::{SpellFault, element_in};
+use crate::status::Status;
+use crate::words::wants_pretty;
+use html_dom::{HtmlElement, Span};
+use serde_json::Value;
+use std::alloc::{AllocError, Global};
+use std::io::{Read, Write};
+use typst_html::{HtmlOptions, html_in_bundle};
+
+/// The most bytes that one read asks for.
+const PIECE: usize = 4096;
+
+/// A reader that has not ended after so many reads counts as one that failed.
+const MOST_READS: u32 = 1_048_576;
+
+/// All that the reader has left, unless a read fails, the reader does not end, or memory runs out.
+fn read_all<R: Read>(alloc: Global, reader: &mut R) -> Option<Vec<u8>>
+    ensures { IfSome result (λ input.
+        IfSome (R.remaining reader.old) (λ bytes. input.items ≡ bytes)) }
+{
+    let mut input = Vec::new(alloc);
+    let mut piece = [0u8; PIECE];
+    for _ in 0..MOST_READS {
+        match reader.read(&mut piece) {
+            Ok(0) => return Some(input),
+            Ok(n) => {
+                if input.extend_from_slice(&piece[..n]).is_err() {
+                    return None;
+                }
+            }
+            Err(_) => return None,
+        }
+    }
+    None
+}
+
+/// A status, and the bytes that go with it.
+#[derive(Drop)]
+pub(crate) struct Reply {
+    status: Status,
+    text: Vec<u8>,
+}
+
+fn make_reply(alloc: Global, status: Status, text: &[u8]) -> Result<Reply, AllocError>
+    ensures { IfOk result (λ reply. (reply.status ≡ status) × (reply.text.items ≡ text.now)) }
+{
+    let text = Vec::from_slice(alloc, text)?;
+    Ok(Reply { status, text })
+}
+
+fn bad_input(alloc: Global) -> Result<Reply, AllocError>
+    ensures { IfOk result (λ reply. IsReply reply bad_input) }
+{
+    make_reply(alloc, Status::BadInput, b"bad input\n")
+}
+
+fn refused(alloc: Global, number: u8, span: Span) -> Result<Reply, AllocError>
+    ensures { IfOk result (λ reply.
+        (reply.status ≡ Status.Refused) × (reply.text.items ≡ refusal_line (number, span.0))) }
+{
+    let Span(span) = span;
+    let line = format!(in alloc; "refused: {number} at {span}\n")?;
+    make_reply(alloc, Status::Refused, line.as_bytes())
+}
+
+/// The text of an element.
+#[tactic(auto, using(crate::proofs::Firsts::first_fault))]
+fn html_text(alloc: Global, element: &HtmlElement, pretty: bool) -> Result<String, Refusal>
+    ensures { Makes text_view result (export_text pretty (element_view element.now))
+        (export_refusals pretty (element_view element.now)) }
+{
+    let options = HtmlOptions { pretty };
+    match html_in_bundle(alloc, element, &options, &NoFrames) {
+        Ok(text) => Ok(text),
+        Err(fault) => Err(Refusal::from(fault)),
+    }
+}
+
+/// The answer to an input.
+#[tactic(auto, unfolding(crate::specs::Answers::input_answer))]
+fn answer(alloc: Global, input: &[u8], pretty: bool) -> Result<Reply, AllocError>
+    ensures { IfOk result (λ reply. IsReply reply (input_answer pretty input.now)) }
+{
+    match parse(alloc, input)? {
+        Some(value) => answer_value(alloc, &value, pretty),
+        None => bad_input(alloc),
+    }
+}
+
+/// The answer to an input that is this JSON value.
+fn answer_value(alloc: Global, value: &Value, pretty: bool) -> Result<Reply, AllocError>
+    ensures { IfOk result (λ reply.
+        IsReply reply (element_answer pretty (element_spelled (view value.now)))) }
+{
+    match element_in(alloc, value) {
+        Ok(element) => answer_tree(alloc, &element, pretty),
+        Err(SpellFault::Refused(number, span)) => refused(alloc, number, span),
+        Err(SpellFault::BadInput) => bad_input(alloc),
+        Err(SpellFault::OutOfMemory) => Err(AllocError),
+    }
+}
+
+/// The answer to an input that spells this element.
+fn answer_tree(alloc: Global, element: &HtmlElement, pretty: bool) -> Result<Reply, AllocError>
+    requires { element_refusals (element_view element.now) ≡ [] }
+    ensures { IfOk result (λ reply. IsReply reply (tree_answer pretty (element_view element.now))) }
+{
+    match html_text(alloc, element, pretty) {
+        Ok(text) => Ok(Reply {
+            status: Status::Done,
+            text: text.into_bytes(),
+        }),
+        Err(Refusal::OutOfMemory) => Err(AllocError),
+        Err(Refusal::At(number, span)) => refused(alloc, number, span),
+    }
+}
+
+/// What is to be answered.
+fn wanted<R: Read>(alloc: Global, reader: &mut R, words: &[String]) -> Result<Reply, AllocError>
+    ensures answers { IfOk result (λ reply.
+        RepliesOn (texts_of words.now) (R.remaining reader.old) reply) }
+    ensures wrong_words { wants_pretty (texts_of words.now) ≡ None
+        → IfOk result (λ reply. IsReply reply bad_input) }
+    ensures unread { wants_pretty (texts_of words.now) ≡ None → reader.new ≡ reader.old }
+{
+    let Some(pretty) = wants_pretty(words) else {
+        return bad_input(alloc);
+    };
+    match read_all(alloc, reader) {
+        Some(input) => answer(alloc, &input, pretty),
+        None => Err(AllocError),
+    }
+}
+
+/// Writes the reply, and says how that ended.
+fn tell<W: Write>(writer: &mut Recorded<W>, reply: &Reply) -> Status
+    ensures { EndsAs (shown reply.now) result (W.contents writer.old.writer)
+        (W.contents writer.new.writer) writer.new.last }
+{
+    match writer.write_all(&reply.text) {
+        Ok(()) => reply.status,
+        Err(WriteFailed) => Status::Failed,
+    }
+}
+
+/// Reads all that the reader has, as one JSON value, and writes the HTML text of the tree that it
+/// spells, or one line that says why there is none.
+///
+/// `words` are those after the program's name: `tree` for plain text, `tree` and `--pretty` for
+/// pretty text. Others are told before anything is read. Nothing is written where memory runs out
+/// or a read fails; where a write or the flush after the last one fails, a beginning of the answer
+/// was. The reader is read in pieces of at most 4,096 bytes, at most 1,048,576 times.
+pub fn run<R: Read, W: Write>(
+    alloc: Global,
+    reader: &mut R,
+    writer: &mut Recorded<W>,
+    words: &[String],
+) -> Status
+    ensures answers { EndsOn (texts_of words.now) (R.remaining reader.old) result
+        (W.contents writer.old.writer) (W.contents writer.new.writer) writer.new.last }
+
+    // Wrong words.
+    ensures wrong_words { wants_pretty (texts_of words.now) ≡ None
+        → EndsAs bad_input result (W.contents writer.old.writer) (W.contents writer.new.writer)
+        writer.new.last }
+    ensures unread { wants_pretty (texts_of words.now) ≡ None → reader.new ≡ reader.old }
+{
+    match wanted(alloc, reader, words) {
+        Ok(reply) => tell(writer, &reply),
+        Err(AllocError) => Status::Failed,
+    }
+}

@@ -1,0 +1,216 @@
+//! Wrong words, and inputs that spell no tree.
+
+use crate::runs::{answer, assert_run};
+use html_run::Status;
+use std::alloc::Global;
+use std::process::Abort;
+
+const INPUT: &str = r#"["el","p",[],[]]"#;
+
+const BAD_INPUT: &str = "bad input\n";
+
+/// Asserts that each list of words is answered with `bad input` and leaves the input.
+fn assert_wrong(rt: &impl Abort, alloc: Global, lists: &[&[&str]]) {
+    for list in lists {
+        let mut input = INPUT.as_bytes();
+        let (status, out) = answer(rt, alloc, list, &mut input);
+        assert!(rt; status == Status::BadInput);
+        assert!(rt; out.as_slice() == BAD_INPUT.as_bytes());
+        assert!(rt; input == INPUT.as_bytes());
+    }
+}
+
+#[test]
+fn wrong_tasks(rt: HostRuntime) {
+    let lists: [&[&str]; 5] = [
+        &[],
+        &["doc"],
+        &["Tree"],
+        &["--pretty"],
+        &["--pretty", "tree"],
+    ];
+    assert_wrong(&rt, rt.alloc(), &lists);
+}
+
+#[test]
+fn wrong_options(rt: HostRuntime) {
+    let lists: [&[&str]; 4] = [
+        &["tree", "tree"],
+        &["tree", "pretty"],
+        &["tree", "--Pretty"],
+        &["tree", "--pretty", "--pretty"],
+    ];
+    assert_wrong(&rt, rt.alloc(), &lists);
+}
+
+/// Asserts that each input spells no tree.
+fn assert_bad(rt: &impl Abort, alloc: Global, inputs: &[&str]) {
+    for input in inputs {
+        assert_run(
+            rt,
+            alloc,
+            &mut input.as_bytes(),
+            Status::BadInput,
+            BAD_INPUT,
+        );
+    }
+}
+
+#[test]
+fn no_json(rt: HostRuntime) {
+    assert_bad(
+        &rt,
+        rt.alloc(),
+        &[
+            "",
+            "[] []",
+            r#"["el","p",[],[]] x"#,
+            r#"["el","p",[],[]"#,
+            "[\"el\",\"p\",[],[[\"text\",\"\\ud800\"]]]",
+        ],
+    );
+}
+
+#[test]
+fn no_list(rt: HostRuntime) {
+    assert_bad(&rt, rt.alloc(), &["{}", "null", "[]"]);
+}
+
+#[test]
+fn parts_of_elements(rt: HostRuntime) {
+    assert_bad(
+        &rt,
+        rt.alloc(),
+        &[
+            r#"["el","p"]"#,
+            r#"["el","p",[],[],[]]"#,
+            r#"["el",7,[],[]]"#,
+            r#"["el","p",{},[]]"#,
+            r#"["el","p",[],{}]"#,
+        ],
+    );
+}
+
+#[test]
+fn parts_of_attributes(rt: HostRuntime) {
+    assert_bad(
+        &rt,
+        rt.alloc(),
+        &[
+            r#"["el","p",[["id"]],[]]"#,
+            r#"["el","p",[["id",7]],[]]"#,
+            r#"["el","p",[["id","a","b"]],[]]"#,
+        ],
+    );
+}
+
+/// The whole shape is judged before any name.
+#[test]
+fn shape_before_names(rt: HostRuntime) {
+    assert_bad(
+        &rt,
+        rt.alloc(),
+        &[r#"["el","",[],[7]]"#, r#"["el","",[],[["el","p"]]]"#],
+    );
+}
+
+#[test]
+fn no_element(rt: HostRuntime) {
+    assert_bad(
+        &rt,
+        rt.alloc(),
+        &[
+            r#"["EL","p",[],[]]"#,
+            r#"["text","x"]"#,
+            r#"["start",1]"#,
+            r#"["end",1]"#,
+            r#"["space"]"#,
+            r#"["el","p",[],[["space"]]]"#,
+        ],
+    );
+}
+
+#[test]
+fn parts_of_texts(rt: HostRuntime) {
+    assert_bad(
+        &rt,
+        rt.alloc(),
+        &[
+            r#"["el","p",[],[["text"]]]"#,
+            r#"["el","p",[],[["text",1]]]"#,
+        ],
+    );
+}
+
+#[test]
+fn parts_of_starts(rt: HostRuntime) {
+    assert_bad(
+        &rt,
+        rt.alloc(),
+        &[
+            r#"["el","p",[],[["start"]]]"#,
+            r#"["el","p",[],[["start",1,2,3]]]"#,
+            r#"["el","p",[],[["start",1,null]]]"#,
+        ],
+    );
+}
+
+/// Whole numbers from 0 to 18446744073709551615, in digits alone.
+#[test]
+fn locations(rt: HostRuntime) {
+    assert_bad(
+        &rt,
+        rt.alloc(),
+        &[
+            r#"["el","p",[],[["start",1.0]]]"#,
+            r#"["el","p",[],[["start",1e2]]]"#,
+            r#"["el","p",[],[["start",-1]]]"#,
+            r#"["el","p",[],[["start",-0]]]"#,
+            r#"["el","p",[],[["start",18446744073709551616]]]"#,
+        ],
+    );
+}
+
+#[test]
+fn parts_of_ends(rt: HostRuntime) {
+    assert_bad(
+        &rt,
+        rt.alloc(),
+        &[
+            r#"["el","p",[],[["end","1"]]]"#,
+            r#"["el","p",[],[["end",1,2]]]"#,
+        ],
+    );
+}
+
+#[test]
+fn no_utf8(rt: HostRuntime) {
+    let mut input = b"[\"el\",\"p\",[],[]]\xff".as_slice();
+    assert_run(&rt, rt.alloc(), &mut input, Status::BadInput, BAD_INPUT);
+}
+
+/// The status for elements nested that deep, each in the list of the one around it.
+fn nested(rt: &impl Abort, alloc: Global, levels: usize) -> Status {
+    let mut input = String::new(alloc);
+    for _ in 0..levels {
+        input
+            .push_str(r#"["el","em",[],["#)
+            .expect(rt, "memory for the input");
+    }
+    for _ in 0..levels {
+        input.push_str("]]").expect(rt, "memory for the input");
+    }
+    answer(rt, alloc, &["tree"], &mut input.as_bytes()).0
+}
+
+#[test]
+fn sixty_two_levels(rt: HostRuntime) {
+    assert!(rt; nested(&rt, rt.alloc(), 62) == Status::Done);
+}
+
+/// JSON that is nested deeper than its reader goes is bad input.
+#[test]
+fn too_many_levels(rt: HostRuntime) {
+    assert!(rt; nested(&rt, rt.alloc(), 66) == Status::BadInput);
+    assert!(rt; nested(&rt, rt.alloc(), 5000) == Status::BadInput);
+}
