@@ -5,6 +5,8 @@ use Rattle.std.specs.declared.alloc.Global.{Global}
 use Rattle.html_dom.specs.Tree.{NodeView, NodesView}
 use Rattle.html_dom.specs.Views.{nodes_view}
 use Rattle.html_dom.specs.declared.node.HtmlNode.{HtmlNode}
+use Rattle.html_whitespace.specs.DraftViews.{drafts_shown}
+use Rattle.html_whitespace.specs.declared.draft.Draft.{Draft}
 use Rattle.html_flow.specs.declared.fault.FlowFault.{FlowFault}
 use Rattle.html_flow.specs.declared.fault.FlowFault.TheVariants.{OutOfMemory, TooDeep}
 
@@ -21,6 +23,13 @@ IsDepthFault too_deep (TooDeep span) = too_deep ≡ Some span.0
 pub record Converts (r : Result (Vec HtmlNode Global) FlowFault) (nodes : NodesView)
     (too_deep : Option ℕ) : Type 0 where
   pub made : IfOk r (λ made. nodes_view made.items ≡ nodes)
+  pub shallow : OnOk r (too_deep ≡ None)
+  pub fault : IfErr r (λ f. IsDepthFault too_deep f)
+
+-- a list is answered by drafts that stand for its nodes
+pub record Drafts (r : Result (Vec Draft Global) FlowFault) (nodes : NodesView)
+    (too_deep : Option ℕ) : Type 0 where
+  pub made : IfOk r (λ made. drafts_shown made.items ≡ nodes)
   pub shallow : OnOk r (too_deep ≡ None)
   pub fault : IfErr r (λ f. IsDepthFault too_deep f)
 

@@ -5,9 +5,10 @@ ghost use Rattle.std.specs.Prelude.{◌≡◌, ◌≤◌, ◌++◌, ◌∷◌, [
 ghost use Rattle.html_names.specs.Names.{is_ascii};
 ghost use Rattle.html_names.specs.Texts.{text_view};
 ghost use Rattle.html_dom.specs.Tree.{tag_node, text_node, element_node};
-ghost use Rattle.html_dom.specs.Views.{attrs_view, element_view, node_view, nodes_view, tag_view};
+ghost use Rattle.html_dom.specs.Views.{attrs_view, head_of, tag_view};
+ghost use Rattle.html_whitespace.specs.DraftViews.{draft_shown, drafts_shown};
 ghost use Rattle.html_flow.specs.Converted.{body_nodes, break_item_node, converted_nodes, element_head, frame_item_node, item_nodes, list_nodes, role_pairs, role_text, text_item_nodes};
-ghost use Rattle.html_flow.specs.Converts.{Adds, Converts};
+ghost use Rattle.html_flow.specs.Converts.{Adds, Converts, Drafts};
 ghost use Rattle.html_flow.specs.Depth.{body_too_deep, item_too_deep, items_too_deep};
 ghost use Rattle.html_flow.specs.Items.{element_item};
 ghost use Rattle.html_flow.specs.Views.{body_view, elem_view, frame_elem_view, item_view, items_view};
@@ -19,7 +20,7 @@ use crate::setting::{Setting, body_level, passes_role};
 use html_css::Properties;
 use html_dom::{HtmlAttrs, HtmlElement, HtmlFrame, HtmlNode, Span, Tag};
 use html_names::attr;
-use html_whitespace::{break_element, keep_runs, protect_spaces, push_text_nodes};
+use html_whitespace::{Draft, break_element, keep_runs, nodes_of, protect_spaces, push_text_nodes};
 use std::alloc::{AllocError, Global};
 
 /// Where a list of items stands.
@@ -57,8 +58,10 @@ pub enum Whitespace {
 /// with the span of the first item, in document order, that has a body, even an empty one, deeper
 /// than `limit`.
 ///
-/// Cost: grows with the number of items and the length of their texts; where boxes or blocks stand
-/// in one another, each with one element alone in it, it may also grow with how many do.
+/// Cost: grows with the number of items and the length of their texts. Only two kinds of items are
+/// gone through at each level of boxes and blocks that stand in one another: tags beside an element
+/// that is alone in them, and a list in which a lone space comes first, or behind a border, right
+/// after another one that stands in an element of its own.
 ///
 /// ```
 /// use html_dom::Span;
@@ -95,7 +98,8 @@ pub fn convert_to_nodes(
         depth,
         limit,
     };
-    convert_list(alloc, items, level, setting)
+    let drafts = convert_list(alloc, items, level, setting)?;
+    Ok(nodes_of(alloc, drafts)?)
 }
 
 /// The nodes of a list.
@@ -105,10 +109,10 @@ fn convert_list(
     items: &[Pair],
     level: ConversionLevel,
     setting: Setting<'_>,
-) -> Result<Vec<HtmlNode>, FlowFault>
+) -> Result<Vec<Draft>, FlowFault>
     requires within { setting.depth ≤ setting.limit }
     requires low_limit { setting.limit ≤ 10000 }
-    ensures { Converts result
+    ensures { Drafts result
         (converted_nodes level setting.entry.whitespace (role_text setting.entry.role)
         (items_view items.now))
         (items_too_deep setting.entry.depth setting.entry.limit (items_view items.now)) }
@@ -128,10 +132,10 @@ fn convert_body(
     span: Span,
     level: ConversionLevel,
     setting: Setting<'_>,
-) -> Result<Vec<HtmlNode>, FlowFault>
+) -> Result<Vec<Draft>, FlowFault>
     requires within { setting.depth ≤ setting.limit }
     requires low_limit { setting.limit ≤ 10000 }
-    ensures { Converts result
+    ensures { Drafts result
         (body_nodes level setting.entry.whitespace (role_text setting.entry.role)
         (body_view body.now))
         (body_too_deep setting.entry.depth setting.entry.limit span.0 (body_view body.now)) }
@@ -151,11 +155,11 @@ fn push_item(
     alloc: Global,
     item: &Item,
     setting: Setting<'_>,
-    nodes: &mut Vec<HtmlNode>,
+    nodes: &mut Vec<Draft>,
 ) -> Result<(), FlowFault>
     requires within { setting.depth ≤ setting.limit }
     requires low_limit { setting.limit ≤ 10000 }
-    ensures { Adds result (map node_view nodes.old.items) (map node_view nodes.new.items)
+    ensures { Adds result (map draft_shown nodes.old.items) (map draft_shown nodes.new.items)
         (item_nodes setting.entry.whitespace (role_text setting.entry.role) (item_view item.now))
         (item_too_deep setting.entry.depth setting.entry.limit (item_view item.now)) }
 {
@@ -168,11 +172,11 @@ fn push_item(
         Item::LineBreak(span) => Ok(push_break(alloc, nodes, *span, setting.whitespace)?),
         Item::Box(body, span) => {
             let inside = convert_body(alloc, body, *span, ConversionLevel::Inline, setting)?;
-            Ok(push_box(alloc, nodes, inside, *span)?)
+            Ok(push_box(alloc, nodes, inside, setting.whitespace, *span)?)
         }
         Item::Block(body, span) => {
             let inside = convert_body(alloc, body, *span, ConversionLevel::Block, setting)?;
-            Ok(push_block(alloc, nodes, inside, *span)?)
+            Ok(push_block(alloc, nodes, inside, setting.whitespace, *span)?)
         }
         Item::Frame(frame) => Ok(push_frame(alloc, nodes, frame)?),
     }
@@ -184,12 +188,12 @@ fn push_element(
     alloc: Global,
     element: &HtmlElem,
     setting: Setting<'_>,
-    nodes: &mut Vec<HtmlNode>,
+    nodes: &mut Vec<Draft>,
 ) -> Result<(), FlowFault>
     requires within { setting.depth ≤ setting.limit }
     requires low_limit { setting.limit ≤ 10000 }
     ensures { let view = elem_view element.now in let item = element_item view.0 view.1 in
-        Adds result (map node_view nodes.old.items) (map node_view nodes.new.items)
+        Adds result (map draft_shown nodes.old.items) (map draft_shown nodes.new.items)
         (item_nodes setting.entry.whitespace (role_text setting.entry.role) item)
         (item_too_deep setting.entry.depth setting.entry.limit item) }
 {
@@ -206,37 +210,34 @@ fn push_element(
 /// Adds an element with the role of its item and with these children.
 fn push_around(
     alloc: Global,
-    nodes: &mut Vec<HtmlNode>,
+    nodes: &mut Vec<Draft>,
     element: &HtmlElem,
     role: Option<&str>,
-    children: Vec<HtmlNode>,
+    children: Vec<Draft>,
 ) -> Result<(), AllocError>
-    ensures { OnOk result (map node_view nodes.new.items ≡ map node_view nodes.old.items
+    ensures { OnOk result (map draft_shown nodes.new.items ≡ map draft_shown nodes.old.items
         ++ element_node (element_head (role_text role.entry) (elem_view element.now).0)
-        (nodes_view children.items) ∷ []) }
+        (drafts_shown children.items) ∷ []) }
 {
-    let made = element_around(alloc, element, role, children)?;
-    nodes.push(HtmlNode::Element(made))?;
+    let made = element_with_role(alloc, element, role)?;
+    nodes.push(Draft::open(made, children))?;
     Ok(())
 }
 
-/// The element with the role of its item and with these children.
-fn element_around(
+/// The element with the role of its item, without children.
+fn element_with_role(
     alloc: Global,
     element: &HtmlElem,
     role: Option<&str>,
-    children: Vec<HtmlNode>,
 ) -> Result<HtmlElement, AllocError>
-    ensures { IfOk result (λ made. element_view made ≡ (
-      element_head (role_text role.entry) (elem_view element.now).0,
-      nodes_view children.items,
-    )) }
+    ensures { IfOk result (λ made.
+        head_of made ≡ element_head (role_text role.entry) (elem_view element.now).0) }
 {
     Ok(HtmlElement {
         tag: element.tag.try_clone()?,
         attrs: attrs_with_role(alloc, element, role)?,
         css: element.css.try_clone()?,
-        children,
+        children: Vec::new(alloc),
         parent: element.parent,
         span: element.span,
         pre_span: false,
@@ -272,33 +273,33 @@ fn push_role(alloc: Global, attrs: &mut HtmlAttrs, role: Option<&str>) -> Result
 }
 
 /// Adds the node of a tag.
-fn push_tag(nodes: &mut Vec<HtmlNode>, tag: &Tag) -> Result<(), AllocError>
-    ensures { OnOk result (map node_view nodes.new.items
-        ≡ map node_view nodes.old.items ++ tag_node (tag_view tag.now) ∷ []) }
+fn push_tag(nodes: &mut Vec<Draft>, tag: &Tag) -> Result<(), AllocError>
+    ensures { OnOk result (map draft_shown nodes.new.items
+        ≡ map draft_shown nodes.old.items ++ tag_node (tag_view tag.now) ∷ []) }
 {
-    nodes.push(HtmlNode::Tag(tag.try_clone()?))?;
+    nodes.push(Draft::Tag(tag.try_clone()?))?;
     Ok(())
 }
 
 /// Adds a text.
-fn push_string(nodes: &mut Vec<HtmlNode>, text: String, span: Span) -> Result<(), AllocError>
-    ensures { OnOk result (map node_view nodes.new.items
-        ≡ map node_view nodes.old.items ++ text_node (text_view text) span.0 ∷ []) }
+fn push_string(nodes: &mut Vec<Draft>, text: String, span: Span) -> Result<(), AllocError>
+    ensures { OnOk result (map draft_shown nodes.new.items
+        ≡ map draft_shown nodes.old.items ++ text_node (text_view text) span.0 ∷ []) }
 {
-    nodes.push(HtmlNode::Text(text, span))?;
+    nodes.push(Draft::text(text, span))?;
     Ok(())
 }
 
 /// Adds a text of ASCII.
 fn push_literal(
     alloc: Global,
-    nodes: &mut Vec<HtmlNode>,
+    nodes: &mut Vec<Draft>,
     text: &str,
     span: Span,
 ) -> Result<(), AllocError>
     requires { IsTrue (is_ascii text.now) }
-    ensures { OnOk result (map node_view nodes.new.items
-        ≡ map node_view nodes.old.items ++ text_node text.now span.0 ∷ []) }
+    ensures { OnOk result (map draft_shown nodes.new.items
+        ≡ map draft_shown nodes.old.items ++ text_node text.now span.0 ∷ []) }
 {
     push_string(nodes, String::from_str(alloc, text)?, span)
 }
@@ -306,12 +307,12 @@ fn push_literal(
 /// Adds the nodes of a text item.
 fn push_text(
     alloc: Global,
-    nodes: &mut Vec<HtmlNode>,
+    nodes: &mut Vec<Draft>,
     text: &String,
     span: Span,
     whitespace: Whitespace,
 ) -> Result<(), AllocError>
-    ensures { OnOk result (map node_view nodes.new.items ≡ map node_view nodes.old.items
+    ensures { OnOk result (map draft_shown nodes.new.items ≡ map draft_shown nodes.old.items
         ++ text_item_nodes whitespace (text_view text.now) span.0) }
 {
     match whitespace {
@@ -323,16 +324,16 @@ fn push_text(
 /// Adds the node of a line break.
 fn push_break(
     alloc: Global,
-    nodes: &mut Vec<HtmlNode>,
+    nodes: &mut Vec<Draft>,
     span: Span,
     whitespace: Whitespace,
 ) -> Result<(), AllocError>
-    ensures { OnOk result (map node_view nodes.new.items ≡ map node_view nodes.old.items
+    ensures { OnOk result (map draft_shown nodes.new.items ≡ map draft_shown nodes.old.items
         ++ break_item_node whitespace span.0 ∷ []) }
 {
     match whitespace {
         Whitespace::Normal => {
-            nodes.push(HtmlNode::Element(break_element(alloc, span)))?;
+            nodes.push(Draft::open(break_element(alloc, span), Vec::new(alloc)))?;
             Ok(())
         }
         Whitespace::Pre => push_literal(alloc, nodes, "\n", span),
@@ -340,13 +341,13 @@ fn push_break(
 }
 
 /// Adds the node of a frame item.
-fn push_frame(alloc: Global, nodes: &mut Vec<HtmlNode>, frame: &FrameElem) -> Result<(), AllocError>
-    ensures { OnOk result (map node_view nodes.new.items ≡ map node_view nodes.old.items
+fn push_frame(alloc: Global, nodes: &mut Vec<Draft>, frame: &FrameElem) -> Result<(), AllocError>
+    ensures { OnOk result (map draft_shown nodes.new.items ≡ map draft_shown nodes.old.items
         ++ frame_item_node (frame_elem_view frame.now) ∷ []) }
 {
     let mut made = HtmlFrame::new(alloc, frame.frame.try_clone()?, frame.text_size, frame.span);
     made.css = block_css(alloc)?;
-    nodes.push(HtmlNode::Frame(made))?;
+    nodes.push(Draft::Frame(made))?;
     Ok(())
 }
 
@@ -362,12 +363,12 @@ fn block_css(alloc: Global) -> Result<Properties, AllocError>
 /// stay is protected.
 fn finish(
     alloc: Global,
-    nodes: Vec<HtmlNode>,
+    nodes: Vec<Draft>,
     level: ConversionLevel,
     whitespace: Whitespace,
-) -> Result<Vec<HtmlNode>, AllocError>
-    ensures { IfOk result (λ made. nodes_view made.items
-        ≡ list_nodes level whitespace (map node_view nodes.items)) }
+) -> Result<Vec<Draft>, AllocError>
+    ensures { IfOk result (λ made. drafts_shown made.items
+        ≡ list_nodes level whitespace (map draft_shown nodes.items)) }
 {
     match whitespace {
         Whitespace::Pre => Ok(nodes),

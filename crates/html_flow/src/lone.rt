@@ -2,18 +2,21 @@
 
 ghost use Rattle.std.specs.Prelude.{◌≡◌, ◌++◌, ◌∷◌, [], IfOk, OnOk, bytes_eq, codes, map, option_map};
 ghost use Rattle.std.specs.List.{list_all};
-ghost use Rattle.html_dom.specs.Tree.{element_node};
-ghost use Rattle.html_dom.specs.Views.{node_view, nodes_view, element_view, text_view};
+ghost use Rattle.html_dom.specs.Tree.{element_node, none};
+ghost use Rattle.html_dom.specs.Views.{head_of, nodes_of, text_view};
+ghost use Rattle.html_whitespace.specs.DraftViews.{draft_shown, drafts_shown};
 ghost use Rattle.html_whitespace.specs.Nodes.{is_tag};
 ghost use Rattle.html_flow.specs.LoneNode.{change_view, css_displayed, node_displayed};
 ghost use Rattle.html_flow.specs.LoneNode.{lone_alone, lone_node, is_math, is_shown_as_block};
 ghost use Rattle.html_flow.specs.LoneNode.{box_change, change_by_display, block_change};
 ghost use Rattle.html_flow.specs.LoneNode.{box_change_of, block_change_of, box_head, block_head, box_nodes, block_nodes};
 
+use crate::convert::Whitespace;
 use html_css::Properties;
-use html_dom::{HtmlElement, HtmlNode, Span};
+use html_dom::{HtmlElement, Span};
 use html_names::property::Display;
 use html_names::{attr, tag};
+use html_whitespace::{Draft, is_entered, settled};
 use std::alloc::{AllocError, Global};
 
 /// What becomes of `display` in the css of a node.
@@ -39,32 +42,33 @@ impl DisplayChange {
 }
 
 /// Whether the node is a tag.
-fn is_tag(node: &HtmlNode) -> bool
-    ensures { result ≡ is_tag (node_view node.now) }
+fn is_tag(node: &Draft) -> bool
+    ensures { result ≡ is_tag (draft_shown node.now) }
 {
-    matches!(node, HtmlNode::Tag(_))
+    matches!(node, Draft::Tag(_))
 }
 
 /// Whether all nodes are tags.
-fn are_tags(nodes: &[HtmlNode]) -> bool
-    ensures { result ≡ list_all (λ node. is_tag (node_view node)) nodes.now }
+fn are_tags(nodes: &[Draft]) -> bool
+    ensures { result ≡ list_all (λ node. is_tag (draft_shown node)) nodes.now }
 {
     nodes.iter().all(|node| is_tag(node))
 }
 
 /// The node, if it is an element or frame.
-fn element_or_frame(node: &HtmlNode) -> Option<&HtmlNode>
-    ensures { option_map (λ lone. node_view lone.now) result ≡ lone_alone (node_view node.now) }
+fn element_or_frame(node: &Draft) -> Option<&Draft>
+    ensures { option_map (λ lone. draft_shown lone.now) result ≡ lone_alone (draft_shown node.now) }
 {
     match node {
-        HtmlNode::Tag(_) | HtmlNode::Text(_, _) => None,
-        HtmlNode::Element(_) | HtmlNode::Frame(_) => Some(node),
+        Draft::Tag(_) | Draft::Text(_, _) => None,
+        Draft::Open(_, _) | Draft::Settled(_, _) | Draft::Frame(_) => Some(node),
     }
 }
 
 /// The one node that is left when tags at both ends are cut off, if it is an element or frame.
-fn lone_node(nodes: &[HtmlNode]) -> Option<&HtmlNode>
-    ensures { option_map (λ lone. node_view lone.now) result ≡ lone_node (nodes_view nodes.now) }
+fn lone_node(nodes: &[Draft]) -> Option<&Draft>
+    ensures { option_map (λ lone. draft_shown lone.now) result
+        ≡ lone_node (nodes_of (map draft_shown nodes.now)) }
 {
     for (place, node) in nodes.iter().enumerate() {
         if is_tag(node) {
@@ -81,7 +85,7 @@ fn lone_node(nodes: &[HtmlNode]) -> Option<&HtmlNode>
 /// Whether the element is a formula.
 #[tactic(auto, unfolding(html_names::specs::Tables::known_tags))]
 fn is_math(element: &HtmlElement) -> bool
-    ensures { result ≡ is_math (element_view element.now).0 }
+    ensures { result ≡ is_math (head_of element.now) }
 {
     element.tag == tag::mathml::math
 }
@@ -96,7 +100,7 @@ fn is_block(text: &String) -> bool
 /// Whether the first attribute `display` is `block`.
 #[tactic(auto, unfolding(html_names::specs::Tables::known_attrs))]
 fn is_shown_as_block(element: &HtmlElement) -> bool
-    ensures { result ≡ is_shown_as_block (element_view element.now).0 }
+    ensures { result ≡ is_shown_as_block (head_of element.now) }
 {
     match element.attrs.get(&attr::mathml::display) {
         Some(value) => is_block(value),
@@ -107,8 +111,7 @@ fn is_shown_as_block(element: &HtmlElement) -> bool
 /// The change of a lone element of a box.
 #[tactic(auto, using(crate::proofs::LoneNodes::inline_math_word))]
 fn element_box_change(element: &HtmlElement) -> DisplayChange
-    ensures { let view = element_view element.now in
-        change_view result ≡ box_change (element_node view.0 view.1) }
+    ensures { change_view result ≡ box_change (element_node (head_of element.now) none) }
 {
     if is_math(element) && is_shown_as_block(element) {
         DisplayChange::SetTo("inline math")
@@ -118,18 +121,19 @@ fn element_box_change(element: &HtmlElement) -> DisplayChange
 }
 
 /// The change of a lone node of a box.
-fn box_change(node: &HtmlNode) -> DisplayChange
-    ensures { change_view result ≡ box_change (node_view node.now) }
+fn box_change(node: &Draft) -> DisplayChange
+    ensures { change_view result ≡ box_change (draft_shown node.now) }
 {
     match node {
-        HtmlNode::Element(element) => element_box_change(element),
-        HtmlNode::Tag(_) | HtmlNode::Text(_, _) | HtmlNode::Frame(_) => DisplayChange::Removed,
+        Draft::Open(element, _) | Draft::Settled(element, _) => element_box_change(element),
+        Draft::Tag(_) | Draft::Text(_, _) | Draft::Frame(_) => DisplayChange::Removed,
     }
 }
 
 /// The change of the lone node of a box's body, if it has one.
-fn change_in_box(body: &[HtmlNode]) -> Option<DisplayChange>
-    ensures { option_map change_view result ≡ box_change_of (lone_node (nodes_view body.now)) }
+fn change_in_box(body: &[Draft]) -> Option<DisplayChange>
+    ensures { option_map change_view result
+        ≡ box_change_of (lone_node (nodes_of (map draft_shown body.now))) }
 {
     let lone = lone_node(body)?;
     Some(box_change(lone))
@@ -152,8 +156,8 @@ fn change_by_display(display: Option<Display>) -> Option<DisplayChange>
 /// The change of a lone element of a block, if it can stand for the block.
 #[tactic(auto, using(crate::proofs::LoneNodes::block_math_word))]
 fn element_block_change(element: &HtmlElement) -> Option<DisplayChange>
-    ensures { let view = element_view element.now in
-        option_map change_view result ≡ block_change (element_node view.0 view.1) }
+    ensures { option_map change_view result
+        ≡ block_change (element_node (head_of element.now) none) }
 {
     if !is_math(element) {
         return change_by_display(Display::default_for(&element.tag));
@@ -166,19 +170,20 @@ fn element_block_change(element: &HtmlElement) -> Option<DisplayChange>
 }
 
 /// The change of a lone node of a block, if it can stand for the block.
-fn block_change(node: &HtmlNode) -> Option<DisplayChange>
-    ensures { option_map change_view result ≡ block_change (node_view node.now) }
+fn block_change(node: &Draft) -> Option<DisplayChange>
+    ensures { option_map change_view result ≡ block_change (draft_shown node.now) }
 {
     match node {
-        HtmlNode::Tag(_) | HtmlNode::Text(_, _) => None,
-        HtmlNode::Element(element) => element_block_change(element),
-        HtmlNode::Frame(_) => Some(DisplayChange::SetTo("block")),
+        Draft::Tag(_) | Draft::Text(_, _) => None,
+        Draft::Open(element, _) | Draft::Settled(element, _) => element_block_change(element),
+        Draft::Frame(_) => Some(DisplayChange::SetTo("block")),
     }
 }
 
 /// The change of the lone node of a block's body, if it has one that can stand for the block.
-fn change_in_block(body: &[HtmlNode]) -> Option<DisplayChange>
-    ensures { option_map change_view result ≡ block_change_of (lone_node (nodes_view body.now)) }
+fn change_in_block(body: &[Draft]) -> Option<DisplayChange>
+    ensures { option_map change_view result
+        ≡ block_change_of (lone_node (nodes_of (map draft_shown body.now))) }
 {
     block_change(lone_node(body)?)
 }
@@ -189,29 +194,91 @@ fn element_displayed(
     mut element: HtmlElement,
     change: DisplayChange,
 ) -> Result<HtmlElement, AllocError>
-    ensures { let view = element_view element in IfOk result (λ changed. element_view changed
-        ≡ (record view.0 { css = css_displayed (change_view change) view.0.css }, view.1)) }
+    ensures { let head = head_of element in IfOk result (λ changed. head_of changed
+        ≡ record head { css = css_displayed (change_view change) head.css }) }
 {
     change.apply(alloc, &mut element.css)?;
     Ok(element)
 }
 
+/// Which lone spaces in a lone element were judged before it takes the place of a box or block.
+#[derive(Clone, Copy)]
+enum Judged {
+    /// None, since white space stays.
+    Nothing,
+    /// All.
+    Body,
+    /// Those in an element that had lines of its own.
+    Lines,
+}
+
+impl Judged {
+    /// Those of a box's body.
+    fn of_box(whitespace: Whitespace) -> Judged {
+        match whitespace {
+            Whitespace::Normal => Judged::Lines,
+            Whitespace::Pre => Judged::Nothing,
+        }
+    }
+
+    /// Those of a block's body.
+    fn of_block(whitespace: Whitespace) -> Judged {
+        match whitespace {
+            Whitespace::Normal => Judged::Body,
+            Whitespace::Pre => Judged::Nothing,
+        }
+    }
+
+    /// Whether those in the element were, as long as its css is not changed.
+    fn is_within(self, element: &HtmlElement) -> bool {
+        match self {
+            Judged::Nothing => false,
+            Judged::Body => true,
+            Judged::Lines => !is_entered(element),
+        }
+    }
+}
+
+/// The element with its css changed, and what stands in it. If that was judged and is looked at from
+/// now on together with what stands around the element, it is settled, so that this is done once.
+fn open_displayed(
+    alloc: Global,
+    element: HtmlElement,
+    children: Vec<Draft>,
+    change: DisplayChange,
+    judged: Judged,
+) -> Result<Draft, AllocError>
+    ensures { let head = head_of element in IfOk result (λ changed. draft_shown changed
+        ≡ element_node (record head { css = css_displayed (change_view change) head.css })
+        (drafts_shown children.items)) }
+{
+    let is_judged = judged.is_within(&element);
+    let element = element_displayed(alloc, element, change)?;
+    if is_judged && is_entered(&element) {
+        return settled(alloc, element, children);
+    }
+    Ok(Draft::open(element, children))
+}
+
 /// The node with its css changed; a tag or text has none.
 fn node_displayed(
     alloc: Global,
-    node: HtmlNode,
+    node: Draft,
     change: DisplayChange,
-) -> Result<HtmlNode, AllocError>
+    judged: Judged,
+) -> Result<Draft, AllocError>
     ensures { IfOk result
-        (λ changed. node_view changed ≡ node_displayed (change_view change) (node_view node)) }
+        (λ changed. draft_shown changed ≡ node_displayed (change_view change) (draft_shown node)) }
 {
     match node {
-        HtmlNode::Element(element) => {
-            Ok(HtmlNode::Element(element_displayed(alloc, element, change)?))
+        Draft::Open(element, children) => open_displayed(alloc, element, children, change, judged),
+        Draft::Settled(element, children) => {
+            let element = element_displayed(alloc, element, change)?;
+            Ok(Draft::Settled(element, children))
         }
-        HtmlNode::Frame(mut frame) => {
+        Draft::Frame(mut frame) => {
             change.apply(alloc, &mut frame.css)?;
-            Ok(HtmlNode::Frame(frame))
+            Ok(Draft::Frame(frame))
         }
         node => Ok(node),
     }
@@ -220,15 +287,16 @@ fn node_displayed(
 /// Moves nodes to the end of others, with their css changed.
 fn push_displayed(
     alloc: Global,
-    nodes: &mut Vec<HtmlNode>,
-    body: Vec<HtmlNode>,
+    nodes: &mut Vec<Draft>,
+    body: Vec<Draft>,
     change: DisplayChange,
+    judged: Judged,
 ) -> Result<(), AllocError>
-    ensures { OnOk result (map node_view nodes.new.items ≡ map node_view nodes.old.items
-        ++ map (node_displayed (change_view change)) (map node_view body.items)) }
+    ensures { OnOk result (map draft_shown nodes.new.items ≡ map draft_shown nodes.old.items
+        ++ map (node_displayed (change_view change)) (map draft_shown body.items)) }
 {
     for node in body {
-        nodes.push(node_displayed(alloc, node, change)?)?;
+        nodes.push(node_displayed(alloc, node, change, judged)?)?;
     }
     Ok(())
 }
@@ -241,67 +309,66 @@ fn inline_block_css(alloc: Global) -> Result<Properties, AllocError>
     Ok(Properties::new(alloc).with("display", value)?)
 }
 
-/// A `span` that is a box, with these children.
+/// A `span` that is a box.
 #[tactic(auto, unfolding(html_names::specs::Tables::known_tags))]
-fn box_element(
-    alloc: Global,
-    children: Vec<HtmlNode>,
-    span: Span,
-) -> Result<HtmlElement, AllocError>
-    ensures { IfOk result
-        (λ element. element_view element ≡ (box_head span.0, nodes_view children.items)) }
+fn box_element(alloc: Global, span: Span) -> Result<HtmlElement, AllocError>
+    ensures { IfOk result (λ element. head_of element ≡ box_head span.0) }
 {
     let css = inline_block_css(alloc)?;
-    let element = HtmlElement::new(alloc, tag::span).with_css(css);
-    Ok(element.with_children(children).spanned(span))
+    Ok(
+        HtmlElement::new(alloc, tag::span)
+            .with_css(css)
+            .spanned(span),
+    )
 }
 
-/// A `div` that is a block, with these children.
+/// A `div` that is a block.
 #[tactic(auto, unfolding(html_names::specs::Tables::known_tags))]
-fn block_element(alloc: Global, children: Vec<HtmlNode>, span: Span) -> HtmlElement
-    ensures { element_view result ≡ (block_head span.0, nodes_view children.items) }
+fn block_element(alloc: Global, span: Span) -> HtmlElement
+    ensures { head_of result ≡ block_head span.0 }
 {
-    HtmlElement::new(alloc, tag::div)
-        .with_children(children)
-        .spanned(span)
+    HtmlElement::new(alloc, tag::div).spanned(span)
 }
 
-/// Adds the nodes of a box, by those of its body: the one element or frame in it, tags at both ends
-/// aside, whose css then leaves `display` out, or is `inline math` on a formula that would be a
-/// block, else a `span`.
+/// Adds the nodes of a box, by those of its body, in which white space becomes that: the one element
+/// or frame in it, tags at both ends aside, whose css then leaves `display` out, or is `inline math`
+/// on a formula that would be a block, else a `span`.
 pub(crate) fn push_box(
     alloc: Global,
-    nodes: &mut Vec<HtmlNode>,
-    body: Vec<HtmlNode>,
+    nodes: &mut Vec<Draft>,
+    body: Vec<Draft>,
+    whitespace: Whitespace,
     span: Span,
 ) -> Result<(), AllocError>
-    ensures { OnOk result (map node_view nodes.new.items
-        ≡ map node_view nodes.old.items ++ box_nodes span.0 (nodes_view body.items)) }
+    ensures { OnOk result (map draft_shown nodes.new.items
+        ≡ map draft_shown nodes.old.items ++ box_nodes span.0 (drafts_shown body.items)) }
 {
     match change_in_box(&body) {
-        Some(change) => push_displayed(alloc, nodes, body, change),
+        Some(change) => push_displayed(alloc, nodes, body, change, Judged::of_box(whitespace)),
         None => {
-            nodes.push(HtmlNode::from(box_element(alloc, body, span)?))?;
+            nodes.push(Draft::open(box_element(alloc, span)?, body))?;
             Ok(())
         }
     }
 }
 
-/// Adds the nodes of a block, by those of its body: the one element or frame in it, tags at both
-/// ends aside, with css that makes it a block where it is none, else a `div`.
+/// Adds the nodes of a block, by those of its body, in which white space becomes that: the one
+/// element or frame in it, tags at both ends aside, with css that makes it a block where it is none,
+/// else a `div`.
 pub(crate) fn push_block(
     alloc: Global,
-    nodes: &mut Vec<HtmlNode>,
-    body: Vec<HtmlNode>,
+    nodes: &mut Vec<Draft>,
+    body: Vec<Draft>,
+    whitespace: Whitespace,
     span: Span,
 ) -> Result<(), AllocError>
-    ensures { OnOk result (map node_view nodes.new.items
-        ≡ map node_view nodes.old.items ++ block_nodes span.0 (nodes_view body.items)) }
+    ensures { OnOk result (map draft_shown nodes.new.items
+        ≡ map draft_shown nodes.old.items ++ block_nodes span.0 (drafts_shown body.items)) }
 {
     match change_in_block(&body) {
-        Some(change) => push_displayed(alloc, nodes, body, change),
+        Some(change) => push_displayed(alloc, nodes, body, change, Judged::of_block(whitespace)),
         None => {
-            nodes.push(HtmlNode::from(block_element(alloc, body, span)))?;
+            nodes.push(Draft::open(block_element(alloc, span), body))?;
             Ok(())
         }
     }

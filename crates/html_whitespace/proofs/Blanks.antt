@@ -2,9 +2,11 @@
 use Rattle.std.proofs.Common.{◌≡◌, Bool, true, false, ◌||◌, List, [], ◌∷◌, ◌++◌, refl, append_assoc, append-nil}
 use Rattle.std.proofs.lemmas.Bool.{false≢true, or_from}
 use Rattle.html_dom.specs.Tree.{NodeView, tag_node, text_node, element_node, frame_node}
-use Rattle.html_whitespace.specs.Nodes.{is_tag}
+use Rattle.std.specs.List.{filter}
+use Rattle.html_dom.specs.Views.{nodes_of}
+use Rattle.html_whitespace.specs.Nodes.{is_tag, pre_wrap_head}
 use Rattle.html_whitespace.specs.OpenRuns.{goes_on}
-use Rattle.html_whitespace.specs.Runs.{is_blank_node, are_kept, run_nodes, front_nodes, front, after_front}
+use Rattle.html_whitespace.specs.Runs.{is_blank_node, are_kept, first_span, run_nodes, front_nodes, front, after_front}
 
 -- whether blanks are kept, after a space or at the start
 abbrev pub kept_after : (space : Bool) (blanks : List NodeView) → Bool
@@ -87,3 +89,8 @@ pub runs_end : (made run : List NodeView) → begins_with_tag run ≡ false →
     runs_of made run [] ≡ made ++ run_nodes run
 unfolding front after_front
 runs_end made run h = rw (append-nil run, run_is run h, append-nil) refl
+
+-- blanks that are kept
+pub kept_run : (ns : List NodeView) → are_kept (filter is_blank_node ns) ≡ true →
+    run_nodes ns ≡ element_node (pre_wrap_head (first_span ns)) (nodes_of ns) ∷ []
+kept_run ns e = rw e refl

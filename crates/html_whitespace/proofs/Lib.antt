@@ -6,3 +6,6 @@ pub mod Looks
 pub mod Lines
 pub mod NodeViews
 pub mod Protecting
+pub mod Settling
+pub mod Drafting
+pub mod DraftViewing

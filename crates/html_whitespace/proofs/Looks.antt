@@ -1,13 +1,19 @@
 -- What nodes look like where lines are made of them.
-use Rattle.std.proofs.Common.{◌≡◌, ℕ, Bool, true, false, ◌||◌, ◌&&◌, not, if◌then◌else◌, List, [], ◌∷◌, ◌++◌, map, length, get_or, drop, ◌+◌, ◌<◌, ◌≤◌, refl, sym, ap, ◌∙◌, append_assoc, append-nil, codes}
-use Rattle.std.proofs.lemmas.List.{map-append, drop_all}
-use Rattle.html_dom.proofs.Nodes.{nodes_view-drop}
+use Rattle.std.proofs.Common.{◌≡◌, ℕ, Bool, true, false, ◌||◌, ◌&&◌, not, if◌then◌else◌, List, [], ◌∷◌, ◌++◌, Option, Some, None, map, length, get_or, drop, ◌+◌, ◌<◌, ◌≤◌, refl, sym, ap, ◌∙◌, append_assoc, append-nil, codes}
+use Rattle.std.proofs.lemmas.Bool.{false≢true}
+use Rattle.std.proofs.lemmas.List.{map-append, drop_all, drop_more}
 use Rattle.std.specs.List.{list_any, list_all}
 use Rattle.html_dom.specs.Tree.{Head, NodeView, text_node}
 use Rattle.html_dom.specs.Views.{node_view, nodes_of, nodes_view}
 use Rattle.html_dom.specs.declared.node.HtmlNode.{HtmlNode}
 use Rattle.html_whitespace.specs.Nodes.{is_one, break_node}
-use Rattle.html_whitespace.specs.BareSpaces.{Thing, border, visible, space, text_things, is_border, is_entered, element_things, node_things, nodes_things, makes_block}
+use Rattle.html_whitespace.specs.BareSpaces.{Thing, border, visible, space, text_things, is_border, is_entered, element_things, node_things, nodes_things, makes_block, bare_after}
+use Rattle.html_whitespace.specs.Drafts.{draft, draft_look, drafts_look}
+use Rattle.html_whitespace.specs.DraftViews.{draft_view, drafts_view}
+use Rattle.html_whitespace.specs.Things.{thing_view, things_view, is_space}
+use Rattle.html_whitespace.specs.declared.draft.Draft.{Draft}
+use Rattle.html_whitespace.specs.declared.thing.Thing.{Thing as Seen}
+use Rattle.html_whitespace.specs.declared.thing.Thing.TheVariants as seen
 use Rattle.html_whitespace.specs.Looks.{look_things, head_look, text_look, is_inside}
 use Rattle.html_whitespace.specs.declared.look.Look.{Look}
 use Rattle.html_whitespace.specs.declared.look.Look.TheVariants.{Border, Visible, Space, Nothing, Inside}
@@ -103,24 +109,6 @@ things_pushed old new n e =
     ∙ (things_append (map node_view old) (node_view n ∷ [])
     ∙ ap (λ ts. nodes_things (nodes_view old) ++ ts) (append-nil (node_things (node_view n)))))
 
--- a list from a place on
-pub looks_step : (start old new : List Thing) (nodes : List HtmlNode) (i : ℕ) (n : HtmlNode) →
-    i < length nodes → n ≡ get_or nodes i n →
-    old ++ nodes_things (nodes_view (drop i nodes)) ≡ start → new ≡ old ++ node_things (node_view n) →
-    new ++ nodes_things (nodes_view (drop (i + 1) nodes)) ≡ start
-unfolding nodes_things
-looks_step start old new nodes i n below is before pushed =
-    ap (λ ts. ts ++ nodes_things (nodes_view (drop (i + 1) nodes))) pushed
-    ∙ (append_assoc old (node_things (node_view n)) (nodes_things (nodes_view (drop (i + 1) nodes)))
-    ∙ (ap (λ ns. old ++ nodes_things ns) (sym (nodes_view-drop nodes i n below is)) ∙ before))
-
-pub looks_end : (start old : List Thing) (nodes : List HtmlNode) (i : ℕ) → length nodes ≤ i →
-    old ++ nodes_things (nodes_view (drop i nodes)) ≡ start → old ≡ start
-unfolding nodes_things
-looks_end start old nodes i beyond before =
-    sym (append-nil old) ∙ (ap (λ ns. old ++ nodes_things (nodes_view ns)) (sym (drop_all i nodes beyond))
-    ∙ before)
-
 -- nodes that are made to look like something
 pub break_seen : (span : ℕ) → node_things (break_node span) ≡ border ∷ []
 unfolding node_things is_border stands_in
@@ -133,3 +121,54 @@ visible_seen span = refl
 pub space_seen : (span : ℕ) → node_things (text_node (codes " ") span) ≡ space ∷ []
 unfolding node_things
 space_seen span = refl
+
+-- drafts in a row
+
+pub drafts_first : (drafts : List Draft) (i : ℕ) (d : Draft) → i < length drafts →
+    d ≡ get_or drafts i d →
+    drafts_view (drop i drafts) ≡ draft (draft_view d) (drafts_view (drop (i + 1) drafts))
+drafts_first drafts i d below is =
+    ap drafts_view (drop_more drafts i d below)
+    ∙ ap (λ m. draft (draft_view m) (drafts_view (drop (i + 1) drafts))) (sym is)
+
+pub looks_step : (start old new : List Thing) (drafts : List Draft) (i : ℕ) (d : Draft) →
+    i < length drafts → d ≡ get_or drafts i d →
+    old ++ drafts_look (drafts_view (drop i drafts)) ≡ start → new ≡ old ++ draft_look (draft_view d) →
+    new ++ drafts_look (drafts_view (drop (i + 1) drafts)) ≡ start
+unfolding draft_look
+looks_step start old new drafts i d below is before pushed =
+    ap (λ ts. ts ++ drafts_look (drafts_view (drop (i + 1) drafts))) pushed
+    ∙ (append_assoc old (draft_look (draft_view d)) (drafts_look (drafts_view (drop (i + 1) drafts)))
+    ∙ (ap (λ ds. old ++ drafts_look ds) (sym (drafts_first drafts i d below is)) ∙ before))
+
+pub looks_end : (start old : List Thing) (drafts : List Draft) (i : ℕ) → length drafts ≤ i →
+    old ++ drafts_look (drafts_view (drop i drafts)) ≡ start → old ≡ start
+unfolding draft_look
+looks_end start old drafts i beyond before =
+    sym (append-nil old) ∙ (ap (λ ds. old ++ drafts_look (drafts_view ds)) (sym (drop_all i drafts beyond))
+    ∙ before)
+
+-- things in a row
+
+pub things_step : (made new start : List Thing) (things : List Seen) (i : ℕ) (t : Seen) →
+    i < length things → t ≡ get_or things i t → made ++ things_view (drop i things) ≡ start →
+    new ≡ made ++ thing_view t ∷ [] → new ++ things_view (drop (i + 1) things) ≡ start
+things_step made new start things i t below is before pushed =
+    ap (λ ts. ts ++ things_view (drop (i + 1) things)) pushed
+    ∙ (append_assoc made (thing_view t ∷ []) (things_view (drop (i + 1) things))
+    ∙ (ap (λ (m : Seen). made ++ thing_view m ∷ things_view (drop (i + 1) things)) is
+    ∙ (ap (λ ts. made ++ things_view ts) (sym (drop_more things i t below)) ∙ before)))
+
+pub things_end : (made start : List Thing) (things : List Seen) (i : ℕ) → length things ≤ i →
+    made ++ things_view (drop i things) ≡ start → made ≡ start
+things_end made start things i beyond before =
+    sym (append-nil made) ∙ (ap (λ ts. made ++ things_view ts) (sym (drop_all i things beyond)) ∙ before)
+
+-- without lone spaces there is no answer
+pub no_answers : (before : Option Thing) (things : List Seen) → list_any is_space things ≡ false →
+    bare_after before (things_view things) ≡ []
+unfolding bare_after
+no_answers before [] e = refl
+no_answers before (seen.Border ∷ ts) e = no_answers (Some border) ts e
+no_answers before (seen.Visible ∷ ts) e = no_answers (Some visible) ts e
+no_answers before (seen.Space ∷ ts) e = absurd (false≢true (sym e))

@@ -8,3 +8,7 @@ pub mod Protected
 pub mod Stretches
 pub mod OpenRuns
 pub mod AnswerLists
+pub mod Things
+pub mod Settled
+pub mod Drafts
+pub mod DraftViews

@@ -1,12 +1,12 @@
 //! Elements that are made where white space is processed.
 
 ghost use Rattle.std.specs.Prelude.{◌≡◌, [], ◌∷◌, IfOk, codes};
-ghost use Rattle.html_dom.specs.Tree.{element_node, none};
-ghost use Rattle.html_dom.specs.Views.{node_view, nodes_view, element_view};
+ghost use Rattle.html_dom.specs.Tree.{none};
+ghost use Rattle.html_dom.specs.Views.{element_view, head_of};
 ghost use Rattle.html_whitespace.specs.Nodes.{plain_head, pre_wrap_head};
 
 use html_css::Properties;
-use html_dom::{HtmlElement, HtmlNode, Span};
+use html_dom::{HtmlElement, Span};
 use html_names::tag;
 use std::alloc::{AllocError, Global};
 
@@ -26,20 +26,14 @@ fn pre_wrap_css(alloc: Global) -> Result<Properties, AllocError>
     Ok(Properties::new(alloc).with("white-space", kept)?)
 }
 
-/// A `span` in which white space stays, with these children. Each character of the texts directly in
-/// it is written as a character reference.
+/// A `span` in which white space stays, without children. Each character of the texts directly in it
+/// is written as a character reference.
 #[tactic(auto, unfolding(html_names::specs::Tables::known_tags))]
-pub fn pre_wrap_span(
-    alloc: Global,
-    children: Vec<HtmlNode>,
-    span: Span,
-) -> Result<HtmlElement, AllocError>
-    ensures { IfOk result (λ element.
-        element_view element ≡ (pre_wrap_head span.0, nodes_view children.items)) }
+pub(crate) fn pre_wrap_span(alloc: Global, span: Span) -> Result<HtmlElement, AllocError>
+    ensures { IfOk result (λ element. head_of element ≡ pre_wrap_head span.0) }
 {
     let mut element = HtmlElement::new(alloc, tag::span)
         .with_css(pre_wrap_css(alloc)?)
-        .with_children(children)
         .spanned(span);
     element.pre_span = true;
     Ok(element)

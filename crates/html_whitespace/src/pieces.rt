@@ -1,12 +1,14 @@
 //! Texts where white space collapses.
 
 ghost use Rattle.std.specs.Prelude.{◌≡◌, ◌++◌, [], ◌∷◌, OnOk, IfOk, chars, map};
-ghost use Rattle.html_dom.specs.Views.{node_view, text_view};
+ghost use Rattle.html_dom.specs.Views.{text_view};
+ghost use Rattle.html_whitespace.specs.DraftViews.{draft_shown};
 ghost use Rattle.html_whitespace.specs.Pieces.{first_char, is_in_stretch, is_normal, is_normal_there, outside_stretch, piece_node, text_nodes};
 ghost use Rattle.html_whitespace.specs.Stretches.{with_stretch};
 
+use crate::draft::Draft;
 use crate::made::break_element;
-use html_dom::{HtmlNode, Span};
+use html_dom::Span;
 use html_names::charsets::is_default_ignorable;
 use std::alloc::{AllocError, Global};
 
@@ -49,15 +51,15 @@ fn is_in_stretch(before: Option<char>, c: char, after: &str) -> bool
 /// Adds the text of a stretch, if it has any character.
 fn push_stretch(
     alloc: Global,
-    nodes: &mut Vec<HtmlNode>,
+    nodes: &mut Vec<Draft>,
     text: &str,
     span: Span,
 ) -> Result<(), AllocError>
-    ensures { OnOk result (map node_view nodes.new.items ≡ map node_view nodes.old.items
+    ensures { OnOk result (map draft_shown nodes.new.items ≡ map draft_shown nodes.old.items
         ++ map (piece_node span.0) (with_stretch (chars text.now) [])) }
 {
     if !text.is_empty() {
-        nodes.push(HtmlNode::text(String::from_str(alloc, text)?, span))?;
+        nodes.push(Draft::text(String::from_str(alloc, text)?, span))?;
     }
     Ok(())
 }
@@ -75,18 +77,18 @@ fn one_char(alloc: Global, c: char) -> Result<String, AllocError>
 /// return has none.
 fn push_outside(
     alloc: Global,
-    nodes: &mut Vec<HtmlNode>,
+    nodes: &mut Vec<Draft>,
     before: Option<char>,
     c: char,
     span: Span,
 ) -> Result<(), AllocError>
-    ensures { OnOk result (map node_view nodes.new.items ≡ map node_view nodes.old.items
+    ensures { OnOk result (map draft_shown nodes.new.items ≡ map draft_shown nodes.old.items
         ++ map (piece_node span.0) (outside_stretch before c [])) }
 {
     let node = match c {
         '\n' if before == Some('\r') => return Ok(()),
-        '\r' | '\n' => HtmlNode::Element(break_element(alloc, span)),
-        _ => HtmlNode::text(one_char(alloc, c)?, span),
+        '\r' | '\n' => Draft::open(break_element(alloc, span), Vec::new(alloc)),
+        _ => Draft::text(one_char(alloc, c)?, span),
     };
     nodes.push(node)?;
     Ok(())
@@ -101,12 +103,12 @@ fn push_outside(
 /// Cost: grows with the length of the text.
 pub fn push_text_nodes(
     alloc: Global,
-    nodes: &mut Vec<HtmlNode>,
+    nodes: &mut Vec<Draft>,
     text: &str,
     span: Span,
 ) -> Result<(), AllocError>
-    ensures { OnOk result (map node_view nodes.new.items
-        ≡ map node_view nodes.old.items ++ text_nodes span.0 (chars text.now)) }
+    ensures { OnOk result (map draft_shown nodes.new.items
+        ≡ map draft_shown nodes.old.items ++ text_nodes span.0 (chars text.now)) }
 {
     let mut pending = text;
     let mut rest = text;

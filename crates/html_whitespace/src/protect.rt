@@ -1,18 +1,20 @@
 //! Lone spaces in elements that keep them.
 
 ghost use Rattle.std.specs.Prelude.{◌≡◌, false, drop, IfOk, OnOk};
-ghost use Rattle.html_dom.specs.Tree.{text_node, element_node};
-ghost use Rattle.html_dom.specs.Views.{text_view, node_view, nodes_view, element_view};
+ghost use Rattle.html_dom.specs.Views.{text_view};
 ghost use Rattle.html_whitespace.specs.AnswerLists.{answers_view};
-ghost use Rattle.html_whitespace.specs.BareSpaces.{is_entered, text_things, node_things, nodes_things, element_things};
-ghost use Rattle.html_whitespace.specs.Protected.{space_count, is_bare, text_protected, node_protected, nodes_protected, protected_nodes};
+ghost use Rattle.html_whitespace.specs.BareSpaces.{text_things};
+ghost use Rattle.html_whitespace.specs.DraftViews.{draft_view, drafts_view, drafts_shown};
+ghost use Rattle.html_whitespace.specs.Drafts.{draft_look, draft_protected, drafts_look, drafts_protected, text_draft, text_kept};
+ghost use Rattle.html_whitespace.specs.Protected.{space_count, is_bare, protected_nodes};
 
-use crate::bareness::{Bareness, bare_spaces};
-use crate::look::{element_look, look_of};
+use crate::answers::{answers_for, are_bare};
+use crate::draft::Draft;
+use crate::look::is_entered;
 use crate::made::pre_wrap_span;
 use crate::one::is_one;
-use html_dom::{HtmlElement, HtmlNode, Span};
-use html_flat::FlatTree;
+use crate::things::things_of;
+use html_dom::Span;
 use std::alloc::{AllocError, Global};
 
 /// Answers for lone spaces in order.
@@ -39,22 +41,13 @@ impl Answers {
     }
 }
 
-/// Whether an element is looked into.
-#[tactic(auto, using(crate::proofs::Looks::is_entered_by))]
-fn is_entered(element: &HtmlElement) -> bool
-    ensures { result ≡ is_entered (element_view element.now).0 }
-{
-    element_look(&element.tag, &element.css, element.pre_span).is_inside()
-}
-
 /// A text in an element that keeps its white space.
-fn kept_text(alloc: Global, text: String, span: Span) -> Result<HtmlNode, AllocError>
-    ensures { IfOk result (λ made. node_view made ≡ text_protected false (text_view text) span.0) }
+fn kept_text(alloc: Global, text: String, span: Span) -> Result<Draft, AllocError>
+    ensures { IfOk result (λ made. draft_view made ≡ text_kept false (text_view text) span.0) }
 {
     let mut children = Vec::new(alloc);
-    children.push(HtmlNode::text(text, span))?;
-    let element = pre_wrap_span(alloc, children, span)?;
-    Ok(HtmlNode::from(element))
+    children.push(Draft::text(text, span))?;
+    Ok(Draft::open(pre_wrap_span(alloc, span)?, children))
 }
 
 /// A text, in an element of its own if it is a lone space that is not bare.
@@ -63,111 +56,77 @@ fn text_protected(
     text: String,
     span: Span,
     answers: &mut Answers,
-) -> Result<HtmlNode, AllocError>
-    ensures made { IfOk result (λ made. node_view made
-        ≡ node_protected (answers_view answers.old) (text_node (text_view text) span.0)) }
+) -> Result<Draft, AllocError>
+    ensures made { IfOk result (λ made. draft_view made
+        ≡ draft_protected (answers_view answers.old) (text_draft (text_view text) span.0)) }
     ensures rest { OnOk result (answers_view answers.new
         ≡ drop (space_count (text_things (text_view text))) (answers_view answers.old)) }
 {
     if !is_one(' ', text.as_str()) {
-        return Ok(HtmlNode::text(text, span));
+        return Ok(Draft::text(text, span));
     }
     if answers.next_is_bare() {
-        return Ok(HtmlNode::text(text, span));
+        return Ok(Draft::text(text, span));
     }
     kept_text(alloc, text, span)
 }
 
 #[cycle(protect)]
-#[tactic(auto, unfolding(crate::specs::BareSpaces::node_things, crate::specs::Protected::node_protected))]
-fn node_protected(
-    alloc: Global,
-    node: HtmlNode,
-    answers: &mut Answers,
-) -> Result<HtmlNode, AllocError>
+#[tactic(auto, unfolding(crate::specs::Drafts::draft_look, crate::specs::Drafts::draft_protected))]
+fn draft_protected(alloc: Global, draft: Draft, answers: &mut Answers) -> Result<Draft, AllocError>
     ensures made { IfOk result (λ made.
-        node_view made ≡ node_protected (answers_view answers.old) (node_view node)) }
+        draft_view made ≡ draft_protected (answers_view answers.old) (draft_view draft)) }
     ensures rest { OnOk result (answers_view answers.new
-        ≡ drop (space_count (node_things (node_view node))) (answers_view answers.old)) }
+        ≡ drop (space_count (draft_look (draft_view draft))) (answers_view answers.old)) }
 {
-    match node {
-        HtmlNode::Tag(tag) => Ok(HtmlNode::Tag(tag)),
-        HtmlNode::Text(text, span) => text_protected(alloc, text, span, answers),
-        HtmlNode::Element(element) => {
-            Ok(HtmlNode::Element(element_protected(alloc, element, answers)?))
+    match draft {
+        Draft::Tag(tag) => Ok(Draft::Tag(tag)),
+        Draft::Text(text, span) => text_protected(alloc, text, span, answers),
+        Draft::Frame(frame) => Ok(Draft::Frame(frame)),
+        Draft::Open(element, children) => {
+            if !is_entered(&element) {
+                return Ok(Draft::open(element, children));
+            }
+            let children = drafts_protected(alloc, children, answers)?;
+            Ok(Draft::open(element, children))
         }
-        HtmlNode::Frame(frame) => Ok(HtmlNode::Frame(frame)),
+        Draft::Settled(element, children) => Ok(Draft::Settled(element, children)),
     }
 }
 
 #[cycle(protect)]
-fn element_protected(
+fn drafts_protected(
     alloc: Global,
-    element: HtmlElement,
+    drafts: Vec<Draft>,
     answers: &mut Answers,
-) -> Result<HtmlElement, AllocError>
-    ensures made { let e = element_view element in IfOk result (λ made. let m = element_view made in
-        element_node m.0 m.1 ≡ node_protected (answers_view answers.old) (element_node e.0 e.1)) }
-    ensures rest { let e = element_view element in OnOk result (answers_view answers.new
-        ≡ drop (space_count (element_things e.0 (nodes_things e.1))) (answers_view answers.old)) }
-{
-    if !is_entered(&element) {
-        return Ok(element);
-    }
-    let HtmlElement {
-        tag,
-        attrs,
-        css,
-        children,
-        parent,
-        span,
-        pre_span,
-    } = element;
-    let children = nodes_protected(alloc, children, answers)?;
-    Ok(HtmlElement {
-        tag,
-        attrs,
-        css,
-        children,
-        parent,
-        span,
-        pre_span,
-    })
-}
-
-#[cycle(protect)]
-fn nodes_protected(
-    alloc: Global,
-    nodes: Vec<HtmlNode>,
-    answers: &mut Answers,
-) -> Result<Vec<HtmlNode>, AllocError>
-    ensures made { IfOk result (λ made. nodes_view made.items
-        ≡ nodes_protected (answers_view answers.old) (nodes_view nodes.items)) }
+) -> Result<Vec<Draft>, AllocError>
+    ensures made { IfOk result (λ made. drafts_view made.items
+        ≡ drafts_protected (answers_view answers.old) (drafts_view drafts.items)) }
     ensures rest { OnOk result (answers_view answers.new
-        ≡ drop (space_count (nodes_things (nodes_view nodes.items))) (answers_view answers.old)) }
+        ≡ drop (space_count (drafts_look (drafts_view drafts.items))) (answers_view answers.old)) }
 {
-    let mut made = Vec::new(alloc);
-    for node in nodes {
-        made.push(node_protected(alloc, node, answers)?)?;
+    let mut made = Vec::with_capacity(alloc, drafts.len())?;
+    for draft in drafts {
+        made.push(draft_protected(alloc, draft, answers)?)?;
     }
     Ok(made)
 }
 
-/// The nodes, in which each lone space that is not bare stands in a `span` that keeps it, also
+/// The drafts, in which each lone space that is not bare stands in a `span` that keeps it, also
 /// inside the elements that are looked into (see [`crate::bare_spaces`]). It fails only where an
 /// allocation does.
 ///
-/// Cost: grows with the number of nodes that are looked at; each is moved once.
-pub fn protect_spaces(alloc: Global, nodes: Vec<HtmlNode>) -> Result<Vec<HtmlNode>, AllocError>
+/// Cost: grows with the number of drafts that are looked at, of which nodes whose spaces stay count
+/// as two; each is moved once, if any space is not bare.
+pub fn protect_spaces(alloc: Global, drafts: Vec<Draft>) -> Result<Vec<Draft>, AllocError>
     ensures { IfOk result (λ made.
-        nodes_view made.items ≡ protected_nodes (nodes_view nodes.items)) }
+        drafts_shown made.items ≡ protected_nodes (drafts_shown drafts.items)) }
 {
-    let look = look_of(alloc, &nodes)?;
-    let tree = FlatTree::from_nodes(alloc, &look)?;
-    let Bareness { bare, turns: _ } = bare_spaces(alloc, &tree)?;
-    if bare.is_empty() {
-        return Ok(nodes);
+    let things = things_of(alloc, &drafts)?;
+    let bare = answers_for(alloc, &things)?;
+    if are_bare(&bare) {
+        return Ok(drafts);
     }
     let mut answers = Answers { bare, next: 0 };
-    nodes_protected(alloc, nodes, &mut answers)
+    drafts_protected(alloc, drafts, &mut answers)
 }

@@ -1,5 +1,5 @@
 use Rattle.std.proofs.Common.{rules}
-use Rattle.html_dom.specs.declared.node.HtmlNode.{the_lemmas}
+use Rattle.html_whitespace.specs.declared.draft.Draft.{the_lemmas}
 use Rattle.html_flow.proofs.LoneNodes.{block_word}
 use Rattle.html_flow.proofs.lone.block_change.Goals as goal
 

@@ -1,32 +1,34 @@
-use Rattle.std.proofs.Common.{◌≡◌, ◌++◌, ◌∙◌, ap, subst, map, List, None, Some}
+use Rattle.std.proofs.Common.{◌≡◌, ◌++◌, ◌∙◌, sym, ap, subst, map, List, None, Some}
 use Rattle.std.specs.Result.{OnOk}
 use Rattle.html_dom.specs.Tree.{NodeView}
-use Rattle.html_dom.specs.Views.{node_view, nodes_view, element_view}
-use Rattle.html_flow.specs.LoneNode.{change_view, lone_node, block_change_of, block_head}
-use Rattle.html_flow.proofs.LoneNodes.{changed_is, wrapped_is, pushed}
+use Rattle.html_dom.specs.Views.{head_of}
+use Rattle.html_whitespace.specs.DraftViews.{draft_shown}
+use Rattle.html_whitespace.proofs.Drafting.{shown_nodes}
+use Rattle.html_flow.specs.LoneNode.{change_view, lone_node, block_change_of, block_head, block_nodes}
+use Rattle.html_flow.proofs.LoneNodes.{changed_is, wrapped_is, pushed, shown_of}
 use Rattle.html_flow.proofs.lone.push_block.Goals as goal
 
 pub returns-in-Some : goal.returns-in-Some
 returns-in-Some c =
     let body = c.args.body.items in
     let change = change_view c.in-Some.change in
-    let found : Some change ≡ block_change_of (lone_node (nodes_view body)) =
-    c.in-Some.ensures ∙ ap (λ ns. block_change_of (lone_node (nodes_view ns))) c.deref.ensures.value in
+    let found : Some change ≡ block_change_of (lone_node (shown_of body)) =
+    c.in-Some.ensures ∙ ap (λ ds. block_change_of (lone_node (shown_of ds))) c.deref.ensures.value in
     subst (λ (l : List NodeView). OnOk c.push_displayed.result
-    (map node_view c.push_displayed.new.nodes.items
-    ≡ map node_view c.args.nodes.now.items ++ l))
-    (changed_is (block_head c.args.span.0) (block_change_of (lone_node (nodes_view body)))
-    (map node_view body) change found)
+    (map draft_shown c.push_displayed.new.nodes.items
+    ≡ map draft_shown c.args.nodes.now.items ++ l))
+    (changed_is (block_head c.args.span.0) (block_change_of (lone_node (shown_of body)))
+    (map draft_shown body) change found ∙ ap (block_nodes c.args.span.0) (shown_nodes body))
     c.push_displayed.ensures
 
 pub returns-in_ok-push-in-None : goal.returns-in_ok-push-in-None
 returns-in_ok-push-in-None c =
     let body = c.args.body.items in
-    let found : None ≡ block_change_of (lone_node (nodes_view body)) =
-    c.in-None.ensures ∙ ap (λ ns. block_change_of (lone_node (nodes_view ns))) c.deref.ensures.value in
-    pushed c.push.new.self.items c.args.nodes.now.items c.from.result (element_view c.block_element.result)
-    (block_head c.args.span.0, nodes_view body) c.in_ok-push-in-None.ensures.items c.from.ensures
+    let found : None ≡ block_change_of (lone_node (shown_of body)) =
+    c.in-None.ensures ∙ ap (λ ds. block_change_of (lone_node (shown_of ds))) c.deref.ensures.value in
+    pushed c.push.new.self.items c.args.nodes.now.items c.open.result (head_of c.block_element.result)
+    (block_head c.args.span.0) body c.in_ok-push-in-None.ensures.items c.open.ensures
     c.block_element.ensures
-    ∙ ap (λ l. map node_view c.args.nodes.now.items ++ l)
-    (wrapped_is (block_head c.args.span.0) (block_change_of (lone_node (nodes_view body)))
-    (map node_view body) found)
+    ∙ ap (λ l. map draft_shown c.args.nodes.now.items ++ l)
+    (wrapped_is (block_head c.args.span.0) (block_change_of (lone_node (shown_of body)))
+    (map draft_shown body) found ∙ ap (block_nodes c.args.span.0) (shown_nodes body))

@@ -2,7 +2,7 @@ use Rattle.std.proofs.Common.{◌≡◌, ◌-◌, ◌++◌, [], chars, length, m
 use Rattle.std.specs.Prelude.{OnOk}
 use Rattle.std.specs.Str.{IsCharBoundary}
 use Rattle.std.proofs.lemmas.Str.{IsCharBoundary-at_seam}
-use Rattle.html_dom.specs.Views.{node_view}
+use Rattle.html_whitespace.specs.DraftViews.{draft_shown}
 use Rattle.html_whitespace.specs.Pieces.{outside_stretch, piece_node}
 use Rattle.html_whitespace.specs.Stretches.{with_stretch}
 use Rattle.html_whitespace.proofs.Stretching.{front_length, nothing_passed, char_inside, char_outside, text_ended}
@@ -15,7 +15,7 @@ loop-c-init c = record {
   pending_is_text = c.utf8.text;
   rest_is_text = c.utf8.text;
   at = c.chars-left.ensures.rest;
-  held = nothing_passed c.args.span.0 c.args.text.now (map node_view c.args.nodes.now.items) c.utf8.text;
+  held = nothing_passed c.args.span.0 c.args.text.now (map draft_shown c.args.nodes.now.items) c.utf8.text;
 }
 
 pub range-requires-clause-end_boundary : goal.range-requires-clause-end_boundary
@@ -34,7 +34,7 @@ loop-c-preserved-in_ok-push_outside c =
     let rest = at.rest.now in
     let after = c.as_str-after.result.now in
     let f = piece_node c.args.span.0 in
-    let made = map node_view at.nodes.items in
+    let made = map draft_shown at.nodes.items in
     let between = map f (outside_stretch at.before char []) in
     let parts : rest ≡ encode char ++ after =
     sym at.invariant.at ∙ (c.in-Some.ensures.steps.0
@@ -66,17 +66,17 @@ loop-c-preserved c =
       rest_is_text = c.as_str-after.utf8;
       at = sym c.as_str-after.ensures;
       held = char_inside c.args.span.0 at.before at.pending.now rest after
-          (map node_view at.nodes.items) _ char at.invariant.held parts c.as_str-after.utf8
+          (map draft_shown at.nodes.items) _ char at.invariant.held parts c.as_str-after.utf8
           (sym c.is_in_stretch.ensures ∙ c.if-not-is_in_stretch.false);
     }
 
 pub returns : goal.returns
 returns c =
     let at = c.loop-c in
-    let made = map node_view at.nodes.items in
+    let made = map draft_shown at.nodes.items in
     let none : length at.rest.now ≡ 0 =
     ap length (sym at.invariant.at) ∙ c.in_default.ensures.steps.0.0 in
-    let new = map node_view c.push_stretch-2.new.nodes.items in
+    let new = map draft_shown c.push_stretch-2.new.nodes.items in
     subst (λ all. OnOk c.push_stretch-2.result (new ≡ all))
     (text_ended c.args.span.0 at.before at.pending.now at.rest.now made _ at.invariant.held none)
     c.push_stretch-2.ensures

@@ -1,20 +1,33 @@
-use Rattle.std.proofs.Common.{◌≡◌, [], None, Vec, Bool, Global, length, ap, sym, ◌∙◌, rules}
-use Rattle.html_dom.specs.Views.{nodes_view}
-use Rattle.html_flat.specs.FlatTrees.{tree_nodes}
-use Rattle.html_whitespace.specs.BareSpaces.{bare_spaces, nodes_things}
-use Rattle.html_whitespace.proofs.Protecting.{kept_all, answers_alike, no_items}
+use Rattle.std.proofs.Common.{◌≡◌, ◌∙◌, None, true, drop, ap, sym, false}
+use Rattle.std.specs.List.{list_all}
+use Rattle.html_whitespace.specs.BareSpaces.{bare_after}
+use Rattle.html_whitespace.specs.DraftViews.{drafts_shown, drafts_view}
+use Rattle.html_whitespace.specs.Drafts.{drafts_look, drafts_nodes, drafts_protected}
+use Rattle.html_whitespace.specs.Things.{things_view}
+use Rattle.html_whitespace.specs.Settled.{all_bare}
+use Rattle.html_whitespace.specs.Protected.{protected_nodes}
+use Rattle.html_whitespace.proofs.Drafting.{ok_by}
+use Rattle.html_whitespace.proofs.Settling.{answers_bare, drafts_as_nodes, drafts_stay}
 use Rattle.html_whitespace.proofs.protect.protect_spaces.Goals as goal
 
-pub returns-then-is_empty : goal.returns-then-is_empty
-returns-then-is_empty c =
-    let nodes = nodes_view c.args.nodes.items in
-    let alike = answers_alike nodes (nodes_view c.in_ok-look.look.items) (tree_nodes c.in_ok-tree.tree)
-    (c.in_ok-tree.ensures ∙ ap nodes_view c.deref-2.ensures.value)
-    (c.in_ok-look.ensures ∙ ap (λ ns. nodes_things (nodes_view ns)) c.deref.ensures.value) in
-    let found = c.in_ok-bare in
-    let empty : length found.bare.items ≡ 0 = search rules in
-    let none_left = no_items found.bare.items empty in
-    let answers = found.ensures.0 in
-    let is = ap (λ (v : Vec Bool Global). v.items) found.bare-is in
-    let none_asked : bare_spaces (tree_nodes c.in_ok-tree.tree) ≡ [] = cc in
-    sym (kept_all nodes (bare_spaces nodes) None (sym alike ∙ none_asked))
+pub returns-then-are_bare : goal.returns-then-are_bare
+returns-then-are_bare c =
+    let ds = drafts_view c.args.drafts.items in
+    let look = c.in_ok-things.ensures ∙ ap (λ xs. drafts_look (drafts_view xs)) c.deref.ensures.value in
+    let asked = c.in_ok-bare.ensures
+    ∙ (ap (λ xs. bare_after None (things_view xs)) c.deref-2.ensures.value ∙ ap (bare_after None) look) in
+    let told = sym c.are_bare.ensures ∙ c.if-are_bare.true in
+    drafts_stay ds (answers_bare (drafts_look ds)
+    (ap (list_all (λ b. b)) (sym asked) ∙ (ap (list_all (λ b. b)) (sym c.deref-3.ensures.value) ∙ told)))
+
+pub returns : goal.returns
+returns c =
+    let ds = drafts_view c.args.drafts.items in
+    let look = c.in_ok-things.ensures ∙ ap (λ xs. drafts_look (drafts_view xs)) c.deref.ensures.value in
+    let asked = c.in_ok-bare.ensures
+    ∙ (ap (λ xs. bare_after None (things_view xs)) c.deref-2.ensures.value ∙ ap (bare_after None) look) in
+    ok_by _ (λ made. drafts_shown made.items ≡ protected_nodes (drafts_nodes ds))
+    c.drafts_protected.result
+    (λ made told. ap drafts_nodes told
+    ∙ (ap (λ bs. drafts_nodes (drafts_protected bs ds)) asked ∙ drafts_as_nodes ds))
+    c.drafts_protected.ensures.made

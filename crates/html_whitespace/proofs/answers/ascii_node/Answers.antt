@@ -1,7 +1,7 @@
 use Rattle.std.proofs.Common.{ap, ◌∙◌, chars}
 use Rattle.html_names.proofs.Lists.{chars_ascii}
 use Rattle.html_dom.specs.Tree.{text_node}
-use Rattle.html_whitespace.proofs.look.ascii_node.Goals as goal
+use Rattle.html_whitespace.proofs.answers.ascii_node.Goals as goal
 
 pub returns : goal.returns
 returns c =
