@@ -3,6 +3,7 @@
 -- frame stands.
 use Rattle.std.specs.Prelude.{◌≡◌, ℕ, Bool, true, false, not, ◌||◌, ◌&&◌, ◌==◌, List, [], ◌∷◌, ◌++◌, if◌then◌else◌, Option, Some, None}
 use Rattle.html_names.specs.Characters.{is_text_char}
+use Rattle.html_dom.specs.declared.span.Span.{Span}
 use Rattle.html_dom.specs.Tree.{TextPair, Head, NodeView, tag_node, text_node, element_node, frame_node, NodesView, none, node, ElementView}
 use Rattle.html_encode.specs.Closing.{holds_closing}
 use Rattle.html_encode.specs.Content.{content_kind, by_kind}
@@ -17,15 +18,25 @@ use Rattle.html_encode.specs.declared.options.HtmlOptions.{HtmlOptions}
 
 abbrev pub number_of : ExportFault → ℕ
 number_of fault.OutOfMemory = 0
+number_of (fault.TooDeep span) = 8
+number_of (fault.NotAlone tag span) = 9
+number_of (fault.Footnotes spans) = 10
 number_of (fault.Unencodable c span) = 11
 number_of (fault.VoidChildren span) = 12
 number_of (fault.RawChild span) = 13
 number_of (fault.RawClosing span) = 14
 number_of (fault.FrameRefused span) = 15
 
--- where it lies, 0 where memory ran out
+abbrev pub first_span : List Span → ℕ
+first_span [] = 0
+first_span (span ∷ spans) = span.0
+
+-- where it lies, at the first of several footnotes; 0 where memory ran out
 abbrev pub span_of : ExportFault → ℕ
 span_of fault.OutOfMemory = 0
+span_of (fault.TooDeep span) = span.0
+span_of (fault.NotAlone tag span) = span.0
+span_of (fault.Footnotes spans) = first_span spans.items
 span_of (fault.Unencodable c span) = span.0
 span_of (fault.VoidChildren span) = span.0
 span_of (fault.RawChild span) = span.0

@@ -1,6 +1,7 @@
 pub mod Closing
 pub mod Collapsing
 pub mod Content
+pub mod FaultViews
 pub mod Faults
 pub mod Frames
 pub mod Indented

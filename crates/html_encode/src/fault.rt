@@ -1,16 +1,39 @@
-ghost use Rattle.std.specs.Prelude.{◌≡◌};
+ghost use Rattle.std.specs.Prelude.{◌≡◌, ◌↔◌, IsTrue};
+ghost use Rattle.html_encode.specs.Faults.{first_span};
+ghost use Rattle.html_encode.specs.FaultViews.{export_fault_view, spans_view};
 
 use html_dom::Span;
-use html_names::Refused;
+use html_names::{HtmlTag, Refused};
 use std::alloc::{AllocError, AllocFailed};
 use thiserror::Error;
 
-/// Why a tree has no HTML text.
-#[derive(Debug, Drop, PartialEq, Eq, Error)]
+/// Why items or a tree have no HTML text. The first three kinds of fault are those of making a
+/// document of items; writing a tree answers none of these.
+#[derive(Debug, Drop, Error)]
 pub enum ExportFault {
     /// An allocation failed.
     #[error("out of memory")]
     OutOfMemory,
+    /// A body of items stands deeper than the limit.
+    #[error("items are nested too deeply")]
+    TooDeep {
+        /// The span of the item that has the body.
+        span: Span,
+    },
+    /// An `html` or `body` stands among other nodes of a document.
+    #[error("this element must be the only element in the document")]
+    NotAlone {
+        /// The element's name.
+        tag: HtmlTag,
+        /// The element's span.
+        span: Span,
+    },
+    /// There are footnotes, but the document has an `html` or `body` of its own.
+    #[error("footnotes are not supported with a custom root element")]
+    Footnotes {
+        /// The spans of the footnotes, in order.
+        spans: Vec<Span>,
+    },
     /// A character of a text or a value is none that HTML can hold, or a carriage return in a text
     /// whose characters are all written as references.
     #[error("a character cannot be encoded in HTML")]
@@ -49,12 +72,15 @@ pub enum ExportFault {
 impl ExportFault {
     ghost use Rattle.html_encode.specs.Faults.{number_of, span_of};
 
-    /// The fault's number: 0 for out of memory, and from 11 on in the order of the variants.
+    /// The fault's number: 0 for out of memory, and from 8 on in the order of the variants.
     pub fn number(&self) -> u8
         ensures { result ≡ number_of self.now }
     {
         match self {
             ExportFault::OutOfMemory => 0,
+            ExportFault::TooDeep { .. } => 8,
+            ExportFault::NotAlone { .. } => 9,
+            ExportFault::Footnotes { .. } => 10,
             ExportFault::Unencodable { .. } => 11,
             ExportFault::VoidChildren { .. } => 12,
             ExportFault::RawChild { .. } => 13,
@@ -63,19 +89,95 @@ impl ExportFault {
         }
     }
 
-    /// Where the fault lies: 0 for out of memory.
+    /// Where the fault lies: at the first of several footnotes, and 0 for out of memory or where
+    /// there is no footnote.
     pub fn span(&self) -> Span
         ensures { result.0 ≡ span_of self.now }
     {
         match self {
             ExportFault::OutOfMemory => Span(0),
-            ExportFault::Unencodable { span, .. }
+            ExportFault::Footnotes { spans } => first_span(spans),
+            ExportFault::TooDeep { span }
+            | ExportFault::NotAlone { span, .. }
+            | ExportFault::Unencodable { span, .. }
             | ExportFault::VoidChildren { span }
             | ExportFault::RawChild { span }
             | ExportFault::RawClosing { span }
             | ExportFault::FrameRefused { span } => *span,
         }
     }
+}
+
+/// The first of these spans, or 0.
+fn first_span(spans: &[Span]) -> Span
+    ensures { result.0 ≡ first_span spans.now }
+{
+    match spans.first() {
+        Some(span) => *span,
+        None => Span(0),
+    }
+}
+
+/// Whether two faults are of one kind, with the same character, names and spans.
+fn same_fault(a: &ExportFault, b: &ExportFault) -> bool
+    ensures { IsTrue result ↔ (export_fault_view a.now ≡ export_fault_view b.now) }
+{
+    match (a, b) {
+        (ExportFault::OutOfMemory, ExportFault::OutOfMemory) => true,
+        (
+            ExportFault::NotAlone { tag, span },
+            ExportFault::NotAlone {
+                tag: other,
+                span: other_span,
+            },
+        ) => *tag == *other && *span == *other_span,
+        (ExportFault::Footnotes { spans }, ExportFault::Footnotes { spans: others }) => {
+            same_spans(spans, others)
+        }
+        (
+            ExportFault::Unencodable { c, span },
+            ExportFault::Unencodable {
+                c: other,
+                span: other_span,
+            },
+        ) => *c == *other && *span == *other_span,
+        (ExportFault::TooDeep { span }, ExportFault::TooDeep { span: other })
+        | (ExportFault::VoidChildren { span }, ExportFault::VoidChildren { span: other })
+        | (ExportFault::RawChild { span }, ExportFault::RawChild { span: other })
+        | (ExportFault::RawClosing { span }, ExportFault::RawClosing { span: other })
+        | (ExportFault::FrameRefused { span }, ExportFault::FrameRefused { span: other }) => {
+            *span == *other
+        }
+        _ => false,
+    }
+}
+
+/// Whether two lists of spans are equal.
+fn same_spans(a: &[Span], b: &[Span]) -> bool
+    ensures { IsTrue result ↔ (spans_view a.now ≡ spans_view b.now) }
+{
+    a == b
+}
+
+impl PartialEq for ExportFault {
+    ghost use Rattle.std.specs.Cmp.{partial_equiv_from_equiv};
+    ghost use Rattle.html_names.specs.Equal.{same, same_equiv};
+    ghost use Rattle.html_encode.specs.FaultViews.{export_fault_discrete};
+
+    ghost eq = { same export_fault_view export_fault_discrete };
+
+    ghost laws = { partial_equiv_from_equiv (same_equiv export_fault_view export_fault_discrete) };
+
+    fn eq(&self, other: &ExportFault) -> bool {
+        same_fault(self, other)
+    }
+}
+
+impl Eq for ExportFault {
+    ghost use Rattle.html_names.specs.Equal.{same_equiv};
+    ghost use Rattle.html_encode.specs.FaultViews.{export_fault_discrete};
+
+    ghost laws = { same_equiv export_fault_view export_fault_discrete };
 }
 
 impl From<AllocError> for ExportFault {

@@ -3,6 +3,7 @@
 
 ghost use Rattle.std.specs.Prelude.{◌≡◌, ◌↔◌, [], codes, IsTrue, Some, None, IfOk, false};
 ghost use Rattle.html_dom.specs.PlainTree.{branch, no_plains};
+ghost use Rattle.html_encode.specs.FaultViews.{export_fault_view};
 ghost use Rattle.html_encode.specs.IndentsCollapse.{BodyCollapses, ContentCollapses};
 ghost use Rattle.html_encode.specs.ReadingBack.{ReadsBack, SameTextSameForm};
 ghost use Rattle.html_encode.specs.Reader.{read};
@@ -101,9 +102,9 @@ pub fn default_options() -> HtmlOptions
     HtmlOptions::default()
 }
 
-/// Faults are equal where their kinds are, and their characters and spans.
+/// Faults are equal where their kinds are, and their characters, names and spans.
 pub fn equal_export_faults(a: &ExportFault, b: &ExportFault) -> bool
-    ensures { IsTrue result ↔ (a.now ≡ b.now) }
+    ensures { IsTrue result ↔ (export_fault_view a.now ≡ export_fault_view b.now) }
 {
     a == b
 }

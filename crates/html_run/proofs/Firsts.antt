@@ -17,6 +17,9 @@ first_of_more (At number span) fs gs h = (h.0 ++ gs, ap (λ rs. rs ++ gs) h.1)
 pub first_fault : (e : ExportFault) (fs : List ExportFault) → tree.IsFirst e fs → IsFirst
     (tree_refusal e) (map fault_refusal fs)
 first_fault fault.OutOfMemory fs h = tt
+first_fault (fault.TooDeep span) fs h = (map fault_refusal h.0, ap (map fault_refusal) h.1)
+first_fault (fault.NotAlone tag span) fs h = (map fault_refusal h.0, ap (map fault_refusal) h.1)
+first_fault (fault.Footnotes spans) fs h = (map fault_refusal h.0, ap (map fault_refusal) h.1)
 first_fault (fault.Unencodable c span) fs h = (map fault_refusal h.0, ap (map fault_refusal) h.1)
 first_fault (fault.VoidChildren span) fs h = (map fault_refusal h.0, ap (map fault_refusal) h.1)
 first_fault (fault.RawChild span) fs h = (map fault_refusal h.0, ap (map fault_refusal) h.1)

@@ -40,7 +40,10 @@ impl From<ExportFault> for Refusal {
     fn from(fault: ExportFault) -> Refusal {
         match fault {
             ExportFault::OutOfMemory => Refusal::OutOfMemory,
-            ExportFault::Unencodable { .. }
+            ExportFault::TooDeep { .. }
+            | ExportFault::NotAlone { .. }
+            | ExportFault::Footnotes { .. }
+            | ExportFault::Unencodable { .. }
             | ExportFault::VoidChildren { .. }
             | ExportFault::RawChild { .. }
             | ExportFault::RawClosing { .. }

@@ -3,46 +3,9 @@
 use crate::asserts::assert_text;
 use html_dom::Span;
 use html_encode::{ExportFault, FrameFault};
+use html_names::tag;
 use std::alloc::Global;
 use std::process::Abort;
-
-/// Each fault with its number, its span and its text.
-static FAULTS: [(ExportFault, u8, Span, &str); 6] = [
-    (ExportFault::OutOfMemory, 0, Span(0), "out of memory"),
-    (
-        ExportFault::Unencodable {
-            c: '\0',
-            span: Span(7),
-        },
-        11,
-        Span(7),
-        "a character cannot be encoded in HTML",
-    ),
-    (
-        ExportFault::VoidChildren { span: Span(7) },
-        12,
-        Span(7),
-        "HTML void elements must not have children",
-    ),
-    (
-        ExportFault::RawChild { span: Span(7) },
-        13,
-        Span(7),
-        "HTML raw text element cannot have non-text children",
-    ),
-    (
-        ExportFault::RawClosing { span: Span(7) },
-        14,
-        Span(7),
-        "HTML raw text element cannot contain its own closing tag",
-    ),
-    (
-        ExportFault::FrameRefused { span: Span(7) },
-        15,
-        Span(7),
-        "a frame was refused by its writer",
-    ),
-];
 
 /// Asserts that the fault has that number, that span and that text.
 fn assert_fault(
@@ -60,10 +23,75 @@ fn assert_fault(
 }
 
 #[test]
-fn faults_of_writing(rt: HostRuntime) {
-    for (fault, number, span, text) in &FAULTS {
-        assert_fault(&rt, rt.alloc(), fault, *number, *span, text);
+fn export_faults(rt: HostRuntime) {
+    let alloc = rt.alloc();
+    let at = Span(7);
+    let rows = [
+        (ExportFault::OutOfMemory, 0, Span(0), "out of memory"),
+        (
+            ExportFault::Unencodable { c: '\0', span: at },
+            11,
+            at,
+            "a character cannot be encoded in HTML",
+        ),
+        (
+            ExportFault::VoidChildren { span: at },
+            12,
+            at,
+            "HTML void elements must not have children",
+        ),
+        (
+            ExportFault::RawChild { span: at },
+            13,
+            at,
+            "HTML raw text element cannot have non-text children",
+        ),
+        (
+            ExportFault::RawClosing { span: at },
+            14,
+            at,
+            "HTML raw text element cannot contain its own closing tag",
+        ),
+        (
+            ExportFault::FrameRefused { span: at },
+            15,
+            at,
+            "a frame was refused by its writer",
+        ),
+    ];
+    for (fault, number, span, text) in &rows {
+        assert_fault(&rt, alloc, fault, *number, *span, text);
     }
+}
+
+/// Asserts what a refusal of footnotes with these spans is.
+fn assert_footnotes(rt: &impl Abort, alloc: Global, spans: &[Span], first: Span) {
+    let spans = Vec::from_slice(alloc, spans).expect(rt, "memory for the spans");
+    let text = "footnotes are not supported with a custom root element";
+    assert_fault(
+        rt,
+        alloc,
+        &ExportFault::Footnotes { spans },
+        10,
+        first,
+        text,
+    );
+}
+
+#[test]
+fn document_faults(rt: HostRuntime) {
+    let alloc = rt.alloc();
+    let at = Span(7);
+    let deep = ExportFault::TooDeep { span: at };
+    assert_fault(&rt, alloc, &deep, 8, at, "items are nested too deeply");
+    let beside = ExportFault::NotAlone {
+        tag: tag::body,
+        span: at,
+    };
+    let text = "this element must be the only element in the document";
+    assert_fault(&rt, alloc, &beside, 9, at, text);
+    assert_footnotes(&rt, alloc, &[at, Span(8)], at);
+    assert_footnotes(&rt, alloc, &[], Span(0));
 }
 
 /// Each fault of a writer of frames with its number and its text.
