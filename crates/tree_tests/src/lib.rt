@@ -1,8 +1,10 @@
-//! Tests of trees, items and writing, each over public calls.
+//! Tests of trees, documents, items and writing, each over public calls.
 #![tactic(auto)]
 
 #[cfg(test)]
 mod asserts;
+#[cfg(test)]
+mod documents;
 #[cfg(test)]
 mod dom;
 #[cfg(test)]
@@ -11,3 +13,5 @@ mod encode;
 mod flat;
 #[cfg(test)]
 mod flow;
+#[cfg(test)]
+mod places;

@@ -1,0 +1,4 @@
+pub mod Equals
+pub mod Outputs
+pub mod Places
+pub mod Positions

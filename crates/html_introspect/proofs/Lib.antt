@@ -1,0 +1,4 @@
+pub mod Cursors
+pub mod Leading
+pub mod Locations
+pub mod Recording
