@@ -1,0 +1,15 @@
+pub mod Anchors
+pub mod Answered
+pub mod Events
+pub mod Fresh
+pub mod Groups
+pub mod LinkAnchors
+pub mod Joined
+pub mod LocationMaps
+pub mod Namings
+pub mod NewNames
+pub mod Seen
+pub mod Undone
+pub mod UsedNames
+pub mod Walk
+pub mod WalkViews

@@ -1,0 +1,61 @@
+//! What anchors change in nodes.
+
+ghost use Rattle.std.specs.Prelude.{◌≡◌, IfOk};
+ghost use Rattle.html_dom.specs.Views.{text_view, optional_text_view, attrs_view, node_view, nodes_view, element_view};
+ghost use Rattle.html_link.specs.Anchors.{attrs_with_id, span_head, text_in};
+
+use html_dom::{HtmlAttrs, HtmlElement, HtmlNode, Span};
+use html_names::{attr, tag};
+use std::alloc::{AllocError, Global};
+
+/// A new `span` with that `id`.
+#[tactic(auto, unfolding(html_names::specs::Tables::known_attrs, html_names::specs::Tables::known_tags))]
+pub(crate) fn named_span(
+    alloc: Global,
+    name: String,
+    span: Span,
+    children: Vec<HtmlNode>,
+) -> Result<HtmlElement, AllocError>
+    ensures { IfOk result (λ element. element_view element
+        ≡ (span_head (text_view name) span.0, nodes_view children.items)) }
+{
+    let mut element = HtmlElement::new(alloc, tag::span)
+        .spanned(span)
+        .with_children(children);
+    element.attrs.push_front(attr::id, name)?;
+    Ok(element)
+}
+
+/// A copy of attributes, with a new `id` in front where one was made.
+#[tactic(auto, unfolding(html_names::specs::Tables::known_attrs))]
+pub(crate) fn named_attrs(attrs: &HtmlAttrs, made: Option<String>) -> Result<HtmlAttrs, AllocError>
+    ensures { IfOk result (λ copy. attrs_view copy
+        ≡ attrs_with_id (optional_text_view made) (attrs_view attrs.now)) }
+{
+    let mut copy = attrs.try_clone()?;
+    if let Some(name) = made {
+        copy.push_front(attr::id, name)?;
+    }
+    Ok(copy)
+}
+
+/// A copy of a text, in a new `span` where a name was made.
+pub(crate) fn text_in(
+    alloc: Global,
+    made: Option<String>,
+    text: &String,
+    span: Span,
+) -> Result<HtmlNode, AllocError>
+    ensures { IfOk result (λ node. node_view node
+        ≡ text_in (optional_text_view made) (text_view text.now) span.0) }
+{
+    let copy = HtmlNode::Text(text.clone()?, span);
+    match made {
+        Some(name) => {
+            let mut children = Vec::new(alloc);
+            children.push(copy)?;
+            Ok(HtmlNode::Element(named_span(alloc, name, span, children)?))
+        }
+        None => Ok(copy),
+    }
+}

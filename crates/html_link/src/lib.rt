@@ -1,0 +1,12 @@
+//! Anchors of links: each target that a link leads to gets a name in the tree.
+#![tactic(auto)]
+
+mod changes;
+mod frames;
+pub mod laws;
+mod location_maps;
+mod names;
+mod names_in_tree;
+mod nodes;
+mod sought;
+mod state;
