@@ -1,0 +1,12 @@
+pub mod Anchored
+pub mod AtomContexts
+pub mod CleanItems
+pub mod CleanNodes
+pub mod ItemText
+pub mod LineContexts
+pub mod NoRaw
+pub mod PlainFlow
+pub mod PlainNodes
+pub mod Rows
+pub mod SeenBody
+pub mod SpacesStay
