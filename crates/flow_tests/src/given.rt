@@ -14,8 +14,14 @@ use std::process::Abort;
 
 /// The items of a JSON text.
 pub(crate) fn items_of(rt: &impl Abort, alloc: Global, json: &str) -> Vec<Pair> {
+    items_after(rt, alloc, json, 0)
+}
+
+/// The items of a JSON text, where the first has the number after that one.
+pub(crate) fn items_after(rt: &impl Abort, alloc: Global, json: &str, last: u64) -> Vec<Pair> {
     let value = Value::from_str(alloc, json).expect(rt, "JSON");
-    body_of(rt, alloc, &value, &mut 0).expect(rt, "a list of items")
+    let mut number = last;
+    body_of(rt, alloc, &value, &mut number).expect(rt, "a list of items")
 }
 
 fn str_of<'a>(rt: &impl Abort, value: &'a Value) -> &'a str {

@@ -1,4 +1,4 @@
-//! Tests of items that become nodes, each over public calls.
+//! Tests of items that become nodes and documents, each over public calls.
 #![tactic(auto)]
 
 #[cfg(test)]
@@ -10,7 +10,11 @@ mod boxes;
 #[cfg(test)]
 mod depth;
 #[cfg(test)]
+mod documents;
+#[cfg(test)]
 mod given;
+#[cfg(test)]
+mod judged;
 #[cfg(test)]
 mod roles;
 #[cfg(test)]

@@ -13,8 +13,15 @@ use std::process::Abort;
 
 /// Writes one text for each frame.
 #[derive(Drop)]
-struct OneText {
+pub(crate) struct OneText {
     text: String,
+}
+
+/// A writer of frames that writes the same text for each.
+pub(crate) fn frame_writer(rt: &impl Abort, alloc: Global) -> OneText {
+    OneText {
+        text: String::from_str(alloc, "[frame]").expect(rt, "memory for a text"),
+    }
 }
 
 impl FrameWriter for OneText {
@@ -75,9 +82,7 @@ pub(crate) fn nodes_of(
 fn html_of(rt: &impl Abort, alloc: Global, nodes: Vec<HtmlNode>) -> String {
     let mut body = HtmlElement::new(alloc, tag::body).with_children(nodes);
     resolve_inline_styles(alloc, &mut body).expect(rt, "memory for styles");
-    let frames = OneText {
-        text: String::from_str(alloc, "[frame]").expect(rt, "memory for a text"),
-    };
+    let frames = frame_writer(rt, alloc);
     html_in_bundle(alloc, &body, &HtmlOptions::default(), &frames).expect(rt, "HTML")
 }
 

@@ -1,24 +1,111 @@
 //! The HTML tree of a document and its exporter. All public names of the crates below stand here.
 #![tactic(auto)]
 
-pub use html_dom::{
-    Frame, FrameItem, HtmlAttrs, HtmlElement, HtmlFrame, HtmlNode, Location, Point, Span, Tag,
-    resolve_inline_styles,
-};
-pub use html_encode::{ExportFault, FrameFault, FrameWriter, HtmlOptions, html_in_bundle, laws};
-pub use html_flat::{FlatElement, FlatNode, FlatTree};
-pub use html_flow::{
-    Arg, ArgValue, Args, Bareness, ConstructFault, ConversionLevel, ElementInfo, FlowFault,
-    FrameElem, HtmlElem, Item, Pair, Role, Whitespace, bare_spaces, construct, convert_to_nodes,
-    html_block_fragment, html_inline_fragment, html_math_fragment,
-};
-pub use html_names::{
-    HtmlAttr, HtmlTag, NameFault, NameTable, Output, Refused, attr, charsets, property, tag,
-};
-pub use html_values::{
-    Abs, Angle, AttrType, AutoValue, Calc, CalcPart, Call, CastFault, CssWriter, Datetime, Degrees,
-    Dir, Duration, Em, Ems, HorizontalDir, IconSize, ImageCandidate, Inline, IntoAttr, Length,
-    ListType, Moment, NativeType, NoneEmpty, NoneUndefined, NoneValue, OnOffBool, Paint, Points,
-    Properties, PropertiesBuilder, Property, Quantity, Ratio, Rel, Rgba, Separator, Str, ToCss,
-    TrueFalseBool, Unit, Value, Warning, WarningSink, Whole, YesNoBool, civil,
-};
+pub use html_document::DocumentInfo;
+pub use html_document::HtmlDocument;
+pub use html_document::HtmlOutput;
+pub use html_document::Locale;
+pub use html_dom::Frame;
+pub use html_dom::FrameItem;
+pub use html_dom::HtmlAttrs;
+pub use html_dom::HtmlElement;
+pub use html_dom::HtmlFrame;
+pub use html_dom::HtmlNode;
+pub use html_dom::Location;
+pub use html_dom::Point;
+pub use html_dom::Span;
+pub use html_dom::Tag;
+pub use html_dom::resolve_inline_styles;
+pub use html_encode::ExportFault;
+pub use html_encode::FrameFault;
+pub use html_encode::FrameWriter;
+pub use html_encode::HtmlOptions;
+pub use html_encode::html_in_bundle;
+pub use html_encode::laws;
+pub use html_export::html;
+pub use html_export::html_document_for_bundle;
+pub use html_flat::FlatElement;
+pub use html_flat::FlatNode;
+pub use html_flat::FlatTree;
+pub use html_flow::Arg;
+pub use html_flow::ArgValue;
+pub use html_flow::Args;
+pub use html_flow::Bareness;
+pub use html_flow::ConstructFault;
+pub use html_flow::ConversionLevel;
+pub use html_flow::ElementInfo;
+pub use html_flow::FlowFault;
+pub use html_flow::FrameElem;
+pub use html_flow::HtmlElem;
+pub use html_flow::Item;
+pub use html_flow::Pair;
+pub use html_flow::Role;
+pub use html_flow::Whitespace;
+pub use html_flow::bare_spaces;
+pub use html_flow::construct;
+pub use html_flow::convert_to_nodes;
+pub use html_flow::html_block_fragment;
+pub use html_flow::html_inline_fragment;
+pub use html_flow::html_math_fragment;
+pub use html_introspect::DomIndices;
+pub use html_introspect::HtmlIntrospector;
+pub use html_introspect::HtmlPosition;
+pub use html_introspect::HtmlSliceExt;
+pub use html_names::HtmlAttr;
+pub use html_names::HtmlTag;
+pub use html_names::NameFault;
+pub use html_names::NameTable;
+pub use html_names::Output;
+pub use html_names::Refused;
+pub use html_names::attr;
+pub use html_names::charsets;
+pub use html_names::property;
+pub use html_names::tag;
+pub use html_values::Abs;
+pub use html_values::Angle;
+pub use html_values::AttrType;
+pub use html_values::AutoValue;
+pub use html_values::Calc;
+pub use html_values::CalcPart;
+pub use html_values::Call;
+pub use html_values::CastFault;
+pub use html_values::CssWriter;
+pub use html_values::Datetime;
+pub use html_values::Degrees;
+pub use html_values::Dir;
+pub use html_values::Duration;
+pub use html_values::Em;
+pub use html_values::Ems;
+pub use html_values::HorizontalDir;
+pub use html_values::IconSize;
+pub use html_values::ImageCandidate;
+pub use html_values::Inline;
+pub use html_values::IntoAttr;
+pub use html_values::Length;
+pub use html_values::ListType;
+pub use html_values::Moment;
+pub use html_values::NativeType;
+pub use html_values::NoneEmpty;
+pub use html_values::NoneUndefined;
+pub use html_values::NoneValue;
+pub use html_values::OnOffBool;
+pub use html_values::Paint;
+pub use html_values::Points;
+pub use html_values::Properties;
+pub use html_values::PropertiesBuilder;
+pub use html_values::Property;
+pub use html_values::Quantity;
+pub use html_values::Ratio;
+pub use html_values::Rel;
+pub use html_values::Rgba;
+pub use html_values::Separator;
+pub use html_values::Str;
+pub use html_values::ToCss;
+pub use html_values::TrueFalseBool;
+pub use html_values::Unit;
+pub use html_values::Value;
+pub use html_values::Warning;
+pub use html_values::WarningSink;
+pub use html_values::Whole;
+pub use html_values::YesNoBool;
+pub use html_values::civil;

@@ -1,0 +1,390 @@
+//! Documents made of items, and their HTML.
+
+use crate::given::{items_after, items_of};
+use crate::shown::frame_writer;
+use html_document::{DocumentInfo, Locale};
+use html_dom::Span;
+use html_encode::{ExportFault, HtmlOptions};
+use html_flow::Pair;
+use html_names::tag;
+use std::alloc::Global;
+use std::process::Abort;
+use typst_html::{html, html_document_for_bundle};
+
+/// Items and footnotes of a document.
+#[derive(Drop)]
+struct Given {
+    items: Vec<Pair>,
+    footnotes: Vec<Pair>,
+}
+
+/// Items whose numbers begin with 1, and footnotes whose numbers begin with 5.
+fn given_of(rt: &impl Abort, alloc: Global, items: &str, footnotes: &str) -> Given {
+    Given {
+        items: items_of(rt, alloc, items),
+        footnotes: items_after(rt, alloc, footnotes, 4),
+    }
+}
+
+/// The HTML of a document, plainly written, or why there is none.
+fn written(
+    rt: &impl Abort,
+    alloc: Global,
+    given: &Given,
+    info: &DocumentInfo,
+    limit: usize,
+) -> Result<String, ExportFault> {
+    assert!(rt; 1 <= limit && limit <= 10_000);
+    match html_document_for_bundle(alloc, &given.items, info, &given.footnotes, limit) {
+        Ok(document) => {
+            let frames = frame_writer(rt, alloc);
+            html(alloc, &document, &HtmlOptions::default(), &frames)
+        }
+        Err(fault) => Err(fault),
+    }
+}
+
+/// The HTML of a document of which nothing is known, or the fault with its fields.
+fn answer(rt: &impl Abort, alloc: Global, items: &str, footnotes: &str, limit: usize) -> String {
+    let given = given_of(rt, alloc, items, footnotes);
+    match written(rt, alloc, &given, &DocumentInfo::new(alloc), limit) {
+        Ok(text) => text,
+        Err(fault) => format!(in alloc; "{fault:?}").expect(rt, "memory for a text"),
+    }
+}
+
+/// The HTML of a document with that in its body.
+fn around(rt: &impl Abort, alloc: Global, body: &str) -> String {
+    let text = format!(in alloc;
+        "<!DOCTYPE html><html lang=\"en\"><head><meta charset=\"utf-8\"><meta name=\"viewport\" content=\"width=device-width, initial-scale=1\"></head><body>{body}</body></html>"
+    );
+    text.expect(rt, "memory for a text")
+}
+
+/// Items, footnotes, and what stands in the body.
+static BODIES: [(&str, &str, &str); 14] = [
+    ("[]", "[]", ""),
+    (
+        r#"[["el","p",[],[["text","a<b & c>d"]]]]"#,
+        "[]",
+        "<p>a&lt;b &amp; c>d</p>",
+    ),
+    (
+        r#"[["el","p",[],[["text","a  b"]]]]"#,
+        "[]",
+        r#"<p>a<span style="white-space: pre-wrap">&#x20;&#x20;</span>b</p>"#,
+    ),
+    (r#"[["el","p",[],[["text","a b"]]]]"#, "[]", "<p>a b</p>"),
+    (
+        r#"[["el","p",[],[["text","a "],["el","em",[],[["text"," b"]]]]]]"#,
+        "[]",
+        r#"<p>a<span style="white-space: pre-wrap">&#x20;</span><em> b</em></p>"#,
+    ),
+    (
+        r#"[["el","p",[],[["text","a\r\n \t"]]]]"#,
+        "[]",
+        r#"<p>a<br><span style="white-space: pre-wrap">&#x20;&#x9;</span></p>"#,
+    ),
+    (
+        r#"[["el","p",[],[["text","a\u200b b"]]]]"#,
+        "[]",
+        "<p>a\u{200b} b</p>",
+    ),
+    (
+        r#"[["block",[["el","em",[],[["text","x"]]]]],["block",[["text","x"]]],["block",[["el","tr",[],[]]]],["box",[["text","y"]]]]"#,
+        "[]",
+        r#"<em style="display: block">x</em><div>x</div><div><tr></tr></div><span style="display: inline-block">y</span>"#,
+    ),
+    (
+        r#"[["block",[["space"]]]]"#,
+        "[]",
+        r#"<span style="display: block; white-space: pre-wrap">&#x20;</span>"#,
+    ),
+    (r#"[["el","body",[],[["text","x"]]]]"#, "[]", "x"),
+    (
+        r#"[["start",1],["el","body",[],[["text","x"]]],["end",1]]"#,
+        "[]",
+        "x",
+    ),
+    ("[]", r#"[["el","p",[],[["text","x"]]]]"#, "<p>x</p>"),
+    (
+        r#"[["text","a"]]"#,
+        r#"[["text","b"],["el","p",[],[]]]"#,
+        "ab<p></p>",
+    ),
+    (r#"[["block",[["frame"]]]]"#, "[]", "[frame]"),
+];
+
+fn assert_body(rt: &impl Abort, alloc: Global, row: &(&str, &str, &str)) {
+    let text = answer(rt, alloc, row.0, row.1, 2);
+    let wanted = around(rt, alloc, row.2);
+    assert_eq!(rt; text.as_str(), wanted.as_str());
+}
+
+#[test]
+fn bodies(rt: HostRuntime) {
+    for row in &BODIES {
+        assert_body(&rt, rt.alloc(), row);
+    }
+}
+
+/// Items, footnotes, the limit, and the whole answer.
+static ANSWERS: [(&str, &str, usize, &str); 12] = [
+    (
+        r#"[["el","html",[["lang","fr"]],[["text","x"]]]]"#,
+        "[]",
+        2,
+        r#"<!DOCTYPE html><html lang="fr">x</html>"#,
+    ),
+    (
+        r#"[["start",1],["css","color","red",["el","html",[],[]]],["end",1]]"#,
+        "[]",
+        1,
+        r#"<!DOCTYPE html><html style="color: red"></html>"#,
+    ),
+    (
+        r#"[["el","p",[],[["text","x"]]],["el","html",[],[]]]"#,
+        "[]",
+        50,
+        "NotAlone { tag: <html>, span: Span(3) }",
+    ),
+    (
+        r#"[["el","body",[],[]],["el","html",[],[]]]"#,
+        "[]",
+        50,
+        "NotAlone { tag: <body>, span: Span(1) }",
+    ),
+    (
+        r#"[["el","body",[],[["text","x"]]]]"#,
+        r#"[["text","n"]]"#,
+        50,
+        "Footnotes { spans: [Span(5)] }",
+    ),
+    (
+        r#"[["el","html",[],[]]]"#,
+        r#"[["hole"],["text","n"]]"#,
+        50,
+        "Footnotes { spans: [Span(0), Span(6)] }",
+    ),
+    (
+        "[]",
+        r#"[["hole"],["el","p",[],[["text","x"]]]]"#,
+        1,
+        "TooDeep { span: Span(6) }",
+    ),
+    // The items' depth goes before an element that is not alone, that before the footnotes' depth.
+    (
+        r#"[["el","body",[],[["el","em",[],[]]]],["text","x"]]"#,
+        r#"[["el","p",[],[]]]"#,
+        1,
+        "TooDeep { span: Span(2) }",
+    ),
+    (
+        r#"[["text","x"],["el","body",[],[]]]"#,
+        r#"[["el","p",[],[]]]"#,
+        1,
+        "NotAlone { tag: <body>, span: Span(2) }",
+    ),
+    (
+        r#"[["el","body",[],[]]]"#,
+        r#"[["el","p",[],[]]]"#,
+        1,
+        "Footnotes { spans: [Span(5)] }",
+    ),
+    (
+        r#"[["el","p",[],[["el","textarea",[],[["space"]]]]]]"#,
+        "[]",
+        50,
+        "RawChild { span: Span(3) }",
+    ),
+    (
+        r#"[["el","br",[],[["text","x"]]]]"#,
+        "[]",
+        50,
+        "VoidChildren { span: Span(1) }",
+    ),
+];
+
+fn assert_answer(rt: &impl Abort, alloc: Global, row: &(&str, &str, usize, &str)) {
+    let text = answer(rt, alloc, row.0, row.1, row.2);
+    assert_eq!(rt; text.as_str(), row.3);
+}
+
+#[test]
+fn answers(rt: HostRuntime) {
+    for row in &ANSWERS {
+        assert_answer(&rt, rt.alloc(), row);
+    }
+}
+
+/// So many copies of a text.
+fn push_copies(rt: &impl Abort, text: &mut String, part: &str, count: u32) {
+    for _ in 0..count {
+        text.push_str(part).expect(rt, "memory for a text");
+    }
+}
+
+/// So many copies of a text, one of another, and so many of a third.
+fn nested(rt: &impl Abort, alloc: Global, parts: (&str, &str, &str), count: u32) -> String {
+    let mut text = String::new(alloc);
+    push_copies(rt, &mut text, parts.0, count);
+    text.push_str(parts.1).expect(rt, "memory for a text");
+    push_copies(rt, &mut text, parts.2, count);
+    text
+}
+
+/// The answer for a document of so many elements in one another, where 50 are allowed.
+fn deep_answer(rt: &impl Abort, alloc: Global, count: u32) -> String {
+    let items = nested(rt, alloc, (r#"[["el","em",[],"#, "[]", "]]"), count);
+    answer(rt, alloc, items.as_str(), "[]", 50)
+}
+
+/// Fifty elements in one another are not too deep for fifty, and one more is.
+#[test]
+fn depths(rt: HostRuntime) {
+    let inside = nested(&rt, rt.alloc(), ("<em>", "", "</em>"), 50);
+    let wanted = around(&rt, rt.alloc(), inside.as_str());
+    let text = deep_answer(&rt, rt.alloc(), 50);
+    assert_eq!(&rt; text.as_str(), wanted.as_str());
+    let refused = deep_answer(&rt, rt.alloc(), 51);
+    assert_eq!(&rt; refused.as_str(), "TooDeep { span: Span(51) }");
+}
+
+fn text_of(rt: &impl Abort, alloc: Global, text: &str) -> String {
+    String::from_str(alloc, text).expect(rt, "memory for a text")
+}
+
+fn texts_of(rt: &impl Abort, alloc: Global, texts: &[&str]) -> Vec<String> {
+    let mut made = Vec::new(alloc);
+    for text in texts {
+        made.push(text_of(rt, alloc, text))
+            .expect(rt, "memory for a list");
+    }
+    made
+}
+
+/// A title, two authors and an Austrian locale.
+fn austrian(rt: &impl Abort, alloc: Global) -> DocumentInfo {
+    DocumentInfo {
+        title: Some(text_of(rt, alloc, "T")),
+        author: texts_of(rt, alloc, &["a", "b"]),
+        locale: Some(Locale {
+            lang: text_of(rt, alloc, "de"),
+            region: Some(text_of(rt, alloc, "AT")),
+        }),
+        ..DocumentInfo::new(alloc)
+    }
+}
+
+/// An empty title, a description and an empty keyword, in a language without a region.
+fn almost_empty(rt: &impl Abort, alloc: Global) -> DocumentInfo {
+    DocumentInfo {
+        title: Some(String::new(alloc)),
+        description: Some(text_of(rt, alloc, "d")),
+        keywords: texts_of(rt, alloc, &[""]),
+        locale: Some(Locale {
+            lang: text_of(rt, alloc, "fr"),
+            region: None,
+        }),
+        ..DocumentInfo::new(alloc)
+    }
+}
+
+/// Asserts what the head of a document without items has beside its encoding and its viewport.
+fn assert_head(rt: &impl Abort, alloc: Global, info: &DocumentInfo, lang: &str, entries: &str) {
+    let given = given_of(rt, alloc, "[]", "[]");
+    let text = written(rt, alloc, &given, info, 1).expect(rt, "HTML");
+    let wanted = format!(in alloc;
+        "<!DOCTYPE html><html lang=\"{lang}\"><head><meta charset=\"utf-8\"><meta name=\"viewport\" content=\"width=device-width, initial-scale=1\">{entries}</head><body></body></html>"
+    );
+    assert_eq!(rt;
+        text.as_str(),
+        wanted.expect(rt, "memory for a text").as_str()
+    );
+}
+
+#[test]
+fn heads(rt: HostRuntime) {
+    assert_head(
+        &rt,
+        rt.alloc(),
+        &austrian(&rt, rt.alloc()),
+        "de-AT",
+        r#"<title>T</title><meta name="authors" content="a, b">"#,
+    );
+    assert_head(
+        &rt,
+        rt.alloc(),
+        &almost_empty(&rt, rt.alloc()),
+        "fr",
+        r#"<title></title><meta name="description" content="d"><meta name="keywords" content>"#,
+    );
+}
+
+/// Asserts that the document of nothing has that information.
+fn assert_info(rt: &impl Abort, alloc: Global, info: &DocumentInfo) {
+    let document = html_document_for_bundle(alloc, &[], info, &[], 1).expect(rt, "a document");
+    assert!(rt; *document.info() == *info);
+}
+
+#[test]
+fn information(rt: HostRuntime) {
+    assert_info(&rt, rt.alloc(), &austrian(&rt, rt.alloc()));
+}
+
+/// Asserts that a fault has that number, span and text.
+fn assert_fault(rt: &impl Abort, alloc: Global, fault: &ExportFault, at: (u8, u64), wanted: &str) {
+    let text = fault.to_string(alloc).expect(rt, "memory for the text");
+    assert_eq!(rt; text.as_str(), wanted);
+    assert!(rt;
+        fault.number() == at.0 && fault.span() == Span(at.1),
+        "{wanted}"
+    );
+}
+
+#[test]
+fn depth_fault(rt: HostRuntime) {
+    let fault = ExportFault::TooDeep { span: Span(7) };
+    assert_fault(
+        &rt,
+        rt.alloc(),
+        &fault,
+        (8, 7),
+        "items are nested too deeply",
+    );
+}
+
+#[test]
+fn fault_of_company(rt: HostRuntime) {
+    let fault = ExportFault::NotAlone {
+        tag: tag::body,
+        span: Span(7),
+    };
+    let wanted = "this element must be the only element in the document";
+    assert_fault(&rt, rt.alloc(), &fault, (9, 7), wanted);
+}
+
+/// Footnotes of the spans 7 and 8, and none.
+#[test]
+fn footnote_faults(rt: HostRuntime) {
+    let wanted = "footnotes are not supported with a custom root element";
+    let mut spans = Vec::new(rt.alloc());
+    assert_fault(
+        &rt,
+        rt.alloc(),
+        &ExportFault::Footnotes {
+            spans: Vec::new(rt.alloc()),
+        },
+        (10, 0),
+        wanted,
+    );
+    spans.push(Span(7)).expect(&rt, "memory for a span");
+    spans.push(Span(8)).expect(&rt, "memory for a span");
+    assert_fault(
+        &rt,
+        rt.alloc(),
+        &ExportFault::Footnotes { spans },
+        (10, 7),
+        wanted,
+    );
+}

@@ -1,0 +1,10 @@
+pub mod AnchorsUnseen
+pub mod Assembling
+pub mod Counted
+pub mod Firsts
+pub mod Nodes
+pub mod Notes
+pub mod Outlines
+pub mod StyledRoots
+pub mod AnchoredRoots
+pub mod SpacesInDocuments

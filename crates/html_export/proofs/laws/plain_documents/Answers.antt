@@ -1,0 +1,8 @@
+use Rattle.html_export.proofs.SpacesInDocuments.{plain_documents_are_made, plain_documents_are_seen}
+use Rattle.html_export.proofs.laws.plain_documents.Goals as goal
+
+pub returns-clause-made : goal.returns-clause-made
+returns-clause-made c = plain_documents_are_made
+
+pub returns-clause-seen : goal.returns-clause-seen
+returns-clause-seen c = plain_documents_are_seen

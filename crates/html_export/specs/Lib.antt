@@ -1,0 +1,7 @@
+pub mod Assembled
+pub mod Assembles
+pub mod DocumentHead
+pub mod Linked
+pub mod Outlines
+pub mod Roots
+pub mod SpacesInDocuments

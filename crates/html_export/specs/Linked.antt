@@ -1,0 +1,19 @@
+-- Documents of items with anchors for all locations to which links lead.
+use Rattle.std.specs.Prelude.{ℕ, Bool}
+use Rattle.html_document.specs.Documents.{InfoView, DocumentView}
+use Rattle.html_flow.specs.Items.{ItemsView}
+use Rattle.html_link.specs.LinkAnchors.{document_anchored, document_anchor}
+use Rattle.html_export.specs.Assembled.{assembled_document}
+
+-- a document with anchors for these locations, and with what they are called
+abbrev pub document_linked : (is_target : ℕ → Bool) → DocumentView → DocumentView
+document_linked is_target d = record (document_anchored is_target d) {
+  introspector = record d.introspector { anchor = document_anchor is_target d };
+}
+
+-- with anchors for all locations to which links were recorded
+abbrev pub document_with_anchors : DocumentView → DocumentView
+document_with_anchors d = document_linked d.introspector.is_link_target d
+
+abbrev pub linked_document : InfoView → (items notes : ItemsView) → DocumentView
+linked_document info items notes = document_with_anchors (assembled_document info items notes)

@@ -1,0 +1,10 @@
+//! Documents made of items, and their HTML text.
+#![tactic(auto)]
+
+mod document;
+mod encode;
+mod head;
+pub mod laws;
+
+pub use document::html_document_for_bundle;
+pub use encode::html;
