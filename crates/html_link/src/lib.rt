@@ -1,6 +1,7 @@
 //! Anchors of links: each target that a link leads to gets a name in the tree.
 #![tactic(auto)]
 
+mod anchors;
 mod changes;
 mod frames;
 pub mod laws;
@@ -10,3 +11,5 @@ mod names_in_tree;
 mod nodes;
 mod sought;
 mod state;
+
+pub use anchors::create_link_anchors;
