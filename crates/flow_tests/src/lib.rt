@@ -2,8 +2,6 @@
 #![tactic(auto)]
 
 #[cfg(test)]
-mod anchors;
-#[cfg(test)]
 mod bare;
 #[cfg(test)]
 mod blanks;

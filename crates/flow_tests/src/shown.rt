@@ -35,13 +35,6 @@ impl FrameWriter for OneText {
     }
 }
 
-/// Writes `[frame]` for each frame.
-pub(crate) fn frame_writer(rt: &impl Abort, alloc: Global) -> OneText {
-    OneText {
-        text: String::from_str(alloc, "[frame]").expect(rt, "memory for a text"),
-    }
-}
-
 /// How the lists of a table stand.
 #[derive(Clone, Copy)]
 pub(crate) struct Kind {

@@ -1,8 +1,6 @@
 pub mod AnchorsUnseen
-pub mod Anchors
 pub mod Assembling
 pub mod Counted
-pub mod FaultsInOrder
 pub mod Firsts
 pub mod Nodes
 pub mod Notes
@@ -10,4 +8,3 @@ pub mod Outlines
 pub mod StyledRoots
 pub mod AnchoredRoots
 pub mod SpacesInDocuments
-pub mod SpacesInTexts

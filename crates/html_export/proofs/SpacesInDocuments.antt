@@ -1,5 +1,5 @@
 -- Documents of items in plain flow: what is seen of their text is exactly the items' text.
-use Rattle.std.proofs.Common.{◌≡◌, ℕ, true, false, List, [], ◌∷◌, ◌++◌, Option, None, Some, codes, refl, ap, sym, subst, ◌∙◌, append-nil}
+use Rattle.std.proofs.Common.{◌≡◌, ℕ, true, false, List, [], ◌∷◌, ◌++◌, Option, None, Some, codes, refl, ap, ◌∙◌, append-nil}
 use Rattle.std.proofs.lemmas.Bool.{and_parts, both_ways}
 use Rattle.html_names.specs.Kinds.{is_raw}
 use Rattle.html_names.specs.Names.{stands_in}
@@ -32,12 +32,12 @@ use Rattle.html_spaces.specs.SeenBody.{text_seen}
 use Rattle.html_spaces.proofs.Anchored.{anchors_are_unseen, anchors_keep_edges}
 use Rattle.html_spaces.proofs.PlainNodes.{makes_plain_nodes, plain_readable, names_are_inside}
 use Rattle.html_spaces.proofs.ReadableNodes.{AreReadable, readable_frame_free, readable_end_well, styled_readable, anchored_readable, anchored_body}
-use Rattle.html_spaces.proofs.SeenBody.{body_is_seen, plain_tree_seen, pretty_tree_seen}
+use Rattle.html_spaces.proofs.SeenBody.{body_is_seen}
 use Rattle.html_spaces.proofs.SpacesStay.{spaces_stay}
 use Rattle.html_export.specs.Assembled.{own_head, first_own, nothing_own, document_outline, outline_by, shown_count, both_nodes, body_node, document_nodes, document_output, assembled_document}
 use Rattle.html_export.specs.DocumentHead.{title_nodes, description_nodes, list_nodes, entry_nodes, head_node, lang_text}
 use Rattle.html_export.specs.Linked.{linked_document}
-use Rattle.html_export.specs.SpacesInDocuments.{PlainDocumentsAreMade, PlainDocumentsAreSeen, IsReadAs, PlainDocumentsAreRead, SpacesAreLeft}
+use Rattle.html_export.specs.SpacesInDocuments.{PlainDocumentsAreMade, PlainDocumentsAreSeen}
 use Rattle.html_export.proofs.AnchoredRoots.{root_anchored}
 
 -- plain nodes leave the document its own root and body
@@ -210,41 +210,3 @@ plain_documents_are_seen info items e frames options named clean =
     let root = linked_root info items e in
     rw root.1 (anchored_seen frames options info items root.0 e (rw root.1 at named)
     (rw root.1 at clean))
-
--- what the text of the root with anchors reads as
-
-anchored_read : (info : InfoView) (items : ItemsView) (x : Targets) → is_plain_flow items ≡ true →
-    IsReadAs (element_anchored x (root_over info (document_nodes items))) items
-unfolding element_anchored NodeEndsWell
-anchored_read info items x e =
-    let ns : NodesView = document_nodes items in
-    let old : ElementView = root_over info ns in
-    let new : ElementView = element_anchored x old in
-    let made = makes_plain_nodes None items e in
-    let below : Anchored IsAny old.1 new.1 = root_anchored x old in
-    let readable : AreReadable new.1 =
-    anchored_readable IsAny below (root_readable info ns (plain_readable ns made.0)) in
-    let body = anchored_body IsAny (nodes_styled ns) below (body_is info ns) in
-    let seen = ap Some (ap collapsed_pieces (anchors_are_unseen (nodes_styled ns) body.0 body.2 false)
-    ∙ spaces_stay None items e) in
-    record {
-      frame_free = readable_frame_free new.1 readable;
-      ends_well = (
-        λ r. absurd (both_ways (is_raw (codes "html")) html_not_raw r),
-        readable_end_well new.1 readable _,
-      );
-      plain = plain_tree_seen new body.0 body.1 ∙ seen;
-      pretty = pretty_tree_seen new body.0 body.1 html_not_raw
-          (anchors_keep_edges (nodes_styled ns) body.0 body.2 made.1) ∙ seen;
-    }
-
-pub plain_documents_are_read : PlainDocumentsAreRead
-plain_documents_are_read info items e =
-    let root = linked_root info items e in
-    subst (λ r. IsReadAs r items) (sym root.1) (anchored_read info items root.0 e)
-
-pub spaces_are_left : (info : InfoView) (items notes : ItemsView) (d : DocumentView) →
-    d ≡ linked_document info items notes → SpacesAreLeft d items notes
-spaces_are_left info items notes d is e none =
-    subst (λ r. IsReadAs (document_root r) items)
-    (sym (is ∙ ap (linked_document info items) none)) (plain_documents_are_read info items e)

@@ -1,7 +1,6 @@
 pub mod Assembled
 pub mod Assembles
 pub mod DocumentHead
-pub mod Exported
 pub mod Linked
 pub mod Outlines
 pub mod Roots

@@ -14,69 +14,16 @@ ghost use Rattle.html_export.specs.Assembled.{first_own, is_html, is_own, own_he
 ghost use Rattle.html_export.specs.Assembled.{body_node, both_nodes, html_output};
 ghost use Rattle.html_export.specs.Assembled.{assembly_faults, depth_faults, document_faults, item_spans, note_faults, outline_faults};
 ghost use Rattle.html_export.specs.Assembles.{Assembles, Passes};
-ghost use Rattle.html_export.specs.Linked.{document_with_anchors, linked_document, AnchorsAreFirstIds};
 ghost use Rattle.html_export.specs.Outlines.{outline_view, own_view};
 ghost use Rattle.html_export.specs.Roots.{root_styled};
-ghost use Rattle.html_export.specs.SpacesInDocuments.{SpacesAreLeft};
 
 use crate::head::{head_node, lang_text};
 use html_document::{DocumentInfo, HtmlDocument, HtmlOutput};
 use html_dom::{HtmlElement, HtmlNode, Span, resolve_inline_styles};
 use html_encode::ExportFault;
 use html_flow::{ConversionLevel, FlowFault, Pair, Whitespace, convert_to_nodes};
-use html_link::create_link_anchors;
 use html_names::{attr, tag};
 use std::alloc::{AllocError, Global};
-
-/// The document of items, with what is known of it and with footnotes, and with anchors for all
-/// locations to which links lead.
-///
-/// It is that of [`html_document_for_bundle`], in which each target of a start tag or of a link in a
-/// frame then gets an anchor as by [`create_link_anchors`]; the document's introspector knows them.
-/// The positions that it knows stay those of the tree without anchors. It fails as
-/// `html_document_for_bundle` does.
-///
-/// ```
-/// let mut items = Vec::new(alloc);
-/// let location = Location(7);
-/// let start = Tag::Start { location, label: None, dest: Some(location) };
-/// items.push(Pair { item: Item::Tag(start), role: Role::Inherit })?;
-/// items.push(Pair { item: Item::Tag(Tag::End { location }), role: Role::Inherit })?;
-/// let info = DocumentInfo::new(alloc);
-/// let document = html_document(alloc, &items, &info, &[], 50)?;
-/// let anchor = document.introspector().anchor(location)?;
-/// assert!(rt; anchor.as_str() == "loc-1"); // of an empty `span` between the tags
-/// ```
-pub fn html_document(
-    alloc: Global,
-    items: &[Pair],
-    info: &DocumentInfo,
-    footnotes: &[Pair],
-    limit: usize,
-) -> Result<HtmlDocument, ExportFault>
-    requires some_limit { 1 ≤ limit }
-    requires low_limit { limit ≤ 10000 }
-    ensures made { Assembles document_view result
-        (linked_document (info_view info.now) (items_view items.now) (items_view footnotes.now))
-        (document_faults limit (items_view items.now) (items_view footnotes.now)) }
-    ensures anchors { IfOk result (λ document. AnchorsAreFirstIds (document_view document)) }
-    ensures spaces { IfOk result (λ document. SpacesAreLeft (document_view document)
-        (items_view items.now) (items_view footnotes.now)) }
-{
-    let document = html_document_for_bundle(alloc, items, info, footnotes, limit)?;
-    Ok(with_anchors(alloc, document)?)
-}
-
-/// The document with anchors for all locations to which links lead.
-fn with_anchors(alloc: Global, mut document: HtmlDocument) -> Result<HtmlDocument, AllocError>
-    ensures { IfOk result (λ made.
-        document_view made ≡ document_with_anchors (document_view document)) }
-{
-    let targets = document.introspector().link_targets()?;
-    let anchors = create_link_anchors(alloc, &mut document, &targets)?;
-    document.introspector_mut().set_anchors(anchors);
-    Ok(document)
-}
 
 /// The document of items, with what is known of it and with footnotes, without anchors.
 ///

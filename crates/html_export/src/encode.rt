@@ -1,9 +1,9 @@
 //! Writing documents.
 
-ghost use Rattle.std.specs.Prelude.{◌≡◌, ◌≤◌, true, false, Some, IfOk};
+ghost use Rattle.std.specs.Prelude.{◌≡◌, true, false, Some, IfOk};
 ghost use Rattle.html_dom.specs.PlainTree.{element_normal};
 ghost use Rattle.html_dom.specs.Views.{text_view};
-ghost use Rattle.html_document.specs.Views.{document_view, info_view};
+ghost use Rattle.html_document.specs.Views.{document_view};
 ghost use Rattle.html_encode.specs.Faults.{document_faults};
 ghost use Rattle.html_encode.specs.Indented.{element_layout, ElementEndsWell};
 ghost use Rattle.html_encode.specs.Reader.{read};
@@ -11,15 +11,9 @@ ghost use Rattle.html_encode.specs.ReadingBack.{ElementIsFrameFree};
 ghost use Rattle.html_encode.specs.Text.{document_text};
 ghost use Rattle.html_encode.specs.Writes.{Makes};
 ghost use Rattle.html_document.specs.Documents.{document_root};
-ghost use Rattle.html_flow.specs.Views.{items_view};
-ghost use Rattle.html_export.specs.Assembles.{Assembles};
-ghost use Rattle.html_export.specs.Exported.{export_faults, export_text};
-ghost use Rattle.html_export.specs.SpacesInDocuments.{SpacesAreSeen};
 
-use crate::document::html_document;
-use html_document::{DocumentInfo, HtmlDocument};
+use html_document::HtmlDocument;
 use html_encode::{ExportFault, FrameWriter, HtmlOptions, html_in_bundle};
-use html_flow::Pair;
 use std::alloc::Global;
 
 /// The HTML text of a document: that of its root, as [`html_in_bundle`] writes it.
@@ -52,41 +46,4 @@ pub fn html<F: FrameWriter>(
         IfOk result (λ text. read (text_view text) ≡ Some (element_normal (element_layout root))) }
 {
     html_in_bundle(alloc, document.root(), options, frames)
-}
-
-/// The HTML text of items, with what is known of their document and with footnotes: that of their
-/// document with anchors.
-///
-/// It is made by [`html_document`] and written by [`html`]. It fails where an allocation does, and
-/// else by the first fault of making the document or, where there is none, of writing its tree.
-///
-/// ```
-/// let mut items = Vec::new(alloc);
-/// items.push(Pair { item: Item::Text(text, Span(1)), role: Role::Inherit })?;
-/// let info = DocumentInfo::new(alloc);
-/// let text = export(alloc, &items, &info, &[], 50, &HtmlOptions { pretty: true }, &frames)?;
-/// ```
-pub fn export<F: FrameWriter>(
-    alloc: Global,
-    items: &[Pair],
-    info: &DocumentInfo,
-    footnotes: &[Pair],
-    limit: usize,
-    options: &HtmlOptions,
-    frames: &F,
-) -> Result<String, ExportFault>
-    requires some_limit { 1 ≤ limit }
-    requires low_limit { limit ≤ 10000 }
-    ensures makes { Assembles text_view result
-        (export_text (F.drawing frames.now) options.now
-        (info_view info.now) (items_view items.now) (items_view footnotes.now))
-        (export_faults limit (F.drawing frames.now) options.now
-        (info_view info.now) (items_view items.now) (items_view footnotes.now)) }
-
-    // Once white space has collapsed, exactly the text of items in plain flow is seen.
-    ensures spaces { IfOk result (λ text. SpacesAreSeen (text_view text)
-        (items_view items.now) (items_view footnotes.now)) }
-{
-    let document = html_document(alloc, items, info, footnotes, limit)?;
-    html(alloc, &document, options, frames)
 }

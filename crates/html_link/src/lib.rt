@@ -1,7 +1,6 @@
 //! Anchors of links: each target that a link leads to gets a name in the tree.
 #![tactic(auto)]
 
-mod anchors;
 mod changes;
 mod frames;
 pub mod laws;
@@ -11,5 +10,3 @@ mod names_in_tree;
 mod nodes;
 mod sought;
 mod state;
-
-pub use anchors::create_link_anchors;
