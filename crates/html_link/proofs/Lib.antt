@@ -12,3 +12,4 @@ pub mod States
 pub mod Steps
 pub mod UsedNames
 pub mod Walks
+pub mod WholeWalk

@@ -1,14 +1,23 @@
 -- The walk goes on where it stopped, as a loop over nodes does.
-use Rattle.std.proofs.Common.{◌≡◌, ℕ, Bool, List, [], ◌∷◌, ◌++◌, Option, Some, None, refl, ap}
+use Rattle.std.proofs.Common.{◌≡◌, ℕ, Bool, List, [], ◌∷◌, ◌++◌, Option, Some, None, String, Global, Bor, refl, ap, ◌∙◌, rules}
+use Rattle.std.specs.Option.{option_or, option_copied}
+use Rattle.std.specs.Prelude.{option_map}
+use Rattle.html_dom.specs.Attributes.{or_else}
+use Rattle.html_dom.specs.Frames.{PointView, HtmlFrameView}
+use Rattle.html_dom.specs.FrameViews.{optional_text_view, tag_view, html_frame_view}
 use Rattle.html_dom.specs.Tree.{starts, ends, tag_node, text_node, element_node, frame_node, NodeView, NodesView, none, node}
-use Rattle.html_dom.specs.Views.{node_view, nodes_view}
-use Rattle.html_dom.specs.declared.node.HtmlNode.{HtmlNode}
+use Rattle.html_dom.specs.Views.{text_view, node_view, nodes_view, element_view}
+use Rattle.html_dom.specs.declared.frame.HtmlFrame.{HtmlFrame}
+use Rattle.html_dom.specs.declared.introspection.Tag.{Tag}
+use Rattle.html_dom.specs.declared.node.HtmlElement.{HtmlElement}
+use Rattle.html_dom.specs.declared.node.HtmlNode.{HtmlNode, the_lemmas}
+use Rattle.html_dom.specs.declared.node.HtmlNode as HtmlNode
 use Rattle.html_link.specs.NewNames.{Name, with_name, new_name}
-use Rattle.html_link.specs.Events.{Targets, FrameStart}
+use Rattle.html_link.specs.Events.{Targets, FrameStart, frame_starts}
 use Rattle.html_link.specs.Namings.{start_pairs, used_after_starts}
 use Rattle.html_link.specs.Anchors.{span_before, text_in}
-use Rattle.html_link.specs.Walk.{WalkState, first_waiting, Serves, made_now, after_server, after_start, after_starts, walk}
-use Rattle.html_link.specs.Joined.{◌then◌, nodes_before}
+use Rattle.html_link.specs.Walk.{WalkState, started, first_waiting, Serves, made_now, after_server, after_start, after_starts, Walked, walk}
+use Rattle.html_link.specs.Joined.{◌then◌, nodes_before, with_starts}
 
 pub then-none : (ns : NodesView) → (ns then none) ≡ ns
 then-none none = refl
@@ -67,3 +76,78 @@ pub text_pushed : (x : Targets) (s : List ℕ) (span : ℕ) (old new : NodesView
 unfolding walk
 text_pushed x s span old new n st after made serves is pushed =
     rw (pushed, is, serves.name, serves.state) refl
+
+-- the views of nodes, case by case
+pub node_view-Tag : (t : Tag) → node_view (HtmlNode.Tag t) ≡ tag_node (tag_view t)
+node_view-Tag t = search (rules, the_lemmas)
+
+pub node_view-Element : (e : HtmlElement) →
+    node_view (HtmlNode.Element e) ≡ element_node (element_view e).0 (element_view e).1
+node_view-Element e = search (rules, the_lemmas)
+
+pub node_view-Frame : (f : HtmlFrame) →
+    node_view (HtmlNode.Frame f) ≡ frame_node (html_frame_view f)
+node_view-Frame f = search (rules, the_lemmas)
+
+-- a start tag, which waits where its location is a target
+pub start_pushed : (x : Targets) (l : ℕ) (label : Option Name) (dest : Option ℕ)
+    (old new : NodesView) (n : NodeView) (st after : WalkState) →
+    after ≡ started (x.is_target l) l label st → n ≡ tag_node (starts l label dest) →
+    new ≡ (old then node n none) →
+    (new, after) ≡ nodes_before old (walk x (node (tag_node (starts l label dest)) none) st)
+unfolding walk
+start_pushed x l label dest old new n st after waits is pushed = rw (pushed, is, waits) refl
+
+-- what stands after an end tag, and the state then
+abbrev pub after_end : ℕ → WalkState → Walked
+after_end l st =
+    let waiting = st.labels l in
+    (span_before (made_now waiting None st.used) none, after_server waiting None st)
+
+-- an end tag, and then the `span` that it makes
+pub end_pushed : (x : Targets) (l : ℕ) (old mid new : NodesView) (n : NodeView)
+    (st after : WalkState) → n ≡ tag_node (ends l) → mid ≡ (old then node n none) →
+    (new, after) ≡ nodes_before mid (after_end l st) →
+    (new, after) ≡ nodes_before old (walk x (node (tag_node (ends l)) none) st)
+unfolding walk
+end_pushed x l old mid new n st after is pushed more =
+    let e = after_end l st in
+    more ∙ (rw (pushed, is)
+    (ap (λ ms. (ms, e.1)) (then-assoc old (node (tag_node (ends l)) none) e.0)))
+
+-- the `span` that an end tag makes
+pub span_pushed : (l : ℕ) (old new : NodesView) (st after : WalkState) (made : Option Name) →
+    Serves st after (st.labels l) None made → new ≡ (old then span_before made none) →
+    (new, after) ≡ nodes_before old (after_end l st)
+span_pushed l old new st after made serves pushed =
+    rw (pushed, serves.name, serves.state) refl
+
+-- the name that a frame has of its own
+pub own_is : (own : Option (Bor (String Global))) →
+    option_map (λ n. text_view n.now) own ≡ optional_text_view (option_copied own)
+own_is None = refl
+own_is (Some n) = refl
+
+-- a frame's own `id`, else the new one
+pub id_is : (own made : Option (String Global)) →
+    optional_text_view (option_or own made)
+    ≡ or_else (optional_text_view own) (optional_text_view made)
+id_is None made = refl
+id_is (Some n) made = refl
+
+-- a frame, which serves all that wait
+pub frame_pushed : (x : Targets) (f copy : HtmlFrameView) (id : Option Name)
+    (pairs : List (PointView × Name)) (old new : NodesView) (n : NodeView)
+    (st served after : WalkState) (own made : Option Name) →
+    Serves st served (first_waiting st) own made → own ≡ f.id → copy ≡ f →
+    id ≡ or_else copy.id made →
+    (after, pairs) ≡ with_starts (frame_starts x f.inner) (served, copy.anchors) →
+    n ≡ frame_node (record copy { id = id; anchors = pairs }) → new ≡ (old then node n none) →
+    (new, after) ≡ nodes_before old (walk x (node (frame_node f) none) st)
+unfolding walk
+frame_pushed x f copy id pairs old new n st served after own made serves own_id same is named
+    node_is pushed =
+    let ss = frame_starts x f.inner in
+    let state : after ≡ after_starts ss served = ap (λ w. w.0) named in
+    let anchors : pairs ≡ copy.anchors ++ start_pairs served.used ss = ap (λ w. w.1) named in
+    rw (pushed, node_is, is, anchors, state, same, serves.name, serves.state, own_id) refl

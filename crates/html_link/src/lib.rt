@@ -1,7 +1,9 @@
 //! Anchors of links: each target that a link leads to gets a name in the tree.
 #![tactic(auto)]
 
+mod anchors;
 mod changes;
+mod elements;
 mod frames;
 pub mod laws;
 mod location_maps;
@@ -10,3 +12,5 @@ mod names_in_tree;
 mod nodes;
 mod sought;
 mod state;
+
+pub use anchors::create_link_anchors;

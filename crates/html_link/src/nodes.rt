@@ -1,16 +1,19 @@
 //! Anchors in nodes. Each node is copied, with what its anchor changes.
 
-ghost use Rattle.std.specs.Prelude.{◌≡◌, OnOk};
-ghost use Rattle.html_dom.specs.Tree.{node, none, text_node};
+ghost use Rattle.std.specs.Prelude.{◌≡◌, None, OnOk};
+ghost use Rattle.html_dom.specs.FrameViews.{tag_view, html_frame_view};
+ghost use Rattle.html_dom.specs.Tree.{node, none, tag_node, text_node, frame_node};
 ghost use Rattle.html_dom.specs.Views.{text_view, nodes_view};
+ghost use Rattle.html_link.specs.Anchors.{span_before};
 ghost use Rattle.html_link.specs.Joined.{nodes_before};
-ghost use Rattle.html_link.specs.Walk.{walk};
+ghost use Rattle.html_link.specs.Walk.{made_now, after_server, walk};
 ghost use Rattle.html_link.specs.WalkViews.{walk_view, targets_view};
 
-use crate::changes::text_in;
+use crate::changes::{named_span, text_in};
+use crate::frames::name_frame;
 use crate::sought::Sought;
 use crate::state::Walk;
-use html_dom::{HtmlNode, Span};
+use html_dom::{HtmlFrame, HtmlNode, Location, Span, Tag};
 use std::alloc::{AllocError, Global};
 
 /// Adds a text, which serves all that wait.
@@ -29,5 +32,67 @@ pub(crate) fn push_text(
 {
     let name = state.serve(alloc, None)?;
     made.push(text_in(alloc, name, text, span)?)?;
+    Ok(())
+}
+
+/// Adds the `span` after an end tag, where it serves.
+fn push_span(
+    state: &mut Walk,
+    made: &mut Vec<HtmlNode>,
+    alloc: Global,
+    location: Location,
+) -> Result<(), AllocError>
+    ensures { let st = walk_view state.old in let waiting = st.labels location.0 in
+        OnOk result ((nodes_view made.new.items, walk_view state.new)
+        ≡ nodes_before (nodes_view made.old.items)
+        (span_before (made_now waiting None st.used) none, after_server waiting None st)) }
+{
+    if let Some(name) = state.end(alloc, location)? {
+        let span = named_span(alloc, name, Span(0), Vec::new(alloc))?;
+        made.push(HtmlNode::Element(span))?;
+    }
+    Ok(())
+}
+
+/// Adds a tag. A start tag of a target waits; where an end tag serves, a new empty `span` follows.
+pub(crate) fn push_tag(
+    state: &mut Walk,
+    made: &mut Vec<HtmlNode>,
+    alloc: Global,
+    sought: Sought<'_>,
+    tag: &Tag,
+) -> Result<(), AllocError>
+    ensures { OnOk result ((nodes_view made.new.items, walk_view state.new)
+        ≡ nodes_before (nodes_view made.old.items) (walk (targets_view sought.entry)
+        (node (tag_node (tag_view tag.now)) none) (walk_view state.old))) }
+{
+    made.push(HtmlNode::Tag(tag.try_clone()?))?;
+    match tag {
+        Tag::Start {
+            location,
+            label,
+            ..
+        } => state.start(sought.targets, *location, label),
+        Tag::End { location } => push_span(state, made, alloc, *location),
+    }
+}
+
+/// Adds a frame, which serves all that wait; the start tags in it get anchors.
+pub(crate) fn push_frame(
+    state: &mut Walk,
+    made: &mut Vec<HtmlNode>,
+    alloc: Global,
+    sought: Sought<'_>,
+    frame: &HtmlFrame,
+) -> Result<(), AllocError>
+    ensures { OnOk result ((nodes_view made.new.items, walk_view state.new)
+        ≡ nodes_before (nodes_view made.old.items) (walk (targets_view sought.entry)
+        (node (frame_node (html_frame_view frame.now)) none) (walk_view state.old))) }
+{
+    let name = state.serve(alloc, frame.id.as_ref())?;
+    let mut copy = frame.try_clone()?;
+    copy.id = copy.id.take().or(name);
+    name_frame(state, &mut copy.anchors, alloc, sought, &frame.inner)?;
+    made.push(HtmlNode::Frame(copy))?;
     Ok(())
 }
