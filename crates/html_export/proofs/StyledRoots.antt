@@ -1,5 +1,5 @@
 -- Where the other nodes are tags, the styles of the root are those of all nodes.
-use Rattle.std.proofs.Common.{◌≡◌, ℕ, zero, suc, ◌<◌, true, false, refl, ap, sym, true≢false, arith}
+use Rattle.std.proofs.Common.{◌≡◌, ℕ, zero, suc, ◌<◌, true, refl, ap, sym, true≢false, arith}
 use Rattle.html_dom.specs.Styled.{head_styled, nodes_styled, element_styled}
 use Rattle.html_dom.specs.Tree.{tag_node, text_node, element_node, frame_node, NodesView, none, node}
 use Rattle.html_document.specs.Documents.{element_at, is_element_at, with_element}

@@ -1,6 +1,8 @@
 pub mod Assembled
 pub mod Assembles
+pub mod CleanInfo
 pub mod DocumentHead
+pub mod Exported
 pub mod Linked
 pub mod Outlines
 pub mod Roots

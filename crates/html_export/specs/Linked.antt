@@ -1,7 +1,9 @@
 -- Documents of items with anchors for all locations to which links lead.
-use Rattle.std.specs.Prelude.{ℕ, Bool}
-use Rattle.html_document.specs.Documents.{InfoView, DocumentView}
+use Rattle.std.specs.Prelude.{◌≡◌, ℕ, Bool, true, List, Some}
+use Rattle.html_names.specs.Names.{stands_in}
+use Rattle.html_document.specs.Documents.{InfoView, DocumentView, document_root}
 use Rattle.html_flow.specs.Items.{ItemsView}
+use Rattle.html_link.specs.Answered.{first_ids, AreFrameFree}
 use Rattle.html_link.specs.LinkAnchors.{document_anchored, document_anchor}
 use Rattle.html_export.specs.Assembled.{assembled_document}
 
@@ -17,3 +19,9 @@ document_with_anchors d = document_linked d.introspector.is_link_target d
 
 abbrev pub linked_document : InfoView → (items notes : ItemsView) → DocumentView
 linked_document info items notes = document_with_anchors (assembled_document info items notes)
+
+-- in a document without frames each anchor is the first `id` of an element below the root
+abbrev pub AnchorsAreFirstIds : DocumentView → Type 0
+AnchorsAreFirstIds d = AreFrameFree (document_root d).1 → (location : ℕ) (name : List ℕ) →
+    d.introspector.anchor location ≡ Some name →
+    stands_in (first_ids (document_root d).1) name ≡ true

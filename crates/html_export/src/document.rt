@@ -3,6 +3,7 @@
 ghost use Rattle.std.specs.Prelude.{◌≡◌, ◌≤◌, IfOk, option_map};
 ghost use Rattle.html_dom.specs.Tree.{none, node};
 ghost use Rattle.html_dom.specs.Views.{element_view, node_view, nodes_view};
+ghost use Rattle.html_document.specs.Positions.{PositionsLead};
 ghost use Rattle.html_document.specs.Views.{document_view, info_view, output_view};
 ghost use Rattle.html_encode.specs.FaultViews.{spans_view};
 ghost use Rattle.html_whitespace.specs.Nodes.{is_tag};
@@ -13,17 +14,77 @@ ghost use Rattle.html_export.specs.Assembled.{assembled_document, assembled_outp
 ghost use Rattle.html_export.specs.Assembled.{first_own, is_html, is_own, own_head, document_outline, shown_count};
 ghost use Rattle.html_export.specs.Assembled.{body_node, both_nodes, html_output};
 ghost use Rattle.html_export.specs.Assembled.{assembly_faults, depth_faults, document_faults, item_spans, note_faults, outline_faults};
-ghost use Rattle.html_export.specs.Assembles.{Assembles, Passes};
+ghost use Rattle.html_export.specs.Assembles.{Assembles, FailsByMemoryAlone, Passes};
+ghost use Rattle.html_export.specs.Linked.{document_with_anchors, linked_document, AnchorsAreFirstIds};
 ghost use Rattle.html_export.specs.Outlines.{outline_view, own_view};
 ghost use Rattle.html_export.specs.Roots.{root_styled};
+ghost use Rattle.html_export.specs.SpacesInDocuments.{ArePlainItems, SpacesAreLeft};
 
 use crate::head::{head_node, lang_text};
 use html_document::{DocumentInfo, HtmlDocument, HtmlOutput};
 use html_dom::{HtmlElement, HtmlNode, Span, resolve_inline_styles};
 use html_encode::ExportFault;
 use html_flow::{ConversionLevel, FlowFault, Pair, Whitespace, convert_to_nodes};
+use html_link::create_link_anchors;
 use html_names::{attr, tag};
 use std::alloc::{AllocError, Global};
+
+/// The document of items, with what is known of it and with footnotes, and with anchors for all
+/// locations to which links lead.
+///
+/// It is that of [`html_document_for_bundle`], in which each target of a start tag or of a link in a
+/// frame then gets an anchor as by [`create_link_anchors`]; the document's introspector knows them.
+/// The positions that it knows stay those of the tree without anchors. It fails as
+/// `html_document_for_bundle` does.
+///
+/// Of items in plain flow, without footnotes and none too deep, a document is always made, out of
+/// memory aside, and once white space has collapsed exactly their text is seen in its body.
+///
+/// ```
+/// let mut items = Vec::new(alloc);
+/// let location = Location(7);
+/// let start = Tag::Start { location, label: None, dest: Some(location) };
+/// items.push(Pair { item: Item::Tag(start), role: Role::Inherit })?;
+/// items.push(Pair { item: Item::Tag(Tag::End { location }), role: Role::Inherit })?;
+/// let info = DocumentInfo::new(alloc);
+/// let document = html_document(alloc, &items, &info, &[], 50)?;
+/// let anchor = document.introspector().anchor(location)?;
+/// assert!(rt; anchor.as_str() == "loc-1"); // of an empty `span` between the tags
+/// ```
+pub fn html_document(
+    alloc: Global,
+    items: &[Pair],
+    info: &DocumentInfo,
+    footnotes: &[Pair],
+    limit: usize,
+) -> Result<HtmlDocument, ExportFault>
+    requires some_limit { 1 ≤ limit }
+    requires low_limit { limit ≤ 10000 }
+    ensures made { Assembles document_view result
+        (linked_document (info_view info.now) (items_view items.now) (items_view footnotes.now))
+        (document_faults limit (items_view items.now) (items_view footnotes.now)) }
+    ensures anchors { IfOk result (λ document. AnchorsAreFirstIds (document_view document)) }
+    // Items in plain flow become a document, out of memory aside, and in its text exactly theirs
+    // is seen.
+    ensures plain { ArePlainItems limit (items_view items.now) (items_view footnotes.now) →
+        FailsByMemoryAlone result }
+    ensures spaces { IfOk result (λ document. SpacesAreLeft (document_view document)
+        (items_view items.now) (items_view footnotes.now)) }
+{
+    let document = html_document_for_bundle(alloc, items, info, footnotes, limit)?;
+    Ok(with_anchors(alloc, document)?)
+}
+
+/// The document with anchors for all locations to which links lead.
+fn with_anchors(alloc: Global, mut document: HtmlDocument) -> Result<HtmlDocument, AllocError>
+    ensures { IfOk result (λ made.
+        document_view made ≡ document_with_anchors (document_view document)) }
+{
+    let targets = document.introspector().link_targets()?;
+    let anchors = create_link_anchors(alloc, &mut document, &targets)?;
+    document.introspector_mut().set_anchors(anchors);
+    Ok(document)
+}
 
 /// The document of items, with what is known of it and with footnotes, without anchors.
 ///
@@ -36,6 +97,8 @@ use std::alloc::{AllocError, Global};
 /// It fails where an allocation does, and by the first of these: items too deep for the limit; an
 /// `html` or `body` among other nodes; footnotes beside an `html` or `body` of the document's own;
 /// footnotes too deep.
+///
+/// The positions of tags lead to the elements that hold them, as in [`HtmlDocument::new`].
 ///
 /// ```
 /// let paragraph = HtmlElem::new(alloc, tag::p);
@@ -54,9 +117,10 @@ pub fn html_document_for_bundle(
 ) -> Result<HtmlDocument, ExportFault>
     requires some_limit { 1 ≤ limit }
     requires low_limit { limit ≤ 10000 }
-    ensures { Assembles document_view result
+    ensures made { Assembles document_view result
         (assembled_document (info_view info.now) (items_view items.now) (items_view footnotes.now))
         (document_faults limit (items_view items.now) (items_view footnotes.now)) }
+    ensures leads { IfOk result (λ document. PositionsLead (document_view document)) }
 {
     let content = converted(alloc, items, 0, limit)?;
     let output = assembled(alloc, content, info, footnotes, limit)?;

@@ -1,4 +1,5 @@
 //! The head of a document, and its language.
+#![tactic(auto, unfolding(html_names::specs::Tables::known_tags, html_names::specs::Tables::known_attrs))]
 
 ghost use Rattle.std.specs.Prelude.{◌≡◌, ◌++◌, IfOk, IsTrue, OnOk, codes, map, option_map};
 ghost use Rattle.std.specs.List.{flat_map};
@@ -14,7 +15,6 @@ use html_names::{Output, attr, tag};
 use std::alloc::{AllocError, Global};
 
 /// The head of a document: how it is encoded, how it is shown, and what is known of it.
-#[tactic(auto, unfolding(html_names::specs::Tables::known_tags))]
 pub(crate) fn head_node(alloc: Global, info: &DocumentInfo) -> Result<HtmlNode, AllocError>
     ensures { IfOk result (λ made. node_view made ≡ head_node (info_view info.now)) }
 {
@@ -124,7 +124,6 @@ pub(crate) fn ascii_text(alloc: Global, text: &str) -> Result<String, AllocError
 }
 
 /// How the document is encoded.
-#[tactic(auto, unfolding(html_names::specs::Tables::known_tags, html_names::specs::Tables::known_attrs))]
 fn charset_node(alloc: Global) -> Result<HtmlNode, AllocError>
     ensures { IfOk result (λ made. node_view made ≡ charset_node) }
 {
@@ -134,7 +133,6 @@ fn charset_node(alloc: Global) -> Result<HtmlNode, AllocError>
 }
 
 /// An entry of that name.
-#[tactic(auto, unfolding(html_names::specs::Tables::known_tags, html_names::specs::Tables::known_attrs))]
 fn entry_node(alloc: Global, name: &str, content: String) -> Result<HtmlNode, AllocError>
     requires { IsTrue (is_ascii name.now) }
     ensures { IfOk result (λ made. node_view made ≡ entry_node name.now (text_view content)) }
@@ -154,7 +152,6 @@ fn viewport_node(alloc: Global) -> Result<HtmlNode, AllocError>
 }
 
 /// The title.
-#[tactic(auto, unfolding(html_names::specs::Tables::known_tags))]
 fn title_node(alloc: Global, title: &String) -> Result<HtmlNode, AllocError>
     ensures { IfOk result (λ made. node_view made ≡ title_node (text_view title.now)) }
 {

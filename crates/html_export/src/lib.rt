@@ -6,5 +6,5 @@ mod encode;
 mod head;
 pub mod laws;
 
-pub use document::html_document_for_bundle;
-pub use encode::html;
+pub use document::{html_document, html_document_for_bundle};
+pub use encode::{export, html};

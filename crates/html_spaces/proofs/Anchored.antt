@@ -11,7 +11,7 @@ use Rattle.html_encode.specs.IndentsCollapse.{HeadIsEdged, NodesAreEdged}
 use Rattle.html_encode.specs.Layout.{allows_pretty_inside, wants_pretty_around}
 use Rattle.html_encode.proofs.NodeAtoms.{nodes_atoms, normal_atoms}
 use Rattle.html_spaces.specs.Anchored.{with_id, anchor_head, Anchored, at_end, at_tag, after_tag, at_text, around_text, at_element, of_element, at_frame, AnchorsAreUnseen, AnchorsKeepEdges, AnchorsKeepPlainNodes}
-use Rattle.html_spaces.specs.CleanNodes.{are_clean_values, is_clean_content, is_empty, is_clean_head, is_clean_node, are_clean_nodes, IsCleanId, AnchorsKeepCleanNodes}
+use Rattle.html_spaces.specs.CleanNodes.{is_clean_tag, are_clean_values, is_clean_content, is_empty, is_clean_head, is_clean_node, are_clean_nodes, IsCleanId, AnchorsKeepCleanNodes}
 use Rattle.html_spaces.specs.PlainFlow.{is_plain_name}
 use Rattle.html_spaces.specs.PlainNodes.{is_plain_node, are_plain_nodes}
 use Rattle.html_spaces.proofs.CleanNodes.{plain_clean, clean_plain}
@@ -177,9 +177,12 @@ anchored_clean : {ns ms : NodesView} → Anchored IsCleanId ns ms → (p : Bool)
     are_clean_nodes p ns ≡ true → are_clean_nodes p ms ≡ true
 unfolding is_clean_node
 anchored_clean at_end p c = refl
-anchored_clean (at_tag r) p c = anchored_clean r p c
-anchored_clean (after_tag id span i r) p c =
-    rw (anchor_clean id span none i) (anchored_clean r p c)
+anchored_clean (at_tag {t = t} {ns = ns} r) p c =
+    let both = and_parts (is_clean_tag t) (are_clean_nodes p ns) c in
+    rw both.0 (anchored_clean r p both.1)
+anchored_clean (after_tag {t = t} {ns = ns} id span i r) p c =
+    let both = and_parts (is_clean_tag t) (are_clean_nodes p ns) c in
+    rw (both.0, anchor_clean id span none i) (anchored_clean r p both.1)
 anchored_clean (at_text {s = s} {ns = ns} r) p c =
     let both = and_parts (is_clean_content p s) (are_clean_nodes p ns) c in
     rw both.0 (anchored_clean r p both.1)

@@ -14,10 +14,10 @@ use Rattle.html_flow.specs.declared.convert.ConversionLevel.{ConversionLevel}
 use Rattle.html_flow.specs.declared.convert.ConversionLevel.TheVariants.{Block}
 use Rattle.html_flow.specs.declared.convert.Whitespace.{Whitespace}
 use Rattle.html_flow.specs.declared.convert.Whitespace.TheVariants.{Normal, Pre}
-use Rattle.html_spaces.specs.CleanItems.{is_clean_text, is_clean_role, is_absent, is_clean_item, are_clean_items, is_clean_body, CleanItemsMakeCleanNodes}
-use Rattle.html_spaces.specs.CleanNodes.{are_clean_values, is_empty}
+use Rattle.html_spaces.specs.CleanItems.{is_clean_role, is_absent, is_clean_item, are_clean_items, is_clean_body, CleanItemsMakeCleanNodes}
+use Rattle.html_spaces.specs.CleanNodes.{is_clean_text, are_clean_values, is_empty}
 use Rattle.html_spaces.specs.PlainFlow.{is_plain_head, is_one_break, is_plain_item, are_plain_items, is_plain_body}
-use Rattle.html_spaces.proofs.CleanNodes.{CleanText, clean_values-append, CleanHead, IsClean, AreClean, nodes_are_clean, plain_clean}
+use Rattle.html_spaces.proofs.CleanNodes.{CleanText, CleanTag, clean_values-append, CleanHead, IsClean, AreClean, nodes_are_clean, plain_clean}
 use Rattle.html_spaces.proofs.DeepNodes.{HoldsOnTheWay, of_list, of_block}
 use Rattle.html_spaces.proofs.Each.{Each, Each-append, Each-map}
 use Rattle.html_spaces.proofs.MadeHeads.{stands_for_block}
@@ -67,7 +67,7 @@ clean_lone h kids change c e = record {
   void = c.void;
 }
 
-clean_way : HoldsOnTheWay CleanHead CleanText
+clean_way : HoldsOnTheWay CleanHead CleanText CleanTag
 clean_way =
     record { wrap = clean_wrap; blank = clean_blank; block = clean_block; lone = clean_lone }
 
@@ -166,7 +166,7 @@ mutual
   item_clean : (whitespace : Whitespace) (role : RoleText) (i : ItemView) →
       is_clean_text role ≡ true → is_plain_item whitespace i ≡ true → is_clean_item i ≡ true →
       Each (IsClean false) (item_nodes whitespace role i)
-  item_clean whitespace role (tag_item t) r e c = (tt, tt)
+  item_clean whitespace role (tag_item t) r e c = (c, tt)
   item_clean whitespace role (element_item h body) r e c =
       let plain = and_parts (is_plain_head h) (is_plain_body (body_whitespace whitespace h) body) e in
       let both = and_parts (are_clean_values h.attrs && (not (is_void h.name) || is_absent body))
@@ -191,7 +191,7 @@ mutual
   item_clean Normal role (break_item span) r e c = ((clean_break span, tt), tt)
   item_clean whitespace role (box_item body span) r e c = absurd (false≢true e)
   item_clean whitespace role (block_item body span) r e c =
-      of_block CleanHead CleanText clean_way span (body_nodes Block whitespace role body)
+      of_block CleanHead CleanText CleanTag clean_way span (body_nodes Block whitespace role body)
       (body_clean Block whitespace role body r (and_parts (not (is_one_break whitespace body))
       (is_plain_body whitespace body) e).1 c)
   item_clean whitespace role (frame_item f) r e c = absurd (false≢true e)
@@ -215,11 +215,11 @@ mutual
       is_clean_body body ≡ true → AreClean false (body_nodes level whitespace role body)
   body_clean level whitespace role absent r e c = tt
   body_clean level whitespace role (present items) r e c =
-      of_list CleanHead CleanText clean_way level whitespace (items_nodes whitespace role items)
+      of_list CleanHead CleanText CleanTag clean_way level whitespace (items_nodes whitespace role items)
       (items_clean whitespace role items r e c)
 
 pub clean_items_make_clean_nodes : CleanItemsMakeCleanNodes
 clean_items_make_clean_nodes role items r e c =
     nodes_are_clean (converted_nodes Block Normal role items) false
-    (of_list CleanHead CleanText clean_way Block Normal (items_nodes Normal role items)
+    (of_list CleanHead CleanText CleanTag clean_way Block Normal (items_nodes Normal role items)
     (items_clean Normal role items r e c))

@@ -8,11 +8,12 @@ use Rattle.html_names.specs.Names.{stands_in}
 use Rattle.html_names.specs.Texts.{TextPair}
 use Rattle.html_dom.specs.Attributes.{first}
 use Rattle.html_dom.specs.Styled.{attrs_styled, head_styled, node_styled, nodes_styled}
+use Rattle.html_dom.specs.Tags.{TagView}
 use Rattle.html_dom.specs.Tree.{Head, NodeView, tag_node, text_node, element_node, frame_node, NodesView, none, node}
 use Rattle.html_encode.specs.Faults.{is_reference, is_bad, char_faults, text_faults, attrs_faults, void_faults, node_faults, nodes_faults}
 use Rattle.html_encode.specs.Frames.{Frames}
 use Rattle.html_encode.specs.Text.{ends_at_once, escaping_of}
-use Rattle.html_spaces.specs.CleanNodes.{are_clean_values, is_no_return, is_clean_content, is_empty, is_clean_head, is_clean_node, are_clean_nodes, CleanNodesAreWritten}
+use Rattle.html_spaces.specs.CleanNodes.{is_clean_tag, are_clean_values, is_no_return, is_clean_content, is_empty, is_clean_head, is_clean_node, are_clean_nodes, CleanNodesAreWritten}
 use Rattle.html_spaces.specs.PlainFlow.{is_plain_name}
 use Rattle.html_spaces.proofs.DeepNodes.{HoldsOf, HoldsOfAll}
 use Rattle.html_spaces.proofs.MadeHeads.{MadeCss, plain, block, wrap, block_wrap, made_css, MadeHead, listed_pass}
@@ -43,6 +44,9 @@ plain_clean s e = rw e refl
 pub clean_plain : (p : Bool) (s : List ℕ) → CleanText p s → all is_text_char s ≡ true
 clean_plain p s c = (and_parts (all is_text_char s) (not p || all is_no_return s) c).0
 
+abbrev pub CleanTag : TagView → Type 0
+CleanTag t = is_clean_tag t ≡ true
+
 no_char_faults : (e : _) (span c : ℕ) → is_bad e c ≡ false → char_faults e span c ≡ []
 no_char_faults e span c h = rw h refl
 
@@ -56,7 +60,7 @@ no_text_faults e span (c ∷ cs) h k =
     ap (λ fs. fs ++ text_faults e span cs) (no_char_faults e span c fine)
     ∙ no_text_faults e span cs both.1 (λ r. (and_parts (is_no_return c) (all is_no_return cs) (k r)).1)
 
-no_faults_of : (e : _) (span : ℕ) (s : List ℕ) → CleanText (is_reference e) s →
+pub no_faults_of : (e : _) (span : ℕ) (s : List ℕ) → CleanText (is_reference e) s →
     text_faults e span s ≡ []
 no_faults_of e span s c =
     let both = and_parts (all is_text_char s) (not (is_reference e) || all is_no_return s) c in
@@ -64,13 +68,13 @@ no_faults_of e span s c =
 
 -- attributes
 
-values_by : (span : ℕ) (attrs : List TextPair) → are_clean_values attrs ≡ true →
+pub no_attrs_faults : (span : ℕ) (attrs : List TextPair) → are_clean_values attrs ≡ true →
     attrs_faults span attrs ≡ []
-values_by span [] e = refl
-values_by span (p ∷ ps) e =
+no_attrs_faults span [] e = refl
+no_attrs_faults span (p ∷ ps) e =
     let both = and_parts (all is_text_char p.1) (are_clean_values ps) e in
     let own : CleanText false p.1 = plain_clean p.1 both.0 in
-    rw (no_faults_of, own) (values_by span ps both.1)
+    rw (no_faults_of, own) (no_attrs_faults span ps both.1)
 
 pub clean_values-append : (ps qs : List TextPair) → are_clean_values ps ≡ true →
     are_clean_values qs ≡ true → are_clean_values (ps ++ qs) ≡ true
@@ -114,10 +118,10 @@ ends_by_void h e =
 -- nodes
 
 abbrev pub IsClean : (pre_span : Bool) → NodeView → Type 0
-IsClean = HoldsOf CleanHead CleanText
+IsClean = HoldsOf CleanHead CleanText CleanTag
 
 abbrev pub AreClean : (pre_span : Bool) → NodesView → Type 0
-AreClean = HoldsOfAll CleanHead CleanText
+AreClean = HoldsOfAll CleanHead CleanText CleanTag
 
 -- those that conversion makes, with their css in attributes
 
@@ -137,7 +141,7 @@ mutual
   unfolding node_styled is_clean_node
 
   node_is_clean : (n : NodeView) (p : Bool) → IsClean p n → is_clean_node p (node_styled n) ≡ true
-  node_is_clean (tag_node t) p c = refl
+  node_is_clean (tag_node t) p c = c
   node_is_clean (text_node s span) p c = c
   node_is_clean (element_node h ns) p c =
       rw (styled_head h ns c.0) (nodes_are_clean ns h.pre_span c.1)
@@ -182,7 +186,7 @@ mutual
   node_is_written (element_node h ns) frames p pretty c =
       let both = and_parts (is_clean_head h ns) (are_clean_nodes h.pre_span ns) c in
       let own = head_parts h ns both.0 in
-      let values = values_by h.span h.attrs own.values in
+      let values = no_attrs_faults h.span h.attrs own.values in
       elim (cases_Bool (is_void h.name)) [
         | inl e ↦ rw (values, ends_by_void h own.named, e)
             (no_void_faults h.span ns (implied (is_void h.name) (is_empty ns) own.void e))

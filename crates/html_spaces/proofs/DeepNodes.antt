@@ -1,8 +1,9 @@
--- What holds of each element and each text at any depth, through the steps by which items' nodes
--- are finished.
+-- What holds of each element, each text and each tag at any depth, through the steps by which the
+-- nodes of items are finished.
 use Rattle.std.proofs.Common.{◌≡◌, ℕ, Bool, true, false, ◌&&◌, ◌||◌, List, [], ◌∷◌, map, Option, None, Some, inl, inr, refl, ap, ◌∙◌, cond}
 use Rattle.std.specs.List.{filter}
 use Rattle.std.proofs.lemmas.Bool.{cases_Bool, false≢true, or_left, or_cases}
+use Rattle.html_dom.specs.Tags.{TagView}
 use Rattle.html_dom.specs.Tree.{Head, NodeView, tag_node, text_node, element_node, frame_node, NodesView, none, node}
 use Rattle.html_dom.specs.Views.{nodes_of}
 use Rattle.html_whitespace.specs.BareSpaces.{node_things, nodes_things, is_entered}
@@ -25,14 +26,14 @@ pub text_is_not_alone : (b : Bool) (n : NodeView) → cond b None None ≡ Some 
 text_is_not_alone true n e = cc
 text_is_not_alone false n e = cc
 
--- of an element with no children or with some, and of a text directly under an element with or
--- without the flag `pre_span`
+-- of an element with no children or with some, of a text directly under an element with or without
+-- the flag `pre_span`, and of a tag
 module _ (OfHead : Head → (is_empty : Bool) → Type 0)
-    (OfText : (pre_span : Bool) → List ℕ → Type 0) where
+    (OfText : (pre_span : Bool) → List ℕ → Type 0) (OfTag : TagView → Type 0) where
   -- there is no frame
   abbrev mutual
     pub HoldsOf : (pre_span : Bool) → NodeView → Type 0
-    HoldsOf p (tag_node t) = Unit {0}
+    HoldsOf p (tag_node t) = OfTag t
     HoldsOf p (text_node s span) = OfText p s
     HoldsOf p (element_node h ns) = OfHead h (is_empty ns) × HoldsOfAll h.pre_span ns
     HoldsOf p (frame_node f) = ⊥
@@ -55,12 +56,13 @@ module _ (OfHead : Head → (is_empty : Bool) → Type 0)
   of_each p (m ∷ ms) r = (r.0, of_each p ms r.1)
 
 module _ (OfHead : Head → (is_empty : Bool) → Type 0)
-    (OfText : (pre_span : Bool) → List ℕ → Type 0) (way : HoldsOnTheWay OfHead OfText) where
+    (OfText : (pre_span : Bool) → List ℕ → Type 0) (OfTag : TagView → Type 0)
+    (way : HoldsOnTheWay OfHead OfText OfTag) where
   abbrev Of : Bool → NodeView → Type 0
-  Of = HoldsOf OfHead OfText
+  Of = HoldsOf OfHead OfText OfTag
 
   abbrev OfAll : Bool → NodesView → Type 0
-  OfAll = HoldsOfAll OfHead OfText
+  OfAll = HoldsOfAll OfHead OfText OfTag
 
   -- runs of blanks
 
@@ -71,17 +73,19 @@ module _ (OfHead : Head → (is_empty : Bool) → Type 0)
     | inr f ↦ absurd (false≢true f)
   ]
 
-  run_inside : (ns : List NodeView) → Each IsInRun ns → OfAll true (nodes_of ns)
-  run_inside [] e = tt
-  run_inside (tag_node t ∷ ns) e = (tt, run_inside ns e.1)
-  run_inside (text_node s span ∷ ns) e = (way.blank s (blank_text s e.0), run_inside ns e.1)
-  run_inside (element_node h kids ∷ ns) e = absurd (false≢true e.0)
-  run_inside (frame_node f ∷ ns) e = absurd (false≢true e.0)
+  run_inside : (p : Bool) (ns : List NodeView) → Each IsInRun ns → Each (Of p) ns →
+      OfAll true (nodes_of ns)
+  run_inside p [] e r = tt
+  run_inside p (tag_node t ∷ ns) e r = (r.0, run_inside p ns e.1 r.1)
+  run_inside p (text_node s span ∷ ns) e r =
+      (way.blank s (blank_text s e.0), run_inside p ns e.1 r.1)
+  run_inside p (element_node h kids ∷ ns) e r = absurd (false≢true e.0)
+  run_inside p (frame_node f ∷ ns) e r = absurd (false≢true e.0)
 
   of_run : (p : Bool) (ns : List NodeView) → Each IsInRun ns → Each (Of p) ns →
       Each (Of p) (run_nodes ns)
   of_run p ns e r = elim (cases_Bool (are_kept (filter is_blank_node ns))) [
-    | inl f ↦ rw f ((way.wrap (first_span ns) (is_empty (nodes_of ns)), run_inside ns e), tt)
+    | inl f ↦ rw f ((way.wrap (first_span ns) (is_empty (nodes_of ns)), run_inside p ns e r), tt)
     | inr f ↦ rw f r
   ]
 
@@ -135,7 +139,7 @@ module _ (OfHead : Head → (is_empty : Bool) → Type 0)
 
   mutual
     of_between : (n : NodeView) (p before after : Bool) → Of p n → Of p (node_between before after n)
-    of_between (tag_node t) p before after r = tt
+    of_between (tag_node t) p before after r = r
     of_between (text_node s span) p before after r = elim (cases_Bool (is_one 32 s)) [
       | inl e ↦ rw e (of_lone_space p (before && after) s span e r)
       | inr e ↦ rw e r
@@ -157,31 +161,31 @@ module _ (OfHead : Head → (is_empty : Bool) → Type 0)
 
   pub of_list : (level : ConversionLevel) (whitespace : Whitespace) (ms : List NodeView) →
       Each (Of false) ms → OfAll false (list_nodes level whitespace ms)
-  of_list level Pre ms r = of_each OfHead OfText false ms r
+  of_list level Pre ms r = of_each OfHead OfText OfTag false ms r
   of_list Inline Normal ms r =
-      of_each OfHead OfText false (nodes_with_runs ms) (of_runs false ms r)
+      of_each OfHead OfText OfTag false (nodes_with_runs ms) (of_runs false ms r)
   of_list Block Normal ms r =
       let ns = nodes_of (nodes_with_runs ms) in
       rw (protects_by_context ns) (of_all_between ns false false false
-      (of_each OfHead OfText false (nodes_with_runs ms) (of_runs false ms r)))
+      (of_each OfHead OfText OfTag false (nodes_with_runs ms) (of_runs false ms r)))
 
   -- blocks
 
-  of_tags : (change : DisplayChangeView) (ns : NodesView) → are_tags ns ≡ true →
+  of_tags : (change : DisplayChangeView) (ns : NodesView) → are_tags ns ≡ true → OfAll false ns →
       Each (Of false) (map (node_displayed change) (node_list ns))
   unfolding node_list
-  of_tags change none e = tt
-  of_tags change (node (tag_node t) ns) e = (tt, of_tags change ns e)
-  of_tags change (node (text_node s span) ns) e = absurd (false≢true e)
-  of_tags change (node (element_node h kids) ns) e = absurd (false≢true e)
-  of_tags change (node (frame_node f) ns) e = absurd (false≢true e)
+  of_tags change none e r = tt
+  of_tags change (node (tag_node t) ns) e r = (r.0, of_tags change ns e r.1)
+  of_tags change (node (text_node s span) ns) e r = absurd (false≢true e)
+  of_tags change (node (element_node h kids) ns) e r = absurd (false≢true e)
+  of_tags change (node (frame_node f) ns) e r = absurd (false≢true e)
 
   of_changed : (ns : NodesView) (n : NodeView) (change : DisplayChangeView) →
       lone_node ns ≡ Some n → block_change n ≡ Some change → OfAll false ns →
       Each (Of false) (map (node_displayed change) (node_list ns))
   unfolding node_list lone_node
   of_changed none n change e c r = cc
-  of_changed (node (tag_node t) ns) n change e c r = (tt, of_changed ns n change e c r.1)
+  of_changed (node (tag_node t) ns) n change e c r = (r.0, of_changed ns n change e c r.1)
   of_changed (node (text_node s span) ns) n change e c r =
       absurd (text_is_not_alone (are_tags ns) n e)
   of_changed (node (element_node h kids) ns) n change e c r = elim (cases_Bool (are_tags ns)) [
@@ -189,7 +193,7 @@ module _ (OfHead : Head → (is_empty : Bool) → Type 0)
         let f : Some (element_node h kids) ≡ Some n = rw t at e in
         let is : element_node h kids ≡ n = cc in
         let own : block_change (element_node h kids) ≡ Some change = ap block_change is ∙ c in
-        ((way.lone h kids change r.0.0 own, r.0.1), of_tags change ns t)
+        ((way.lone h kids change r.0.0 own, r.0.1), of_tags change ns t r.1)
     | inr t ↦ let f : None ≡ Some n = rw t at e in cc
   ]
   of_changed (node (frame_node f) ns) n change e c r = absurd r.0

@@ -12,7 +12,6 @@ pub mod LineContexts
 pub mod LoneBreaks
 pub mod MadeHeads
 pub mod MadeNodes
-pub mod NoRaw
 pub mod OwnPieces
 pub mod PlainNodes
 pub mod PlainParts

@@ -22,10 +22,10 @@ use Rattle.html_spaces.proofs.PlainParts.{plain_head as plain_parts, element_mad
 
 -- no frame, and each element is made as conversion makes it
 abbrev pub IsMade : (pre_span : Bool) → NodeView → Type 0
-IsMade = HoldsOf (λ h b. MadeHead h) (λ p s. Unit {0})
+IsMade = HoldsOf (λ h b. MadeHead h) (λ p s. Unit {0}) (λ t. Unit {0})
 
 abbrev pub AreMade : (pre_span : Bool) → NodesView → Type 0
-AreMade = HoldsOfAll (λ h b. MadeHead h) (λ p s. Unit {0})
+AreMade = HoldsOfAll (λ h b. MadeHead h) (λ p s. Unit {0}) (λ t. Unit {0})
 
 -- what conversion itself makes
 
@@ -54,7 +54,7 @@ wrap_made span = record { kind = wrap; css_is = refl; no_style = refl; named = n
 pub block_made : (span : ℕ) → MadeHead (block_head span)
 block_made span = record { kind = plain; css_is = refl; no_style = refl; named = named_div; in_line = λ e. absurd (false≢true e) }
 
-made_way : HoldsOnTheWay (λ h b. MadeHead h) (λ p s. Unit {0})
+made_way : HoldsOnTheWay (λ h b. MadeHead h) (λ p s. Unit {0}) (λ t. Unit {0})
 made_way = record {
   wrap = λ span b. wrap_made span;
   blank = λ s e. tt;
@@ -64,11 +64,11 @@ made_way = record {
 
 pub list_made : (level : ConversionLevel) (whitespace : Whitespace) (ms : List NodeView) →
     Each (IsMade false) ms → AreMade false (list_nodes level whitespace ms)
-list_made = of_list (λ h b. MadeHead h) (λ p s. Unit {0}) made_way
+list_made = of_list (λ h b. MadeHead h) (λ p s. Unit {0}) (λ t. Unit {0}) made_way
 
 pub block_nodes_made : (span : ℕ) (ns : NodesView) → AreMade false ns →
     Each (IsMade false) (block_nodes span ns)
-block_nodes_made = of_block (λ h b. MadeHead h) (λ p s. Unit {0}) made_way
+block_nodes_made = of_block (λ h b. MadeHead h) (λ p s. Unit {0}) (λ t. Unit {0}) made_way
 
 -- texts
 

@@ -12,9 +12,10 @@ use Rattle.html_flow.specs.declared.convert.ConversionLevel.TheVariants.{Block}
 use Rattle.html_flow.specs.declared.convert.Whitespace.TheVariants.{Normal}
 use Rattle.html_spaces.specs.PlainFlow.{is_plain_name}
 use Rattle.html_spaces.specs.PlainNodes.{is_plain_node, are_plain_nodes, PlainFlowMakesPlainNodes, PlainNodesCanBeRead, PlainNamesAreInside}
+use Rattle.html_spaces.specs.ReadableNodes.{AreReadable}
 use Rattle.html_spaces.proofs.EdgedNodes.{converted_are_edged}
 use Rattle.html_spaces.proofs.MadeNodes.{IsMade, AreMade, list_made, items_made}
-use Rattle.html_spaces.proofs.ReadableNodes.{AreReadable, readable_frame_free, readable_end_well, styled_readable}
+use Rattle.html_spaces.proofs.ReadableNodes.{readable_can_be_read, styled_readable}
 use Rattle.html_spaces.proofs.ReadyElements.{raw_is_not_plain}
 
 mutual
@@ -87,5 +88,4 @@ plain_readable (node (frame_node f) ns) e = absurd (true≢false (sym e))
 
 pub can_be_read : PlainNodesCanBeRead
 can_be_read ns e =
-    let r : AreReadable (nodes_styled ns) = styled_readable ns (plain_readable ns e) in
-    (readable_frame_free (nodes_styled ns) r, readable_end_well (nodes_styled ns) r)
+    readable_can_be_read (nodes_styled ns) (styled_readable ns (plain_readable ns e))

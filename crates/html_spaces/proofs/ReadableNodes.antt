@@ -1,27 +1,16 @@
--- Nodes without a raw element and without a frame, at any depth: they can be read back, and anchors
--- leave them so.
+-- Nodes without a raw element and without a frame can be read back, and anchors leave them so.
 use Rattle.std.proofs.Common.{◌≡◌, ℕ, Bool, true, false, ◌&&◌, cond, List, Some, codes, bytes_eq, refl}
 use Rattle.std.proofs.lemmas.Bool.{both_ways}
 use Rattle.html_names.specs.Kinds.{is_raw}
 use Rattle.html_names.specs.Names.{stands_in}
 use Rattle.html_dom.specs.Styled.{node_styled, nodes_styled}
-use Rattle.html_dom.specs.Tree.{NodeView, tag_node, text_node, element_node, frame_node, NodesView, none, node}
+use Rattle.html_dom.specs.Tree.{tag_node, text_node, element_node, frame_node, NodesView, none, node}
 use Rattle.html_encode.specs.Indented.{NodeEndsWell, NodesEndWell}
 use Rattle.html_encode.specs.IndentsCollapse.{body_of}
 use Rattle.html_encode.specs.Layout.{is_pretty_inside}
 use Rattle.html_encode.specs.ReadingBack.{NodeIsFrameFree, NodesAreFrameFree}
-use Rattle.html_spaces.specs.Anchored.{Anchored, at_end, at_tag, after_tag, at_text, around_text, at_element, of_element, at_frame}
-
-abbrev mutual
-  pub IsReadable : NodeView → Type 0
-  IsReadable (tag_node t) = Unit {0}
-  IsReadable (text_node s span) = Unit {0}
-  IsReadable (element_node h ns) = (is_raw h.name ≡ false) × AreReadable ns
-  IsReadable (frame_node f) = ⊥
-
-  pub AreReadable : NodesView → Type 0
-  AreReadable none = Unit {0}
-  AreReadable (node n ns) = IsReadable n × AreReadable ns
+use Rattle.html_spaces.specs.ReadableNodes.{AreReadable, ReadableNodesCanBeRead, AnchorsKeepReadable, AnchorsKeepFrameFree, AnchorsKeepBody}
+use Rattle.html_spaces.specs.Anchored.{Anchored, at_end, at_tag, after_tag, at_text, around_text, at_element, of_element, at_frame, IsAny}
 
 pub readable_frame_free : (ns : NodesView) → AreReadable ns → NodesAreFrameFree ns
 unfolding NodeIsFrameFree
@@ -78,6 +67,19 @@ module _ (Passes : List ℕ → Type 0) where
       ((r.0.0, anchored_readable a r.0.1), anchored_readable b r.1)
   anchored_readable (at_frame a) r = absurd r.0
 
+  anchored_frame_free : {ns ms : NodesView} → Anchored Passes ns ms → NodesAreFrameFree ns →
+      NodesAreFrameFree ms
+  unfolding NodeIsFrameFree
+  anchored_frame_free at_end e = tt
+  anchored_frame_free (at_tag r) e = (tt, anchored_frame_free r e.1)
+  anchored_frame_free (after_tag id span p r) e = (tt, (tt, anchored_frame_free r e.1))
+  anchored_frame_free (at_text r) e = (tt, anchored_frame_free r e.1)
+  anchored_frame_free (around_text id own p r) e = ((tt, tt), anchored_frame_free r e.1)
+  anchored_frame_free (at_element q r) e = (anchored_frame_free q e.0, anchored_frame_free r e.1)
+  anchored_frame_free (of_element id p q r) e =
+      (anchored_frame_free q e.0, anchored_frame_free r e.1)
+  anchored_frame_free (at_frame r) e = absurd e.0
+
   -- the body with anchors
   abbrev pub HasBody : NodesView → NodesView → Type 0
   HasBody ms body = (new : NodesView) × (body_of ms ≡ Some new) × Anchored Passes body new
@@ -104,3 +106,17 @@ module _ (Passes : List ℕ → Type 0) where
       past_element (bytes_eq h.name (codes "body")) kids new ns ms body a
       (λ f. anchored_body body b f) e
   anchored_body body (at_frame a) e = anchored_body body a e
+
+-- whatever the anchors are
+
+pub readable_can_be_read : ReadableNodesCanBeRead
+readable_can_be_read ns r = (readable_frame_free ns r, readable_end_well ns r)
+
+pub anchors_keep_readable : AnchorsKeepReadable
+anchors_keep_readable ns ms a r = anchored_readable IsAny a r
+
+pub anchors_keep_frame_free : AnchorsKeepFrameFree
+anchors_keep_frame_free ns ms a r = anchored_frame_free IsAny a r
+
+pub anchors_keep_body : AnchorsKeepBody
+anchors_keep_body ns ms body a e = anchored_body IsAny body a e

@@ -1,10 +1,12 @@
 -- What is seen of the body of a document that is written and read.
 use Rattle.std.proofs.Common.{◌≡◌, ℕ, Bool, true, false, List, [], ◌∷◌, Some, inl, inr, refl, ap, ◌∙◌, codes, bytes_eq}
 use Rattle.std.proofs.lemmas.Bool.{cases_Bool}
-use Rattle.html_dom.specs.PlainTree.{words, branch, Plains, no_plains, plain, put_words, nodes_normal}
+use Rattle.html_names.specs.Kinds.{is_raw}
+use Rattle.html_dom.specs.PlainTree.{words, branch, Plains, no_plains, plain, put_words, nodes_normal, element_normal}
 use Rattle.html_dom.specs.Styled.{nodes_styled}
 use Rattle.html_dom.specs.Tree.{tag_node, text_node, element_node, frame_node, NodesView, none, node, ElementView}
 use Rattle.html_encode.specs.Frames.{Frames}
+use Rattle.html_encode.specs.Indented.{element_layout}
 use Rattle.html_encode.specs.IndentsCollapse.{NodesAreEdged, body_of, body_in}
 use Rattle.html_encode.specs.Text.{document_text, plain_options, pretty_options}
 use Rattle.html_encode.proofs.IndentsCollapse.{body_collapses}
@@ -43,22 +45,32 @@ body_normal (node (element_node h kids) ns) body e =
           rw t (body_normal ns body f)
     ]
 
--- by what is read
+-- of the tree that a root's text reads as
+
+module _ (e : ElementView) (body : NodesView) (is : body_of e.1 ≡ Some body) where
+  pub plain_tree_seen : tree_seen (Some (element_normal e)) ≡ Some (plains_seen (nodes_normal body))
+  plain_tree_seen = ap body_seen (body_normal e.1 body is)
+
+  pub pretty_tree_seen : is_raw e.0.name ≡ false → NodesAreEdged body →
+      tree_seen (Some (element_normal (element_layout e))) ≡ Some (plains_seen (nodes_normal body))
+  pretty_tree_seen not_raw edged =
+      let inside = body_collapses e body not_raw is edged in
+      ap body_seen inside.1 ∙ ap Some inside.2
+
+-- of the text
 
 module _ (frames : Frames) (e : ElementView) (body : NodesView) (is : body_of e.1 ≡ Some body)
     (edged : NodesAreEdged body) where
   plain_seen : CanBeRead frames plain_options e →
       text_seen (document_text frames plain_options e) ≡ Some (plains_seen (nodes_normal body))
   plain_seen c =
-      ap tree_seen ((reads_back frames).0 e c.named c.frame_free c.clean)
-      ∙ ap body_seen (body_normal e.1 body is)
+      ap tree_seen ((reads_back frames).0 e c.named c.frame_free c.clean) ∙ plain_tree_seen e body is
 
   pretty_seen : CanBeRead frames pretty_options e →
       text_seen (document_text frames pretty_options e) ≡ Some (plains_seen (nodes_normal body))
   pretty_seen c =
-      let inside = body_collapses e body c.not_raw is edged in
       ap tree_seen ((reads_back frames).1 e c.named c.frame_free c.ends_well c.clean)
-      ∙ (ap body_seen inside.1 ∙ ap Some inside.2)
+      ∙ pretty_tree_seen e body is c.not_raw edged
 
   seen_by : (pretty : Bool) → CanBeRead frames (record { pretty = pretty }) e →
       text_seen (document_text frames (record { pretty = pretty }) e)

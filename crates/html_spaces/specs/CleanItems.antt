@@ -1,30 +1,20 @@
--- Clean items: their texts hold text characters alone, and no void element has a body. So what they
--- become can be written.
-use Rattle.std.specs.Prelude.{◌≡◌, ℕ, Bool, true, false, not, ◌&&◌, ◌||◌, List, Option, None, Some}
+-- Clean items: their texts and labels hold text characters alone, and no void element has a body.
+-- So what they become can be written.
+use Rattle.std.specs.Prelude.{◌≡◌, Bool, true, false, not, ◌&&◌, ◌||◌}
 use Rattle.html_names.specs.Characters.{all, is_text_char}
 use Rattle.html_names.specs.Kinds.{is_void}
 use Rattle.html_dom.specs.Styled.{nodes_styled}
-use Rattle.html_dom.specs.Tags.{TagView, starts, ends}
 use Rattle.html_flow.specs.Converted.{RoleText, converted_nodes}
 use Rattle.html_flow.specs.Items.{RoleView, inherits, sets, unsets, ItemView, tag_item, element_item, space_item, text_item, hole_item, break_item, box_item, block_item, frame_item, ItemsView, no_items, item, BodyView, absent, present}
 use Rattle.html_flow.specs.declared.convert.ConversionLevel.TheVariants.{Block}
 use Rattle.html_flow.specs.declared.convert.Whitespace.TheVariants.{Normal}
-use Rattle.html_spaces.specs.CleanNodes.{are_clean_values, are_clean_nodes}
+use Rattle.html_spaces.specs.CleanNodes.{is_clean_text, is_clean_tag, are_clean_values, are_clean_nodes}
 use Rattle.html_spaces.specs.PlainFlow.{is_plain_flow}
-
--- a text of text characters alone, where there is one
-abbrev pub is_clean_text : Option (List ℕ) → Bool
-is_clean_text None = true
-is_clean_text (Some s) = all is_text_char s
 
 abbrev pub is_clean_role : RoleView → Bool
 is_clean_role inherits = true
 is_clean_role (sets text) = all is_text_char text
 is_clean_role unsets = true
-
-abbrev pub is_clean_tag : TagView → Bool
-is_clean_tag (starts location label dest) = is_clean_text label
-is_clean_tag (ends location) = true
 
 abbrev pub is_absent : BodyView → Bool
 is_absent absent = true

@@ -1,15 +1,25 @@
--- Clean nodes: plain nodes, the texts and values of which hold text characters alone, and of which no
--- void element has a child. So they can be written.
-use Rattle.std.specs.Prelude.{◌≡◌, ℕ, Bool, true, false, not, ◌&&◌, ◌||◌, ◌==◌, List, []}
+-- Clean nodes: plain nodes, the texts, values and labels of which hold text characters alone, and
+-- of which no void element has a child. So they can be written, with anchors too.
+use Rattle.std.specs.Prelude.{◌≡◌, ℕ, Bool, true, false, not, ◌&&◌, ◌||◌, ◌==◌, List, [], Option, None, Some}
 use Rattle.std.specs.List.{list_all}
 use Rattle.html_names.specs.Characters.{all, is_text_char}
 use Rattle.html_names.specs.Kinds.{is_void}
 use Rattle.html_names.specs.Texts.{TextPair}
+use Rattle.html_dom.specs.Tags.{TagView, starts, ends}
 use Rattle.html_dom.specs.Tree.{Head, NodeView, tag_node, text_node, element_node, frame_node, NodesView, none, node}
 use Rattle.html_encode.specs.Faults.{nodes_faults}
 use Rattle.html_encode.specs.Frames.{Frames}
 use Rattle.html_spaces.specs.Anchored.{Anchored}
 use Rattle.html_spaces.specs.PlainFlow.{is_plain_name}
+
+-- a text of text characters alone, where there is one
+abbrev pub is_clean_text : Option (List ℕ) → Bool
+is_clean_text None = true
+is_clean_text (Some s) = all is_text_char s
+
+abbrev pub is_clean_tag : TagView → Bool
+is_clean_tag (starts location label dest) = is_clean_text label
+is_clean_tag (ends location) = true
 
 abbrev pub are_clean_values : List TextPair → Bool
 are_clean_values = list_all (λ p. all is_text_char p.1)
@@ -31,7 +41,7 @@ is_clean_head h ns =
 
 unfoldable mutual
   pub is_clean_node : (pre_span : Bool) → NodeView → Bool
-  is_clean_node pre_span (tag_node t) = true
+  is_clean_node pre_span (tag_node t) = is_clean_tag t
   is_clean_node pre_span (text_node s span) = is_clean_content pre_span s
   is_clean_node pre_span (element_node h ns) = is_clean_head h ns && are_clean_nodes h.pre_span ns
   is_clean_node pre_span (frame_node f) = false

@@ -4,9 +4,9 @@ pub mod CleanItems
 pub mod CleanNodes
 pub mod ItemText
 pub mod LineContexts
-pub mod NoRaw
 pub mod PlainFlow
 pub mod PlainNodes
+pub mod ReadableNodes
 pub mod Rows
 pub mod SeenBody
 pub mod SpacesStay

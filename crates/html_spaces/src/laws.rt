@@ -6,8 +6,8 @@ ghost use Rattle.html_spaces.specs.Rows.{AreSeen, AreNotPlain, lines, blocks, li
 ghost use Rattle.html_spaces.specs.CleanItems.{CleanItemsMakeCleanNodes};
 ghost use Rattle.html_spaces.specs.CleanNodes.{AnchorsKeepCleanNodes, CleanNodesAreWritten};
 ghost use Rattle.html_spaces.specs.LineContexts.{ProtectsByContext};
-ghost use Rattle.html_spaces.specs.NoRaw.{AnchorsKeepBody, AnchorsKeepFrameFree, AnchorsKeepNoRaw, NoRawEndsWell};
 ghost use Rattle.html_spaces.specs.PlainNodes.{PlainFlowMakesPlainNodes, PlainNamesAreInside, PlainNodesCanBeRead};
+ghost use Rattle.html_spaces.specs.ReadableNodes.{AnchorsKeepBody, AnchorsKeepFrameFree, AnchorsKeepReadable, ReadableNodesCanBeRead};
 ghost use Rattle.html_spaces.specs.SeenBody.{BodyIsSeen, ItemsAreSeen};
 ghost use Rattle.html_spaces.specs.SpacesStay.{PrettySpacesStay, SpacesStay};
 
@@ -66,8 +66,8 @@ pub fn plain_flow_makes_plain_nodes()
     ensures inside { PlainNamesAreInside }
 {}
 
-/// Items in plain flow whose texts hold text characters alone, and of which no void element has a
-/// body, become nodes without a fault. They stay so with anchors of text characters alone.
+/// Items in plain flow whose texts and labels hold text characters alone, and of which no void element
+/// has a body, become nodes without a fault. They stay so with anchors of text characters alone.
 pub fn clean_items_are_written()
     ensures made { CleanItemsMakeCleanNodes }
     ensures written { CleanNodesAreWritten }
@@ -83,6 +83,6 @@ pub fn anchors_are_unseen()
     ensures plain { AnchorsKeepPlainNodes }
     ensures frame_free { AnchorsKeepFrameFree }
     ensures body { AnchorsKeepBody }
-    ensures no_raw { AnchorsKeepNoRaw }
-    ensures well { NoRawEndsWell }
+    ensures readable { AnchorsKeepReadable }
+    ensures read { ReadableNodesCanBeRead }
 {}

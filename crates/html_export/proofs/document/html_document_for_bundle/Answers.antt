@@ -9,8 +9,8 @@ use Rattle.html_export.proofs.Assembling.{assembled_styled}
 use Rattle.html_export.proofs.Firsts.{none_after_none}
 use Rattle.html_export.proofs.document.html_document_for_bundle.Goals as goal
 
-pub returns : goal.returns
-returns c =
+pub returns-clause-made : goal.returns-clause-made
+returns-clause-made c =
     let info = info_view c.args.info.now in
     let items = items_view c.args.items.now in
     let notes = items_view c.args.footnotes.now in

@@ -1,4 +1,6 @@
-use Rattle.html_export.proofs.SpacesInDocuments.{plain_documents_are_made, plain_documents_are_seen}
+use Rattle.html_export.proofs.CleanRoots.{clean_documents_are_written}
+use Rattle.html_export.proofs.PlainRoots.{plain_documents_are_made}
+use Rattle.html_export.proofs.SpacesInDocuments.{plain_documents_are_seen}
 use Rattle.html_export.proofs.laws.plain_documents.Goals as goal
 
 pub returns-clause-made : goal.returns-clause-made
@@ -6,3 +8,6 @@ returns-clause-made c = plain_documents_are_made
 
 pub returns-clause-seen : goal.returns-clause-seen
 returns-clause-seen c = plain_documents_are_seen
+
+pub returns-clause-clean : goal.returns-clause-clean
+returns-clause-clean c = clean_documents_are_written

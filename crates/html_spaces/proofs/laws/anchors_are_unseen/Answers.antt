@@ -1,5 +1,5 @@
 use Rattle.html_spaces.proofs.Anchored.{anchors_are_unseen, anchors_keep_edges, anchors_keep_plain_nodes}
-use Rattle.html_spaces.proofs.NoRaw.{no_raw_ends_well, anchors_keep_no_raw, anchors_keep_frame_free, anchors_keep_body}
+use Rattle.html_spaces.proofs.ReadableNodes.{readable_can_be_read, anchors_keep_readable, anchors_keep_frame_free, anchors_keep_body}
 use Rattle.html_spaces.proofs.laws.anchors_are_unseen.Goals as goal
 
 pub returns-clause-seen : goal.returns-clause-seen
@@ -17,8 +17,8 @@ returns-clause-frame_free c = anchors_keep_frame_free
 pub returns-clause-body : goal.returns-clause-body
 returns-clause-body c = anchors_keep_body
 
-pub returns-clause-no_raw : goal.returns-clause-no_raw
-returns-clause-no_raw c = anchors_keep_no_raw
+pub returns-clause-readable : goal.returns-clause-readable
+returns-clause-readable c = anchors_keep_readable
 
-pub returns-clause-well : goal.returns-clause-well
-returns-clause-well c = no_raw_ends_well
+pub returns-clause-read : goal.returns-clause-read
+returns-clause-read c = readable_can_be_read
