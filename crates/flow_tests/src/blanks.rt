@@ -144,11 +144,17 @@ fn lists_and_tables(rt: HostRuntime) {
         &[
             (
                 r#"[["el","ul",[],[["el","li",[],[["text","a "]]],["el","li",[],[["text"," b"]]]]]]"#,
-                r#"<ul><li>a<span style="white-space: pre-wrap">&#x20;</span></li><li><span style="white-space: pre-wrap">&#x20;</span>b</li></ul>"#,
+                concat!(
+                    r#"<ul><li>a<span style="white-space: pre-wrap">&#x20;</span></li>"#,
+                    r#"<li><span style="white-space: pre-wrap">&#x20;</span>b</li></ul>"#,
+                ),
             ),
             (
                 r#"[["el","table",[],[["el","tr",[],[["el","td",[],[["text","x "]]],["space"],["el","td",[],[["text","y"]]]]]]]]"#,
-                r#"<table><tr><td>x<span style="white-space: pre-wrap">&#x20;</span></td><span style="white-space: pre-wrap">&#x20;</span><td>y</td></tr></table>"#,
+                concat!(
+                    r#"<table><tr><td>x<span style="white-space: pre-wrap">&#x20;</span></td>"#,
+                    r#"<span style="white-space: pre-wrap">&#x20;</span><td>y</td></tr></table>"#,
+                ),
             ),
         ],
     );
@@ -169,7 +175,10 @@ fn pictures_and_styled_blocks(rt: HostRuntime) {
             (r#"[["text","a"],["space"],["frame"]]"#, "a [frame]"),
             (
                 r#"[["text","a"],["space"],["css","display","block",["el","em",[],[["text"," x"]]]]]"#,
-                r#"a<span style="white-space: pre-wrap">&#x20;</span><em style="display: block"><span style="white-space: pre-wrap">&#x20;</span>x</em>"#,
+                concat!(
+                    r#"a<span style="white-space: pre-wrap">&#x20;</span>"#,
+                    r#"<em style="display: block"><span style="white-space: pre-wrap">&#x20;</span>x</em>"#,
+                ),
             ),
             (
                 r#"[["text","a"],["space"],["css","display","flex",["el","em",[],[["text","x"]]]]]"#,
@@ -177,7 +186,10 @@ fn pictures_and_styled_blocks(rt: HostRuntime) {
             ),
             (
                 r#"[["text","a"],["space"],["block",[["el","em",[],[["text","x"]]]]],["space"],["text","b"]]"#,
-                r#"a<span style="white-space: pre-wrap">&#x20;</span><em style="display: block">x</em><span style="white-space: pre-wrap">&#x20;</span>b"#,
+                concat!(
+                    r#"a<span style="white-space: pre-wrap">&#x20;</span>"#,
+                    r#"<em style="display: block">x</em><span style="white-space: pre-wrap">&#x20;</span>b"#,
+                ),
             ),
             (
                 r#"[["text","a "],["block",[["space"]]],["text","b"]]"#,

@@ -21,7 +21,10 @@ fn blocks(rt: HostRuntime) {
                 r#"<span style="display: block; white-space: pre-wrap">&#x20;</span>"#,
             ),
             (
-                r#"[["block",[["el","em",[],[["text","x"]]]]],["block",[["text","x"]]],["block",[["el","tr",[],[]]]],["box",[["text","y"]]]]"#,
+                concat!(
+                    r#"[["block",[["el","em",[],[["text","x"]]]]],["block",[["text","x"]]],"#,
+                    r#"["block",[["el","tr",[],[]]]],["box",[["text","y"]]]]"#,
+                ),
                 r#"<em style="display: block">x</em><div>x</div><div><tr></tr></div><span style="display: inline-block">y</span>"#,
             ),
             (r#"[["block",null]]"#, "<div></div>"),

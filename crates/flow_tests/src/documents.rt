@@ -3,60 +3,56 @@
 use crate::given::{items_after, items_of};
 use crate::shown::frame_writer;
 use html_document::{DocumentInfo, Locale};
-use html_dom::Span;
 use html_encode::{ExportFault, HtmlOptions};
+use html_export::{html, html_document_for_bundle};
 use html_flow::Pair;
-use html_names::tag;
 use std::alloc::Global;
 use std::process::Abort;
-use typst_html::{html, html_document_for_bundle};
-
-/// Items and footnotes of a document.
-#[derive(Drop)]
-struct Given {
-    items: Vec<Pair>,
-    footnotes: Vec<Pair>,
-}
-
-/// Items whose numbers begin with 1, and footnotes whose numbers begin with 5.
-fn given_of(rt: &impl Abort, alloc: Global, items: &str, footnotes: &str) -> Given {
-    Given {
-        items: items_of(rt, alloc, items),
-        footnotes: items_after(rt, alloc, footnotes, 4),
-    }
-}
 
 /// The HTML of a document, plainly written, or why there is none.
 fn written(
     rt: &impl Abort,
     alloc: Global,
-    given: &Given,
+    items: &[Pair],
     info: &DocumentInfo,
+    footnotes: &[Pair],
     limit: usize,
 ) -> Result<String, ExportFault> {
     assert!(rt; 1 <= limit && limit <= 10_000);
-    match html_document_for_bundle(alloc, &given.items, info, &given.footnotes, limit) {
-        Ok(document) => {
-            let frames = frame_writer(rt, alloc);
-            html(alloc, &document, &HtmlOptions::default(), &frames)
-        }
-        Err(fault) => Err(fault),
-    }
+    let document = html_document_for_bundle(alloc, items, info, footnotes, limit)?;
+    let frames = frame_writer(rt, alloc);
+    html(alloc, &document, &HtmlOptions::default(), &frames)
 }
 
-/// The HTML of a document of which nothing is known, or the fault with its fields.
+/// The HTML of a document of which nothing is known, or the fault with its fields. The numbers of
+/// the items begin with 1, those of the footnotes with 5.
 fn answer(rt: &impl Abort, alloc: Global, items: &str, footnotes: &str, limit: usize) -> String {
-    let given = given_of(rt, alloc, items, footnotes);
-    match written(rt, alloc, &given, &DocumentInfo::new(alloc), limit) {
+    let items = items_of(rt, alloc, items);
+    let footnotes = items_after(rt, alloc, footnotes, 4);
+    match written(
+        rt,
+        alloc,
+        &items,
+        &DocumentInfo::new(alloc),
+        &footnotes,
+        limit,
+    ) {
         Ok(text) => text,
         Err(fault) => format!(in alloc; "{fault:?}").expect(rt, "memory for a text"),
     }
 }
 
-/// The HTML of a document with that in its body.
-fn around(rt: &impl Abort, alloc: Global, body: &str) -> String {
+/// Asserts that a text is the one that is wanted.
+fn assert_text(rt: &impl Abort, text: &str, wanted: &str) {
+    assert_eq!(rt; text, wanted);
+}
+
+/// The HTML of a document in that language, with that at the end of its head and in its body.
+fn document_text(rt: &impl Abort, alloc: Global, lang: &str, entries: &str, body: &str) -> String {
     let text = format!(in alloc;
-        "<!DOCTYPE html><html lang=\"en\"><head><meta charset=\"utf-8\"><meta name=\"viewport\" content=\"width=device-width, initial-scale=1\"></head><body>{body}</body></html>"
+        "<!DOCTYPE html><html lang=\"{lang}\"><head><meta charset=\"utf-8\">\
+        <meta name=\"viewport\" content=\"width=device-width, initial-scale=1\">\
+        {entries}</head><body>{body}</body></html>"
     );
     text.expect(rt, "memory for a text")
 }
@@ -117,8 +113,7 @@ static BODIES: [(&str, &str, &str); 14] = [
 
 fn assert_body(rt: &impl Abort, alloc: Global, row: &(&str, &str, &str)) {
     let text = answer(rt, alloc, row.0, row.1, 2);
-    let wanted = around(rt, alloc, row.2);
-    assert_eq!(rt; text.as_str(), wanted.as_str());
+    assert_text(rt, &text, &document_text(rt, alloc, "en", "", row.2));
 }
 
 #[test]
@@ -206,8 +201,7 @@ static ANSWERS: [(&str, &str, usize, &str); 12] = [
 ];
 
 fn assert_answer(rt: &impl Abort, alloc: Global, row: &(&str, &str, usize, &str)) {
-    let text = answer(rt, alloc, row.0, row.1, row.2);
-    assert_eq!(rt; text.as_str(), row.3);
+    assert_text(rt, &answer(rt, alloc, row.0, row.1, row.2), row.3);
 }
 
 #[test]
@@ -233,21 +227,19 @@ fn nested(rt: &impl Abort, alloc: Global, parts: (&str, &str, &str), count: u32)
     text
 }
 
-/// The answer for a document of so many elements in one another, where 50 are allowed.
-fn deep_answer(rt: &impl Abort, alloc: Global, count: u32) -> String {
+/// Asserts the answer for a document of so many elements in one another, where 50 are allowed.
+fn assert_deep(rt: &impl Abort, alloc: Global, count: u32, wanted: &str) {
     let items = nested(rt, alloc, (r#"[["el","em",[],"#, "[]", "]]"), count);
-    answer(rt, alloc, items.as_str(), "[]", 50)
+    assert_text(rt, &answer(rt, alloc, items.as_str(), "[]", 50), wanted);
 }
 
 /// Fifty elements in one another are not too deep for fifty, and one more is.
 #[test]
 fn depths(rt: HostRuntime) {
     let inside = nested(&rt, rt.alloc(), ("<em>", "", "</em>"), 50);
-    let wanted = around(&rt, rt.alloc(), inside.as_str());
-    let text = deep_answer(&rt, rt.alloc(), 50);
-    assert_eq!(&rt; text.as_str(), wanted.as_str());
-    let refused = deep_answer(&rt, rt.alloc(), 51);
-    assert_eq!(&rt; refused.as_str(), "TooDeep { span: Span(51) }");
+    let wanted = document_text(&rt, rt.alloc(), "en", "", inside.as_str());
+    assert_deep(&rt, rt.alloc(), 50, &wanted);
+    assert_deep(&rt, rt.alloc(), 51, "TooDeep { span: Span(51) }");
 }
 
 fn text_of(rt: &impl Abort, alloc: Global, text: &str) -> String {
@@ -292,15 +284,8 @@ fn almost_empty(rt: &impl Abort, alloc: Global) -> DocumentInfo {
 
 /// Asserts what the head of a document without items has beside its encoding and its viewport.
 fn assert_head(rt: &impl Abort, alloc: Global, info: &DocumentInfo, lang: &str, entries: &str) {
-    let given = given_of(rt, alloc, "[]", "[]");
-    let text = written(rt, alloc, &given, info, 1).expect(rt, "HTML");
-    let wanted = format!(in alloc;
-        "<!DOCTYPE html><html lang=\"{lang}\"><head><meta charset=\"utf-8\"><meta name=\"viewport\" content=\"width=device-width, initial-scale=1\">{entries}</head><body></body></html>"
-    );
-    assert_eq!(rt;
-        text.as_str(),
-        wanted.expect(rt, "memory for a text").as_str()
-    );
+    let text = written(rt, alloc, &[], info, &[], 1).expect(rt, "HTML");
+    assert_text(rt, &text, &document_text(rt, alloc, lang, entries, ""));
 }
 
 #[test]
@@ -330,61 +315,4 @@ fn assert_info(rt: &impl Abort, alloc: Global, info: &DocumentInfo) {
 #[test]
 fn information(rt: HostRuntime) {
     assert_info(&rt, rt.alloc(), &austrian(&rt, rt.alloc()));
-}
-
-/// Asserts that a fault has that number, span and text.
-fn assert_fault(rt: &impl Abort, alloc: Global, fault: &ExportFault, at: (u8, u64), wanted: &str) {
-    let text = fault.to_string(alloc).expect(rt, "memory for the text");
-    assert_eq!(rt; text.as_str(), wanted);
-    assert!(rt;
-        fault.number() == at.0 && fault.span() == Span(at.1),
-        "{wanted}"
-    );
-}
-
-#[test]
-fn depth_fault(rt: HostRuntime) {
-    let fault = ExportFault::TooDeep { span: Span(7) };
-    assert_fault(
-        &rt,
-        rt.alloc(),
-        &fault,
-        (8, 7),
-        "items are nested too deeply",
-    );
-}
-
-#[test]
-fn fault_of_company(rt: HostRuntime) {
-    let fault = ExportFault::NotAlone {
-        tag: tag::body,
-        span: Span(7),
-    };
-    let wanted = "this element must be the only element in the document";
-    assert_fault(&rt, rt.alloc(), &fault, (9, 7), wanted);
-}
-
-/// Footnotes of the spans 7 and 8, and none.
-#[test]
-fn footnote_faults(rt: HostRuntime) {
-    let wanted = "footnotes are not supported with a custom root element";
-    let mut spans = Vec::new(rt.alloc());
-    assert_fault(
-        &rt,
-        rt.alloc(),
-        &ExportFault::Footnotes {
-            spans: Vec::new(rt.alloc()),
-        },
-        (10, 0),
-        wanted,
-    );
-    spans.push(Span(7)).expect(&rt, "memory for a span");
-    spans.push(Span(8)).expect(&rt, "memory for a span");
-    assert_fault(
-        &rt,
-        rt.alloc(),
-        &ExportFault::Footnotes { spans },
-        (10, 7),
-        wanted,
-    );
 }

@@ -1,6 +1,7 @@
 //! Items that a JSON value spells: a list of `["text",t]`, `["space"]`, `["break"]`, `["hole"]`,
-//! `["start",n]`, `["end",n]`, `["frame"]`, `["box",items]`, `["block",items]` and
-//! `["el",tag,[[name,value],..],items]`, with `null` for a body that is absent. An item may stand in
+//! `["start",n]`, `["start",n,destination]`, `["start",n,destination,label]`, `["end",n]`,
+//! `["frame"]`, `["box",items]`, `["block",items]` and `["el",tag,[[name,value],..],items]`, with
+//! `null` for a body that is absent. An item may stand in
 //! `["role",text,item]`, in `["norole",item]`, or an element in `["css",name,value,item]`. The spans
 //! are the numbers of the items in the order of writing, from 1. Anything else is a hole.
 
@@ -86,6 +87,15 @@ fn item_in(rt: &impl Abort, alloc: Global, fields: &[Value], number: &mut u64) -
             let item = item_of(rt, alloc, inner, number);
             styled(rt, alloc, item, (name, value))
         }
+        [kind, location, dest, label] if kind.as_str() == Some("start") => {
+            next_span(number);
+            let label = Some(string_of(rt, alloc, label));
+            start(rt, location, Some(location_of(rt, dest)), label)
+        }
+        [kind, location, dest] if kind.as_str() == Some("start") => {
+            next_span(number);
+            start(rt, location, Some(location_of(rt, dest)), None)
+        }
         [_, tag, attrs, inner] => {
             let span = next_span(number);
             let body = body_of(rt, alloc, inner, number);
@@ -113,16 +123,20 @@ fn next_span(number: &mut u64) -> Span {
 fn with_value(rt: &impl Abort, alloc: Global, kind: &str, value: &Value, span: Span) -> Item {
     match kind {
         "text" => Item::Text(string_of(rt, alloc, value), span),
-        "start" => Item::Tag(Tag::Start {
-            location: location_of(rt, value),
-            label: None,
-            dest: None,
-        }),
+        "start" => start(rt, value, None, None),
         "end" => Item::Tag(Tag::End {
             location: location_of(rt, value),
         }),
         _ => Item::Hole,
     }
+}
+
+fn start(rt: &impl Abort, location: &Value, dest: Option<Location>, label: Option<String>) -> Item {
+    Item::Tag(Tag::Start {
+        location: location_of(rt, location),
+        label,
+        dest,
+    })
 }
 
 fn location_of(rt: &impl Abort, value: &Value) -> Location {

@@ -13,7 +13,11 @@ fn slots_in_blocks(rt: HostRuntime) {
         &[
             (
                 r#"[["text","a"],["space"],["block",[["space"],["el","slot",[],[["text","b"]]],["space"]]]]"#,
-                r#"a<span style="white-space: pre-wrap">&#x20;</span><div><span style="white-space: pre-wrap">&#x20;</span><slot>b</slot><span style="white-space: pre-wrap">&#x20;</span></div>"#,
+                concat!(
+                    r#"a<span style="white-space: pre-wrap">&#x20;</span>"#,
+                    r#"<div><span style="white-space: pre-wrap">&#x20;</span>"#,
+                    r#"<slot>b</slot><span style="white-space: pre-wrap">&#x20;</span></div>"#,
+                ),
             ),
             (
                 r#"[["text","a"],["space"],["block",[["el","slot",[],[["space"],["text","b"]]]]]]"#,
@@ -29,7 +33,10 @@ fn slots_in_blocks(rt: HostRuntime) {
             ),
             (
                 r#"[["block",[["el","slot",[],[["space"],["block",[["el","slot",[],[["space"],["text","b"]]]]]]]]]]"#,
-                r#"<slot><span style="white-space: pre-wrap">&#x20;</span><slot><span style="white-space: pre-wrap">&#x20;</span>b</slot></slot>"#,
+                concat!(
+                    r#"<slot><span style="white-space: pre-wrap">&#x20;</span>"#,
+                    r#"<slot><span style="white-space: pre-wrap">&#x20;</span>b</slot></slot>"#,
+                ),
             ),
         ],
     );
@@ -69,7 +76,10 @@ fn spaces_after_protected_ones(rt: HostRuntime) {
             ),
             (
                 r#"[["block",[["el","slot",[],[["el","em",[],[["space"]]],["space"],["text","b"]]]]]]"#,
-                r#"<slot><em><span style="white-space: pre-wrap">&#x20;</span></em><span style="white-space: pre-wrap">&#x20;</span>b</slot>"#,
+                concat!(
+                    r#"<slot><em><span style="white-space: pre-wrap">&#x20;</span></em>"#,
+                    r#"<span style="white-space: pre-wrap">&#x20;</span>b</slot>"#,
+                ),
             ),
         ],
     );

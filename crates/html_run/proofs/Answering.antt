@@ -1,47 +1,51 @@
--- Replies are the answers of a tree.
-use Rattle.std.proofs.Common.{◌≡◌, ℕ, Bool, List, [], ◌∷◌, Option, Some, None, IsSomeAnd, chars, refl, sym, ap, ◌∙◌}
-use Rattle.std.specs.Str.{IsUtf8}
-use Rattle.std.proofs.lemmas.Str.{encodes-chars}
+-- What a text or a fault answers.
+use Rattle.std.proofs.Common.{◌≡◌, List, [], ◌++◌, ℕ, Option, Some, None, chars, string_bytes, String, refl, sym, ap, ◌∙◌}
+use Rattle.std.specs.declared.alloc.Global.{Global}
+use Rattle.std.proofs.lemmas.Str.{encodes-chars, IsUtf8-string_bytes}
 use lib.Utf8.{encodes}
-use Rattle.html_dom.specs.Tree.{ElementView}
-use Rattle.html_run.specs.Answers.{refusal_line, export_text, export_refusals, tree_answer, element_answer}
-use Rattle.html_dom.specs.declared.span.Span.{Span}
-use Rattle.html_run.specs.Names.{Refusal, element_refusals}
+use Rattle.html_run.specs.Answers.{first_refusal_or_text, answer_if}
+use Rattle.html_run.specs.Names.{Refusal}
 use Rattle.html_run.specs.Refusals.{IsFirst}
-use Rattle.html_run.specs.Replies.{IsReply}
-use Rattle.html_run.specs.declared.refusal.Refusal.TheVariants.{At}
-use Rattle.html_run.specs.declared.program.Reply.{Reply}
-use Rattle.html_run.specs.declared.status.Status.TheVariants.{Done, Refused}
+use Rattle.html_run.specs.Replies.{Says}
+use Rattle.html_run.specs.Spelling.{refused_name, IsTold}
+use Rattle.html_run.specs.declared.refusal.Refusal as own
+use Rattle.html_run.specs.declared.refusal.Refusal.TheVariants.{OutOfMemory, At}
+use Rattle.html_run.specs.declared.spell.SpellFault.{SpellFault}
+use Rattle.html_run.specs.declared.spell.SpellFault.TheVariants as fault
+use Rattle.html_run.specs.declared.status.Status.TheVariants.{Done}
 
-pub reply_done : (pretty : Bool) (e : ElementView) (bytes : List ℕ) (reply : Reply)
-    → element_refusals e ≡ [] → export_refusals pretty e ≡ [] → IsUtf8 bytes
-    → chars bytes ≡ export_text pretty e
-    → (reply.status ≡ Done) × (reply.text.items ≡ bytes) → IsReply reply (tree_answer pretty e)
-unfolding tree_answer
-reply_done pretty e bytes reply named clean utf8 text h =
-    let same : encodes (export_text pretty e) ≡ bytes =
-    ap encodes (sym text) ∙ encodes-chars bytes utf8 in
-    rw (named, clean, same, h.0, h.1) refl
+-- the text is answered where nothing is refused
+pub text_answered : (names others : List Refusal) (text : List ℕ) (s : String Global)
+    → names ≡ [] → others ≡ [] → chars (string_bytes s) ≡ text
+    → first_refusal_or_text (names ++ others) text
+    ≡ record { status = Done; line = string_bytes s }
+text_answered names others text s named clean is =
+    let same : encodes text ≡ string_bytes s =
+    ap encodes (sym is) ∙ encodes-chars (string_bytes s) (IsUtf8-string_bytes s) in
+    rw (named, clean, same) refl
 
-pub reply_refused : (pretty : Bool) (e : ElementView) (refusal : Refusal) (rest : List Refusal)
-    (reply : Reply) → element_refusals e ≡ [] → export_refusals pretty e ≡ refusal ∷ rest
-    → (reply.status ≡ Refused) × (reply.text.items ≡ refusal_line refusal)
-    → IsReply reply (tree_answer pretty e)
-unfolding tree_answer
-reply_refused pretty e refusal rest reply named first h = rw (named, first, h.0, h.1) refl
+first_said : (refusals : List Refusal) (text : List ℕ) (r : own.Refusal) → IsFirst r refusals
+    → Says (first_refusal_or_text refusals text) (refused_name r)
+first_said refusals text OutOfMemory h = tt
+first_said refusals text (At number span) h = rw h.1 refl
 
--- a name is refused
-name_reply : (pretty : Bool) (e : ElementView) (refusal : Refusal) (rest : List Refusal)
-    (reply : Reply) → element_refusals e ≡ refusal ∷ rest
-    → (reply.status ≡ Refused) × (reply.text.items ≡ refusal_line refusal)
-    → IsReply reply (tree_answer pretty e)
-unfolding tree_answer
-name_reply pretty e refusal rest reply first h = rw (first, h.0, h.1) refl
+-- the first of the others is answered where no name is refused
+pub other_said : (names others : List Refusal) (text : List ℕ) (r : own.Refusal)
+    → names ≡ [] → IsFirst r others
+    → Says (first_refusal_or_text (names ++ others) text) (refused_name r)
+other_said names others text r named h = rw named (first_said others text r h)
 
-pub reply_to_name : (pretty : Bool) (wanted : Option ElementView) (code : ℕ) (span : Span)
-    (reply : Reply) → IsSomeAnd wanted (λ e. IsFirst (At code span) (element_refusals e))
-    → (reply.status ≡ Refused) × (reply.text.items ≡ refusal_line (code, span.0))
-    → IsReply reply (element_answer pretty wanted)
-reply_to_name pretty None code span reply first h = absurd first
-reply_to_name pretty (Some e) code span reply first h =
-    name_reply pretty e (code, span.0) first.0 reply first.1 h
+name_first : (names others : List Refusal) (text : List ℕ) (r : own.Refusal) → IsFirst r names
+    → Says (first_refusal_or_text (names ++ others) text) (refused_name r)
+name_first names others text OutOfMemory h = tt
+name_first names others text (At number span) h = rw h.1 refl
+
+-- and else what is wrong with the spelling
+pub name_said : {A : Type 0} (names others : A → List Refusal) (text : A → List ℕ)
+    (wanted : Option A) (f : SpellFault) → IsTold names wanted f
+    → Says (answer_if (λ a. first_refusal_or_text (names a ++ others a) (text a)) wanted) f
+name_said names others text wanted fault.OutOfMemory h = tt
+name_said names others text wanted fault.BadInput h = rw h refl
+name_said names others text None (fault.Refused number span) h = absurd h
+name_said names others text (Some a) (fault.Refused number span) h =
+    name_first (names a) (others a) (text a) (At number span) h

@@ -3,5 +3,9 @@ pub mod Bytes
 pub mod Firsts
 pub mod Forms
 pub mod Inputs
+pub mod ItemForms
+pub mod ItemRoots
+pub mod Presence
 pub mod Roots
+pub mod Rows
 pub mod Wrong

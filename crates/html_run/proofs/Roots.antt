@@ -1,71 +1,21 @@
 -- The element at the root.
-use Rattle.std.proofs.Common.{◌≡◌, ℕ, ◌+◌, List, ◌∷◌, Bool, true, false, is_some, IfSome, IsSomeAnd, Option, Some, None, option_map, option_and_then, if◌then◌else◌, bytes_eq, codes, refl, sym, ap, ◌∙◌, suc, length, get_or, drop, drop-cons, add-one, ◌<◌}
+use Rattle.std.proofs.Common.{◌≡◌, ℕ, ◌+◌, List, [], ◌++◌, true, false, is_some, IfSome, IsSomeAnd, Option, Some, None, option_and_then, bytes_eq, codes, refl, sym, ap, ◌∙◌, length, get_or}
 use Rattle.std.proofs.lemmas.Bool.{true≢false, false≢true}
 use Rattle.serde_json.specs.Data.{Data, null, boolean, number, string, array, object, Items, no_items, item}
 use Rattle.serde_json.specs.Find.{as_str}
 use Rattle.serde_json.specs.View.{view, items_view}
 use Rattle.serde_json.specs.declared.value.Value.{Value}
-use Rattle.html_dom.specs.Tree.{TextPair, starts, NodeView, tag_node, text_node, element_node, frame_node, NodesView}
+use Rattle.html_dom.specs.Tree.{NodeView, tag_node, text_node, element_node, frame_node, NodesView, none, node}
 use Rattle.html_run.proofs.Forms.{element_form-three}
-use Rattle.html_run.specs.Names.{name_refusals, element_refusals}
+use Rattle.html_run.proofs.Presence.{if_some, leaf-some, element_from-some, from_parts, text_some}
+use Rattle.html_run.proofs.Rows.{Row, row_from-some}
+use Rattle.html_run.proofs.Wrong.{IsOwnFirst}
+use Rattle.html_run.specs.Fields.{text_at, pairs_at, text_form, start_form, end_form}
+use Rattle.html_run.specs.Names.{name_refusals, all_name_refusals, element_refusals}
 use Rattle.html_run.specs.Refusals.{IsFirst}
-use Rattle.html_run.specs.Spelled.{text_at, whole_at, pairs_at, text_form, dest_form, start_form, end_form, element_from, form_from, node_then, spelled, form, element_form, list_at, spelled_all, element_of}
+use Rattle.html_run.specs.Spelled.{element_made, form_from, spelled, form, element_form, list_at, spelled_all, element_of}
 use Rattle.html_run.specs.declared.refusal.Refusal.TheVariants.{At}
 use Rattle.html_dom.specs.declared.span.Span.{Span}
-
-map_some : {A B : Type 0} (f g : A → B) (o : Option A)
-    → is_some (option_map f o) ≡ is_some (option_map g o)
-map_some f g None = refl
-map_some f g (Some a) = refl
-
-same_some : {A : Type 0} (o : Option A) → is_some (option_map (λ a. a) o) ≡ is_some o
-same_some None = refl
-same_some (Some a) = refl
-
-maps_some : {A B : Type 0} (f g : A → B) (o p : Option A) → is_some o ≡ is_some p
-    → is_some (option_map f o) ≡ is_some (option_map g p)
-maps_some f g None None h = refl
-maps_some f g None (Some b) h = absurd (false≢true h)
-maps_some f g (Some a) None h = absurd (true≢false h)
-maps_some f g (Some a) (Some b) h = refl
-
-text_form-some : (fields : Items) (n m : ℕ)
-    → is_some (text_form fields n) ≡ is_some (text_form fields m)
-text_form-some no_items n m = refl
-text_form-some (item d no_items) n m = map_some _ _ (text_at d)
-text_form-some (item d (item e ds)) n m = refl
-
-end_form-some : (fields : Items) (n m : ℕ)
-    → is_some (end_form fields n) ≡ is_some (end_form fields m)
-end_form-some no_items n m = refl
-end_form-some (item d no_items) n m = map_some _ _ (whole_at d)
-end_form-some (item d (item e ds)) n m = refl
-
-start_by : (dest : Option (Option ℕ)) (l : Option ℕ) (n m : ℕ)
-    → is_some {T = NodeView × ℕ} (option_and_then
-    (λ d. option_map (λ l. (tag_node (starts l None d), n + 1)) l) dest)
-    ≡ is_some {T = NodeView × ℕ} (option_and_then
-    (λ d. option_map (λ l. (tag_node (starts l None d), m + 1)) l) dest)
-start_by None l n m = refl
-start_by (Some d) l n m = map_some _ _ l
-
-start_form-some : (fields : Items) (n m : ℕ)
-    → is_some (start_form fields n) ≡ is_some (start_form fields m)
-start_form-some no_items n m = refl
-start_form-some (item l ds) n m = start_by (dest_form ds) (whole_at l) n m
-
-element_from-some : (tag : Option (List ℕ)) (pairs : Option (List TextPair))
-    (c d : Option (NodesView × ℕ)) (n m : ℕ) → is_some c ≡ is_some d
-    → is_some (element_from tag pairs c n) ≡ is_some (element_from tag pairs d m)
-element_from-some None pairs c d n m h = refl
-element_from-some (Some t) None c d n m h = refl
-element_from-some (Some t) (Some ps) c d n m h = maps_some _ _ c d h
-
-if_some : {A : Type 0} (b : Bool) (x y z w : Option A)
-    → is_some x ≡ is_some y → is_some z ≡ is_some w
-    → is_some (if b then x else z) ≡ is_some (if b then y else w)
-if_some true x y z w h k = h
-if_some false x y z w h k = k
 
 form_from-some : (kind : Option (List ℕ)) (a b c d e f g h : Option (NodeView × ℕ))
     → is_some a ≡ is_some e → is_some b ≡ is_some f → is_some c ≡ is_some g
@@ -77,14 +27,6 @@ form_from-some (Some k) a b c d e f g h p q r s =
     (if_some (bytes_eq k (codes "el")) b f _ _ q
     (if_some (bytes_eq k (codes "start")) c g _ _ r
     (if_some (bytes_eq k (codes "end")) d h _ _ s refl)))
-
-node_then-some : (x y : Option (NodeView × ℕ)) (rest : ℕ → Option (NodesView × ℕ))
-    → is_some x ≡ is_some y → ((a b : ℕ) → is_some (rest a) ≡ is_some (rest b))
-    → is_some (node_then x rest) ≡ is_some (node_then y rest)
-node_then-some None None rest h k = refl
-node_then-some None (Some q) rest h k = absurd (false≢true h)
-node_then-some (Some p) None rest h k = absurd (true≢false h)
-node_then-some (Some p) (Some q) rest h k = maps_some _ _ (rest p.1) (rest q.1) (k p.1 q.1)
 
 -- whether a value spells a node does not hang on the numbers
 mutual
@@ -99,8 +41,8 @@ mutual
   form-some : (items : Items) (n m : ℕ) → is_some (form items n) ≡ is_some (form items m)
   form-some no_items n m = refl
   form-some (item kind fields) n m = form_from-some (as_str kind) _ _ _ _ _ _ _ _
-      (text_form-some fields n m) (element_form-some fields n m) (start_form-some fields n m)
-      (end_form-some fields n m)
+      (leaf-some _ _ (text_form fields) n m) (element_form-some fields n m)
+      (leaf-some _ _ (start_form fields) n m) (leaf-some _ _ (end_form fields) n m)
 
   element_form-some : (fields : Items) (n m : ℕ)
       → is_some (element_form fields n) ≡ is_some (element_form fields m)
@@ -108,7 +50,7 @@ mutual
   element_form-some (item t no_items) n m = refl
   element_form-some (item t (item a no_items)) n m = refl
   element_form-some (item t (item a (item c no_items))) n m =
-      element_from-some (text_at t) (pairs_at a) _ _ n m (list_at-some c (n + 1) (m + 1))
+      element_from-some _ _ (text_at t) (pairs_at a) _ _ (list_at-some c (n + 1) (m + 1))
   element_form-some (item t (item a (item c (item d ds)))) n m = refl
 
   pub list_at-some : (d : Data) (n m : ℕ) → is_some (list_at d n) ≡ is_some (list_at d m)
@@ -122,19 +64,8 @@ mutual
   pub spelled_all-some : (ds : Items) (n m : ℕ)
       → is_some (spelled_all ds n) ≡ is_some (spelled_all ds m)
   spelled_all-some no_items n m = refl
-  spelled_all-some (item d ds) n m = node_then-some (spelled d n) (spelled d m) (spelled_all ds)
-      (spelled-some d n m) (spelled_all-some ds)
-
-from_parts : (tag : Option (List ℕ)) (pairs : Option (List TextPair))
-    (children : Option (NodesView × ℕ)) (n : ℕ) → is_some tag ≡ true → is_some pairs ≡ true
-    → is_some children ≡ is_some (element_from tag pairs children n)
-from_parts None pairs children n h k = absurd (false≢true h)
-from_parts (Some t) None children n h k = absurd (false≢true k)
-from_parts (Some t) (Some ps) None n h k = refl
-from_parts (Some t) (Some ps) (Some c) n h k = refl
-
-text_some : (d : Data) → is_some (as_str d) ≡ true → is_some (text_at d) ≡ true
-text_some d h = map_some _ (λ s. s) (as_str d) ∙ same_some (as_str d) ∙ h
+  spelled_all-some (item d ds) n m = row_from-some node (spelled d n) (spelled d m)
+      (spelled_all ds) (spelled-some d n m) (spelled_all-some ds)
 
 -- an element's three fields
 pub three_parts : (vs : List Value) (t a c : Value) → length vs ≡ 3
@@ -143,27 +74,37 @@ pub three_parts : (vs : List Value) (t a c : Value) → length vs ≡ 3
     → is_some (list_at (view c) 0) ≡ is_some (element_form (items_view vs) 0)
 three_parts vs t a c long p q r h k =
     list_at-some (view c) 0 1
-    ∙ from_parts (text_at (view t)) (pairs_at (view a)) (list_at (view c) 1) 0
+    ∙ from_parts (element_made 0) (text_at (view t)) (pairs_at (view a)) (list_at (view c) 1)
     (text_some (view t) h) k
     ∙ ap is_some (sym (element_form-three vs 0 t a c long p q r))
 
-then_rest : (first : Option (NodeView × ℕ)) (rest : ℕ → Option (NodesView × ℕ))
-    → is_some first ≡ true → ((a b : ℕ) → is_some (rest a) ≡ is_some (rest b))
-    → is_some (node_then first rest) ≡ is_some (rest 0)
-then_rest None rest h k = absurd (false≢true h)
-then_rest (Some p) rest h k = map_some _ (λ q. q) (rest p.1) ∙ same_some (rest p.1) ∙ k p.1 0
+-- nodes in a row
+pub none_clean : all_name_refusals none ≡ []
+unfolding all_name_refusals
+none_clean = refl
 
--- one more value of a list spells a node
-pub nodes_more : (vs : List Value) (i : ℕ) (v : Value) → i < length vs → v ≡ get_or vs i v
-    → is_some (spelled (view v) 0) ≡ true
-    → is_some (spelled_all (items_view (drop i vs)) 0)
-    ≡ is_some (spelled_all (items_view (drop (i + 1) vs)) 0)
-nodes_more vs i v h is one =
-    let cut : drop i vs ≡ v ∷ drop (suc i) vs =
-    drop-cons vs i v h ∙ ap (λ x. x ∷ drop (suc i) vs) (sym is) in
-    rw (cut, add-one)
-    (then_rest (spelled (view v) 0) (spelled_all (items_view (drop (suc i) vs))) one
-    (spelled_all-some (items_view (drop (suc i) vs))))
+pub one_more : (n : NodeView) (ns : NodesView)
+    → all_name_refusals (node n ns) ≡ name_refusals n ++ all_name_refusals ns
+unfolding all_name_refusals
+one_more n ns = refl
+
+abbrev pub nodes_row : Row NodeView NodesView
+nodes_row = record {
+  add = node;
+  nothing = none;
+  one = spelled;
+  all = spelled_all;
+  ones = name_refusals;
+  alls = all_name_refusals;
+  ends = λ n. refl;
+  steps = λ d ds n. refl;
+  clean = none_clean;
+  adds = one_more;
+}
+
+pub own_first : (span : ℕ) → IsOwnFirst (element_made span) name_refusals all_name_refusals span
+unfolding name_refusals
+own_first span tag pairs kids = refl
 
 -- a refusal in a value that spells a node is one in an element
 told_by : (w : Option (NodeView × ℕ)) (code : ℕ) (span : Span) → is_some w ≡ true

@@ -7,127 +7,63 @@ use Rattle.serde_json.specs.declared.value.Value.{Value}
 use Rattle.serde_json.specs.View.{view, items_view}
 use Rattle.html_names.specs.Names.{tag_fault, attr_fault}
 use Rattle.html_names.specs.declared.html_attr.HtmlAttr.{HtmlAttr}
-use Rattle.html_dom.specs.Tree.{TextPair, NodeView, NodesView, node}
-use Rattle.html_dom.specs.Views.{nodes_of, node_view, nodes_view, pair_view}
-use Rattle.html_dom.specs.declared.node.HtmlNode.{HtmlNode}
+use Rattle.html_dom.specs.Tree.{TextPair}
+use Rattle.html_dom.specs.Views.{pair_view}
 use Rattle.html_run.proofs.Firsts.{first_of_more}
 use Rattle.html_run.specs.Names as names
-use Rattle.html_run.specs.Names.{refusals, pairs_refusals, name_refusals, all_name_refusals}
+use Rattle.html_run.specs.Names.{refusals, pairs_refusals, own_refusals}
 use Rattle.html_run.specs.Refusals.{IsFirst}
-use Rattle.html_run.specs.Spelled.{spelled, spelled_all, node_then, element_from, pairs_of, pair_at}
-use Rattle.html_run.specs.Spelling.{refused_name, IsWrong, joined, after_done}
+use Rattle.html_run.specs.Fields.{element_from, pairs_of, pair_at}
+use Rattle.html_run.specs.Spelling.{refused_name, IsWrong}
 use Rattle.html_run.specs.declared.refusal.Refusal.{Refusal}
 use Rattle.html_run.specs.declared.refusal.Refusal.TheVariants as refusal
 use Rattle.html_run.specs.declared.spell.SpellFault.{SpellFault}
 use Rattle.html_run.specs.declared.spell.SpellFault.TheVariants.{OutOfMemory, BadInput, Refused}
 
--- a refused name
-pub wrong_name : {B : Type 0} (f : B → List names.Refusal) (b : B) (r : Refusal)
-    → IsFirst r (f b) → IsWrong f (Some b) (refused_name r)
-wrong_name f b refusal.OutOfMemory h = tt
-wrong_name f b (refusal.At number span) h = h
+-- an element's own names are refused before those of what it holds
+abbrev pub IsOwnFirst : {A B : Type 0} (made : List ℕ → List TextPair → A → B)
+    (ones : B → List names.Refusal) (alls : A → List names.Refusal) (span : ℕ) → Type 0
+IsOwnFirst {A = A} made ones alls span = (tag : List ℕ) (pairs : List TextPair) (inside : A)
+    → ones (made tag pairs inside) ≡ own_refusals span tag pairs ++ alls inside
 
-pub wrong_tag : (tag : List ℕ) (pairs : Option (List TextPair))
-    (children : Option (NodesView × ℕ)) (n : ℕ) (r : Refusal)
-    → IsFirst r (refusals n (tag_fault tag))
-    → IsWrong (λ w. name_refusals w.0) (element_from (Some tag) pairs children n) (refused_name r)
-unfolding name_refusals
-wrong_tag tag pairs children n refusal.OutOfMemory h = tt
-wrong_tag tag None children n (refusal.At number span) h = tt
-wrong_tag tag (Some ps) None n (refusal.At number span) h = tt
-wrong_tag tag (Some ps) (Some c) n (refusal.At number span) h =
-    first_of_more (refusal.At number span) _ _ (first_of_more (refusal.At number span) _ _ h)
+-- an element of its parts, whose own names are refused before what it holds
+pub wrong_tag : {A B : Type 0} (made : List ℕ → List TextPair → A → B)
+    (ones : B → List names.Refusal) (alls : A → List names.Refusal) (n : ℕ)
+    → IsOwnFirst made ones alls n → (tag : List ℕ) (pairs : Option (List TextPair))
+    (inside : Option (A × ℕ)) (r : Refusal) → IsFirst r (refusals n (tag_fault tag))
+    → IsWrong (λ w. ones w.0) (element_from made (Some tag) pairs inside) (refused_name r)
+wrong_tag made ones alls n own tag pairs inside refusal.OutOfMemory h = tt
+wrong_tag made ones alls n own tag None inside (refusal.At number span) h = tt
+wrong_tag made ones alls n own tag (Some ps) None (refusal.At number span) h = tt
+wrong_tag made ones alls n own tag (Some ps) (Some c) (refusal.At number span) h =
+    rw (own tag ps c.0)
+    (first_of_more (refusal.At number span) _ _ (first_of_more (refusal.At number span) _ _ h))
 
-pub wrong_attrs : (tag : List ℕ) (pairs : Option (List TextPair))
-    (children : Option (NodesView × ℕ)) (n : ℕ) (fault : SpellFault)
+pub wrong_attrs : {A B : Type 0} (made : List ℕ → List TextPair → A → B)
+    (ones : B → List names.Refusal) (alls : A → List names.Refusal) (n : ℕ)
+    → IsOwnFirst made ones alls n → (tag : List ℕ) (pairs : Option (List TextPair))
+    (inside : Option (A × ℕ)) (fault : SpellFault)
     → refusals n (tag_fault tag) ≡ [] → IsWrong (pairs_refusals n) pairs fault
-    → IsWrong (λ w. name_refusals w.0) (element_from (Some tag) pairs children n) fault
-unfolding name_refusals
-wrong_attrs tag pairs children n OutOfMemory clean h = tt
-wrong_attrs tag pairs children n BadInput clean h = rw h refl
-wrong_attrs tag None children n (Refused number span) clean h = tt
-wrong_attrs tag (Some ps) None n (Refused number span) clean h = tt
-wrong_attrs tag (Some ps) (Some c) n (Refused number span) clean h =
-    rw clean (first_of_more (refusal.At number span) _ _ h)
+    → IsWrong (λ w. ones w.0) (element_from made (Some tag) pairs inside) fault
+wrong_attrs made ones alls n own tag pairs inside OutOfMemory clean h = tt
+wrong_attrs made ones alls n own tag pairs inside BadInput clean h = rw h refl
+wrong_attrs made ones alls n own tag None inside (Refused number span) clean h = tt
+wrong_attrs made ones alls n own tag (Some ps) None (Refused number span) clean h = tt
+wrong_attrs made ones alls n own tag (Some ps) (Some c) (Refused number span) clean h =
+    rw (own tag ps c.0, clean) (first_of_more (refusal.At number span) _ _ h)
 
-pub wrong_children : (tag : List ℕ) (pairs : List TextPair) (children : Option (NodesView × ℕ))
-    (n : ℕ) (fault : SpellFault)
+pub wrong_inside : {A B : Type 0} (made : List ℕ → List TextPair → A → B)
+    (ones : B → List names.Refusal) (alls : A → List names.Refusal) (n : ℕ)
+    → IsOwnFirst made ones alls n → (tag : List ℕ) (pairs : List TextPair)
+    (inside : Option (A × ℕ)) (fault : SpellFault)
     → refusals n (tag_fault tag) ≡ [] → pairs_refusals n pairs ≡ []
-    → IsWrong (λ w. all_name_refusals w.0) children fault
-    → IsWrong (λ w. name_refusals w.0) (element_from (Some tag) (Some pairs) children n) fault
-unfolding name_refusals
-wrong_children tag pairs children n OutOfMemory clean clear h = tt
-wrong_children tag pairs children n BadInput clean clear h = rw h refl
-wrong_children tag pairs None n (Refused number span) clean clear h = tt
-wrong_children tag pairs (Some c) n (Refused number span) clean clear h = rw (clean, clear) h
-
--- one more node is clean
-pub refusals-one_more : (ns : List NodeView) (n : NodeView)
-    → all_name_refusals (nodes_of (ns ++ n ∷ []))
-    ≡ all_name_refusals (nodes_of ns) ++ name_refusals n
-unfolding all_name_refusals
-refusals-one_more [] n = append-nil (name_refusals n)
-refusals-one_more (x ∷ ns) n =
-    ap (λ rs. name_refusals x ++ rs) (refusals-one_more ns n)
-    ∙ sym (append_assoc (name_refusals x) (all_name_refusals (nodes_of ns)) (name_refusals n))
-
-pub clean_more : (done : List HtmlNode) (one : HtmlNode)
-    → all_name_refusals (nodes_view done) ≡ [] → name_refusals (node_view one) ≡ []
-    → all_name_refusals (nodes_view (done ++ one ∷ [])) ≡ []
-clean_more done one before now =
-    rw (map-append, refusals-one_more (map node_view done) (node_view one), before, now) refl
-
-refusals-joined : (ns : List NodeView) (others : NodesView)
-    → all_name_refusals (joined ns others)
-    ≡ all_name_refusals (nodes_of ns) ++ all_name_refusals others
-unfolding all_name_refusals
-refusals-joined [] others = refl
-refusals-joined (x ∷ ns) others =
-    ap (λ rs. name_refusals x ++ rs) (refusals-joined ns others)
-    ∙ sym (append_assoc (name_refusals x) (all_name_refusals (nodes_of ns))
-    (all_name_refusals others))
-
-wrong_rest : (rest : Option (NodesView × ℕ)) (ns : List NodeView) (n : NodeView) (r : Refusal)
-    → all_name_refusals (nodes_of ns) ≡ [] → IsFirst r (name_refusals n)
-    → IfSome (option_map (after_done ns) (option_map (λ q. (node n q.0, q.1)) rest))
-    (λ w. IsFirst r (all_name_refusals w.0))
-unfolding all_name_refusals
-wrong_rest None ns n r clean h = tt
-wrong_rest (Some q) ns n r clean h =
-    rw (refusals-joined ns (node n q.0), clean) (first_of_more r _ _ h)
-
-wrong_first : (first : Option (NodeView × ℕ)) (rest : ℕ → Option (NodesView × ℕ))
-    (ns : List NodeView) (r : Refusal)
-    → all_name_refusals (nodes_of ns) ≡ [] → IfSome first (λ w. IsFirst r (name_refusals w.0))
-    → IfSome (option_map (after_done ns) (node_then first rest))
-    (λ w. IsFirst r (all_name_refusals w.0))
-wrong_first None rest ns r clean h = tt
-wrong_first (Some p) rest ns r clean h = wrong_rest (rest p.1) ns p.0 r clean h
-
-wrong_then : (first : Option (NodeView × ℕ)) (rest : ℕ → Option (NodesView × ℕ))
-    (ns : List NodeView) (fault : SpellFault)
-    → all_name_refusals (nodes_of ns) ≡ [] → IsWrong (λ w. name_refusals w.0) first fault
-    → IsWrong (λ w. all_name_refusals w.0) (option_map (after_done ns) (node_then first rest)) fault
-wrong_then first rest ns OutOfMemory clean h = tt
-wrong_then first rest ns BadInput clean h = rw h refl
-wrong_then first rest ns (Refused number span) clean h =
-    wrong_first first rest ns (refusal.At number span) clean h
-
--- a value in a list is wrong
-pub wrong_node : (vs : List Value) (i : ℕ) (v : Value) (done : List HtmlNode) (n next : ℕ)
-    (fault : SpellFault)
-    → i < length vs → v ≡ get_or vs i v
-    → IsWrong (λ w. name_refusals w.0) (spelled (view v) next) fault
-    → spelled_all (items_view vs) n ≡ option_map (after_done (map node_view done))
-    (spelled_all (items_view (drop i vs)) next)
-    → all_name_refusals (nodes_view done) ≡ []
-    → IsWrong (λ w. all_name_refusals w.0) (spelled_all (items_view vs) n) fault
-wrong_node vs i v done n next fault h is wrong so_far clean =
-    let cut : drop i vs ≡ v ∷ drop (suc i) vs =
-    drop-cons vs i v h ∙ ap (λ x. x ∷ drop (suc i) vs) (sym is) in
-    rw (so_far, cut)
-    (wrong_then (spelled (view v) next) (spelled_all (items_view (drop (suc i) vs)))
-    (map node_view done) fault clean wrong)
+    → IsWrong (λ w. alls w.0) inside fault
+    → IsWrong (λ w. ones w.0) (element_from made (Some tag) (Some pairs) inside) fault
+wrong_inside made ones alls n own tag pairs inside OutOfMemory clean clear h = tt
+wrong_inside made ones alls n own tag pairs inside BadInput clean clear h = rw h refl
+wrong_inside made ones alls n own tag pairs None (Refused number span) clean clear h = tt
+wrong_inside made ones alls n own tag pairs (Some c) (Refused number span) clean clear h =
+    rw (own tag pairs c.0, clean, clear) h
 
 -- one more pair is clean
 refusals-one_more_pair : (span : ℕ) (ps : List TextPair) (p : TextPair)

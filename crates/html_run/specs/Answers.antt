@@ -1,23 +1,29 @@
 -- What a run answers, and what it does to its reader and its writer.
-use Rattle.std.specs.Prelude.{◌≡◌, ℕ, List, [], ◌∷◌, ◌++◌, map, Option, Some, None, IfSome, option_and_then, ◌⊎◌, codes, Bool}
+use Rattle.std.specs.Prelude.{◌≡◌, ℕ, List, [], ◌∷◌, ◌++◌, map, Option, Some, None, IfSome, ◌⊎◌, codes, Bool}
 use Rattle.std.specs.Io.KnownBytes.{Appends, Keeps}
 use Rattle.std.specs.Fmt.{decimal}
 use lib.Utf8.{encodes}
+use Rattle.serde_json.specs.Data.{Data}
 use Rattle.html_dom.specs.Tree.{ElementView}
-use Rattle.html_encode.specs.Faults.{number_of, span_of, document_faults}
+use Rattle.html_document.specs.Documents.{no_info}
+use Rattle.html_encode.specs.FaultViews.{ExportFaultView, out_of_memory, too_deep, not_alone, footnotes, unencodable, void_children, raw_child, raw_closing, frame_refused}
 use Rattle.html_encode.specs.Frames.{no_frames}
 use Rattle.html_encode.specs.Text.{document_text}
-use Rattle.html_encode.specs.declared.fault.ExportFault.{ExportFault}
 use Rattle.html_encode.specs.declared.options.HtmlOptions.{HtmlOptions}
+use Rattle.html_flow.specs.Items.{ItemsView, no_items}
+use Rattle.html_export.specs.Exported.{root_faults, export_faults, export_text}
 use Rattle.html_run.specs.Json.{json_of}
-use Rattle.html_run.specs.Names.{Refusal, element_refusals}
+use Rattle.html_run.specs.Names.{Refusal, element_refusals, items_refusals}
 use Rattle.html_run.specs.Spelled.{element_spelled}
-use Rattle.html_run.specs.Words.{wants_pretty}
+use Rattle.html_run.specs.SpelledItems.{items_spelled}
+use Rattle.html_run.specs.Words.{wanted_task}
 use Rattle.html_run.specs.Writing.{AppendsBeginning}
 use Rattle.html_run.specs.declared.recorded.LastCall.{LastCall}
 use Rattle.html_run.specs.declared.recorded.LastCall.TheVariants as last_call
 use Rattle.html_run.specs.declared.status.Status.{Status}
 use Rattle.html_run.specs.declared.status.Status.TheVariants.{Done, Refused, BadInput, Failed}
+use Rattle.html_run.specs.declared.words.Task.{Task}
+use Rattle.html_run.specs.declared.words.Task.TheVariants.{Tree, Doc}
 
 abbrev pub code_of : Status → ℕ
 code_of Done = 0
@@ -33,49 +39,83 @@ pub record Answer : Type 0 where
 abbrev pub bad_input : Answer
 bad_input = record { status = BadInput; line = codes "bad input\n" }
 
--- a fault of a tree: its number and its span
-abbrev pub fault_refusal : ExportFault → Refusal
-fault_refusal fault = (number_of fault, span_of fault)
+-- the first of several spans, 0 if there is none
+abbrev pub first_span : List ℕ → ℕ
+first_span [] = 0
+first_span (span ∷ spans) = span
+
+-- a fault of a tree or of items: its number and its span
+abbrev pub fault_refusal : ExportFaultView → Refusal
+fault_refusal out_of_memory = (0, 0)
+fault_refusal (too_deep span) = (8, span)
+fault_refusal (not_alone name span) = (9, span)
+fault_refusal (footnotes spans) = (10, first_span spans)
+fault_refusal (unencodable c span) = (11, span)
+fault_refusal (void_children span) = (12, span)
+fault_refusal (raw_child span) = (13, span)
+fault_refusal (raw_closing span) = (14, span)
+fault_refusal (frame_refused span) = (15, span)
 
 abbrev pub refusal_line : Refusal → List ℕ
 refusal_line r = codes "refused: " ++ (decimal r.0 ++ (codes " at " ++ (decimal r.1 ++ codes "\n")))
 
+abbrev pub refused_answer : Refusal → Answer
+refused_answer r = record { status = Refused; line = refusal_line r }
+
 -- the first refusal, if there is one, and else the text
-abbrev pub first_refusal_or_text : List Refusal → List ℕ → Answer
+abbrev pub first_refusal_or_text : List Refusal → (text : List ℕ) → Answer
 first_refusal_or_text [] text = record { status = Done; line = encodes text }
-first_refusal_or_text (r ∷ rs) text = record { status = Refused; line = refusal_line r }
+first_refusal_or_text (r ∷ rs) text = refused_answer r
 
 abbrev pub options_of : (pretty : Bool) → HtmlOptions
 options_of pretty = record { pretty = pretty }
 
--- the text of a tree
-abbrev pub export_text : (pretty : Bool) → ElementView → List ℕ
-export_text pretty e = document_text no_frames (options_of pretty) e
+-- the text of a tree, and what is wrong with the tree
+abbrev pub tree_text : (pretty : Bool) → ElementView → List ℕ
+tree_text pretty e = document_text no_frames (options_of pretty) e
 
--- what is wrong with a tree
-abbrev pub export_refusals : (pretty : Bool) → ElementView → List Refusal
-export_refusals pretty e = map fault_refusal (document_faults no_frames (options_of pretty) e)
-
--- names are refused before what is wrong with the tree
 abbrev pub tree_refusals : (pretty : Bool) → ElementView → List Refusal
-tree_refusals pretty e = element_refusals e ++ export_refusals pretty e
+tree_refusals pretty e = map fault_refusal (root_faults no_frames (options_of pretty) e)
 
+-- how deep the bodies of items may stand
+abbrev pub depth_limit : ℕ
+depth_limit = 50
+
+-- the text of items, of whose document nothing is known and which have no footnotes, and what is
+-- wrong with them
+abbrev pub doc_text : (pretty : Bool) → ItemsView → List ℕ
+doc_text pretty items = export_text no_frames (options_of pretty) no_info items no_items
+
+abbrev pub doc_refusals : (pretty : Bool) → ItemsView → List Refusal
+doc_refusals pretty items = map fault_refusal
+    (export_faults depth_limit no_frames (options_of pretty) no_info items no_items)
+
+-- names are refused before what is wrong with a tree or with items
 unfoldable pub tree_answer : (pretty : Bool) → ElementView → Answer
-tree_answer pretty e = first_refusal_or_text (tree_refusals pretty e) (export_text pretty e)
+tree_answer pretty e =
+    first_refusal_or_text (element_refusals e ++ tree_refusals pretty e) (tree_text pretty e)
 
-abbrev pub element_answer : (pretty : Bool) → Option ElementView → Answer
-element_answer pretty None = bad_input
-element_answer pretty (Some e) = tree_answer pretty e
+unfoldable pub doc_answer : (pretty : Bool) → ItemsView → Answer
+doc_answer pretty items =
+    first_refusal_or_text (items_refusals items ++ doc_refusals pretty items) (doc_text pretty items)
 
-unfoldable pub input_answer : (pretty : Bool) (input : List ℕ) → Answer
-input_answer pretty input = element_answer pretty (option_and_then element_spelled (json_of input))
+-- the answer to something, or bad input where there is nothing
+abbrev pub answer_if : {A : Type 0} → (answer : A → Answer) → Option A → Answer
+answer_if answer None = bad_input
+answer_if answer (Some a) = answer a
 
-abbrev pub mode_answer : Option Bool → (input : List ℕ) → Answer
-mode_answer None input = bad_input
-mode_answer (Some pretty) input = input_answer pretty input
+abbrev pub value_answer : Task → (pretty : Bool) → Data → Answer
+value_answer Tree pretty d = answer_if (tree_answer pretty) (element_spelled d)
+value_answer Doc pretty d = answer_if (doc_answer pretty) (items_spelled d)
+
+unfoldable pub input_answer : Task → (pretty : Bool) (input : List ℕ) → Answer
+input_answer task pretty input = answer_if (value_answer task pretty) (json_of input)
+
+abbrev pub task_answer : (input : List ℕ) → Task × Bool → Answer
+task_answer input wanted = input_answer wanted.0 wanted.1 input
 
 abbrev pub words_answer : (words : List (List ℕ)) (input : List ℕ) → Answer
-words_answer words = mode_answer (wants_pretty words)
+words_answer words input = answer_if (task_answer input) (wanted_task words)
 
 -- how a run ends that owes this answer: with the answer's status, and then all of its bytes were
 -- written and flushed; or with a failure, and then nothing was written, unless the last call on the

@@ -3,7 +3,7 @@ use Rattle.std.specs.Prelude.{◌≡◌, ℕ, ◌==◌, List, [], ◌∷◌, Res
 use Rattle.html_names.specs.Faults as name
 use Rattle.html_names.specs.declared.fault.NameFault.{NameFault}
 use Rattle.html_dom.specs.declared.span.Span.{Span}
-use Rattle.html_encode.specs.Faults as tree
+use Rattle.html_encode.specs.Faults as export
 use Rattle.html_encode.specs.declared.fault.ExportFault.{ExportFault}
 use Rattle.html_run.specs.Names as names
 use Rattle.html_run.specs.declared.refusal.Refusal.{Refusal}
@@ -17,9 +17,9 @@ numbered_refusal number span = if number == 0 then OutOfMemory else At number sp
 abbrev pub name_refusal : NameFault → Span → Refusal
 name_refusal fault span = numbered_refusal (name.number_of fault) span
 
--- a fault of a tree as a refusal
-abbrev pub tree_refusal : ExportFault → Refusal
-tree_refusal fault = numbered_refusal (tree.number_of fault) (record { 0 = tree.span_of fault })
+-- a fault of a tree or of items as a refusal
+abbrev pub export_refusal : ExportFault → Refusal
+export_refusal fault = numbered_refusal (export.number_of fault) (record { 0 = export.span_of fault })
 
 -- a refusal is the first of the list, unless memory ran out
 abbrev pub IsFirst : Refusal → List names.Refusal → Type 0

@@ -3,12 +3,16 @@ use Rattle.std.specs.Prelude.{◌≡◌, ℕ, List, [], ◌∷◌, Option, Some,
 use Rattle.std.specs.declared.alloc.Global.{Global}
 use Rattle.html_names.specs.Names.{attr_fault}
 use Rattle.html_names.specs.declared.html_attr.HtmlAttr.{HtmlAttr}
-use Rattle.html_dom.specs.Tree.{TextPair, NodeView, NodesView, node, ElementView}
+use Rattle.html_dom.specs.Tree.{TextPair, NodeView, NodesView, ElementView}
 use Rattle.html_dom.specs.Views.{pair_view, attrs_view, node_view, nodes_view, element_view}
 use Rattle.html_dom.specs.declared.attrs.HtmlAttrs.{HtmlAttrs}
 use Rattle.html_dom.specs.declared.node.HtmlElement.{HtmlElement}
 use Rattle.html_dom.specs.declared.node.HtmlNode.{HtmlNode}
 use Rattle.html_dom.specs.declared.span.Span.{Span}
+use Rattle.html_flow.specs.Items.{ItemView, ItemsView}
+use Rattle.html_flow.specs.Views.{item_view, items_view}
+use Rattle.html_flow.specs.declared.item.Item.{Item}
+use Rattle.html_flow.specs.declared.item.Pair.{Pair}
 use Rattle.html_run.specs.Names as names
 use Rattle.html_run.specs.Refusals.{IsFirst}
 use Rattle.html_run.specs.declared.refusal.Refusal.{Refusal}
@@ -49,22 +53,37 @@ abbrev pub SpellsPair : Span → Result (HtmlAttr × String Global) SpellFault �
     → Type 0
 SpellsPair span = Spells pair_view (λ p. names.refusals span.0 (attr_fault p.0))
 
--- what is wrong with an element that is spelled, or that none is
-abbrev pub IsTold : Option ElementView → SpellFault → Type 0
-IsTold wanted OutOfMemory = Unit {0}
-IsTold wanted BadInput = wanted ≡ None
-IsTold wanted (Refused number span) =
-    IsSomeAnd wanted (λ e. IsFirst (refusal.At number span) (names.element_refusals e))
+abbrev pub SpellsItem : Result (Item × ℕ) SpellFault → Option (ItemView × ℕ) → Type 0
+SpellsItem = Spells (λ p. (item_view p.0, p.1)) (λ w. names.item_refusals w.0)
+
+abbrev pub SpellsItems : Result (Vec Pair Global × ℕ) SpellFault → Option (ItemsView × ℕ) → Type 0
+SpellsItems = Spells (λ p. (items_view p.0.items, p.1)) (λ w. names.items_refusals w.0)
+
+-- nothing is spelled, or it is spelled and its first name that is none is told; memory aside
+abbrev pub IsTold : {B : Type 0} → (refusals : B → List names.Refusal) → Option B → SpellFault
+    → Type 0
+IsTold refusals wanted OutOfMemory = Unit {0}
+IsTold refusals wanted BadInput = wanted ≡ None
+IsTold refusals wanted (Refused number span) =
+    IsSomeAnd wanted (λ b. IsFirst (refusal.At number span) (refusals b))
+
+-- how calls end that are given a whole input
+abbrev pub SpellsWhole : {A B : Type 0} → (view : A → B) → (refusals : B → List names.Refusal)
+    → Result A SpellFault → Option B → Type 0
+SpellsWhole view refusals r wanted =
+    MatchResult r (λ a. (wanted ≡ Some (view a)) × (refusals (view a) ≡ []))
+    (IsTold refusals wanted)
 
 abbrev pub SpellsElement : Result HtmlElement SpellFault → Option ElementView → Type 0
-SpellsElement r wanted = MatchResult r
-    (λ e. (wanted ≡ Some (element_view e)) × (names.element_refusals (element_view e) ≡ []))
-    (IsTold wanted)
+SpellsElement = SpellsWhole element_view names.element_refusals
 
--- the nodes, and then the others
-abbrev pub joined : List NodeView → NodesView → NodesView
-joined [] others = others
-joined (n ∷ ns) others = node n (joined ns others)
+abbrev pub SpellsDoc : Result (Vec Pair Global) SpellFault → Option ItemsView → Type 0
+SpellsDoc = SpellsWhole (λ pairs. items_view pairs.items) names.items_refusals
 
-abbrev pub after_done : List NodeView → NodesView × ℕ → NodesView × ℕ
-after_done done p = (joined done p.0, p.1)
+-- those in a row, and then the others
+abbrev pub joined : {A B : Type 0} → (add : A → B → B) → List A → B → B
+joined add [] others = others
+joined add (x ∷ xs) others = add x (joined add xs others)
+
+abbrev pub after_done : {A B : Type 0} → (add : A → B → B) → (done : List A) → B × ℕ → B × ℕ
+after_done add done p = (joined add done p.0, p.1)

@@ -3,7 +3,7 @@
 ghost use Rattle.html_encode.specs.Frames.{no_frames};
 
 use html_dom::HtmlFrame;
-use typst_html::{FrameFault, FrameWriter};
+use html_encode::{FrameFault, FrameWriter};
 
 /// Refuses every frame. The program's input spells none.
 pub(crate) struct NoFrames;

@@ -1,7 +1,10 @@
-//! A run of the program on any reader and writer: HTML text of a tree that JSON spells.
+//! A run of the program on any reader and writer: HTML text of a tree or of items that
+//! JSON spells.
 #![tactic(auto)]
 
 mod frames;
+mod item_shape;
+mod item_spell;
 mod json;
 mod names;
 mod program;
@@ -15,4 +18,4 @@ mod words;
 pub use program::run;
 pub use recorded::{LastCall, Recorded, WriteFailed};
 pub use status::Status;
-pub use words::{wants_pretty, words_of};
+pub use words::{Task, wanted_task, words_of};

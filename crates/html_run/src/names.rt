@@ -1,4 +1,4 @@
-//! Names of a spelled tree.
+//! Names of what is spelled.
 
 ghost use Rattle.std.specs.Prelude.{◌≡◌, chars};
 ghost use Rattle.html_names.specs.Names.{tag_fault, attr_fault};

@@ -1,33 +1,43 @@
 //! A run of the program on any reader and writer.
 
-ghost use Rattle.std.specs.Prelude.{◌≡◌, [], None, IfSome, IfOk};
+ghost use Rattle.std.specs.Prelude.{◌≡◌, None, IfSome, IfOk};
 ghost use Rattle.html_dom.specs.Views.{text_view, element_view};
-ghost use Rattle.html_run.specs.Answers.{EndsAs, EndsOn, bad_input, input_answer, element_answer, refusal_line, export_text, export_refusals, tree_answer};
+ghost use Rattle.html_flow.specs.Views.{items_view};
 ghost use Rattle.serde_json.specs.View.{view};
-ghost use Rattle.html_run.specs.Names.{element_refusals};
+ghost use Rattle.html_run.specs.Answers.{EndsAs, EndsOn, answer_if, bad_input, input_answer};
+ghost use Rattle.html_run.specs.Answers.{doc_answer, doc_refusals, doc_text, refused_answer};
+ghost use Rattle.html_run.specs.Answers.{tree_answer, tree_refusals, tree_text, value_answer};
 ghost use Rattle.html_run.specs.Refusals.{Makes};
-ghost use Rattle.html_run.specs.Replies.{IsReply, RepliesOn, shown};
+ghost use Rattle.html_run.specs.Replies.{Answers, IsReply, RepliesOn, shown};
 ghost use Rattle.html_run.specs.Spelled.{element_spelled};
-ghost use Rattle.html_run.specs.Words.{texts_of, wants_pretty};
+ghost use Rattle.html_run.specs.SpelledItems.{items_spelled};
+ghost use Rattle.html_run.specs.Words.{texts_of, wanted_task};
 
 use crate::frames::NoFrames;
+use crate::item_spell::items_in;
 use crate::json::parse;
 use crate::recorded::{Recorded, WriteFailed};
 use crate::refusal::Refusal;
 use crate::spell::{SpellFault, element_in};
 use crate::status::Status;
-use crate::words::wants_pretty;
+use crate::words::{Task, wanted_task};
+use html_document::DocumentInfo;
 use html_dom::{HtmlElement, Span};
+use html_encode::{HtmlOptions, html_in_bundle};
+use html_export::export;
+use html_flow::Pair;
 use serde_json::Value;
 use std::alloc::{AllocError, Global};
 use std::io::{Read, Write};
-use typst_html::{HtmlOptions, html_in_bundle};
 
 /// The most bytes that one read asks for.
 const PIECE: usize = 4096;
 
 /// A reader that has not ended after so many reads counts as one that failed.
 const MOST_READS: u32 = 1_048_576;
+
+/// How deep the bodies of items may stand.
+const DEPTH_LIMIT: usize = 50;
 
 /// All that the reader has left, unless a read fails, the reader does not end, or memory runs out.
 fn read_all<R: Read>(alloc: Global, reader: &mut R) -> Option<Vec<u8>>
@@ -71,8 +81,7 @@ fn bad_input(alloc: Global) -> Result<Reply, AllocError>
 }
 
 fn refused(alloc: Global, number: u8, span: Span) -> Result<Reply, AllocError>
-    ensures { IfOk result (λ reply.
-        (reply.status ≡ Status.Refused) × (reply.text.items ≡ refusal_line (number, span.0))) }
+    ensures { IfOk result (λ reply. IsReply reply (refused_answer (number, span.0))) }
 {
     let Span(span) = span;
     let line = format!(in alloc; "refused: {number} at {span}\n")?;
@@ -80,10 +89,10 @@ fn refused(alloc: Global, number: u8, span: Span) -> Result<Reply, AllocError>
 }
 
 /// The text of an element.
-#[tactic(auto, using(crate::proofs::Firsts::first_fault))]
-fn html_text(alloc: Global, element: &HtmlElement, pretty: bool) -> Result<String, Refusal>
-    ensures { Makes text_view result (export_text pretty (element_view element.now))
-        (export_refusals pretty (element_view element.now)) }
+#[tactic(auto, using(crate::proofs::Firsts::first_faults))]
+fn element_text(alloc: Global, element: &HtmlElement, pretty: bool) -> Result<String, Refusal>
+    ensures { Makes text_view result (tree_text pretty (element_view element.now))
+        (tree_refusals pretty (element_view element.now)) }
 {
     let options = HtmlOptions { pretty };
     match html_in_bundle(alloc, element, &options, &NoFrames) {
@@ -92,42 +101,70 @@ fn html_text(alloc: Global, element: &HtmlElement, pretty: bool) -> Result<Strin
     }
 }
 
-/// The answer to an input.
-#[tactic(auto, unfolding(crate::specs::Answers::input_answer))]
-fn answer(alloc: Global, input: &[u8], pretty: bool) -> Result<Reply, AllocError>
-    ensures { IfOk result (λ reply. IsReply reply (input_answer pretty input.now)) }
+/// The text of items.
+#[tactic(auto, using(crate::proofs::Firsts::first_faults))]
+fn items_text(alloc: Global, items: &[Pair], pretty: bool) -> Result<String, Refusal>
+    ensures { Makes text_view result (doc_text pretty (items_view items.now))
+        (doc_refusals pretty (items_view items.now)) }
 {
-    match parse(alloc, input)? {
-        Some(value) => answer_value(alloc, &value, pretty),
-        None => bad_input(alloc),
+    let info = DocumentInfo::new(alloc);
+    let settings = HtmlOptions { pretty };
+    match export(alloc, items, &info, &[], DEPTH_LIMIT, &settings, &NoFrames) {
+        Ok(text) => Ok(text),
+        Err(fault) => Err(Refusal::from(fault)),
+    }
+}
+
+/// The text of the tree that a value spells.
+fn spelled_tree(alloc: Global, value: &Value, pretty: bool) -> Result<String, SpellFault>
+    ensures { Answers result
+        (answer_if (tree_answer pretty) (element_spelled (view value.now))) }
+{
+    let element = element_in(alloc, value)?;
+    Ok(element_text(alloc, &element, pretty)?)
+}
+
+/// The text of the items that a value spells.
+fn spelled_doc(alloc: Global, value: &Value, pretty: bool) -> Result<String, SpellFault>
+    ensures { Answers result (answer_if (doc_answer pretty) (items_spelled (view value.now))) }
+{
+    let items = items_in(alloc, value)?;
+    Ok(items_text(alloc, &items, pretty)?)
+}
+
+/// The text of what a value spells.
+fn text_of(alloc: Global, value: &Value, task: Task, pretty: bool) -> Result<String, SpellFault>
+    ensures { Answers result (value_answer task pretty (view value.now)) }
+{
+    match task {
+        Task::Tree => spelled_tree(alloc, value, pretty),
+        Task::Doc => spelled_doc(alloc, value, pretty),
     }
 }
 
 /// The answer to an input that is this JSON value.
-fn answer_value(alloc: Global, value: &Value, pretty: bool) -> Result<Reply, AllocError>
-    ensures { IfOk result (λ reply.
-        IsReply reply (element_answer pretty (element_spelled (view value.now)))) }
+fn answer_value(alloc: Global, value: &Value, task: Task, pretty: bool) -> Result<Reply, AllocError>
+    ensures { IfOk result (λ reply. IsReply reply (value_answer task pretty (view value.now))) }
 {
-    match element_in(alloc, value) {
-        Ok(element) => answer_tree(alloc, &element, pretty),
+    match text_of(alloc, value, task, pretty) {
+        Ok(text) => Ok(Reply {
+            status: Status::Done,
+            text: text.into_bytes(),
+        }),
         Err(SpellFault::Refused(number, span)) => refused(alloc, number, span),
         Err(SpellFault::BadInput) => bad_input(alloc),
         Err(SpellFault::OutOfMemory) => Err(AllocError),
     }
 }
 
-/// The answer to an input that spells this element.
-fn answer_tree(alloc: Global, element: &HtmlElement, pretty: bool) -> Result<Reply, AllocError>
-    requires { element_refusals (element_view element.now) ≡ [] }
-    ensures { IfOk result (λ reply. IsReply reply (tree_answer pretty (element_view element.now))) }
+/// The answer to an input.
+#[tactic(auto, unfolding(crate::specs::Answers::input_answer))]
+fn answer(alloc: Global, input: &[u8], task: Task, pretty: bool) -> Result<Reply, AllocError>
+    ensures { IfOk result (λ reply. IsReply reply (input_answer task pretty input.now)) }
 {
-    match html_text(alloc, element, pretty) {
-        Ok(text) => Ok(Reply {
-            status: Status::Done,
-            text: text.into_bytes(),
-        }),
-        Err(Refusal::OutOfMemory) => Err(AllocError),
-        Err(Refusal::At(number, span)) => refused(alloc, number, span),
+    match parse(alloc, input)? {
+        Some(value) => answer_value(alloc, &value, task, pretty),
+        None => bad_input(alloc),
     }
 }
 
@@ -135,15 +172,15 @@ fn answer_tree(alloc: Global, element: &HtmlElement, pretty: bool) -> Result<Rep
 fn wanted<R: Read>(alloc: Global, reader: &mut R, words: &[String]) -> Result<Reply, AllocError>
     ensures answers { IfOk result (λ reply.
         RepliesOn (texts_of words.now) (R.remaining reader.old) reply) }
-    ensures wrong_words { wants_pretty (texts_of words.now) ≡ None
+    ensures wrong_words { wanted_task (texts_of words.now) ≡ None
         → IfOk result (λ reply. IsReply reply bad_input) }
-    ensures unread { wants_pretty (texts_of words.now) ≡ None → reader.new ≡ reader.old }
+    ensures unread { wanted_task (texts_of words.now) ≡ None → reader.new ≡ reader.old }
 {
-    let Some(pretty) = wants_pretty(words) else {
+    let Some((task, pretty)) = wanted_task(words) else {
         return bad_input(alloc);
     };
     match read_all(alloc, reader) {
-        Some(input) => answer(alloc, &input, pretty),
+        Some(input) => answer(alloc, &input, task, pretty),
         None => Err(AllocError),
     }
 }
@@ -159,13 +196,15 @@ fn tell<W: Write>(writer: &mut Recorded<W>, reply: &Reply) -> Status
     }
 }
 
-/// Reads all that the reader has, as one JSON value, and writes the HTML text of the tree that it
-/// spells, or one line that says why there is none.
+/// Reads all that the reader has, as one JSON value, and writes the HTML text of what it spells, or
+/// one line that says why there is none.
 ///
-/// `words` are those after the program's name: `tree` for plain text, `tree` and `--pretty` for
-/// pretty text. Others are told before anything is read. Nothing is written where memory runs out
-/// or a read fails; where a write or the flush after the last one fails, a beginning of the answer
-/// was. The reader is read in pieces of at most 4,096 bytes, at most 1,048,576 times.
+/// `words` are those after the program's name: `tree` for a tree or `doc` for the document of a list
+/// of items, and then `--pretty` where pretty text is wanted. Others are told before anything is
+/// read. A document is made without footnotes, and nothing is known of it; bodies of its items may
+/// stand 50 deep. Nothing is written where memory runs out or a read fails; where a write or the
+/// flush after the last one fails, a beginning of the answer was. The reader is read in pieces of at
+/// most 4,096 bytes, at most 1,048,576 times.
 pub fn run<R: Read, W: Write>(
     alloc: Global,
     reader: &mut R,
@@ -176,10 +215,10 @@ pub fn run<R: Read, W: Write>(
         (W.contents writer.old.writer) (W.contents writer.new.writer) writer.new.last }
 
     // Wrong words.
-    ensures wrong_words { wants_pretty (texts_of words.now) ≡ None
+    ensures wrong_words { wanted_task (texts_of words.now) ≡ None
         → EndsAs bad_input result (W.contents writer.old.writer) (W.contents writer.new.writer)
         writer.new.last }
-    ensures unread { wants_pretty (texts_of words.now) ≡ None → reader.new ≡ reader.old }
+    ensures unread { wanted_task (texts_of words.now) ≡ None → reader.new ≡ reader.old }
 {
     match wanted(alloc, reader, words) {
         Ok(reply) => tell(writer, &reply),

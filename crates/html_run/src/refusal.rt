@@ -1,10 +1,10 @@
 ghost use Rattle.std.specs.Prelude.{◌≡◌};
 
 use html_dom::Span;
+use html_encode::ExportFault;
 use std::alloc::{AllocError, AllocFailed};
-use typst_html::ExportFault;
 
-/// Why a spelled tree has no text.
+/// Why what is spelled has no text.
 #[derive(Clone, Copy, Debug, PartialEq, Eq)]
 pub(crate) enum Refusal {
     OutOfMemory,
@@ -33,9 +33,9 @@ impl<T: Drop> From<AllocFailed<T>> for Refusal {
 }
 
 impl From<ExportFault> for Refusal {
-    ghost use Rattle.html_run.specs.Refusals.{tree_refusal};
+    ghost use Rattle.html_run.specs.Refusals.{export_refusal};
 
-    ghost from_gives = { λ fault e. e ≡ tree_refusal fault };
+    ghost from_gives = { λ fault e. e ≡ export_refusal fault };
 
     fn from(fault: ExportFault) -> Refusal {
         match fault {

@@ -1,10 +1,10 @@
 //! The shapes of the lists that spell a tree.
 
-ghost use Rattle.std.specs.Prelude.{◌≡◌, ◌+◌, ℕ, chars, is_some, option_map};
+ghost use Rattle.std.specs.Prelude.{◌≡◌, chars, is_some, option_map};
 ghost use Rattle.serde_json.specs.View.{view, items_view};
-ghost use Rattle.html_dom.specs.Tree.{tag_node, text_node};
 ghost use Rattle.html_dom.specs.Views.{tag_view};
-ghost use Rattle.html_run.specs.Spelled.{spelled, spelled_all, text_form, dest_form, start_form, end_form, element_form, list_at, pairs_at, pair_form};
+ghost use Rattle.html_run.specs.Fields.{text_form, dest_form, start_form, end_form, no_fields, pairs_at, pair_form};
+ghost use Rattle.html_run.specs.Spelled.{spelled, element_form, list_at};
 
 use html_dom::{Location, Tag};
 use serde_json::Value;
@@ -12,8 +12,7 @@ use serde_json::Value;
 /// The text of a text's fields.
 #[tactic(auto, using(crate::proofs::Forms::forms))]
 pub(crate) fn text_in(fields: &[Value]) -> Option<&str>
-    ensures { (n : ℕ) → option_map (λ t. (text_node (chars t.now) n, n + 1)) result
-        ≡ text_form (items_view fields.now) n }
+    ensures { option_map (λ t. chars t.now) result ≡ text_form (items_view fields.now) }
 {
     match fields {
         [only] => only.as_str(),
@@ -36,8 +35,7 @@ fn dest_in(fields: &[Value]) -> Option<Option<Location>>
 /// The tag of a start's fields.
 #[tactic(auto, using(crate::proofs::Forms::forms))]
 pub(crate) fn start_in(fields: &[Value]) -> Option<Tag>
-    ensures { (n : ℕ) → option_map (λ tag. (tag_node (tag_view tag), n + 1)) result
-        ≡ start_form (items_view fields.now) n }
+    ensures { option_map tag_view result ≡ start_form (items_view fields.now) }
 {
     let [location, dest @ ..] = fields else {
         return None;
@@ -53,8 +51,7 @@ pub(crate) fn start_in(fields: &[Value]) -> Option<Tag>
 /// The tag of an end's fields.
 #[tactic(auto, using(crate::proofs::Forms::forms))]
 pub(crate) fn end_in(fields: &[Value]) -> Option<Tag>
-    ensures { (n : ℕ) → option_map (λ tag. (tag_node (tag_view tag), n + 1)) result
-        ≡ end_form (items_view fields.now) n }
+    ensures { option_map tag_view result ≡ end_form (items_view fields.now) }
 {
     let [location] = fields else {
         return None;
@@ -64,16 +61,41 @@ pub(crate) fn end_in(fields: &[Value]) -> Option<Tag>
     })
 }
 
+/// Nothing, where there are no fields.
+#[tactic(auto, using(crate::proofs::Forms::forms))]
+pub(crate) fn nothing_in(fields: &[Value]) -> Option<()>
+    ensures { result ≡ no_fields (items_view fields.now) }
+{
+    match fields {
+        [] => Some(()),
+        _ => None,
+    }
+}
+
+/// Whether there are no fields.
+pub(crate) fn is_none(fields: &[Value]) -> bool
+    ensures { result ≡ is_some (no_fields (items_view fields.now)) }
+{
+    nothing_in(fields).is_some()
+}
+
+/// Whether these are a text's fields.
+pub(crate) fn is_text(fields: &[Value]) -> bool
+    ensures { result ≡ is_some (text_form (items_view fields.now)) }
+{
+    text_in(fields).is_some()
+}
+
 /// Whether these are a start's fields.
-fn is_start(fields: &[Value]) -> bool
-    ensures { result ≡ is_some (start_form (items_view fields.now) 0) }
+pub(crate) fn is_start(fields: &[Value]) -> bool
+    ensures { result ≡ is_some (start_form (items_view fields.now)) }
 {
     start_in(fields).is_some()
 }
 
 /// Whether these are an end's fields.
-fn is_end(fields: &[Value]) -> bool
-    ensures { result ≡ is_some (end_form (items_view fields.now) 0) }
+pub(crate) fn is_end(fields: &[Value]) -> bool
+    ensures { result ≡ is_some (end_form (items_view fields.now)) }
 {
     end_in(fields).is_some()
 }
@@ -91,7 +113,7 @@ pub(crate) fn is_node(value: &Value) -> bool
         return false;
     };
     match kind.as_str() {
-        Some("text") => text_in(fields).is_some(),
+        Some("text") => is_text(fields),
         Some("el") => is_element(fields),
         Some("start") => is_start(fields),
         Some("end") => is_end(fields),
@@ -118,7 +140,7 @@ fn is_element(fields: &[Value]) -> bool
 }
 
 /// Whether the value is a list of pairs of texts.
-fn are_pairs(value: &Value) -> bool
+pub(crate) fn are_pairs(value: &Value) -> bool
     ensures { result ≡ is_some (pairs_at (view value.now)) }
 {
     let Some(pairs) = value.as_array() else {

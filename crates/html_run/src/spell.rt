@@ -2,7 +2,9 @@
 
 ghost use Rattle.std.specs.Prelude.{◌≡◌};
 ghost use Rattle.serde_json.specs.View.{view, items_view};
-ghost use Rattle.html_run.specs.Spelled.{element_spelled, spelled, text_form, start_form, end_form, element_form, list_at, pairs_at, pair_at, pair_form};
+ghost use Rattle.html_dom.specs.Tree.{tag_node};
+ghost use Rattle.html_run.specs.Fields.{leaf, start_form, end_form, pairs_at, pair_at, pair_form};
+ghost use Rattle.html_run.specs.Spelled.{element_spelled, spelled, text_spelled, element_form, list_at};
 ghost use Rattle.html_run.specs.Spelling.{SpellsElement, SpellsNode, SpellsNodes, SpellsPairs, SpellsPair};
 
 use crate::names::{attr_of, tag_of};
@@ -14,7 +16,7 @@ use html_names::HtmlAttr;
 use serde_json::Value;
 use std::alloc::{AllocError, AllocFailed, Global};
 
-/// Why no tree is made of a value.
+/// Why nothing is made of a value.
 #[derive(Clone, Copy, Debug, PartialEq, Eq)]
 pub(crate) enum SpellFault {
     OutOfMemory,
@@ -70,8 +72,15 @@ pub(crate) fn element_in(alloc: Global, value: &Value) -> Result<HtmlElement, Sp
         Ok((HtmlNode::Tag(_) | HtmlNode::Text(_, _) | HtmlNode::Frame(_), _)) => {
             Err(SpellFault::BadInput)
         }
-        Err(SpellFault::Refused(_, _)) if !is_node(value) => Err(SpellFault::BadInput),
-        Err(fault) => Err(fault),
+        Err(SpellFault::Refused(number, span)) => {
+            if is_node(value) {
+                Err(SpellFault::Refused(number, span))
+            } else {
+                Err(SpellFault::BadInput)
+            }
+        }
+        Err(SpellFault::BadInput) => Err(SpellFault::BadInput),
+        Err(SpellFault::OutOfMemory) => Err(SpellFault::OutOfMemory),
     }
 }
 
@@ -97,7 +106,7 @@ fn node_of(alloc: Global, value: &Value, number: u64) -> Result<(HtmlNode, u64),
 }
 
 fn text_of(alloc: Global, fields: &[Value], number: u64) -> Result<(HtmlNode, u64), SpellFault>
-    ensures { SpellsNode result (text_form (items_view fields.now) number) }
+    ensures { SpellsNode result (text_spelled (items_view fields.now) number) }
 {
     let text = text_in(fields).ok_or(SpellFault::BadInput)?;
     let next = number.checked_add(1).ok_or(SpellFault::OutOfMemory)?;
@@ -106,7 +115,7 @@ fn text_of(alloc: Global, fields: &[Value], number: u64) -> Result<(HtmlNode, u6
 }
 
 fn start_of(fields: &[Value], number: u64) -> Result<(HtmlNode, u64), SpellFault>
-    ensures { SpellsNode result (start_form (items_view fields.now) number) }
+    ensures { SpellsNode result (leaf tag_node (start_form (items_view fields.now)) number) }
 {
     let tag = start_in(fields).ok_or(SpellFault::BadInput)?;
     let next = number.checked_add(1).ok_or(SpellFault::OutOfMemory)?;
@@ -114,7 +123,7 @@ fn start_of(fields: &[Value], number: u64) -> Result<(HtmlNode, u64), SpellFault
 }
 
 fn end_of(fields: &[Value], number: u64) -> Result<(HtmlNode, u64), SpellFault>
-    ensures { SpellsNode result (end_form (items_view fields.now) number) }
+    ensures { SpellsNode result (leaf tag_node (end_form (items_view fields.now)) number) }
 {
     let tag = end_in(fields).ok_or(SpellFault::BadInput)?;
     let next = number.checked_add(1).ok_or(SpellFault::OutOfMemory)?;
@@ -152,7 +161,7 @@ fn element_of(alloc: Global, fields: &[Value], number: u64) -> Result<(HtmlNode,
 }
 
 /// The attributes of the element with that span.
-fn pairs_of(alloc: Global, value: &Value, span: Span) -> Result<HtmlAttrs, SpellFault>
+pub(crate) fn pairs_of(alloc: Global, value: &Value, span: Span) -> Result<HtmlAttrs, SpellFault>
     ensures { SpellsPairs span result (pairs_at (view value.now)) }
 {
     let Some(pairs) = value.as_array() else {

@@ -1,4 +1,4 @@
-//! The program: HTML text of a tree that standard input spells in JSON.
+//! The program: HTML text of a tree or of items that standard input spells in JSON.
 #![tactic(auto)]
 
 use html_run::{Recorded, Status, run, words_of};

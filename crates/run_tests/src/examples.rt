@@ -13,25 +13,22 @@ const REFUSED_ARTICLE: &str = concat!(
     r#"["el","br",[],[["text","x"]]]]]"#,
 );
 
-#[test]
-fn article(rt: HostRuntime) {
-    let text = concat!(
-        r#"<article lang="en"><h1>Salt &amp; vinegar</h1>"#,
-        r#"<p class="note">1 &lt; 2, <em>and so on</em></p><br></article>"#,
-    );
-    assert_row(&rt, rt.alloc(), &PLAIN, ARTICLE, text);
-}
+/// What is written for the article.
+const TEXT: &str = concat!(
+    r#"<article lang="en"><h1>Salt &amp; vinegar</h1>"#,
+    r#"<p class="note">1 &lt; 2, <em>and so on</em></p><br></article>"#,
+);
+
+/// The same in pretty mode.
+const PRETTY_TEXT: &str = concat!(
+    "<article lang=\"en\">\n  <h1>Salt &amp; vinegar</h1>\n",
+    "  <p class=\"note\">1 &lt; 2, <em>and so on</em></p>\n  <br>\n</article>",
+);
 
 #[test]
-fn article_pretty(rt: HostRuntime) {
-    let text = concat!(
-        "<article lang=\"en\">\n  <h1>Salt &amp; vinegar</h1>\n",
-        "  <p class=\"note\">1 &lt; 2, <em>and so on</em></p>\n  <br>\n</article>",
-    );
-    assert_row(&rt, rt.alloc(), &PRETTY, ARTICLE, text);
-}
-
-#[test]
-fn refused(rt: HostRuntime) {
-    assert_row(&rt, rt.alloc(), &REFUSED, REFUSED_ARTICLE, "12 at 4");
+fn articles(rt: HostRuntime) {
+    let alloc = rt.alloc();
+    assert_row(&rt, alloc, &PLAIN, ARTICLE, TEXT);
+    assert_row(&rt, alloc, &PRETTY, ARTICLE, PRETTY_TEXT);
+    assert_row(&rt, alloc, &REFUSED, REFUSED_ARTICLE, "12 at 4");
 }

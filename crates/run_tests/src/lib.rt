@@ -1,10 +1,18 @@
-//! Tests of a run of the program, over its public calls.
+//! Tests of a run of the program, over its public calls, and of the names that `typst_html` passes on.
 #![tactic(auto)]
 
 #[cfg(test)]
+mod anchors;
+#[cfg(test)]
 mod devices;
 #[cfg(test)]
+mod documents;
+#[cfg(test)]
 mod examples;
+#[cfg(test)]
+mod names;
+#[cfg(test)]
+mod no_items;
 #[cfg(test)]
 mod pretty;
 #[cfg(test)]

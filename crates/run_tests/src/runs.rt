@@ -49,6 +49,45 @@ pub(crate) static REFUSED_PRETTY: Group = Group {
     after: "\n",
 };
 
+/// Documents in plain text: what stands in their bodies.
+pub(crate) static DOCUMENT: Group = Group {
+    words: &["doc"],
+    status: Status::Done,
+    before: concat!(
+        r#"<!DOCTYPE html><html lang="en"><head><meta charset="utf-8">"#,
+        r#"<meta name="viewport" content="width=device-width, initial-scale=1"></head><body>"#,
+    ),
+    after: "</body></html>",
+};
+
+/// Documents in pretty text: what stands in their bodies, from the first line break on.
+pub(crate) static PRETTY_DOCUMENT: Group = Group {
+    words: &["doc", "--pretty"],
+    status: Status::Done,
+    before: concat!(
+        "<!DOCTYPE html>\n<html lang=\"en\">\n  <head>\n    <meta charset=\"utf-8\">\n",
+        "    <meta name=\"viewport\" content=\"width=device-width, initial-scale=1\">\n",
+        "  </head>\n  <body>",
+    ),
+    after: "\n  </body>\n</html>\n",
+};
+
+/// Items that are refused, with the number of the fault and the span.
+pub(crate) static REFUSED_DOCUMENT: Group = Group {
+    words: &["doc"],
+    status: Status::Refused,
+    before: "refused: ",
+    after: "\n",
+};
+
+/// Inputs of `doc` that spell no items.
+pub(crate) static BAD_DOCUMENT: Group = Group {
+    words: &["doc"],
+    status: Status::BadInput,
+    before: "bad input",
+    after: "\n",
+};
+
 /// The program's words.
 pub(crate) fn words(rt: &impl Abort, alloc: Global, list: &[&str]) -> Vec<String> {
     let mut words = Vec::new(alloc);

@@ -20,27 +20,24 @@ fn assert_wrong(rt: &impl Abort, alloc: Global, lists: &[&[&str]]) {
     }
 }
 
-#[test]
-fn wrong_tasks(rt: HostRuntime) {
-    let lists: [&[&str]; 5] = [
-        &[],
-        &["doc"],
-        &["Tree"],
-        &["--pretty"],
-        &["--pretty", "tree"],
-    ];
-    assert_wrong(&rt, rt.alloc(), &lists);
-}
+/// Wrong tasks, and wrong options of a task.
+static WRONG_WORDS: [&[&str]; 11] = [
+    &[],
+    &["docs"],
+    &["Tree"],
+    &["--pretty"],
+    &["--pretty", "tree"],
+    &["tree", "tree"],
+    &["tree", "doc"],
+    &["tree", "pretty"],
+    &["doc", "pretty"],
+    &["tree", "--Pretty"],
+    &["tree", "--pretty", "--pretty"],
+];
 
 #[test]
-fn wrong_options(rt: HostRuntime) {
-    let lists: [&[&str]; 4] = [
-        &["tree", "tree"],
-        &["tree", "pretty"],
-        &["tree", "--Pretty"],
-        &["tree", "--pretty", "--pretty"],
-    ];
-    assert_wrong(&rt, rt.alloc(), &lists);
+fn wrong_words(rt: HostRuntime) {
+    assert_wrong(&rt, rt.alloc(), &WRONG_WORDS);
 }
 
 /// Asserts that each input spells no tree.
@@ -56,131 +53,59 @@ fn assert_bad(rt: &impl Abort, alloc: Global, inputs: &[&str]) {
     }
 }
 
-#[test]
-fn no_json(rt: HostRuntime) {
-    assert_bad(
-        &rt,
-        rt.alloc(),
-        &[
-            "",
-            "[] []",
-            r#"["el","p",[],[]] x"#,
-            r#"["el","p",[],[]"#,
-            "[\"el\",\"p\",[],[[\"text\",\"\\ud800\"]]]",
-        ],
-    );
-}
+/// Inputs that spell no tree.
+static BAD_INPUTS: [&str; 36] = [
+    // No JSON.
+    "",
+    "[] []",
+    r#"["el","p",[],[]] x"#,
+    r#"["el","p",[],[]"#,
+    "[\"el\",\"p\",[],[[\"text\",\"\\ud800\"]]]",
+    // No list, and an empty one.
+    "{}",
+    "null",
+    "[]",
+    // Parts of elements.
+    r#"["el","p"]"#,
+    r#"["el","p",[],[],[]]"#,
+    r#"["el",7,[],[]]"#,
+    r#"["el","p",{},[]]"#,
+    r#"["el","p",[],{}]"#,
+    // Parts of attributes.
+    r#"["el","p",[["id"]],[]]"#,
+    r#"["el","p",[["id",7]],[]]"#,
+    r#"["el","p",[["id","a","b"]],[]]"#,
+    // The whole shape is judged before any name.
+    r#"["el","",[],[7]]"#,
+    r#"["el","",[],[["el","p"]]]"#,
+    // No element.
+    r#"["EL","p",[],[]]"#,
+    r#"["text","x"]"#,
+    r#"["start",1]"#,
+    r#"["end",1]"#,
+    r#"["space"]"#,
+    r#"["el","p",[],[["space"]]]"#,
+    // Parts of texts.
+    r#"["el","p",[],[["text"]]]"#,
+    r#"["el","p",[],[["text",1]]]"#,
+    // Parts of starts.
+    r#"["el","p",[],[["start"]]]"#,
+    r#"["el","p",[],[["start",1,2,3]]]"#,
+    r#"["el","p",[],[["start",1,null]]]"#,
+    // A location is a whole number from 0 to 18446744073709551615, in digits alone.
+    r#"["el","p",[],[["start",1.0]]]"#,
+    r#"["el","p",[],[["start",1e2]]]"#,
+    r#"["el","p",[],[["start",-1]]]"#,
+    r#"["el","p",[],[["start",-0]]]"#,
+    r#"["el","p",[],[["start",18446744073709551616]]]"#,
+    // Parts of ends.
+    r#"["el","p",[],[["end","1"]]]"#,
+    r#"["el","p",[],[["end",1,2]]]"#,
+];
 
 #[test]
-fn no_list(rt: HostRuntime) {
-    assert_bad(&rt, rt.alloc(), &["{}", "null", "[]"]);
-}
-
-#[test]
-fn parts_of_elements(rt: HostRuntime) {
-    assert_bad(
-        &rt,
-        rt.alloc(),
-        &[
-            r#"["el","p"]"#,
-            r#"["el","p",[],[],[]]"#,
-            r#"["el",7,[],[]]"#,
-            r#"["el","p",{},[]]"#,
-            r#"["el","p",[],{}]"#,
-        ],
-    );
-}
-
-#[test]
-fn parts_of_attributes(rt: HostRuntime) {
-    assert_bad(
-        &rt,
-        rt.alloc(),
-        &[
-            r#"["el","p",[["id"]],[]]"#,
-            r#"["el","p",[["id",7]],[]]"#,
-            r#"["el","p",[["id","a","b"]],[]]"#,
-        ],
-    );
-}
-
-/// The whole shape is judged before any name.
-#[test]
-fn shape_before_names(rt: HostRuntime) {
-    assert_bad(
-        &rt,
-        rt.alloc(),
-        &[r#"["el","",[],[7]]"#, r#"["el","",[],[["el","p"]]]"#],
-    );
-}
-
-#[test]
-fn no_element(rt: HostRuntime) {
-    assert_bad(
-        &rt,
-        rt.alloc(),
-        &[
-            r#"["EL","p",[],[]]"#,
-            r#"["text","x"]"#,
-            r#"["start",1]"#,
-            r#"["end",1]"#,
-            r#"["space"]"#,
-            r#"["el","p",[],[["space"]]]"#,
-        ],
-    );
-}
-
-#[test]
-fn parts_of_texts(rt: HostRuntime) {
-    assert_bad(
-        &rt,
-        rt.alloc(),
-        &[
-            r#"["el","p",[],[["text"]]]"#,
-            r#"["el","p",[],[["text",1]]]"#,
-        ],
-    );
-}
-
-#[test]
-fn parts_of_starts(rt: HostRuntime) {
-    assert_bad(
-        &rt,
-        rt.alloc(),
-        &[
-            r#"["el","p",[],[["start"]]]"#,
-            r#"["el","p",[],[["start",1,2,3]]]"#,
-            r#"["el","p",[],[["start",1,null]]]"#,
-        ],
-    );
-}
-
-/// Whole numbers from 0 to 18446744073709551615, in digits alone.
-#[test]
-fn locations(rt: HostRuntime) {
-    assert_bad(
-        &rt,
-        rt.alloc(),
-        &[
-            r#"["el","p",[],[["start",1.0]]]"#,
-            r#"["el","p",[],[["start",1e2]]]"#,
-            r#"["el","p",[],[["start",-1]]]"#,
-            r#"["el","p",[],[["start",-0]]]"#,
-            r#"["el","p",[],[["start",18446744073709551616]]]"#,
-        ],
-    );
-}
-
-#[test]
-fn parts_of_ends(rt: HostRuntime) {
-    assert_bad(
-        &rt,
-        rt.alloc(),
-        &[
-            r#"["el","p",[],[["end","1"]]]"#,
-            r#"["el","p",[],[["end",1,2]]]"#,
-        ],
-    );
+fn inputs_that_spell_no_tree(rt: HostRuntime) {
+    assert_bad(&rt, rt.alloc(), &BAD_INPUTS);
 }
 
 #[test]

@@ -2,7 +2,7 @@
 //! proved in a second or two; the time grows with the square of what one function does itself.
 
 use html_dom::{HtmlAttrs, HtmlElement, HtmlNode};
-use html_names::{HtmlAttr, HtmlTag};
+use html_names::{HtmlAttr, HtmlTag, tag};
 use std::alloc::Global;
 use std::process::Abort;
 
@@ -52,4 +52,18 @@ pub(super) fn around(rt: &impl Abort, alloc: Global, tag: HtmlTag, child: HtmlNo
     let mut children = Vec::new(alloc);
     add(rt, &mut children, child);
     HtmlElement::new(alloc, tag).with_children(children)
+}
+
+/// The element in that many `div`, one in another.
+pub(super) fn nested(
+    rt: &impl Abort,
+    alloc: Global,
+    inner: HtmlElement,
+    levels: u32,
+) -> HtmlElement {
+    let mut element = inner;
+    for _ in 0..levels {
+        element = around(rt, alloc, tag::div, HtmlNode::from(element));
+    }
+    element
 }

@@ -111,33 +111,41 @@ fn assert_anchor(rt: &impl Abort, document: &HtmlDocument, wanted: &str) {
     assert_text(rt, anchor, wanted);
 }
 
-#[test]
-fn outputs_have_their_nodes(rt: HostRuntime) {
-    let output = output(&rt, rt.alloc());
-    assert_number(&rt, output.nodes().len(), 2);
+/// Asserts that there are two nodes, of which the root is an `html` of that span.
+fn assert_root(
+    rt: &impl Abort,
+    nodes: &[HtmlNode],
+    root: &HtmlElement,
+    root_node: &HtmlNode,
+    span: Span,
+) {
+    let alloc = *root.children.allocator();
+    assert_number(rt, nodes.len(), 2);
+    assert!(rt; *root == html(alloc, span));
+    assert!(rt; *root_node == HtmlNode::Element(html(alloc, span)));
+}
+
+/// Asserts the nodes and the root of an output.
+fn assert_output(rt: &impl Abort, output: &HtmlOutput, span: Span) {
+    assert_root(rt, output.nodes(), output.root(), output.root_node(), span);
 }
 
 #[test]
-fn outputs_have_their_root(rt: HostRuntime) {
-    let output = output(&rt, rt.alloc());
-    assert!(rt; *output.root() == html(rt.alloc(), Span(3)));
-    assert!(rt; *output.root_node() == HtmlNode::Element(html(rt.alloc(), Span(3))));
+fn outputs_have_their_nodes_and_their_root(rt: HostRuntime) {
+    assert_output(&rt, &output(&rt, rt.alloc()), Span(3));
 }
 
 #[test]
 fn roots_of_outputs_are_changed(rt: HostRuntime) {
     let mut output = output(&rt, rt.alloc());
     output.root_mut().span = Span(4);
-    assert!(rt; *output.root() == html(rt.alloc(), Span(4)));
-    assert_number(&rt, output.nodes().len(), 2);
+    assert_output(&rt, &output, Span(4));
 }
 
 #[test]
 fn outputs_are_copied(rt: HostRuntime) {
-    let output = output(&rt, rt.alloc());
-    let copy = output.try_clone().expect(&rt, "memory for the copy");
-    assert!(rt; *copy.root() == *output.root());
-    assert_number(&rt, copy.nodes().len(), 2);
+    let copy = output(&rt, rt.alloc()).try_clone();
+    assert_output(&rt, &copy.expect(&rt, "memory for the copy"), Span(3));
 }
 
 #[test]
@@ -156,11 +164,16 @@ fn information_is_copied(rt: HostRuntime) {
     assert!(rt; equal_infos(&copy, &information));
 }
 
+/// Asserts that two are not equal.
+fn assert_unlike(rt: &impl Abort, one: &DocumentInfo, other: &DocumentInfo) {
+    assert!(rt; one != other);
+}
+
 #[test]
 fn information_is_equal_where_all_fields_are(rt: HostRuntime) {
     let tides = information(&rt, rt.alloc(), "Tides");
-    assert!(rt; tides != information(&rt, rt.alloc(), "Waves"));
-    assert!(rt; tides != DocumentInfo::new(rt.alloc()));
+    assert_unlike(&rt, &tides, &information(&rt, rt.alloc(), "Waves"));
+    assert_unlike(&rt, &tides, &DocumentInfo::new(rt.alloc()));
 }
 
 #[test]
@@ -170,40 +183,42 @@ fn new_information_is_empty(rt: HostRuntime) {
     assert_number(&rt, information.author.len(), 0);
 }
 
-#[test]
-fn documents_have_their_root(rt: HostRuntime) {
-    let document = document(&rt, rt.alloc());
-    assert!(rt; *document.root() == html(rt.alloc(), Span(3)));
-    assert!(rt; *document.root_node() == HtmlNode::Element(html(rt.alloc(), Span(3))));
-    assert_number(&rt, document.nodes().len(), 2);
+/// Asserts the nodes, the root and the information of a document.
+fn assert_document(rt: &impl Abort, document: &HtmlDocument, span: Span, title: &str) {
+    let root = document.root();
+    let wanted = information(rt, *root.children.allocator(), title);
+    assert_root(rt, document.nodes(), root, document.root_node(), span);
+    assert!(rt; *document.info() == wanted);
 }
 
 #[test]
-fn documents_have_their_information(rt: HostRuntime) {
-    let document = document(&rt, rt.alloc());
-    assert!(rt; *document.info() == information(&rt, rt.alloc(), "Tides"));
+fn documents_have_their_root_and_their_information(rt: HostRuntime) {
+    assert_document(&rt, &document(&rt, rt.alloc()), Span(3), "Tides");
 }
 
 #[test]
 fn roots_of_documents_are_changed(rt: HostRuntime) {
     let mut document = document(&rt, rt.alloc());
     document.root_mut().span = Span(4);
-    assert!(rt; *document.root() == html(rt.alloc(), Span(4)));
+    assert_document(&rt, &document, Span(4), "Tides");
 }
 
 #[test]
 fn information_of_documents_is_changed(rt: HostRuntime) {
     let mut document = document(&rt, rt.alloc());
     document.info_mut().title = Some(text_of(&rt, rt.alloc(), "Waves"));
-    assert!(rt; *document.info() == information(&rt, rt.alloc(), "Waves"));
+    assert_document(&rt, &document, Span(3), "Waves");
 }
 
 #[test]
 fn documents_are_copied(rt: HostRuntime) {
-    let document = document(&rt, rt.alloc());
-    let copy = document.try_clone().expect(&rt, "memory for the copy");
-    assert!(rt; *copy.root() == *document.root());
-    assert!(rt; *copy.info() == *document.info());
+    let copy = document(&rt, rt.alloc()).try_clone();
+    assert_document(
+        &rt,
+        &copy.expect(&rt, "memory for the copy"),
+        Span(3),
+        "Tides",
+    );
 }
 
 /// The root has no number in a path.

@@ -1,6 +1,6 @@
 //! Tests of trees.
 
-use crate::asserts::{add, around, assert_number, assert_text, attrs_of, text_of};
+use crate::asserts::{add, around, assert_number, assert_text, attrs_of, nested, text_of};
 use html_css::{Abs, Properties};
 use html_dom::{
     Frame, FrameItem, HtmlAttrs, HtmlElement, HtmlFrame, HtmlNode, Location, Point, Span, Tag,
@@ -128,11 +128,17 @@ fn nodes_have_spans(rt: HostRuntime) {
     }
 }
 
+/// Asserts whether the element is such a paragraph with that span.
+fn assert_paragraph(rt: &impl Abort, element: &HtmlElement, span: Span, wanted: bool) {
+    let paragraph = paragraph(rt, *element.children.allocator(), "word", span);
+    assert!(rt; (*element == paragraph) == wanted);
+}
+
 #[test]
 fn elements_are_equal_where_all_fields_are(rt: HostRuntime) {
     let element = paragraph(&rt, rt.alloc(), "word", Span(3));
-    assert!(rt; element == paragraph(&rt, rt.alloc(), "word", Span(3)));
-    assert!(rt; element != paragraph(&rt, rt.alloc(), "word", Span(4)));
+    assert_paragraph(&rt, &element, Span(3), true);
+    assert_paragraph(&rt, &element, Span(4), false);
 }
 
 /// Asserts that a copy of the element is equal to it.
@@ -189,11 +195,16 @@ fn html_frame(rt: &impl Abort, alloc: Global, picture: u64) -> HtmlFrame {
     HtmlFrame::new(alloc, frame(rt, alloc, picture), text_size, Span(5))
 }
 
+/// Asserts whether two frames are equal.
+fn assert_frame(rt: &impl Abort, one: &HtmlFrame, other: &HtmlFrame, wanted: bool) {
+    assert!(rt; (one == other) == wanted);
+}
+
 #[test]
 fn frames_are_equal_where_all_fields_are(rt: HostRuntime) {
     let frame = html_frame(&rt, rt.alloc(), 1);
-    assert!(rt; frame == html_frame(&rt, rt.alloc(), 1));
-    assert!(rt; frame != html_frame(&rt, rt.alloc(), 2));
+    assert_frame(&rt, &frame, &html_frame(&rt, rt.alloc(), 1), true);
+    assert_frame(&rt, &frame, &html_frame(&rt, rt.alloc(), 2), false);
 }
 
 #[test]
@@ -266,18 +277,10 @@ fn long_lists_are_copied(rt: HostRuntime) {
     );
 }
 
-/// An element that many levels deep.
-fn nested(rt: &impl Abort, alloc: Global, levels: u64) -> HtmlElement {
-    let mut element = HtmlElement::new(alloc, tag::p);
-    for _ in 0..levels {
-        element = around(rt, alloc, tag::div, HtmlNode::from(element));
-    }
-    element
-}
-
 #[test]
 fn deep_trees_are_copied(rt: HostRuntime) {
-    assert_copied(&rt, &nested(&rt, rt.alloc(), 5_000));
+    let inner = HtmlElement::new(rt.alloc(), tag::p);
+    assert_copied(&rt, &nested(&rt, rt.alloc(), inner, 5_000));
 }
 
 /// The example of the crate's documentation.

@@ -1,6 +1,6 @@
 //! Tests of flat trees.
 
-use crate::asserts::{add, around, assert_number, attrs_of, tag_of, text_of};
+use crate::asserts::{add, around, assert_number, attrs_of, nested, tag_of, text_of};
 use html_css::Properties;
 use html_dom::{HtmlElement, HtmlNode, Location, Span, Tag};
 use html_flat::{FlatElement, FlatNode, FlatTree};
@@ -70,29 +70,30 @@ fn element<'a>(rt: &impl Abort, tree: &'a FlatTree, place: usize) -> &'a FlatEle
     element.expect(rt, "an element")
 }
 
+/// Asserts how many nodes the tree has, and that it spells these.
+fn assert_back(rt: &impl Abort, tree: &FlatTree, length: usize, nodes: &[HtmlNode]) {
+    assert_number(rt, tree.nodes().len(), length);
+    assert!(rt; spelled(rt, tree).as_slice() == nodes);
+}
+
 #[test]
 fn comes_back(rt: HostRuntime) {
     let nodes = sample(&rt, rt.alloc());
-    let tree = flat(&rt, rt.alloc(), &nodes);
-    assert_number(&rt, tree.nodes().len(), 6);
-    assert!(rt; spelled(&rt, &tree) == nodes);
+    assert_back(&rt, &flat(&rt, rt.alloc(), &nodes), 6, &nodes);
 }
 
 #[test]
 fn nothing_comes_back(rt: HostRuntime) {
-    let tree = flat(&rt, rt.alloc(), &[]);
-    assert_number(&rt, tree.nodes().len(), 0);
-    assert_number(&rt, spelled(&rt, &tree).len(), 0);
+    assert_back(&rt, &flat(&rt, rt.alloc(), &[]), 0, &[]);
 }
 
 #[test]
 fn one_element_comes_back(rt: HostRuntime) {
     let list = list(&rt, rt.alloc());
     let tree = FlatTree::from_element(rt.alloc(), &list).expect(&rt, "memory for the tree");
-    assert_number(&rt, tree.nodes().len(), 4);
-    let back = spelled(&rt, &tree);
-    assert!(rt; back.len() == 1);
-    assert!(rt; back[0] == HtmlNode::from(list));
+    let mut nodes = Vec::new(rt.alloc());
+    add(&rt, &mut nodes, HtmlNode::from(list));
+    assert_back(&rt, &tree, 4, &nodes);
 }
 
 /// Asserts the place after the last node in the element at that place.
@@ -128,18 +129,10 @@ fn repeated_names_have_one_number(rt: HostRuntime) {
     assert_number(&rt, tree.names().attrs(), 2);
 }
 
-/// That many `div`, one in another.
-fn nested(rt: &impl Abort, alloc: Global, depth: u32) -> HtmlElement {
-    let mut root = HtmlElement::new(alloc, tag::div);
-    for _ in 1..depth {
-        root = around(rt, alloc, tag::div, HtmlNode::from(root));
-    }
-    root
-}
-
 #[test]
 fn deep_trees_come_back(rt: HostRuntime) {
-    let root = nested(&rt, rt.alloc(), 5_000);
+    let inner = HtmlElement::new(rt.alloc(), tag::div);
+    let root = nested(&rt, rt.alloc(), inner, 4_999);
     let tree = FlatTree::from_element(rt.alloc(), &root).expect(&rt, "memory for the tree");
     assert_number(&rt, tree.nodes().len(), 5_000);
     assert_number(&rt, spelled(&rt, &tree).len(), 1);

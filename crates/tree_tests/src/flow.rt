@@ -11,7 +11,7 @@ use html_dom::Span;
 use html_flow::{
     Arg, ArgValue, Args, ConstructFault, ElementInfo, HtmlElem, Item, Pair, Role, construct,
 };
-use html_values::Value;
+use html_values::{CastFault, Value};
 use std::alloc::{AllocError, Global};
 use std::process::Abort;
 
@@ -114,15 +114,23 @@ fn show_element(shown: &mut String, element: &HtmlElem) -> Result<(), AllocError
     write!(shown, " at {}", element.span.0)
 }
 
+/// Adds a fault of a cast with its span.
+fn show_cast(shown: &mut String, fault: CastFault, span: Span) -> Result<(), AllocError> {
+    write!(shown, "{} at {};", fault.number(), span.0)
+}
+
+/// Adds the faults of casts with their spans.
+fn show_casts(shown: &mut String, faults: &[(CastFault, Span)]) -> Result<(), AllocError> {
+    for (fault, span) in faults {
+        show_cast(shown, *fault, *span)?;
+    }
+    Ok(())
+}
+
 /// A refusal in words: the faults with their spans.
 fn show_fault(shown: &mut String, fault: &ConstructFault) -> Result<(), AllocError> {
     match fault {
-        ConstructFault::Casts(faults) => {
-            for (fault, span) in faults {
-                write!(shown, "{} at {};", fault.number(), span.0)?;
-            }
-            Ok(())
-        }
+        ConstructFault::Casts(faults) => show_casts(shown, faults),
         ConstructFault::BodyKind { span } => write!(shown, "24 at {}", span.0),
         ConstructFault::OutOfMemory => shown.push_str("0"),
     }

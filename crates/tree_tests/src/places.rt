@@ -1,11 +1,11 @@
 //! Tests of positions and links in a tree.
 
-use crate::asserts::{add, around, assert_number, assert_text, text_of};
+use crate::asserts::{add, around, assert_number, assert_text, nested, text_of};
 use html_css::Abs;
 use html_dom::{Frame, FrameItem, HtmlElement, HtmlFrame, HtmlNode, Location, Point, Span, Tag};
 use html_introspect::{HtmlIntrospector, HtmlPosition, HtmlSliceExt};
 use html_names::{HtmlTag, tag};
-use std::alloc::{AllocError, Global};
+use std::alloc::Global;
 use std::collections::{BTreeMap, BTreeSet};
 use std::process::Abort;
 
@@ -14,7 +14,10 @@ fn start(location: u64, dest: Option<u64>) -> Tag {
     Tag::Start {
         location: Location(location),
         label: None,
-        dest: dest.map(|dest| Location(dest)),
+        dest: match dest {
+            Some(dest) => Some(Location(dest)),
+            None => None,
+        },
     }
 }
 
@@ -253,20 +256,13 @@ fn introspectors_are_shown(rt: HostRuntime) {
     assert_text(&rt, &shown, "HtmlIntrospector(..)");
 }
 
-/// That many `div`, one in another, with a start tag in the innermost.
-fn nested(rt: &impl Abort, alloc: Global, depth: u32) -> Vec<HtmlNode> {
-    let mut inner = HtmlNode::from(start(1, None));
-    for _ in 0..depth {
-        inner = HtmlNode::from(around(rt, alloc, tag::div, inner));
-    }
-    let mut nodes = Vec::new(alloc);
-    add(rt, &mut nodes, inner);
-    nodes
-}
-
 #[test]
 fn deep_trees_have_positions(rt: HostRuntime) {
-    let introspector = known(&rt, rt.alloc(), &nested(&rt, rt.alloc(), 5_000));
+    let inner = around(&rt, rt.alloc(), tag::div, HtmlNode::from(start(1, None)));
+    let mut nodes = Vec::new(rt.alloc());
+    let root = nested(&rt, rt.alloc(), inner, 4_999);
+    add(&rt, &mut nodes, HtmlNode::from(root));
+    let introspector = known(&rt, rt.alloc(), &nodes);
     assert_number(&rt, position(&rt, &introspector, 1).path().len(), 5_001);
 }
 
@@ -288,26 +284,16 @@ fn long_lists_have_positions(rt: HostRuntime) {
 }
 
 /// The example of `HtmlIntrospector`.
-fn example(rt: &impl Abort, alloc: Global) -> Result<(), AllocError> {
-    let location = Location(7);
-    let start = Tag::Start {
-        location,
-        label: None,
-        dest: Some(Location(8)),
-    };
-    let mut nodes = Vec::new(alloc);
-    nodes.push(HtmlNode::from(HtmlElement::new(alloc, tag::hr)))?;
-    nodes.push(HtmlNode::from(start))?;
-    let introspector = HtmlIntrospector::new(alloc, &nodes)?;
-    let path: &[usize] = &[1];
-    if let Some(position) = introspector.position(location) {
-        assert!(rt; position.path() == path);
-    }
-    assert!(rt; introspector.link_targets()?.contains(&Location(8)));
-    Ok(())
-}
-
 #[test]
 fn example_of_an_introspector(rt: HostRuntime) {
-    assert!(rt; example(&rt, rt.alloc()).is_ok());
+    let mut nodes = Vec::new(rt.alloc());
+    add(
+        &rt,
+        &mut nodes,
+        element(rt.alloc(), tag::hr, Vec::new(rt.alloc())),
+    );
+    add(&rt, &mut nodes, HtmlNode::from(start(7, Some(8))));
+    let introspector = known(&rt, rt.alloc(), &nodes);
+    assert_path(&rt, &introspector, 7, &[1]);
+    assert_targets(&rt, &introspector, &[8], &[]);
 }

@@ -69,11 +69,16 @@ fn assert_cast(rt: &impl Abort, alloc: Global, attr_type: &AttrType, value: &Val
     assert_text(rt, &answer, wanted);
 }
 
+/// Asserts what a cast of the value that a table means answers.
+fn assert_sample(rt: &impl Abort, alloc: Global, attr_type: &AttrType, row: &(Sample, &str)) {
+    let value = value_of(alloc, row.0).expect(rt, "memory for the value");
+    assert_cast(rt, alloc, attr_type, &value, row.1);
+}
+
 /// Asserts that each cast to the type answers what stands beside the value.
 fn assert_casts(rt: &impl Abort, alloc: Global, attr_type: &AttrType, rows: &[(Sample, &str)]) {
-    for (sample, wanted) in rows {
-        let value = value_of(alloc, *sample).expect(rt, "memory for the value");
-        assert_cast(rt, alloc, attr_type, &value, wanted);
+    for row in rows {
+        assert_sample(rt, alloc, attr_type, row);
     }
 }
 
@@ -101,8 +106,8 @@ fn assert_array_casts(
 /// Asserts that each cast of a value to the type before it answers what stands after it.
 fn assert_native_casts(rt: &impl Abort, alloc: Global, rows: &[(NativeType, Sample, &str)]) {
     for (native_type, sample, wanted) in rows {
-        let value = value_of(alloc, *sample).expect(rt, "memory for the value");
-        assert_cast(rt, alloc, &AttrType::Native(*native_type), &value, wanted);
+        let attr_type = AttrType::Native(*native_type);
+        assert_sample(rt, alloc, &attr_type, &(*sample, *wanted));
     }
 }
 

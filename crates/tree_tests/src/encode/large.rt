@@ -1,6 +1,6 @@
 //! Deep trees, long lists and long texts: no size is refused.
 
-use crate::asserts::{add, around, assert_number};
+use crate::asserts::{add, around, assert_number, nested};
 use crate::encode::frames::NoFrames;
 use crate::encode::{PLAIN, PRETTY, element};
 use html_dom::{HtmlElement, HtmlNode, Span};
@@ -16,13 +16,9 @@ fn assert_length(rt: &impl Abort, root: &HtmlElement, options: &HtmlOptions, wan
     assert_number(rt, text.as_str().len(), wanted);
 }
 
-/// That many `div`, one in another.
-fn nested(rt: &impl Abort, alloc: Global, depth: u32) -> HtmlElement {
-    let mut root = HtmlElement::new(alloc, tag::div);
-    for _ in 1..depth {
-        root = around(rt, alloc, tag::div, HtmlNode::from(root));
-    }
-    root
+/// 5,000 `div`, one in another.
+fn deep(rt: &impl Abort, alloc: Global) -> HtmlElement {
+    nested(rt, alloc, HtmlElement::new(alloc, tag::div), 4_999)
 }
 
 /// A `ul` of that many `li`, each with the text `x`.
@@ -47,7 +43,7 @@ fn long_text(rt: &impl Abort, alloc: Global, length: u32) -> String {
 /// 15 characters of the document type, and 5 and 6 of each element's tags.
 #[test]
 fn plain_and_5000_deep(rt: HostRuntime) {
-    assert_length(&rt, &nested(&rt, rt.alloc(), 5_000), &PLAIN, 55_015);
+    assert_length(&rt, &deep(&rt, rt.alloc()), &PLAIN, 55_015);
 }
 
 /// Beside that a line feed after each line, and 2 spaces a level before it: the n-th element from
@@ -55,7 +51,7 @@ fn plain_and_5000_deep(rt: HostRuntime) {
 #[test]
 fn pretty_and_5000_deep(rt: HostRuntime) {
     let length = 55_015 + 10_000 + 49_980_002;
-    assert_length(&rt, &nested(&rt, rt.alloc(), 5_000), &PRETTY, length);
+    assert_length(&rt, &deep(&rt, rt.alloc()), &PRETTY, length);
 }
 
 /// 15 and 9 characters, and 10 for each item.

@@ -34,7 +34,7 @@ fn copies(rt: HostRuntime) {
 }
 
 /// Asserts that the item has that span.
-fn assert_span(rt: &impl Abort, item: Item, wanted: u64) {
+pub(super) fn assert_span(rt: &impl Abort, item: Item, wanted: u64) {
     assert!(rt; item.span() == Span(wanted));
 }
 

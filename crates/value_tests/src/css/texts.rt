@@ -21,26 +21,24 @@ impl ToCss for Twice<'_> {
     }
 }
 
-#[test]
-fn an_opaque_colour_has_no_alpha(rt: HostRuntime) {
-    let opaque = Rgba {
-        r: 1,
-        g: 2,
-        b: 3,
-        a: 255,
-    };
-    assert_css(&rt, rt.alloc(), &opaque, "#010203");
-}
+const OPAQUE: Rgba = Rgba {
+    r: 1,
+    g: 2,
+    b: 3,
+    a: 255,
+};
+
+const FAINT: Rgba = Rgba {
+    r: 255,
+    g: 0,
+    b: 16,
+    a: 128,
+};
 
 #[test]
-fn a_faint_colour_has_its_alpha(rt: HostRuntime) {
-    let faint = Paint::Solid(Rgba {
-        r: 255,
-        g: 0,
-        b: 16,
-        a: 128,
-    });
-    assert_css(&rt, rt.alloc(), &faint, "#ff001080");
+fn a_colour_has_its_alpha_unless_it_is_opaque(rt: HostRuntime) {
+    assert_css(&rt, rt.alloc(), &OPAQUE, "#010203");
+    assert_css(&rt, rt.alloc(), &Paint::Solid(FAINT), "#ff001080");
 }
 
 #[test]

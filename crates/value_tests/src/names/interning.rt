@@ -46,12 +46,17 @@ fn known_tags_are_constants(rt: HostRuntime) {
     assert!(rt; tag_of(&rt, rt.alloc(), "wbr") == tag::wbr);
 }
 
+/// Asserts what a value is shown as for programmers.
+fn assert_debug<T: Debug>(rt: &impl Abort, alloc: Global, value: &T, wanted: &str) {
+    let shown = format!(in alloc; "{value:?}").expect(rt, "memory for the text");
+    assert_text(rt, &shown, wanted);
+}
+
 /// Asserts what a value is shown as, for users and for programmers.
 fn assert_shown<T: Display + Debug>(rt: &impl Abort, alloc: Global, value: &T, wanted: &str) {
     let shown = value.to_string(alloc).expect(rt, "memory for the text");
     assert_text(rt, &shown, wanted);
-    let shown = format!(in alloc; "{value:?}").expect(rt, "memory for the text");
-    assert_text(rt, &shown, wanted);
+    assert_debug(rt, alloc, value, wanted);
 }
 
 #[test]

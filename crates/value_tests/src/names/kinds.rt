@@ -110,11 +110,17 @@ fn answers(tag: &HtmlTag) -> [bool; 19] {
     ]
 }
 
+/// Asserts that the tag of that name has a kind if the list of the kind has the name.
+fn assert_kind(rt: &impl Abort, answer: bool, text: &str, row: &(&str, &str)) {
+    let (kind, list) = *row;
+    assert!(rt; answer == holds(list, text), "{kind} of {text}");
+}
+
 /// Asserts that the tag of that name has each kind whose list has the name.
 fn assert_kinds(rt: &impl Abort, tag: &HtmlTag, text: &str) {
     let answers = answers(tag);
-    for ((kind, list), answer) in KINDS.iter().zip(answers.iter()) {
-        assert!(rt; *answer == holds(list, text), "{kind} of {text}");
+    for (row, answer) in KINDS.iter().zip(answers.iter()) {
+        assert_kind(rt, *answer, text, row);
     }
 }
 

@@ -4,6 +4,7 @@ use super::tag_of;
 use crate::asserts::{assert_number, assert_text};
 use html_names::property::Display;
 use html_names::{HtmlAttr, HtmlTag, NameTable, attr, tag};
+use std::alloc::Global;
 use std::process::Abort;
 
 /// Tags in the order in which they are given, each with its number.
@@ -38,14 +39,24 @@ fn assert_tag(rt: &impl Abort, names: &mut NameTable, tag: &HtmlTag, number: usi
     assert_text(rt, names.tag_at(number).resolve(), tag.resolve());
 }
 
+/// Asserts that the table gives the tag of that text that number.
+fn assert_tag_text(rt: &impl Abort, alloc: Global, names: &mut NameTable, row: &(&str, usize)) {
+    assert_tag(rt, names, &tag_of(rt, alloc, row.0), row.1);
+}
+
+/// Asserts how many tags and attributes the table has.
+fn assert_counts(rt: &impl Abort, names: &NameTable, tags: usize, attrs: usize) {
+    assert_number(rt, names.tags(), tags);
+    assert_number(rt, names.attrs(), attrs);
+}
+
 #[test]
 fn numbered_tags(rt: HostRuntime) {
     let mut names = NameTable::new(rt.alloc());
-    for (text, number) in &TAGS {
-        assert_tag(&rt, &mut names, &tag_of(&rt, rt.alloc(), text), *number);
+    for row in &TAGS {
+        assert_tag_text(&rt, rt.alloc(), &mut names, row);
     }
-    assert_number(&rt, names.tags(), 6);
-    assert_number(&rt, names.attrs(), 0);
+    assert_counts(&rt, &names, 6, 0);
 }
 
 /// Asserts that the table gives the attribute that number, and the attribute back for it.
@@ -56,16 +67,20 @@ fn assert_attr(rt: &impl Abort, names: &mut NameTable, attr: &HtmlAttr, number: 
     assert_text(rt, names.attr_at(number).resolve(), attr.resolve());
 }
 
+/// Asserts that the table gives the attribute of that text that number.
+fn assert_attr_text(rt: &impl Abort, alloc: Global, names: &mut NameTable, row: &(&str, usize)) {
+    let attr = HtmlAttr::intern(alloc, row.0).expect(rt, "a name");
+    assert_attr(rt, names, &attr, row.1);
+}
+
 #[test]
 fn numbered_attributes(rt: HostRuntime) {
     let mut names = NameTable::new(rt.alloc());
     assert_tag(&rt, &mut names, &tag::p, 0);
-    for (text, number) in &ATTRS {
-        let attr = HtmlAttr::intern(rt.alloc(), text).expect(&rt, "a name");
-        assert_attr(&rt, &mut names, &attr, *number);
+    for row in &ATTRS {
+        assert_attr_text(&rt, rt.alloc(), &mut names, row);
     }
-    assert_number(&rt, names.tags(), 1);
-    assert_number(&rt, names.attrs(), 5);
+    assert_counts(&rt, &names, 1, 5);
 }
 
 /// Tags, and whether each is void, raw, escapable raw and foreign self-closing, and its display.

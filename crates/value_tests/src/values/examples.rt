@@ -1,7 +1,8 @@
 //! The examples of the documentation.
 
+use super::assert_cast;
 use super::texts::assert_attr;
-use html_values::{AttrType, CastFault, Datetime, Duration, Moment, NativeType, Value, civil};
+use html_values::{AttrType, Datetime, Duration, Moment, NativeType, Value, civil};
 
 #[test]
 fn example_of_the_crate(rt: HostRuntime) {
@@ -13,11 +14,15 @@ fn example_of_the_crate(rt: HostRuntime) {
 
 #[test]
 fn example_of_cast(rt: HostRuntime) {
-    let id = Value::Int(7);
-    let text = AttrType::Native(NativeType::Int).cast(rt.alloc(), &id);
-    assert!(rt; text.ok().flatten().as_deref() == Some("7"));
-    let absent = AttrType::Presence.cast(rt.alloc(), &Value::Bool(false));
-    assert!(rt; absent == Ok(None));
-    let refused = AttrType::Presence.cast(rt.alloc(), &id);
-    assert!(rt; refused == Err(CastFault::WrongKind));
+    let (alloc, id) = (rt.alloc(), Value::Int(7));
+    let number = AttrType::Native(NativeType::Int);
+    assert_cast(&rt, alloc, &number, &id, "'7'");
+    assert_cast(
+        &rt,
+        alloc,
+        &AttrType::Presence,
+        &Value::Bool(false),
+        "nothing",
+    );
+    assert_cast(&rt, alloc, &AttrType::Presence, &id, "16");
 }

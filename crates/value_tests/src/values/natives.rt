@@ -3,36 +3,28 @@
 use super::{Sample, assert_array_casts, assert_native_casts};
 use html_values::{AttrType, Dir, NativeType, Rgba};
 
-/// Types, and what casts of none to them answer.
-static NONES: [(NativeType, Sample, &str); 5] = [
+const RED: Rgba = Rgba {
+    r: 255,
+    g: 0,
+    b: 16,
+    a: 128,
+};
+
+/// Types, values, and what casts of the values to the types answer.
+static CASTS: [(NativeType, Sample, &str); 47] = [
+    // None.
     (NativeType::NoValue, Sample::None, "'none'"),
     (NativeType::NoneEmpty, Sample::None, "''"),
     (NativeType::NoneUndefined, Sample::None, "'undefined'"),
     (NativeType::Auto, Sample::None, "16"),
     (NativeType::TrueFalse, Sample::None, "16"),
-];
-
-#[test]
-fn none(rt: HostRuntime) {
-    assert_native_casts(&rt, rt.alloc(), &NONES);
-}
-
-/// Types, and what casts of auto to them answer.
-static AUTOS: [(NativeType, Sample, &str); 5] = [
+    // Auto.
     (NativeType::Auto, Sample::Auto, "'auto'"),
     (NativeType::NoValue, Sample::Auto, "16"),
     (NativeType::NoneEmpty, Sample::Auto, "16"),
     (NativeType::OnOff, Sample::Auto, "16"),
     (NativeType::Color, Sample::Auto, "16"),
-];
-
-#[test]
-fn auto(rt: HostRuntime) {
-    assert_native_casts(&rt, rt.alloc(), &AUTOS);
-}
-
-/// Booleans that are cast.
-static BOOLEANS: [(NativeType, Sample, &str); 7] = [
+    // Booleans that are cast.
     (NativeType::TrueFalse, Sample::Bool(true), "'true'"),
     (NativeType::YesNo, Sample::Bool(true), "'yes'"),
     (NativeType::OnOff, Sample::Bool(true), "'on'"),
@@ -40,15 +32,7 @@ static BOOLEANS: [(NativeType, Sample, &str); 7] = [
     (NativeType::YesNo, Sample::Bool(false), "'no'"),
     (NativeType::OnOff, Sample::Bool(false), "'off'"),
     (NativeType::NoneUndefined, Sample::Bool(false), "16"),
-];
-
-#[test]
-fn booleans(rt: HostRuntime) {
-    assert_native_casts(&rt, rt.alloc(), &BOOLEANS);
-}
-
-/// Whole numbers that are cast.
-static WHOLE_NUMBERS: [(NativeType, Sample, &str); 5] = [
+    // Whole numbers that are cast.
     (NativeType::Int, Sample::Int(-1), "'-1'"),
     (NativeType::Int, Sample::Int(0), "'0'"),
     (
@@ -58,78 +42,31 @@ static WHOLE_NUMBERS: [(NativeType, Sample, &str); 5] = [
     ),
     (NativeType::Str, Sample::Int(0), "16"),
     (NativeType::Duration, Sample::Int(1), "16"),
-];
-
-#[test]
-fn whole_numbers(rt: HostRuntime) {
-    assert_native_casts(&rt, rt.alloc(), &WHOLE_NUMBERS);
-}
-
-/// Whole numbers from 0 or from 1 on.
-static IN_RANGE: [(NativeType, Sample, &str); 5] = [
+    // Whole numbers from 0 or from 1 on.
     (NativeType::NonNegativeInt, Sample::Int(-1), "18"),
     (NativeType::NonNegativeInt, Sample::Int(0), "'0'"),
     (NativeType::PositiveInt, Sample::Int(-1), "18"),
     (NativeType::PositiveInt, Sample::Int(0), "18"),
     (NativeType::PositiveInt, Sample::Int(1), "'1'"),
-];
-
-#[test]
-fn numbers_in_range(rt: HostRuntime) {
-    assert_native_casts(&rt, rt.alloc(), &IN_RANGE);
-}
-
-/// Texts, and texts of one character.
-static TEXTS: [(NativeType, Sample, &str); 5] = [
+    // Texts, and texts of one character.
     (NativeType::Str, Sample::Text(""), "''"),
     (NativeType::Str, Sample::Text("ab"), "'ab'"),
     (NativeType::Char, Sample::Text(""), "19"),
     (NativeType::Char, Sample::Text("é"), "'é'"),
     (NativeType::Char, Sample::Text("ab"), "19"),
-];
-
-#[test]
-fn texts(rt: HostRuntime) {
-    assert_native_casts(&rt, rt.alloc(), &TEXTS);
-}
-
-const RED: Rgba = Rgba {
-    r: 255,
-    g: 0,
-    b: 16,
-    a: 128,
-};
-
-/// A span of time and a colour.
-static DURATIONS_AND_COLOURS: [(NativeType, Sample, &str); 2] = [
+    // A span of time and a colour.
     (
         NativeType::Duration,
         Sample::Seconds(694_861),
         "'1w 1d 1h 1m 1s'",
     ),
     (NativeType::Color, Sample::Color(RED), "'#ff001080'"),
-];
-
-#[test]
-fn durations_and_colours(rt: HostRuntime) {
-    assert_native_casts(&rt, rt.alloc(), &DURATIONS_AND_COLOURS);
-}
-
-/// Directions of lines.
-static DIRECTIONS: [(NativeType, Sample, &str); 4] = [
+    // Directions of lines.
     (NativeType::HorizontalDir, Sample::Dir(Dir::LTR), "'ltr'"),
     (NativeType::HorizontalDir, Sample::Dir(Dir::RTL), "'rtl'"),
     (NativeType::HorizontalDir, Sample::Dir(Dir::TTB), "20"),
     (NativeType::HorizontalDir, Sample::Dir(Dir::BTT), "20"),
-];
-
-#[test]
-fn directions(rt: HostRuntime) {
-    assert_native_casts(&rt, rt.alloc(), &DIRECTIONS);
-}
-
-/// Images with and without a width.
-static IMAGES: [(NativeType, Sample, &str); 9] = [
+    // Images with and without a width.
     (
         NativeType::ImageCandidate,
         Sample::Image("x.png", Some(480)),
@@ -166,8 +103,8 @@ static IMAGES: [(NativeType, Sample, &str); 9] = [
 ];
 
 #[test]
-fn images(rt: HostRuntime) {
-    assert_native_casts(&rt, rt.alloc(), &IMAGES);
+fn casts(rt: HostRuntime) {
+    assert_native_casts(&rt, rt.alloc(), &CASTS);
 }
 
 /// Arrays, and what they are as sizes of icons.

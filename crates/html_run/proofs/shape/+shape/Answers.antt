@@ -1,14 +1,16 @@
 use Rattle.std.proofs.Common.{sym, refl, ◌∙◌, arith}
 use Rattle.std.proofs.lemmas.List.{drop_all}
 use Rattle.serde_json.proofs.Views.{view-Array}
-use Rattle.html_run.proofs.Roots.{nodes_more, three_parts}
+use Rattle.html_run.proofs.Roots.{nodes_row, spelled_all-some, three_parts}
+use Rattle.html_run.proofs.Rows.{some_more}
 use Rattle.html_run.proofs.shape.+shape.Goals as goal
 
 pub are_nodes-loop-value-preserved : goal.are_nodes-loop-value-preserved
 are_nodes-loop-value-preserved t c =
     c.loop-value.invariant
-    ∙ nodes_more c.deref-value-items.result.now c.loop-value.value-index c.value-item.result
-    c.loop-value-test.true c.value-item.is (sym c.if-not-is_node.ensures)
+    ∙ some_more nodes_row c.deref-value-items.result.now c.loop-value.value-index
+    c.value-item.result spelled_all-some c.loop-value-test.true c.value-item.is
+    (sym c.if-not-is_node.ensures)
 
 pub are_nodes-returns : goal.are_nodes-returns
 are_nodes-returns t c =

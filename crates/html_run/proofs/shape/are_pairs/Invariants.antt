@@ -1,6 +1,6 @@
 use Rattle.std.proofs.Common.{◌≡◌, drop, is_some}
 use Rattle.serde_json.specs.View.{items_view}
-use Rattle.html_run.specs.Spelled.{pairs_of}
+use Rattle.html_run.specs.Fields.{pairs_of}
 use Rattle.html_run.proofs.shape.are_pairs.Given as goal
 
 abbrev pub invariant-loop-pair : goal.invariant-loop-pair

@@ -1,7 +1,8 @@
-use Rattle.std.proofs.Common.{◌≡◌, [], map, drop, option_map}
+use Rattle.std.proofs.Common.{◌≡◌, [], map, drop, flat_map, option_map}
 use Rattle.serde_json.specs.View.{items_view}
-use Rattle.html_dom.specs.Views.{node_view, nodes_view}
-use Rattle.html_run.specs.Names.{all_name_refusals}
+use Rattle.html_dom.specs.Tree.{node}
+use Rattle.html_dom.specs.Views.{node_view}
+use Rattle.html_run.specs.Names.{name_refusals}
 use Rattle.html_run.specs.Spelled.{spelled_all}
 use Rattle.html_run.specs.Spelling.{after_done}
 use Rattle.html_run.proofs.spell.+spell.Given as goal
@@ -9,7 +10,7 @@ use Rattle.html_run.proofs.spell.+spell.Given as goal
 abbrev pub invariant-list_of-loop-value : goal.invariant-list_of-loop-value
 invariant-list_of-loop-value l = record {
   spelled : spelled_all (items_view l.value-items) l.fn.number
-      ≡ option_map (after_done (map node_view l.list.items))
+      ≡ option_map (after_done node (map node_view l.list.items))
       (spelled_all (items_view (drop l.value-index l.value-items)) l.next);
-  clean : all_name_refusals (nodes_view l.list.items) ≡ [];
+  clean : flat_map name_refusals (map node_view l.list.items) ≡ [];
 }

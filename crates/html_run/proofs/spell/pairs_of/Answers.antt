@@ -2,7 +2,7 @@ use Rattle.std.proofs.Common.{◌≡◌, rules, arith}
 use Rattle.std.proofs.lemmas.Result.{err_from_is_err_and}
 use Rattle.serde_json.specs.View.{view, items_view}
 use Rattle.html_run.proofs.Wrong.{wrong_pair, pairs_more, clean_more_pairs}
-use Rattle.html_run.specs.Spelled as spec
+use Rattle.html_run.specs.Fields as spec
 use Rattle.html_run.proofs.spell.pairs_of.Goals as goal
 
 pub returns-in_err-pair_at : goal.returns-in_err-pair_at

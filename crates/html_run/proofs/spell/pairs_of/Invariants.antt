@@ -2,7 +2,7 @@ use Rattle.std.proofs.Common.{◌≡◌, [], ◌++◌, map, drop, option_map}
 use Rattle.serde_json.specs.View.{items_view}
 use Rattle.html_dom.specs.Views.{pair_view}
 use Rattle.html_run.specs.Names.{pairs_refusals}
-use Rattle.html_run.specs.Spelled.{pairs_of}
+use Rattle.html_run.specs.Fields.{pairs_of}
 use Rattle.html_run.proofs.spell.pairs_of.Given as goal
 
 abbrev pub invariant-loop-pair : goal.invariant-loop-pair

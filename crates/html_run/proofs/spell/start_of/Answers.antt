@@ -1,4 +1,4 @@
-use Rattle.std.proofs.Common.{◌≡◌, ◌+◌, Some, rules, refl, sym, ◌∙◌}
+use Rattle.std.proofs.Common.{◌≡◌, ◌+◌, Some, rules, refl}
 use Rattle.html_run.proofs.Forms.{node_view-Tag}
 use Rattle.html_run.specs.Names.{name_refusals}
 use Rattle.html_run.proofs.spell.start_of.Goals as goal
@@ -8,6 +8,6 @@ unfolding name_refusals
 returns c =
     let is : c.start_in.result ≡ Some c.in_ok-tag.tag = search rules in
     let next : c.in_ok-next.next ≡ c.args.number + 1 = search rules in (
-      sym (c.start_in.ensures c.args.number) ∙ rw (is, next, node_view-Tag) refl,
+      rw (← c.start_in.ensures, is, next, node_view-Tag) refl,
       rw node_view-Tag refl,
     )

@@ -1,4 +1,4 @@
-use Rattle.std.proofs.Common.{◌≡◌, ◌+◌, Some, rules, refl, sym, ◌∙◌}
+use Rattle.std.proofs.Common.{◌≡◌, ◌+◌, Some, rules, refl}
 use Rattle.html_run.proofs.Forms.{node_view-Text}
 use Rattle.html_run.specs.Names.{name_refusals}
 use Rattle.html_run.proofs.spell.text_of.Goals as goal
@@ -8,6 +8,6 @@ unfolding name_refusals
 returns c =
     let is : c.text_in.result ≡ Some c.in_ok-text.text = search rules in
     let next : c.in_ok-next.next ≡ c.args.number + 1 = search rules in (
-      sym (c.text_in.ensures c.args.number) ∙ rw (is, next, node_view-Text) (search rules),
+      rw (← c.text_in.ensures, is, next, node_view-Text) (search rules),
       rw node_view-Text refl,
     )
