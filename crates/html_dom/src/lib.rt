@@ -27,5 +27,5 @@ pub use attrs::HtmlAttrs;
 pub use frame::{Frame, FrameItem, HtmlFrame, Point};
 pub use introspection::{Location, Tag};
 pub use node::{HtmlElement, HtmlNode};
-pub use resolve::resolve_inline_styles;
+pub use resolve::{resolve_inline_styles, with_inline_styles};
 pub use span::Span;

@@ -14,6 +14,8 @@ use std::alloc::{AllocError, Global};
 /// of that name, with `; ` between unless that value is empty, or as a last attribute. An element
 /// without css stays as it is. Where an allocation fails, nothing is changed.
 ///
+/// The new tree is made beside the old one. [`with_inline_styles`] takes a tree, and copies nothing.
+///
 /// ```
 /// let css = Properties::new(alloc).with("display", String::from_str(alloc, "block")?)?;
 /// let mut element = HtmlElement::new(alloc, tag::p)
@@ -28,59 +30,81 @@ pub fn resolve_inline_styles(alloc: Global, element: &mut HtmlElement) -> Result
         (element_view element.new ≡ element_styled (element_view element.old)) }
     ensures err { OnErr result (element.new ≡ element.old) }
 {
-    let made = element_styled(alloc, element)?;
+    let made = with_inline_styles(alloc, element.try_clone()?)?;
     *element = made;
     Ok(())
 }
 
+/// The element with the css of each element, at any depth, in its attribute `style`, as
+/// [`resolve_inline_styles`] writes it. No node is copied. Where an allocation fails, the element is
+/// gone.
+///
+/// ```
+/// let css = Properties::new(alloc).with("display", String::from_str(alloc, "block")?)?;
+/// let element = with_inline_styles(alloc, HtmlElement::new(alloc, tag::p).with_css(css))?;
+/// let style = element.attrs.get(&attr::style).map(|value| value.as_str());
+/// assert_eq!(rt; style, Some("display: block"));
+/// ```
+#[cycle(style)]
+pub fn with_inline_styles(alloc: Global, element: HtmlElement) -> Result<HtmlElement, AllocError>
+    ensures { IfOk result (λ made. element_view made ≡ element_styled (element_view element)) }
+{
+    let HtmlElement {
+        tag,
+        attrs,
+        css,
+        children,
+        parent,
+        span,
+        pre_span,
+    } = element;
+    Ok(HtmlElement {
+        tag,
+        attrs: attrs_styled(alloc, &css, attrs)?,
+        css,
+        children: nodes_styled(alloc, children)?,
+        parent,
+        span,
+        pre_span,
+    })
+}
+
 #[cycle(style)]
 #[tactic(auto, unfolding(crate::specs::Styled::node_styled))]
-fn node_styled(alloc: Global, node: &HtmlNode) -> Result<HtmlNode, AllocError>
-    ensures { IfOk result (λ made. node_view made ≡ node_styled (node_view node.now)) }
+fn node_styled(alloc: Global, node: HtmlNode) -> Result<HtmlNode, AllocError>
+    ensures { IfOk result (λ made. node_view made ≡ node_styled (node_view node)) }
 {
     match node {
-        HtmlNode::Element(element) => Ok(HtmlNode::Element(element_styled(alloc, element)?)),
-        HtmlNode::Tag(_) | HtmlNode::Text(_, _) | HtmlNode::Frame(_) => node.try_clone(),
+        HtmlNode::Element(element) => Ok(HtmlNode::Element(with_inline_styles(alloc, element)?)),
+        HtmlNode::Tag(_) | HtmlNode::Text(_, _) | HtmlNode::Frame(_) => Ok(node),
     }
 }
 
 #[cycle(style)]
 #[tactic(auto, unfolding(crate::specs::Styled::node_styled))]
-fn nodes_styled(alloc: Global, nodes: &[HtmlNode]) -> Result<Vec<HtmlNode>, AllocError>
-    ensures { IfOk result (λ made. nodes_view made.items ≡ nodes_styled (nodes_view nodes.now)) }
+fn nodes_styled(alloc: Global, nodes: Vec<HtmlNode>) -> Result<Vec<HtmlNode>, AllocError>
+    ensures { IfOk result (λ made. nodes_view made.items ≡ nodes_styled (nodes_view nodes.items)) }
 {
-    let mut made = Vec::new(alloc);
+    let mut made = Vec::with_capacity(alloc, nodes.len())?;
     for node in nodes {
         made.push(node_styled(alloc, node)?)?;
     }
     Ok(made)
 }
 
-#[cycle(style)]
-fn element_styled(alloc: Global, element: &HtmlElement) -> Result<HtmlElement, AllocError>
-    ensures { IfOk result (λ made. element_view made ≡ element_styled (element_view element.now)) }
-{
-    Ok(HtmlElement {
-        tag: element.tag.try_clone()?,
-        attrs: attrs_styled(alloc, &element.css, &element.attrs)?,
-        css: element.css.try_clone()?,
-        children: nodes_styled(alloc, &element.children)?,
-        parent: element.parent,
-        span: element.span,
-        pre_span: element.pre_span,
-    })
-}
-
 /// The attributes with the css in them.
-fn attrs_styled(alloc: Global, css: &Properties, attrs: &HtmlAttrs) -> Result<HtmlAttrs, AllocError>
-    ensures { IfOk result (λ made. attrs_view made ≡ attrs_styled css.now (attrs_view attrs.now)) }
+fn attrs_styled(
+    alloc: Global,
+    css: &Properties,
+    mut attrs: HtmlAttrs,
+) -> Result<HtmlAttrs, AllocError>
+    ensures { IfOk result (λ made. attrs_view made ≡ attrs_styled css.now (attrs_view attrs)) }
 {
-    let mut made = attrs.try_clone()?;
     if css.as_slice().is_empty() {
-        return Ok(made);
+        return Ok(attrs);
     }
-    put_style(&mut made, inline_text(alloc, css)?)?;
-    Ok(made)
+    put_style(&mut attrs, inline_text(alloc, css)?)?;
+    Ok(attrs)
 }
 
 /// The css as the text of a `style` attribute.

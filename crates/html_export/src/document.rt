@@ -22,18 +22,19 @@ ghost use Rattle.html_export.specs.SpacesInDocuments.{ArePlainItems, SpacesAreLe
 
 use crate::head::{head_node, lang_text};
 use html_document::{DocumentInfo, HtmlDocument, HtmlOutput};
-use html_dom::{HtmlElement, HtmlNode, Span, resolve_inline_styles};
+use html_dom::{HtmlElement, HtmlNode, Span, with_inline_styles};
 use html_encode::ExportFault;
 use html_flow::{ConversionLevel, FlowFault, Pair, Whitespace, convert_to_nodes};
-use html_link::create_link_anchors;
+use html_link::with_link_anchors;
 use html_names::{attr, tag};
 use std::alloc::{AllocError, Global};
+use std::mem;
 
 /// The document of items, with what is known of it and with footnotes, and with anchors for all
 /// locations to which links lead.
 ///
 /// It is that of [`html_document_for_bundle`], in which each target of a start tag or of a link in a
-/// frame then gets an anchor as by [`create_link_anchors`]; the document's introspector knows them.
+/// frame then gets an anchor as by [`with_link_anchors`]; the document's introspector knows them.
 /// The positions that it knows stay those of the tree without anchors. It fails as
 /// `html_document_for_bundle` does.
 ///
@@ -76,14 +77,14 @@ pub fn html_document(
 }
 
 /// The document with anchors for all locations to which links lead.
-fn with_anchors(alloc: Global, mut document: HtmlDocument) -> Result<HtmlDocument, AllocError>
+fn with_anchors(alloc: Global, document: HtmlDocument) -> Result<HtmlDocument, AllocError>
     ensures { IfOk result (λ made.
         document_view made ≡ document_with_anchors (document_view document)) }
 {
     let targets = document.introspector().link_targets()?;
-    let anchors = create_link_anchors(alloc, &mut document, &targets)?;
-    document.introspector_mut().set_anchors(anchors);
-    Ok(document)
+    let (mut made, anchors) = with_link_anchors(alloc, document, &targets)?;
+    made.introspector_mut().set_anchors(anchors);
+    Ok(made)
 }
 
 /// The document of items, with what is known of it and with footnotes, without anchors.
@@ -343,6 +344,8 @@ fn html_output(
 fn styled(alloc: Global, mut output: HtmlOutput) -> Result<HtmlOutput, AllocError>
     ensures { IfOk result (λ made. output_view made ≡ root_styled (output_view output)) }
 {
-    resolve_inline_styles(alloc, output.root_mut())?;
+    let root = output.root_mut();
+    let bare = mem::replace(root, HtmlElement::new(alloc, tag::html));
+    *root = with_inline_styles(alloc, bare)?;
     Ok(output)
 }

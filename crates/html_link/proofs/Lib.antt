@@ -4,6 +4,7 @@ pub mod Freshes
 pub mod Gathering
 pub mod InFrames
 pub mod LocationMaps
+pub mod MovedRoots
 pub mod Numbers
 mod Rows
 pub mod Seeing

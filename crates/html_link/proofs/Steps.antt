@@ -136,18 +136,17 @@ id_is None made = refl
 id_is (Some n) made = refl
 
 -- a frame, which serves all that wait
-pub frame_pushed : (x : Targets) (f copy : HtmlFrameView) (id : Option Name)
+pub frame_pushed : (x : Targets) (f : HtmlFrameView) (id : Option Name)
     (pairs : List (PointView × Name)) (old new : NodesView) (n : NodeView)
     (st served after : WalkState) (own made : Option Name) →
-    Serves st served (first_waiting st) own made → own ≡ f.id → copy ≡ f →
-    id ≡ or_else copy.id made →
-    (after, pairs) ≡ with_starts (frame_starts x f.inner) (served, copy.anchors) →
-    n ≡ frame_node (record copy { id = id; anchors = pairs }) → new ≡ (old then node n none) →
+    Serves st served (first_waiting st) own made → own ≡ f.id → id ≡ or_else f.id made →
+    (after, pairs) ≡ with_starts (frame_starts x f.inner) (served, f.anchors) →
+    n ≡ frame_node (record f { id = id; anchors = pairs }) → new ≡ (old then node n none) →
     (new, after) ≡ nodes_before old (walk x (node (frame_node f) none) st)
 unfolding walk
-frame_pushed x f copy id pairs old new n st served after own made serves own_id same is named
-    node_is pushed =
+frame_pushed x f id pairs old new n st served after own made serves own_id is named node_is
+    pushed =
     let ss = frame_starts x f.inner in
     let state : after ≡ after_starts ss served = ap (λ w. w.0) named in
-    let anchors : pairs ≡ copy.anchors ++ start_pairs served.used ss = ap (λ w. w.1) named in
-    rw (pushed, node_is, is, anchors, state, same, serves.name, serves.state, own_id) refl
+    let anchors : pairs ≡ f.anchors ++ start_pairs served.used ss = ap (λ w. w.1) named in
+    rw (pushed, node_is, is, anchors, state, serves.name, serves.state, own_id) refl

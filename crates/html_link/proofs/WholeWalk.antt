@@ -1,11 +1,9 @@
 -- Elements and lists of nodes in the walk, as the program makes them, and the walk over a document.
-use Rattle.std.proofs.Common.{◌≡◌, ℕ, ◌+◌, ◌<◌, ◌≤◌, Bool, List, length, get_or, drop, Option, Some, ap, sym, ◌∙◌}
+use Rattle.std.proofs.Common.{◌≡◌, ℕ, Bool, List, [], ◌∷◌, Option, Some, ap, sym, ◌∙◌}
 use Rattle.std.proofs.Math.Path.{fun_ext}
-use Rattle.std.proofs.lemmas.List.{drop_all}
 use Rattle.html_dom.specs.Tree.{Head, NodeView, element_node, NodesView, none, node, ElementView}
 use Rattle.html_dom.specs.Views.{node_view, nodes_view}
 use Rattle.html_dom.specs.declared.node.HtmlNode.{HtmlNode}
-use Rattle.html_dom.proofs.Nodes.{nodes_view-drop}
 use Rattle.html_names.specs.Names.{stands_in}
 use Rattle.html_introspect.specs.Introspectors.{IntrospectorView}
 use Rattle.html_document.specs.Documents.{DocumentView, root_of, with_root, given_root, document_root}
@@ -34,30 +32,29 @@ element_pushed x h head kids inside old new n st after last made serves named be
     ∙ ap (λ m. joined m (walk x kids next)) serves.name)
 
 -- one node more of a list
-pub node_walked : (x : Targets) (ns : List HtmlNode) (i : ℕ) (n : HtmlNode) (old new : NodesView)
-    (st after : WalkState) (all : Walked) → i < length ns → n ≡ get_or ns i n →
-    nodes_before old (walk x (nodes_view (drop i ns)) st) ≡ all →
+pub node_walked : (x : Targets) (ns others : List HtmlNode) (n : HtmlNode)
+    (old new : NodesView) (st after : WalkState) (all : Walked) → ns ≡ n ∷ others →
+    nodes_before old (walk x (nodes_view ns) st) ≡ all →
     (new, after) ≡ nodes_before old (walk x (node (node_view n) none) st) →
-    nodes_before new (walk x (nodes_view (drop (i + 1) ns)) after) ≡ all
-node_walked x ns i n old new st after all within there so_far more =
-    let rest = nodes_view (drop (i + 1) ns) in
+    nodes_before new (walk x (nodes_view others) after) ≡ all
+node_walked x ns others n old new st after all first_is so_far more =
+    let rest = nodes_view others in
     let first = walk x (node (node_view n) none) st in
     let last = walk x rest first.1 in
     ap (λ (w : Walked). nodes_before w.0 (walk x rest w.1)) more
     ∙ (ap (λ (ms : NodesView). (ms, last.1)) (then-assoc old first.0 last.0)
     ∙ (ap (nodes_before old) (sym (walks_on x (node (node_view n) none) rest st))
-    ∙ (ap (λ ms. nodes_before old (walk x ms st)) (sym (nodes_view-drop ns i n within there))
+    ∙ (ap (λ ms. nodes_before old (walk x (nodes_view ms) st)) (sym first_is)
     ∙ so_far)))
 
 -- all nodes of a list
-pub nodes_walked : (x : Targets) (ns : List HtmlNode) (i : ℕ) (made : NodesView) (st : WalkState)
-    (all : Walked) → length ns ≤ i →
-    nodes_before made (walk x (nodes_view (drop i ns)) st) ≡ all → (made, st) ≡ all
+pub nodes_walked : (x : Targets) (ns : List HtmlNode) (made : NodesView) (st : WalkState)
+    (all : Walked) → ns ≡ [] → nodes_before made (walk x (nodes_view ns) st) ≡ all →
+    (made, st) ≡ all
 unfolding walk
-nodes_walked x ns i made st all past so_far =
+nodes_walked x ns made st all none_left so_far =
     ap (λ (ms : NodesView). (ms, st)) (sym (then-none made))
-    ∙ (ap (λ ms. nodes_before made (walk x (nodes_view ms) st)) (sym (drop_all i ns past))
-    ∙ so_far)
+    ∙ (ap (λ ms. nodes_before made (walk x (nodes_view ms) st)) (sym none_left) ∙ so_far)
 
 -- the walk over the root of a document
 pub root_walked : (is_target : ℕ → Bool) (d : DocumentView) (known : IntrospectorView)

@@ -26,36 +26,38 @@ pub(crate) fn named_span(
     Ok(element)
 }
 
-/// A copy of attributes, with a new `id` in front where one was made.
+/// Attributes, with a new `id` in front where one was made.
 #[tactic(auto, unfolding(html_names::specs::Tables::known_attrs))]
-pub(crate) fn named_attrs(attrs: &HtmlAttrs, made: Option<String>) -> Result<HtmlAttrs, AllocError>
-    ensures { IfOk result (λ copy. attrs_view copy
-        ≡ attrs_with_id (optional_text_view made) (attrs_view attrs.now)) }
+pub(crate) fn named_attrs(
+    mut attrs: HtmlAttrs,
+    made: Option<String>,
+) -> Result<HtmlAttrs, AllocError>
+    ensures { IfOk result (λ named. attrs_view named
+        ≡ attrs_with_id (optional_text_view made) (attrs_view attrs)) }
 {
-    let mut copy = attrs.try_clone()?;
     if let Some(name) = made {
-        copy.push_front(attr::id, name)?;
+        attrs.push_front(attr::id, name)?;
     }
-    Ok(copy)
+    Ok(attrs)
 }
 
-/// A copy of a text, in a new `span` where a name was made.
+/// A text, in a new `span` where a name was made.
 pub(crate) fn text_in(
     alloc: Global,
     made: Option<String>,
-    text: &String,
+    text: String,
     span: Span,
 ) -> Result<HtmlNode, AllocError>
     ensures { IfOk result (λ node. node_view node
-        ≡ text_in (optional_text_view made) (text_view text.now) span.0) }
+        ≡ text_in (optional_text_view made) (text_view text) span.0) }
 {
-    let copy = HtmlNode::Text(text.clone()?, span);
+    let node = HtmlNode::Text(text, span);
     match made {
         Some(name) => {
             let mut children = Vec::new(alloc);
-            children.push(copy)?;
+            children.push(node)?;
             Ok(HtmlNode::Element(named_span(alloc, name, span, children)?))
         }
-        None => Ok(copy),
+        None => Ok(node),
     }
 }

@@ -20,28 +20,37 @@ use std::alloc::{AllocError, Global};
 /// Adds an element, which serves all that wait, and then what stands in it.
 #[cycle(nodes)]
 fn push_element(
-    element: &HtmlElement,
+    element: HtmlElement,
     state: &mut Walk,
     made: &mut Vec<HtmlNode>,
     alloc: Global,
     sought: Sought<'_>,
 ) -> Result<(), AllocError>
-    ensures { let e = element_view element.now in
+    ensures { let e = element_view element in
         OnOk result ((nodes_view made.new.items, walk_view state.new)
         ≡ nodes_before (nodes_view made.old.items) (walk (targets_view sought.entry)
         (node (element_node e.0 e.1) none) (walk_view state.old))) }
 {
-    let name = state.serve(alloc, element.attrs.get(&attr::id))?;
-    let attrs = named_attrs(&element.attrs, name)?;
-    let children = anchored_nodes(state, alloc, sought, &element.children)?;
-    made.push(HtmlNode::Element(HtmlElement {
-        tag: element.tag.try_clone()?,
+    let HtmlElement {
+        tag,
         attrs,
-        css: element.css.try_clone()?,
+        css,
         children,
-        parent: element.parent,
-        span: element.span,
-        pre_span: element.pre_span,
+        parent,
+        span,
+        pre_span,
+    } = element;
+    let name = state.serve(alloc, attrs.get(&attr::id))?;
+    let attrs = named_attrs(attrs, name)?;
+    let children = anchored_nodes(state, alloc, sought, children)?;
+    made.push(HtmlNode::Element(HtmlElement {
+        tag,
+        attrs,
+        css,
+        children,
+        parent,
+        span,
+        pre_span,
     }))?;
     Ok(())
 }
@@ -49,7 +58,7 @@ fn push_element(
 /// Adds a node, with all below it.
 #[cycle(nodes)]
 fn push_node(
-    child: &HtmlNode,
+    child: HtmlNode,
     state: &mut Walk,
     made: &mut Vec<HtmlNode>,
     alloc: Global,
@@ -57,28 +66,28 @@ fn push_node(
 ) -> Result<(), AllocError>
     ensures { OnOk result ((nodes_view made.new.items, walk_view state.new)
         ≡ nodes_before (nodes_view made.old.items) (walk (targets_view sought.entry)
-        (node (node_view child.now) none) (walk_view state.old))) }
+        (node (node_view child) none) (walk_view state.old))) }
 {
     match child {
         HtmlNode::Tag(tag) => push_tag(state, made, alloc, sought, tag),
-        HtmlNode::Text(text, span) => push_text(state, made, alloc, sought, text, *span),
+        HtmlNode::Text(text, span) => push_text(state, made, alloc, sought, text, span),
         HtmlNode::Element(element) => push_element(element, state, made, alloc, sought),
         HtmlNode::Frame(frame) => push_frame(state, made, alloc, sought, frame),
     }
 }
 
-/// Copies of nodes and of all below them, with what anchors change.
+/// Nodes and all below them, with what anchors change.
 #[cycle(nodes)]
 pub(crate) fn anchored_nodes(
     state: &mut Walk,
     alloc: Global,
     sought: Sought<'_>,
-    nodes: &[HtmlNode],
+    nodes: Vec<HtmlNode>,
 ) -> Result<Vec<HtmlNode>, AllocError>
     ensures { IfOk result (λ made. (nodes_view made.items, walk_view state.new)
-        ≡ walk (targets_view sought.entry) (nodes_view nodes.now) (walk_view state.old)) }
+        ≡ walk (targets_view sought.entry) (nodes_view nodes.items) (walk_view state.old)) }
 {
-    let mut made = Vec::new(alloc);
+    let mut made = Vec::with_capacity(alloc, nodes.len())?;
     for child in nodes {
         push_node(child, state, &mut made, alloc, sought)?;
     }

@@ -13,4 +13,4 @@ mod nodes;
 mod sought;
 mod state;
 
-pub use anchors::create_link_anchors;
+pub use anchors::{create_link_anchors, with_link_anchors};

@@ -1,4 +1,4 @@
-//! Anchors in nodes. Each node is copied, with what its anchor changes.
+//! Anchors in nodes. Each node is moved, with what its anchor changes.
 
 ghost use Rattle.std.specs.Prelude.{◌≡◌, None, OnOk};
 ghost use Rattle.html_dom.specs.FrameViews.{tag_view, html_frame_view};
@@ -23,12 +23,12 @@ pub(crate) fn push_text(
     made: &mut Vec<HtmlNode>,
     alloc: Global,
     sought: Sought<'_>,
-    text: &String,
+    text: String,
     span: Span,
 ) -> Result<(), AllocError>
     ensures { OnOk result ((nodes_view made.new.items, walk_view state.new)
         ≡ nodes_before (nodes_view made.old.items) (walk (targets_view sought.entry)
-        (node (text_node (text_view text.now) span.0) none) (walk_view state.old))) }
+        (node (text_node (text_view text) span.0) none) (walk_view state.old))) }
 {
     let name = state.serve(alloc, None)?;
     made.push(text_in(alloc, name, text, span)?)?;
@@ -60,20 +60,30 @@ pub(crate) fn push_tag(
     made: &mut Vec<HtmlNode>,
     alloc: Global,
     sought: Sought<'_>,
-    tag: &Tag,
+    tag: Tag,
 ) -> Result<(), AllocError>
     ensures { OnOk result ((nodes_view made.new.items, walk_view state.new)
         ≡ nodes_before (nodes_view made.old.items) (walk (targets_view sought.entry)
-        (node (tag_node (tag_view tag.now)) none) (walk_view state.old))) }
+        (node (tag_node (tag_view tag)) none) (walk_view state.old))) }
 {
-    made.push(HtmlNode::Tag(tag.try_clone()?))?;
     match tag {
         Tag::Start {
             location,
             label,
-            ..
-        } => state.start(sought.targets, *location, label),
-        Tag::End { location } => push_span(state, made, alloc, *location),
+            dest,
+        } => {
+            state.start(sought.targets, location, &label)?;
+            made.push(HtmlNode::Tag(Tag::Start {
+                location,
+                label,
+                dest,
+            }))?;
+            Ok(())
+        }
+        Tag::End { location } => {
+            made.push(HtmlNode::Tag(Tag::End { location }))?;
+            push_span(state, made, alloc, location)
+        }
     }
 }
 
@@ -83,16 +93,29 @@ pub(crate) fn push_frame(
     made: &mut Vec<HtmlNode>,
     alloc: Global,
     sought: Sought<'_>,
-    frame: &HtmlFrame,
+    frame: HtmlFrame,
 ) -> Result<(), AllocError>
     ensures { OnOk result ((nodes_view made.new.items, walk_view state.new)
         ≡ nodes_before (nodes_view made.old.items) (walk (targets_view sought.entry)
-        (node (frame_node (html_frame_view frame.now)) none) (walk_view state.old))) }
+        (node (frame_node (html_frame_view frame)) none) (walk_view state.old))) }
 {
-    let name = state.serve(alloc, frame.id.as_ref())?;
-    let mut copy = frame.try_clone()?;
-    copy.id = copy.id.take().or(name);
-    name_frame(state, &mut copy.anchors, alloc, sought, &frame.inner)?;
-    made.push(HtmlNode::Frame(copy))?;
+    let HtmlFrame {
+        inner,
+        text_size,
+        id,
+        css,
+        mut anchors,
+        span,
+    } = frame;
+    let name = state.serve(alloc, id.as_ref())?;
+    name_frame(state, &mut anchors, alloc, sought, &inner)?;
+    made.push(HtmlNode::Frame(HtmlFrame {
+        inner,
+        text_size,
+        id: id.or(name),
+        css,
+        anchors,
+        span,
+    }))?;
     Ok(())
 }

@@ -1,4 +1,5 @@
-use Rattle.std.proofs.Common.{◌≡◌, drop}
+use Rattle.std.proofs.Common.{◌≡◌, length}
+use Rattle.std.specs.Vec.Iter.{into_iter_items, into_iter_len}
 use Rattle.html_dom.specs.Views.{nodes_view}
 use Rattle.html_link.specs.Joined.{nodes_before}
 use Rattle.html_link.specs.Walk.{walk}
@@ -8,6 +9,9 @@ use Rattle.html_link.proofs.elements.+nodes.Given as goal
 abbrev pub invariant-anchored_nodes-loop-child : goal.invariant-anchored_nodes-loop-child
 invariant-anchored_nodes-loop-child l =
     let x = targets_view l.sought in
-    nodes_before (nodes_view l.made.items)
-    (walk x (nodes_view (drop l.child-index l.nodes)) (walk_view l.state))
-    ≡ walk x (nodes_view l.nodes) (walk_view l.fn.state)
+    let left = into_iter_items l.child-iterator in
+    record {
+      told : nodes_before (nodes_view l.made.items) (walk x (nodes_view left) (walk_view l.state))
+          ≡ walk x (nodes_view l.fn.nodes.items) (walk_view l.fn.state);
+      long : into_iter_len l.child-iterator ≡ length left;
+    }

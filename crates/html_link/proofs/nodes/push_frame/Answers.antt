@@ -1,5 +1,4 @@
 use Rattle.std.proofs.Common.{ap, ◌∙◌}
-use Rattle.html_dom.specs.Attributes.{or_else}
 use Rattle.html_dom.specs.FrameViews.{optional_text_view, anchors_view, html_frame_view}
 use Rattle.html_dom.specs.Views.{nodes_view}
 use Rattle.html_link.specs.WalkViews.{walk_view, targets_view}
@@ -9,16 +8,12 @@ use Rattle.html_link.proofs.nodes.push_frame.Goals as goal
 pub returns : goal.returns
 returns c =
     let old = c.args.made.now.items in
-    let copy = c.in_ok-copy.copy in
+    let frame = c.args.frame in
     let made = optional_text_view c.in_ok-name.name in
-    frame_pushed (targets_view c.args.sought) (html_frame_view c.args.frame.now)
-    (html_frame_view copy) (optional_text_view c.or.result)
-    (anchors_view c.name_frame.new.anchors.items) (nodes_view old) _ _
-    (walk_view c.args.state.now) _ _ _ made c.in_ok-name.ensures
+    frame_pushed (targets_view c.args.sought) (html_frame_view frame)
+    (optional_text_view c.or.result) (anchors_view c.name_frame.new.anchors.items)
+    (nodes_view old) _ _ (walk_view c.args.state.now) _ _ _ made c.in_ok-name.ensures
     (own_is c.as_ref.result ∙ ap optional_text_view c.as_ref.ensures.value)
-    c.in_ok-copy.ensures
-    (ap optional_text_view c.or.ensures
-    ∙ (id_is c.take.result c.in_ok-name.name
-    ∙ ap (λ id. or_else (optional_text_view id) made) c.take.ensures.value))
+    (ap optional_text_view c.or.ensures ∙ id_is frame.id c.in_ok-name.name)
     c.in_ok-name_frame.ensures (node_view-Frame _)
     (ap nodes_view c.in_ok-push.ensures.items ∙ nodes_view-push old _)

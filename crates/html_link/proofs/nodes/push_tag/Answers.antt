@@ -1,29 +1,24 @@
 use Rattle.std.proofs.Common.{ap, ◌∙◌}
 use Rattle.std.specs.Prelude.{option_map}
 use Rattle.std.proofs.lemmas.Result.{on_ok_weaker}
-use Rattle.html_dom.specs.Tree.{tag_node}
-use Rattle.html_dom.specs.Views.{optional_text_view, tag_view, nodes_view}
+use Rattle.html_dom.specs.Views.{optional_text_view, nodes_view}
 use Rattle.html_link.specs.WalkViews.{walk_view, targets_view}
 use Rattle.html_link.proofs.Steps.{nodes_view-push, node_view-Tag, start_pushed, end_pushed}
 use Rattle.html_link.proofs.nodes.push_tag.Goals as goal
 
-pub returns-in-Start : goal.returns-in-Start
-returns-in-Start c =
+pub returns-in_ok-push-in-Start : goal.returns-in_ok-push-in-Start
+returns-in_ok-push-in-Start c =
     let old = c.args.made.now.items in
-    let is = node_view-Tag c.in_ok-try_clone.field-0
-    ∙ ap tag_node (c.in_ok-try_clone.ensures ∙ ap tag_view c.in-Start.is) in
-    let pushed = ap nodes_view c.in_ok-push.ensures.items ∙ nodes_view-push old _ in
-    rw c.in-Start.is (on_ok_weaker c.start.result (λ waits.
-    start_pushed (targets_view c.args.sought) c.in-Start.location.0
+    let pushed = ap nodes_view c.in_ok-push-in-Start.ensures.items ∙ nodes_view-push old _ in
+    rw c.in-Start.is (start_pushed (targets_view c.args.sought) c.in-Start.location.0
     (optional_text_view c.in-Start.label) (option_map (λ d. d.0) c.in-Start.dest)
-    (nodes_view old) _ _ (walk_view c.args.state.now) _ waits is pushed) c.start.ensures)
+    (nodes_view old) _ _ (walk_view c.args.state.now) _ c.in_ok-start-in-Start.ensures
+    (node_view-Tag _) pushed)
 
-pub returns-in-End : goal.returns-in-End
-returns-in-End c =
+pub returns-in_ok-push-in-End : goal.returns-in_ok-push-in-End
+returns-in_ok-push-in-End c =
     let old = c.args.made.now.items in
-    let is = node_view-Tag c.in_ok-try_clone.field-0
-    ∙ ap tag_node (c.in_ok-try_clone.ensures ∙ ap tag_view c.in-End.is) in
-    let pushed = ap nodes_view c.in_ok-push.ensures.items ∙ nodes_view-push old _ in
+    let pushed = ap nodes_view c.in_ok-push-in-End.ensures.items ∙ nodes_view-push old _ in
     rw c.in-End.is (on_ok_weaker c.push_span.result (λ more.
     end_pushed (targets_view c.args.sought) c.in-End.location.0 (nodes_view old) _ _ _
-    (walk_view c.args.state.now) _ is pushed more) c.push_span.ensures)
+    (walk_view c.args.state.now) _ (node_view-Tag _) pushed more) c.push_span.ensures)

@@ -7,7 +7,7 @@ use Rattle.html_link.proofs.nodes.push_text.Goals as goal
 pub returns : goal.returns
 returns c =
     let old = c.args.made.now.items in
-    text_pushed (targets_view c.args.sought) (text_view c.args.text.now) c.args.span.0
+    text_pushed (targets_view c.args.sought) (text_view c.args.text) c.args.span.0
     (nodes_view old) _ _ (walk_view c.args.state.now) _ (optional_text_view c.in_ok-name.name)
     c.in_ok-name.ensures c.in_ok-text_in.ensures
     (ap nodes_view c.in_ok-push.ensures.items ∙ nodes_view-push old _)
