@@ -1,15 +1,14 @@
 -- Drafts in a row, and drafts one after the other.
-use Rattle.std.proofs.Common.{◌≡◌, ℕ, ◌+◌, Bool, true, false, List, [], ◌∷◌, ◌++◌, map, length, drop, refl, sym, ap, ◌∙◌, arith, if◌then◌else◌}
+use Rattle.std.proofs.Common.{◌≡◌, ℕ, ◌+◌, Bool, true, false, List, [], ◌∷◌, ◌++◌, map, drop, refl, sym, ap, ◌∙◌, arith}
 use Rattle.std.specs.Prelude.{Result, Ok, Err, IfOk}
 use Rattle.std.proofs.lemmas.List.{drop-drop, map-append}
-use Rattle.std.specs.List.{list_all}
-use Rattle.html_names.specs.Characters.{is_ignorable}
-use Rattle.html_dom.specs.Tree.{Head, NodeView, element_node, node}
+use Rattle.html_dom.specs.Tree.{Head, text_node, element_node, NodesView, node}
 use Rattle.html_dom.specs.Views.{nodes_of}
 use Rattle.html_whitespace.specs.Nodes.{is_one}
-use Rattle.html_whitespace.specs.BareSpaces.{Thing, is_entered, text_things, element_things}
-use Rattle.html_whitespace.specs.Protected.{space_count, is_bare}
-use Rattle.html_whitespace.specs.Drafts.{DraftView, text_draft, open_draft, DraftsView, no_drafts, draft, draft_node, drafts_nodes, draft_look, drafts_look, text_kept, draft_protected, drafts_protected}
+use Rattle.html_flat.proofs.Flats.{joined, joined_none}
+use Rattle.html_whitespace.specs.BareSpaces.{is_entered, text_things, element_things}
+use Rattle.html_whitespace.specs.Protected.{space_count, is_bare, text_protected}
+use Rattle.html_whitespace.specs.Drafts.{DraftView, text_draft, open_draft, DraftsView, draft_node, drafts_nodes, draft_look, drafts_look, draft_protected, drafts_protected}
 use Rattle.html_whitespace.specs.DraftViews.{draft_view, drafts_of, drafts_view, draft_shown, drafts_shown}
 use Rattle.html_whitespace.specs.declared.draft.Draft.{Draft}
 use Rattle.html_whitespace.proofs.Protecting.{count_append, shut_count, opened_things, plain_count}
@@ -29,7 +28,7 @@ open_shown d h k ds is same =
 -- one text
 
 pub plain_text : (s : List ℕ) (span : ℕ) (bs : List Bool) → is_one 32 s ≡ false →
-    (text_draft s span ≡ draft_protected bs (text_draft s span))
+    (text_node s span ≡ draft_protected bs (text_draft s span))
     × (bs ≡ drop (space_count (text_things s)) bs)
 unfolding draft_protected
 plain_text s span bs e =
@@ -37,7 +36,7 @@ plain_text s span bs e =
 
 pub lone_space : (s : List ℕ) (span : ℕ) (bs : List Bool) (b : Bool) → is_one 32 s ≡ true →
     b ≡ is_bare bs →
-    (text_kept b s span ≡ draft_protected bs (text_draft s span))
+    (text_protected b s span ≡ draft_protected bs (text_draft s span))
     × (drop 1 bs ≡ drop (space_count (text_things s)) bs)
 unfolding draft_protected
 lone_space s span bs b e is = (rw (e, is) refl, rw e refl)
@@ -45,48 +44,41 @@ lone_space s span bs b e is = (rw (e, is) refl, rw e refl)
 -- one element
 
 pub shut_element : (h : Head) (ds : DraftsView) (bs : List Bool) → is_entered h ≡ false →
-    (open_draft h ds ≡ draft_protected bs (open_draft h ds))
+    (element_node h (drafts_nodes ds) ≡ draft_protected bs (open_draft h ds))
     × (bs ≡ drop (space_count (element_things h (drafts_look ds))) bs)
 unfolding draft_protected
 shut_element h ds bs e =
     let none_used = shut_count h (drafts_look ds) e in (rw e refl, rw none_used refl)
 
 pub open_element : (h : Head) (ds : DraftsView) (bs : List Bool) → is_entered h ≡ true →
-    (open_draft h (drafts_protected bs ds) ≡ draft_protected bs (open_draft h ds))
+    (element_node h (drafts_protected bs ds) ≡ draft_protected bs (open_draft h ds))
     × (drafts_look ds ≡ element_things h (drafts_look ds))
 unfolding draft_protected
 open_element h ds bs e = (rw e refl, sym (opened_things h (drafts_look ds) e))
 
 -- one draft after the other
 
-abbrev pub joined : (front back : DraftsView) → DraftsView
-joined no_drafts back = back
-joined (draft d ds) back = draft d (joined ds back)
-
-joined_none : (ds : DraftsView) → joined ds no_drafts ≡ ds
-joined_none no_drafts = refl
-joined_none (draft d ds) = ap (draft d) (joined_none ds)
-
-joined_append : (xs : List DraftView) (m : DraftView) (ms : DraftsView) →
-    joined (drafts_of (xs ++ m ∷ [])) ms ≡ joined (drafts_of xs) (draft m ms)
+joined_append : (xs : List DraftView) (m : DraftView) (ms : NodesView) →
+    joined (drafts_nodes (drafts_of (xs ++ m ∷ []))) ms
+    ≡ joined (drafts_nodes (drafts_of xs)) (node (draft_node m) ms)
 joined_append [] m ms = refl
-joined_append (x ∷ xs) m ms = ap (draft x) (joined_append xs m ms)
+joined_append (x ∷ xs) m ms = ap (node (draft_node x)) (joined_append xs m ms)
 
-joined_pushed : (made new_made : List Draft) (m : Draft) (ms : DraftsView) →
+joined_pushed : (made new_made : List Draft) (m : Draft) (ms : NodesView) →
     new_made ≡ made ++ m ∷ [] →
-    joined (drafts_view new_made) ms ≡ joined (drafts_view made) (draft (draft_view m) ms)
+    joined (drafts_shown new_made) ms ≡ joined (drafts_shown made) (node (draft_shown m) ms)
 joined_pushed made new_made m ms e =
-    ap (λ ds. joined (drafts_of (map draft_view ds)) ms) e
-    ∙ (ap (λ ds. joined (drafts_of ds) ms) (map-append draft_view made (m ∷ []))
+    ap (λ ds. joined (drafts_nodes (drafts_of (map draft_view ds))) ms) e
+    ∙ (ap (λ ds. joined (drafts_nodes (drafts_of ds)) ms) (map-append draft_view made (m ∷ []))
     ∙ joined_append (map draft_view made) (draft_view m) ms)
 
 pub walk_step : (made new_made items others : List Draft) (m d : Draft)
-    (bs new_bs all : List Bool) (whole : DraftsView) → items ≡ d ∷ others →
-    new_made ≡ made ++ m ∷ [] → draft_view m ≡ draft_protected bs (draft_view d) →
+    (bs new_bs all : List Bool) (whole : NodesView) → items ≡ d ∷ others →
+    new_made ≡ made ++ m ∷ [] → draft_shown m ≡ draft_protected bs (draft_view d) →
     new_bs ≡ drop (space_count (draft_look (draft_view d))) bs →
-    joined (drafts_view made) (drafts_protected bs (drafts_view items)) ≡ whole →
+    joined (drafts_shown made) (drafts_protected bs (drafts_view items)) ≡ whole →
     drop (space_count (drafts_look (drafts_view items))) bs ≡ all →
-    (joined (drafts_view new_made) (drafts_protected new_bs (drafts_view others)) ≡ whole)
+    (joined (drafts_shown new_made) (drafts_protected new_bs (drafts_view others)) ≡ whole)
     × (drop (space_count (drafts_look (drafts_view others))) new_bs ≡ all)
 unfolding draft_look draft_protected
 walk_step made new_made items others m d bs new_bs all whole is pushed made_is rest_is told rest =
@@ -96,9 +88,9 @@ walk_step made new_made items others m d bs new_bs all whole is pushed made_is r
     let counted : later + used ≡ space_count (drafts_look (drafts_view (d ∷ others)))
     = omega (arith, count_append (draft_look (draft_view d)) (drafts_look (drafts_view others))) in (
       joined_pushed made new_made m (drafts_protected new_bs (drafts_view others)) pushed
-          ∙ (ap (λ b. joined (drafts_view made) (draft (draft_view m) (drafts_protected b (drafts_view others)))) rest_is
-          ∙ (ap (λ x. joined (drafts_view made) (draft x after)) made_is
-          ∙ (ap (λ ds. joined (drafts_view made) (drafts_protected bs (drafts_view ds))) (sym is) ∙ told))),
+          ∙ (ap (λ b. joined (drafts_shown made) (node (draft_shown m) (drafts_protected b (drafts_view others)))) rest_is
+          ∙ (ap (λ x. joined (drafts_shown made) (node x after)) made_is
+          ∙ (ap (λ ds. joined (drafts_shown made) (drafts_protected bs (drafts_view ds))) (sym is) ∙ told))),
       ap (drop later) rest_is
           ∙ (drop-drop later used bs
           ∙ (ap (λ k. drop k bs) (sum_comm later used counted)
@@ -108,14 +100,14 @@ walk_step made new_made items others m d bs new_bs all whole is pushed made_is r
     sum_comm : (a b : ℕ) {c : ℕ} → a + b ≡ c → b + a ≡ c
     sum_comm a b e = omega (arith, e)
 
-pub walk_end : (made items : List Draft) (bs all : List Bool) (whole : DraftsView) →
-    items ≡ [] → joined (drafts_view made) (drafts_protected bs (drafts_view items)) ≡ whole →
+pub walk_end : (made items : List Draft) (bs all : List Bool) (whole : NodesView) →
+    items ≡ [] → joined (drafts_shown made) (drafts_protected bs (drafts_view items)) ≡ whole →
     drop (space_count (drafts_look (drafts_view items))) bs ≡ all →
-    (drafts_view made ≡ whole) × (bs ≡ all)
+    (drafts_shown made ≡ whole) × (bs ≡ all)
 unfolding draft_look draft_protected
 walk_end made items bs all whole empty told rest = (
-  sym (joined_none (drafts_view made))
-      ∙ (ap (λ ds. joined (drafts_view made) (drafts_protected bs (drafts_view ds))) (sym empty) ∙ told),
+  sym (joined_none (drafts_shown made))
+      ∙ (ap (λ ds. joined (drafts_shown made) (drafts_protected bs (drafts_view ds))) (sym empty) ∙ told),
   ap (λ ds. drop (space_count (drafts_look (drafts_view ds))) bs) (sym empty) ∙ rest,
 )
 

@@ -6,6 +6,9 @@ pub mod Looks
 pub mod Lines
 pub mod NodeViews
 pub mod Protecting
+pub mod BareThings
+pub mod Leads
 pub mod Settling
+pub mod LeadWalks
 pub mod Drafting
 pub mod DraftViewing

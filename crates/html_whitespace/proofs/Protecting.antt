@@ -1,18 +1,12 @@
 -- Nodes whose spaces stay, one after the other.
-use Rattle.std.proofs.Common.{◌≡◌, ℕ, ◌+◌, Bool, true, false, not, ◌&&◌, List, [], ◌∷◌, ◌++◌, Some, None, Option, map, length, drop, inl, inr, refl, sym, ap, ◌∙◌, arith, if◌then◌else◌}
-use Rattle.std.proofs.lemmas.List.{drop-drop, map-append}
-use Rattle.std.proofs.lemmas.Bool.{cases_Bool}
+use Rattle.std.proofs.Common.{◌≡◌, ℕ, ◌+◌, Bool, true, false, not, ◌&&◌, List, [], ◌∷◌, ◌++◌, refl, arith, if◌then◌else◌}
 use Rattle.std.specs.List.{list_all}
 use Rattle.html_names.specs.Characters.{is_ignorable}
-use Rattle.html_dom.specs.Tree.{Head, NodeView, tag_node, text_node, element_node, frame_node, NodesView, none, node}
-use Rattle.html_dom.specs.Views.{node_view, nodes_view, nodes_of}
-use Rattle.html_dom.specs.declared.node.HtmlNode.{HtmlNode}
-use Rattle.html_flat.specs.Flat.{node_count, nodes_count}
-use Rattle.html_flat.proofs.Flats.{joined, joined_none}
+use Rattle.html_dom.specs.Tree.{Head}
 use Rattle.html_whitespace.specs.Nodes.{is_one}
-use Rattle.html_whitespace.specs.BareSpaces.{Thing, border, visible, space, text_things, element_things, node_things, nodes_things, is_entered, is_border, bare_after, bare_spaces}
+use Rattle.html_whitespace.specs.BareSpaces.{Thing, border, visible, space, text_things, element_things, is_entered, is_border}
 use Rattle.html_names.specs.Kinds.{is_replaced}
-use Rattle.html_whitespace.specs.Protected.{space_count, is_bare, text_protected, node_protected, nodes_protected}
+use Rattle.html_whitespace.specs.Protected.{space_count}
 
 -- how many answers are used
 

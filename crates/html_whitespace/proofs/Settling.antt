@@ -1,178 +1,20 @@
--- Lists whose spaces stay: their ends are all that others see of them.
-use Rattle.std.proofs.Common.{◌≡◌, ℕ, suc, ◌+◌, Bool, true, false, not, ◌&&◌, ◌||◌, if◌then◌else◌, List, [], ◌∷◌, ◌++◌, Option, Some, None, drop, inl, inr, refl, sym, ap, ◌∙◌, arith, append_assoc, append-nil}
+-- Lists whose spaces stay: others see their ends alone, and a space that comes first.
+use Rattle.std.proofs.Common.{◌≡◌, ℕ, Bool, true, false, not, ◌&&◌, if◌then◌else◌, List, [], ◌∷◌, ◌++◌, None, drop, inl, inr, refl, sym, ap, subst, ◌∙◌, append_assoc, append-nil}
 use Rattle.std.proofs.lemmas.Bool.{and_parts, and_from, cases_Bool, false≢true}
 use Rattle.std.specs.List.{list_all}
 use Rattle.html_names.specs.Characters.{is_ignorable}
 use Rattle.html_names.specs.Kinds.{is_replaced}
-use Rattle.html_dom.specs.Tree.{Head, NodeView, tag_node, text_node, element_node, frame_node, NodesView, none, node}
+use Rattle.html_dom.specs.Tree.{Head, text_node, element_node, NodesView, node}
 use Rattle.html_whitespace.specs.Nodes.{is_one}
-use Rattle.html_whitespace.specs.BareSpaces.{Thing, border, visible, space, is_in_line, is_visible_first, is_border, is_entered, text_things, element_things, node_things, nodes_things, bare_after, bare_spaces}
+use Rattle.html_whitespace.specs.BareSpaces.{Thing, border, visible, space, is_visible_first, is_border, is_entered, text_things, element_things, node_things, nodes_things, bare_after}
 use Rattle.html_whitespace.specs.Protected.{space_count, is_bare, text_protected, node_protected, nodes_protected, protected_nodes}
-use Rattle.html_whitespace.specs.Settled.{all_bare, in_line_after, is_nothing, end_thing, ends_things, Settles}
-use Rattle.html_whitespace.specs.Drafts.{DraftView, tag_draft, text_draft, frame_draft, open_draft, settled_draft, DraftsView, no_drafts, draft, draft_node, drafts_nodes, draft_look, drafts_look, text_kept, draft_protected, drafts_protected}
+use Rattle.html_whitespace.specs.Settled.{all_bare, in_line_after, is_nothing, has_lead, past_lead, lead_things, end_thing, two_ends, ends_things, Settles}
+use Rattle.html_whitespace.specs.Leads.{nodes_lead_kept}
+use Rattle.html_whitespace.specs.Drafts.{DraftView, tag_draft, text_draft, frame_draft, open_draft, settled_draft, DraftsView, no_drafts, draft, draft_node, drafts_nodes, draft_look, drafts_look, lead_protected, draft_protected, drafts_protected}
 use Rattle.html_whitespace.specs.declared.ends.Ends.{Ends}
 use Rattle.html_whitespace.proofs.Protecting.{opened_things}
-
--- the answers, by whether something in a line stands before
-unfoldable pub bare_in : (in_line : Bool) → List Thing → List Bool
-bare_in in_line [] = []
-bare_in in_line (border ∷ ts) = bare_in false ts
-bare_in in_line (visible ∷ ts) = bare_in true ts
-bare_in in_line (space ∷ ts) = (in_line && is_visible_first ts) ∷ bare_in true ts
-
-pub bare_in_is : (before : Option Thing) (ts : List Thing) →
-    bare_after before ts ≡ bare_in (is_in_line before) ts
-unfolding bare_after bare_in
-bare_in_is before [] = refl
-bare_in_is before (border ∷ ts) = bare_in_is (Some border) ts
-bare_in_is before (visible ∷ ts) = bare_in_is (Some visible) ts
-bare_in_is before (space ∷ ts) =
-    ap (λ bs. (is_in_line before && is_visible_first ts) ∷ bs) (bare_in_is (Some space) ts)
-
--- the answers after those of the first things
-pub answers_behind : (q : Bool) (ts us : List Thing) →
-    drop (space_count ts) (bare_in q (ts ++ us)) ≡ bare_in (in_line_after q ts) us
-unfolding bare_in
-answers_behind q [] us = refl
-answers_behind q (border ∷ ts) us = answers_behind false ts us
-answers_behind q (visible ∷ ts) us = answers_behind true ts us
-answers_behind q (space ∷ ts) us =
-    let one_more : 1 + space_count ts ≡ suc (space_count ts) = omega arith in
-    ap (λ n. drop n ((q && is_visible_first (ts ++ us)) ∷ bare_in true (ts ++ us))) one_more
-    ∙ answers_behind true ts us
-
-and_assoc : (a b c : Bool) → ((a && b) && c) ≡ (a && (b && c))
-and_assoc true b c = refl
-and_assoc false b c = refl
-
--- things after things
-pub all_bare_append : (q : Bool) (ts us more : List Thing) →
-    all_bare q (ts ++ us) more ≡ (all_bare q ts (us ++ more) && all_bare (in_line_after q ts) us more)
-all_bare_append q [] us more = refl
-all_bare_append q (border ∷ ts) us more = all_bare_append false ts us more
-all_bare_append q (visible ∷ ts) us more = all_bare_append true ts us more
-all_bare_append q (space ∷ ts) us more =
-    ap (λ l. (q && is_visible_first l) && all_bare true (ts ++ us) more) (append_assoc ts us more)
-    ∙ (ap (λ b. (q && is_visible_first (ts ++ (us ++ more))) && b) (all_bare_append true ts us more)
-    ∙ sym (and_assoc (q && is_visible_first (ts ++ (us ++ more))) (all_bare true ts (us ++ more))
-    (all_bare (in_line_after true ts) us more)))
-
-first_stays : (ts more : List Thing) → is_visible_first (ts ++ []) ≡ true →
-    is_visible_first (ts ++ more) ≡ true
-first_stays [] more e = absurd (false≢true e)
-first_stays (border ∷ ts) more e = e
-first_stays (visible ∷ ts) more e = e
-first_stays (space ∷ ts) more e = e
-
--- what is bare on its own is so wherever it stands
-pub bare_anywhere : (p q : Bool) (ts more : List Thing) → (p ≡ true → q ≡ true) →
-    all_bare p ts [] ≡ true → all_bare q ts more ≡ true
-bare_anywhere p q [] more more_line e = refl
-bare_anywhere p q (border ∷ ts) more more_line e = bare_anywhere false false ts more (λ h. h) e
-bare_anywhere p q (visible ∷ ts) more more_line e = bare_anywhere true true ts more (λ h. h) e
-bare_anywhere p q (space ∷ ts) more more_line e =
-    let parts = and_parts (p && is_visible_first (ts ++ [])) (all_bare true ts []) e in
-    let own = and_parts p (is_visible_first (ts ++ [])) parts.0 in
-    and_from _ _ (and_from _ _ (more_line own.0) (first_stays ts more own.1))
-    (bare_anywhere true true ts more (λ h. h) parts.1)
-
--- nodes whose spaces are bare stay
-
-one_kept : (one ignorable : Bool) (q : Bool) (more : List Thing) (wrapped plain : NodeView) →
-    all_bare q (if one then space ∷ [] else (if ignorable then [] else visible ∷ [])) more ≡ true →
-    one ≡ true → (q && is_visible_first more) ≡ true
-one_kept true ignorable q more wrapped plain e is = (and_parts (q && is_visible_first more) true e).0
-one_kept false ignorable q more wrapped plain e is = absurd (false≢true is)
-
-space_alone : (one ignorable : Bool) → one ≡ true →
-    (if one then space ∷ [] else (if ignorable then [] else visible ∷ [])) ≡ space ∷ []
-space_alone true ignorable e = refl
-space_alone false ignorable e = absurd (false≢true e)
-
-kept_space : (s : List ℕ) (span : ℕ) (q : Bool) (more : List Thing) → is_one 32 s ≡ true →
-    all_bare q (text_things s) more ≡ true →
-    text_protected (is_bare (bare_in q (text_things s ++ more))) s span ≡ text_node s span
-unfolding bare_in
-kept_space s span q more is e =
-    let seen = space_alone (is_one 32 s) (list_all is_ignorable s) is in
-    let own = (and_parts (q && is_visible_first more) true
-    (ap (λ ts. all_bare q ts more) (sym seen) ∙ e)).0 in
-    ap (λ ts. text_protected (is_bare (bare_in q (ts ++ more))) s span) seen
-    ∙ ap (λ b. text_protected b s span) own
-
-mutual
-  unfolding node_things node_protected
-
-  kept_node : (n : NodeView) (q : Bool) (more : List Thing) →
-      all_bare q (node_things n) more ≡ true →
-      node_protected (bare_in q (node_things n ++ more)) n ≡ n
-  kept_node (tag_node t) q more e = refl
-  kept_node (text_node s span) q more e = elim (cases_Bool (is_one 32 s)) [
-    | inl is ↦
-        ap (λ b. if b then text_protected (is_bare (bare_in q (text_things s ++ more))) s span
-        else text_node s span) is ∙ kept_space s span q more is e
-    | inr other ↦
-        ap (λ b. if b then text_protected (is_bare (bare_in q (text_things s ++ more))) s span
-        else text_node s span) other
-  ]
-  kept_node (element_node h ns) q more e = elim (cases_Bool (is_entered h)) [
-    | inl t ↦
-        let seen = opened_things h (nodes_things ns) t in
-        let kept = kept_nodes ns q more (ap (λ ts. all_bare q ts more) (sym seen) ∙ e) in
-        ap (λ b. if b
-        then element_node h (nodes_protected (bare_in q (element_things h (nodes_things ns) ++ more)) ns)
-        else element_node h ns) t
-        ∙ (ap (λ ts. element_node h (nodes_protected (bare_in q (ts ++ more)) ns)) seen
-        ∙ ap (element_node h) kept)
-    | inr f ↦
-        ap (λ b. if b
-        then element_node h (nodes_protected (bare_in q (element_things h (nodes_things ns) ++ more)) ns)
-        else element_node h ns) f
-  ]
-  kept_node (frame_node f) q more e = refl
-
-  pub kept_nodes : (ns : NodesView) (q : Bool) (more : List Thing) →
-      all_bare q (nodes_things ns) more ≡ true →
-      nodes_protected (bare_in q (nodes_things ns ++ more)) ns ≡ ns
-  kept_nodes none q more e = refl
-  kept_nodes (node n ns) q more e =
-      let own = node_things n in
-      let others = nodes_things ns in
-      let parts = and_parts (all_bare q own (others ++ more)) (all_bare (in_line_after q own) others more)
-      (sym (all_bare_append q own others more) ∙ e) in
-      let grouped = append_assoc own others more in
-      let bs = bare_in q (own ++ (others ++ more)) in
-      ap (λ ts. node (node_protected (bare_in q ts) n)
-      (nodes_protected (drop (space_count own) (bare_in q ts)) ns)) grouped
-      ∙ (ap (λ m. node m (nodes_protected (drop (space_count own) bs) ns))
-      (kept_node n q (others ++ more) parts.0)
-      ∙ ap (node n) (ap (λ b. nodes_protected b ns) (answers_behind q own (others ++ more))
-      ∙ kept_nodes ns (in_line_after q own) more parts.1))
-
--- things that others see alike
-
-pub first_same : (ts us vs : List Thing) → is_visible_first us ≡ is_visible_first vs →
-    is_visible_first (ts ++ us) ≡ is_visible_first (ts ++ vs)
-first_same [] us vs e = e
-first_same (border ∷ ts) us vs e = refl
-first_same (visible ∷ ts) us vs e = refl
-first_same (space ∷ ts) us vs e = refl
-
-all_bare_same : (q : Bool) (ts us vs : List Thing) → is_visible_first us ≡ is_visible_first vs →
-    all_bare q ts us ≡ all_bare q ts vs
-all_bare_same q [] us vs e = refl
-all_bare_same q (border ∷ ts) us vs e = all_bare_same false ts us vs e
-all_bare_same q (visible ∷ ts) us vs e = all_bare_same true ts us vs e
-all_bare_same q (space ∷ ts) us vs e =
-    ap (λ b. (q && b) && all_bare true ts us) (first_same ts us vs e)
-    ∙ ap (λ b. (q && is_visible_first (ts ++ vs)) && b) (all_bare_same true ts us vs e)
-
-line_append : (q : Bool) (ts us : List Thing) →
-    in_line_after q (ts ++ us) ≡ in_line_after (in_line_after q ts) us
-line_append q [] us = refl
-line_append q (border ∷ ts) us = line_append false ts us
-line_append q (visible ∷ ts) us = line_append true ts us
-line_append q (space ∷ ts) us = line_append true ts us
+use Rattle.html_whitespace.proofs.BareThings.{bare_in, bare_in_is, answers_behind, all_bare_append, bare_anywhere, space_alone, kept_nodes, first_same, all_bare_same, line_append}
+use Rattle.html_whitespace.proofs.Leads.{lead_and_past, lead_append, past_append, lead_alone, lead_nodes}
 
 -- the spaces around them have the same answers; where those of the second are bare, so are those of
 -- the first
@@ -224,11 +66,64 @@ shut_things : (h : Head) (a b : List Thing) → is_entered h ≡ false →
 unfolding is_entered
 shut_things h a b e = shut_by (is_border h) (is_replaced h.name) h.pre_span a b e
 
-alike_element : (h : Head) (inside look : List Thing) → Alike inside look →
-    Alike (element_things h inside) (element_things h look)
-alike_element h inside look a = elim (cases_Bool (is_entered h)) [
+-- the same with a lone space that comes first set apart
+pub record Seen (ts look : List Thing) : Type 0 where
+  pub lead : has_lead ts ≡ has_lead look
+  pub past : Alike (past_lead ts) (past_lead look)
+
+seen_same : (ts : List Thing) → Seen ts ts
+seen_same ts = record { lead = refl; past = alike_same (past_lead ts) }
+
+alike_of : (ts look : List Thing) → Seen ts look → Alike ts look
+alike_of ts look s =
+    let both = alike_append (lead_things (has_lead look)) (past_lead ts) (lead_things (has_lead look))
+    (past_lead look) (alike_same (lead_things (has_lead look))) s.past in
+    subst (λ xs. Alike xs look)
+    (ap (λ b. lead_things b ++ past_lead ts) (sym s.lead) ∙ sym (lead_and_past ts))
+    (subst (λ ys. Alike (lead_things (has_lead look) ++ past_lead ts) ys) (sym (lead_and_past look)) both)
+
+line_alone : (p q : Bool) (t : Thing) (ts : List Thing) →
+    in_line_after p (t ∷ ts) ≡ in_line_after q (t ∷ ts)
+line_alone p q border ts = refl
+line_alone p q visible ts = refl
+line_alone p q space ts = refl
+
+nothing_first : (ts look : List Thing) →
+    ((us vs : List Thing) → is_visible_first us ≡ is_visible_first vs →
+    is_visible_first (ts ++ us) ≡ is_visible_first (look ++ vs)) →
+    ((q : Bool) → in_line_after q ts ≡ in_line_after q look) → is_nothing ts ≡ is_nothing look
+nothing_first [] [] f n = refl
+nothing_first (t ∷ ts) (l ∷ look) f n = refl
+nothing_first [] (l ∷ look) f n =
+    absurd (false≢true (n false ∙ (line_alone false true l look ∙ sym (n true))))
+nothing_first (t ∷ ts) [] f n =
+    absurd (false≢true (sym (n false) ∙ (line_alone false true t ts ∙ n true)))
+
+nothing_same : (ts look : List Thing) → Seen ts look → is_nothing ts ≡ is_nothing look
+nothing_same ts look s =
+    let a = alike_of ts look s in nothing_first ts look a.first a.next
+
+seen_append : (ts us look more : List Thing) → Seen ts look → Seen us more →
+    Seen (ts ++ us) (look ++ more)
+seen_append [] us [] more a b = b
+seen_append [] us (l ∷ look) more a b =
+    absurd (false≢true (sym (nothing_same [] (l ∷ look) a)))
+seen_append (t ∷ ts) us [] more a b = absurd (false≢true (nothing_same (t ∷ ts) [] a))
+seen_append (t ∷ ts) us (l ∷ look) more a b =
+    let behind = alike_append (past_lead (t ∷ ts)) us (past_lead (l ∷ look)) more a.past
+    (alike_of us more b) in
+    record {
+      lead = lead_append (t ∷ ts) us refl ∙ (a.lead ∙ sym (lead_append (l ∷ look) more refl));
+      past = subst (λ xs. Alike xs (past_lead ((l ∷ look) ++ more)))
+          (sym (past_append (t ∷ ts) us refl))
+          (subst (λ ys. Alike (past_lead (t ∷ ts) ++ us) ys) (sym (past_append (l ∷ look) more refl)) behind);
+    }
+
+seen_element : (h : Head) (inside look : List Thing) → Seen inside look →
+    Seen (element_things h inside) (element_things h look)
+seen_element h inside look a = elim (cases_Bool (is_entered h)) [
   | inl t ↦ rw (opened_things h inside t, opened_things h look t) a
-  | inr f ↦ rw (shut_things h inside look f) (alike_same (element_things h look))
+  | inr f ↦ rw (shut_things h inside look f) (seen_same (element_things h look))
 ]
 
 -- the ends of a list whose spaces stay
@@ -238,12 +133,6 @@ first_alone : (t : Thing) (ts us : List Thing) →
 first_alone border ts us = refl
 first_alone visible ts us = refl
 first_alone space ts us = refl
-
-line_alone : (p q : Bool) (t : Thing) (ts : List Thing) →
-    in_line_after p (t ∷ ts) ≡ in_line_after q (t ∷ ts)
-line_alone p q border ts = refl
-line_alone p q visible ts = refl
-line_alone p q space ts = refl
 
 first_end : (b : Bool) (ts : List Thing) → is_visible_first (end_thing b ∷ ts) ≡ b
 first_end true ts = refl
@@ -258,7 +147,7 @@ last_end q false false = refl
 
 alike_ends : (ts : List Thing) (empty first last : Bool) → all_bare false ts [] ≡ true →
     is_nothing ts ≡ empty → is_visible_first ts ≡ first → in_line_after false ts ≡ last →
-    Alike ts (if empty then [] else end_thing first ∷ end_thing last ∷ [])
+    Alike ts (two_ends empty first last)
 alike_ends [] true first last h empty f l = alike_same []
 alike_ends [] false first last h empty f l = absurd (false≢true (sym empty))
 alike_ends (t ∷ ts) true first last h empty f l = absurd (false≢true empty)
@@ -268,49 +157,115 @@ alike_ends (t ∷ ts) false first last h empty f l = record {
   bare = λ q us vs e own. bare_anywhere false q (t ∷ ts) us (λ no. absurd (false≢true no)) h;
 }
 
-pub alike_settled : (ns : NodesView) (ends : Ends) → Settles ns ends →
-    Alike (nodes_things ns) (ends_things ends)
-alike_settled ns ends s =
-    alike_ends (nodes_things ns) ends.is_empty ends.first_visible ends.last_in_line s.bare s.empty
-    s.first s.last
+alike_past : (ns : NodesView) (ends : Ends) → Settles ns ends →
+    Alike (past_lead (nodes_things ns)) (two_ends ends.is_empty ends.first_visible ends.last_in_line)
+alike_past ns ends s =
+    alike_ends (past_lead (nodes_things ns)) ends.is_empty ends.first_visible ends.last_in_line s.bare
+    s.empty s.first s.last
+
+ends_apart : (lead empty first last : Bool) →
+    (has_lead (lead_things lead ++ two_ends empty first last) ≡ lead)
+    × (past_lead (lead_things lead ++ two_ends empty first last) ≡ two_ends empty first last)
+ends_apart true empty first last = (refl, refl)
+ends_apart false true first last = (refl, refl)
+ends_apart false false true last = (refl, refl)
+ends_apart false false false last = (refl, refl)
+
+pub seen_settled : (ns : NodesView) (ends : Ends) → Settles ns ends →
+    Seen (nodes_things ns) (ends_things ends)
+seen_settled ns ends s =
+    let apart = ends_apart ends.has_lead ends.is_empty ends.first_visible ends.last_in_line in
+    record {
+      lead = s.lead ∙ sym apart.0;
+      past = subst (λ ys. Alike (past_lead (nodes_things ns)) ys) (sym apart.1) (alike_past ns ends s);
+    }
 
 -- drafts look like the nodes that they stand for
 mutual
   unfolding node_things draft_look
 
-  alike_draft : (d : DraftView) → Alike (node_things (draft_node d)) (draft_look d)
-  alike_draft (tag_draft t) = alike_same []
-  alike_draft (text_draft s span) = alike_same (text_things s)
-  alike_draft (frame_draft f) = alike_same (visible ∷ [])
-  alike_draft (open_draft h ds) =
-      alike_element h (nodes_things (drafts_nodes ds)) (drafts_look ds) (alike_drafts ds)
-  alike_draft (settled_draft h ns ends s) =
-      alike_element h (nodes_things ns) (ends_things ends) (alike_settled ns ends s)
+  seen_draft : (d : DraftView) → Seen (node_things (draft_node d)) (draft_look d)
+  seen_draft (tag_draft t) = seen_same []
+  seen_draft (text_draft s span) = seen_same (text_things s)
+  seen_draft (frame_draft f) = seen_same (visible ∷ [])
+  seen_draft (open_draft h ds) =
+      seen_element h (nodes_things (drafts_nodes ds)) (drafts_look ds) (seen_drafts ds)
+  seen_draft (settled_draft h ns ends s) =
+      seen_element h (nodes_things ns) (ends_things ends) (seen_settled ns ends s)
 
-  pub alike_drafts : (ds : DraftsView) → Alike (nodes_things (drafts_nodes ds)) (drafts_look ds)
-  alike_drafts no_drafts = alike_same []
-  alike_drafts (draft d ds) =
-      alike_append (node_things (draft_node d)) (nodes_things (drafts_nodes ds)) (draft_look d)
-      (drafts_look ds) (alike_draft d) (alike_drafts ds)
+  pub seen_drafts : (ds : DraftsView) → Seen (nodes_things (drafts_nodes ds)) (drafts_look ds)
+  seen_drafts no_drafts = seen_same []
+  seen_drafts (draft d ds) =
+      seen_append (node_things (draft_node d)) (nodes_things (drafts_nodes ds)) (draft_look d)
+      (drafts_look ds) (seen_draft d) (seen_drafts ds)
+
+alike_draft : (d : DraftView) → Alike (node_things (draft_node d)) (draft_look d)
+alike_draft d = alike_of (node_things (draft_node d)) (draft_look d) (seen_draft d)
+
+pub alike_drafts : (ds : DraftsView) → Alike (nodes_things (drafts_nodes ds)) (drafts_look ds)
+alike_drafts ds = alike_of (nodes_things (drafts_nodes ds)) (drafts_look ds) (seen_drafts ds)
 
 -- drafts are protected as their nodes are
-
-text_kept_is : (b : Bool) (s : List ℕ) (span : ℕ) →
-    text_protected b s span ≡ draft_node (text_kept b s span)
-text_kept_is true s span = refl
-text_kept_is false s span = refl
 
 text_alike : (s : List ℕ) (span : ℕ) (q : Bool) (us vs : List Thing) →
     is_visible_first us ≡ is_visible_first vs → is_one 32 s ≡ true →
     text_protected (is_bare (bare_in q (text_things s ++ us))) s span
-    ≡ draft_node (text_kept (is_bare (bare_in q (text_things s ++ vs))) s span)
+    ≡ text_protected (is_bare (bare_in q (text_things s ++ vs))) s span
 unfolding bare_in
 text_alike s span q us vs e is =
     let seen = space_alone (is_one 32 s) (list_all is_ignorable s) is in
     ap (λ ts. text_protected (is_bare (bare_in q (ts ++ us))) s span) seen
     ∙ (ap (λ b. text_protected (q && b) s span) e
-    ∙ (text_kept_is (q && is_visible_first vs) s span
-    ∙ ap (λ ts. draft_node (text_kept (is_bare (bare_in q (ts ++ vs))) s span)) (sym seen)))
+    ∙ ap (λ ts. text_protected (is_bare (bare_in q (ts ++ vs))) s span) (sym seen))
+
+space_is_bare : (q first : Bool) (ts us : List Thing) → (q && is_visible_first (ts ++ us)) ≡ true →
+    all_bare first ts [] ≡ true → all_bare q (space ∷ ts) us ≡ true
+space_is_bare q first ts us own e =
+    and_from _ _ own (bare_anywhere first true ts us (λ h. refl) e)
+
+space_not_bare : (q first : Bool) (ts us : List Thing) →
+    (q && is_visible_first (ts ++ us)) ≡ false → all_bare first ts [] ≡ true →
+    lead_alone q (space ∷ ts) us ≡ true
+space_not_bare q first ts us own e =
+    and_from _ _ (ap not own) (bare_anywhere first true ts us (λ h. refl) e)
+
+-- nodes whose spaces stay, by the answer for one that comes first
+settled_alike : (ns : NodesView) (ends : Ends) (s : Settles ns ends) (q : Bool) (us vs : List Thing) →
+    is_visible_first us ≡ is_visible_first vs →
+    nodes_protected (bare_in q (nodes_things ns ++ us)) ns
+    ≡ lead_protected (bare_in q (ends_things ends ++ vs)) ends ns
+unfolding bare_in
+settled_alike ns ends s q us vs e =
+    let ts = nodes_things ns in
+    let past = past_lead ts in
+    let own = two_ends ends.is_empty ends.first_visible ends.last_in_line in
+    let by_lead = λ (b : Bool). if b
+    then (if is_bare (bare_in q (ends_things ends ++ vs)) then ns else nodes_lead_kept ns) else ns in
+    elim (cases_Bool ends.has_lead) [
+      | inl t ↦
+          let whole : ts ≡ space ∷ past
+          = lead_and_past ts ∙ ap (λ b. lead_things b ++ past) (s.lead ∙ t) in
+          let next : is_visible_first (past ++ us) ≡ is_visible_first (own ++ vs)
+          = (alike_past ns ends s).first us vs e in
+          let asked : is_bare (bare_in q (ends_things ends ++ vs)) ≡ (q && is_visible_first (own ++ vs))
+          = ap (λ b. is_bare (bare_in q ((lead_things b ++ own) ++ vs))) t in
+          let answer : is_bare (bare_in q (ends_things ends ++ vs)) ≡ (q && is_visible_first (past ++ us))
+          = asked ∙ ap (λ b. q && b) (sym next) in
+          elim (cases_Bool (q && is_visible_first (past ++ us))) [
+            | inl bare ↦
+                kept_nodes ns q us (ap (λ xs. all_bare q xs us) whole
+                ∙ space_is_bare q false past us bare s.bare)
+                ∙ sym (ap by_lead t ∙ ap (λ (b : Bool). if b then ns else nodes_lead_kept ns) (answer ∙ bare))
+            | inr other ↦
+                lead_nodes ns q us (ap (λ xs. lead_alone q xs us) whole
+                ∙ space_not_bare q false past us other s.bare)
+                ∙ sym (ap by_lead t ∙ ap (λ (b : Bool). if b then ns else nodes_lead_kept ns) (answer ∙ other))
+          ]
+      | inr f ↦
+          let whole : ts ≡ past = lead_and_past ts ∙ ap (λ b. lead_things b ++ past) (s.lead ∙ f) in
+          kept_nodes ns q us (bare_anywhere false q ts us (λ no. absurd (false≢true no))
+          (ap (λ xs. all_bare false xs []) whole ∙ s.bare)) ∙ sym (ap by_lead f)
+    ]
 
 mutual
   unfolding node_things node_protected draft_look draft_protected
@@ -318,19 +273,19 @@ mutual
   node_alike : (d : DraftView) (q : Bool) (us vs : List Thing) →
       is_visible_first us ≡ is_visible_first vs →
       node_protected (bare_in q (node_things (draft_node d) ++ us)) (draft_node d)
-      ≡ draft_node (draft_protected (bare_in q (draft_look d ++ vs)) d)
+      ≡ draft_protected (bare_in q (draft_look d ++ vs)) d
   node_alike (tag_draft t) q us vs e = refl
   node_alike (text_draft s span) q us vs e = elim (cases_Bool (is_one 32 s)) [
     | inl is ↦
         ap (λ b. if b then text_protected (is_bare (bare_in q (text_things s ++ us))) s span
         else text_node s span) is ∙ (text_alike s span q us vs e is
-        ∙ ap (λ b. draft_node (if b then text_kept (is_bare (bare_in q (text_things s ++ vs))) s span
-        else text_draft s span)) (sym is))
+        ∙ ap (λ b. if b then text_protected (is_bare (bare_in q (text_things s ++ vs))) s span
+        else text_node s span) (sym is))
     | inr other ↦
         ap (λ b. if b then text_protected (is_bare (bare_in q (text_things s ++ us))) s span
         else text_node s span) other
-        ∙ ap (λ b. draft_node (if b then text_kept (is_bare (bare_in q (text_things s ++ vs))) s span
-        else text_draft s span)) (sym other)
+        ∙ ap (λ b. if b then text_protected (is_bare (bare_in q (text_things s ++ vs))) s span
+        else text_node s span) (sym other)
   ]
   node_alike (frame_draft f) q us vs e = refl
   node_alike (open_draft h ds) q us vs e = elim (cases_Bool (is_entered h)) [
@@ -343,38 +298,45 @@ mutual
         else element_node h ns) t
         ∙ (ap (λ ts. element_node h (nodes_protected (bare_in q (ts ++ us)) ns)) seen
         ∙ (ap (element_node h) (nodes_alike ds q us vs e)
-        ∙ (ap (λ ts. element_node h (drafts_nodes (drafts_protected (bare_in q (ts ++ vs)) ds))) (sym look)
-        ∙ ap (λ b. draft_node (if b
-        then open_draft h (drafts_protected (bare_in q (element_things h (drafts_look ds) ++ vs)) ds)
-        else open_draft h ds)) (sym t))))
+        ∙ (ap (λ ts. element_node h (drafts_protected (bare_in q (ts ++ vs)) ds)) (sym look)
+        ∙ ap (λ b. if b
+        then element_node h (drafts_protected (bare_in q (element_things h (drafts_look ds) ++ vs)) ds)
+        else element_node h ns) (sym t))))
     | inr f ↦
         let ns = drafts_nodes ds in
         ap (λ b. if b
         then element_node h (nodes_protected (bare_in q (element_things h (nodes_things ns) ++ us)) ns)
         else element_node h ns) f
-        ∙ ap (λ b. draft_node (if b
-        then open_draft h (drafts_protected (bare_in q (element_things h (drafts_look ds) ++ vs)) ds)
-        else open_draft h ds)) (sym f)
+        ∙ ap (λ b. if b
+        then element_node h (drafts_protected (bare_in q (element_things h (drafts_look ds) ++ vs)) ds)
+        else element_node h ns) (sym f)
   ]
   node_alike (settled_draft h ns ends s) q us vs e = elim (cases_Bool (is_entered h)) [
     | inl t ↦
         let seen = opened_things h (nodes_things ns) t in
+        let look = opened_things h (ends_things ends) t in
         ap (λ b. if b
         then element_node h (nodes_protected (bare_in q (element_things h (nodes_things ns) ++ us)) ns)
         else element_node h ns) t
         ∙ (ap (λ ts. element_node h (nodes_protected (bare_in q (ts ++ us)) ns)) seen
-        ∙ ap (element_node h) (kept_nodes ns q us
-        (bare_anywhere false q (nodes_things ns) us (λ no. absurd (false≢true no)) s.bare)))
+        ∙ (ap (element_node h) (settled_alike ns ends s q us vs e)
+        ∙ (ap (λ ts. element_node h (lead_protected (bare_in q (ts ++ vs)) ends ns)) (sym look)
+        ∙ ap (λ b. if b
+        then element_node h (lead_protected (bare_in q (element_things h (ends_things ends) ++ vs)) ends ns)
+        else element_node h ns) (sym t))))
     | inr f ↦
         ap (λ b. if b
         then element_node h (nodes_protected (bare_in q (element_things h (nodes_things ns) ++ us)) ns)
         else element_node h ns) f
+        ∙ ap (λ b. if b
+        then element_node h (lead_protected (bare_in q (element_things h (ends_things ends) ++ vs)) ends ns)
+        else element_node h ns) (sym f)
   ]
 
   nodes_alike : (ds : DraftsView) (q : Bool) (us vs : List Thing) →
       is_visible_first us ≡ is_visible_first vs →
       nodes_protected (bare_in q (nodes_things (drafts_nodes ds) ++ us)) (drafts_nodes ds)
-      ≡ drafts_nodes (drafts_protected (bare_in q (drafts_look ds ++ vs)) ds)
+      ≡ drafts_protected (bare_in q (drafts_look ds ++ vs)) ds
   nodes_alike no_drafts q us vs e = refl
   nodes_alike (draft d ds) q us vs e =
       let n = draft_node d in
@@ -389,25 +351,24 @@ mutual
       (nodes_protected (drop (space_count own) (bare_in q ts)) ns)) (append_assoc own others us)
       ∙ (ap (λ m. node m (nodes_protected (drop (space_count own) fs) ns))
       (node_alike d q (others ++ us) (looks ++ vs) ((alike_drafts ds).first us vs e))
-      ∙ (ap (λ b. node (draft_node (draft_protected gs d)) (nodes_protected b ns))
+      ∙ (ap (λ b. node (draft_protected gs d) (nodes_protected b ns))
       (answers_behind q own (others ++ us) ∙ ap (λ p. bare_in p (others ++ us)) ((alike_draft d).next q))
-      ∙ (ap (node (draft_node (draft_protected gs d)))
+      ∙ (ap (node (draft_protected gs d))
       (nodes_alike ds (in_line_after q look) us vs e
-      ∙ ap (λ b. drafts_nodes (drafts_protected b ds)) (sym (answers_behind q look (looks ++ vs))))
-      ∙ ap (λ ts. node (draft_node (draft_protected (bare_in q ts) d))
-      (drafts_nodes (drafts_protected (drop (space_count look) (bare_in q ts)) ds)))
+      ∙ ap (λ b. drafts_protected b ds) (sym (answers_behind q look (looks ++ vs))))
+      ∙ ap (λ ts. node (draft_protected (bare_in q ts) d)
+      (drafts_protected (drop (space_count look) (bare_in q ts)) ds))
       (sym (append_assoc look looks vs)))))
 
 pub drafts_as_nodes : (ds : DraftsView) →
-    drafts_nodes (drafts_protected (bare_after None (drafts_look ds)) ds)
-    ≡ protected_nodes (drafts_nodes ds)
+    drafts_protected (bare_after None (drafts_look ds)) ds ≡ protected_nodes (drafts_nodes ds)
 drafts_as_nodes ds =
     let ns = drafts_nodes ds in
     let seen = bare_in_is None (nodes_things ns)
     ∙ ap (bare_in false) (sym (append-nil (nodes_things ns))) in
     let look = bare_in_is None (drafts_look ds)
     ∙ ap (bare_in false) (sym (append-nil (drafts_look ds))) in
-    ap (λ b. drafts_nodes (drafts_protected b ds)) look
+    ap (λ b. drafts_protected b ds) look
     ∙ (sym (nodes_alike ds false [] [] refl) ∙ ap (λ b. nodes_protected b ns) (sym seen))
 
 -- all answers are true
@@ -438,28 +399,21 @@ module _ (ds : DraftsView) (e : all_bare false (drafts_look ds) [] ≡ true) whe
       ∙ ap (bare_in false) (sym (append-nil (nodes_things ns))))
       ∙ kept_nodes ns false [] bare_drafts)
 
-nothing_first : (ts look : List Thing) →
-    ((us vs : List Thing) → is_visible_first us ≡ is_visible_first vs →
-    is_visible_first (ts ++ us) ≡ is_visible_first (look ++ vs)) →
-    ((q : Bool) → in_line_after q ts ≡ in_line_after q look) → is_nothing ts ≡ is_nothing look
-nothing_first [] [] f n = refl
-nothing_first (t ∷ ts) (l ∷ look) f n = refl
-nothing_first [] (l ∷ look) f n =
-    absurd (false≢true (n false ∙ (line_alone false true l look ∙ sym (n true))))
-nothing_first (t ∷ ts) [] f n =
-    absurd (false≢true (sym (n false) ∙ (line_alone false true t ts ∙ n true)))
-
 -- from what drafts look like to their ends
-pub settled_drafts : (ds : DraftsView) (ends : Ends) → all_bare false (drafts_look ds) [] ≡ true →
-    is_nothing (drafts_look ds) ≡ ends.is_empty →
-    is_visible_first (drafts_look ds) ≡ ends.first_visible →
-    in_line_after false (drafts_look ds) ≡ ends.last_in_line → Settles (drafts_nodes ds) ends
-settled_drafts ds ends e empty first last =
-    let a = alike_drafts ds in
-    let ts = nodes_things (drafts_nodes ds) in
-    let look = drafts_look ds in
+pub settled_drafts : (ds : DraftsView) (ends : Ends) → has_lead (drafts_look ds) ≡ ends.has_lead →
+    all_bare false (past_lead (drafts_look ds)) [] ≡ true →
+    is_nothing (past_lead (drafts_look ds)) ≡ ends.is_empty →
+    is_visible_first (past_lead (drafts_look ds)) ≡ ends.first_visible →
+    in_line_after false (past_lead (drafts_look ds)) ≡ ends.last_in_line →
+    Settles (drafts_nodes ds) ends
+settled_drafts ds ends lead e empty first last =
+    let s = seen_drafts ds in
+    let a = s.past in
+    let ts = past_lead (nodes_things (drafts_nodes ds)) in
+    let look = past_lead (drafts_look ds) in
     record {
-      bare = bare_drafts ds e;
+      lead = s.lead ∙ lead;
+      bare = a.bare false [] [] refl e;
       empty = nothing_first ts look a.first a.next ∙ empty;
       first = ap is_visible_first (sym (append-nil ts))
           ∙ (a.first [] [] refl ∙ (ap is_visible_first (append-nil look) ∙ first));

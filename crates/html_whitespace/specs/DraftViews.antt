@@ -9,7 +9,8 @@ use Rattle.html_whitespace.specs.declared.settled_nodes.SettledNodes.{SettledNod
 use Rattle.html_whitespace.specs.declared.draft.Draft.{Draft, Draft-F, fold-Draft}
 
 abbrev pub settled_truth : (s : SettledNodes) → Settles (nodes_view s.nodes.items) s.ends
-settled_truth s = record { bare = s.bare; empty = s.empty; first = s.first; last = s.last }
+settled_truth s =
+    record { lead = s.lead; bare = s.bare; empty = s.empty; first = s.first; last = s.last }
 
 -- drafts in a row, from their views
 abbrev pub drafts_of : List DraftView → DraftsView

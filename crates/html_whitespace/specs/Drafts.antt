@@ -1,11 +1,12 @@
 -- Nodes that are being made: those whose lone spaces stay are told from the others.
-use Rattle.std.specs.Prelude.{ℕ, Bool, true, false, List, [], ◌∷◌, ◌++◌, drop, if◌then◌else◌}
+use Rattle.std.specs.Prelude.{ℕ, Bool, List, [], ◌∷◌, ◌++◌, drop, if◌then◌else◌}
 use Rattle.html_dom.specs.Tags.{TagView}
 use Rattle.html_dom.specs.Frames.{HtmlFrameView}
 use Rattle.html_dom.specs.Tree.{Head, NodeView, tag_node, text_node, element_node, frame_node, NodesView, none, node}
-use Rattle.html_whitespace.specs.Nodes.{is_one, pre_wrap_head}
+use Rattle.html_whitespace.specs.Nodes.{is_one}
 use Rattle.html_whitespace.specs.BareSpaces.{Thing, visible, text_things, element_things, is_entered}
-use Rattle.html_whitespace.specs.Protected.{space_count, is_bare}
+use Rattle.html_whitespace.specs.Protected.{space_count, is_bare, text_protected}
+use Rattle.html_whitespace.specs.Leads.{nodes_lead_kept}
 use Rattle.html_whitespace.specs.Settled.{Settles, ends_things}
 use Rattle.html_whitespace.specs.declared.ends.Ends.{Ends}
 
@@ -36,7 +37,7 @@ abbrev mutual
   drafts_nodes no_drafts = none
   drafts_nodes (draft d ds) = node (draft_node d) (drafts_nodes ds)
 
--- what drafts look like: of nodes whose spaces stay only the ends
+-- what drafts look like: of nodes whose spaces stay only the ends, and a space that comes first
 unfoldable mutual
   pub draft_look : DraftView → List Thing
   draft_look (tag_draft t) = []
@@ -49,25 +50,26 @@ unfoldable mutual
   drafts_look no_drafts = []
   drafts_look (draft d ds) = draft_look d ++ drafts_look ds
 
--- a text, in an element of its own unless it is bare
-abbrev pub text_kept : (bare : Bool) (text : List ℕ) (span : ℕ) → DraftView
-text_kept true text span = text_draft text span
-text_kept false text span =
-    open_draft (pre_wrap_head span) (draft (text_draft text span) no_drafts)
+-- nodes whose spaces stay, by the answer for one that comes first
+abbrev pub lead_protected : List Bool → Ends → NodesView → NodesView
+lead_protected bare ends ns =
+    if ends.has_lead then (if is_bare bare then ns else nodes_lead_kept ns) else ns
 
--- by the answers for the lone spaces that are seen, in order
+-- the nodes that drafts become by the answers for the lone spaces that are seen, in order
 unfoldable mutual
-  pub draft_protected : List Bool → DraftView → DraftView
-  draft_protected bare (tag_draft t) = tag_draft t
+  pub draft_protected : List Bool → DraftView → NodeView
+  draft_protected bare (tag_draft t) = tag_node t
   draft_protected bare (text_draft s span) =
-      if is_one 32 s then text_kept (is_bare bare) s span else text_draft s span
-  draft_protected bare (frame_draft f) = frame_draft f
+      if is_one 32 s then text_protected (is_bare bare) s span else text_node s span
+  draft_protected bare (frame_draft f) = frame_node f
   draft_protected bare (open_draft h ds) =
-      if is_entered h then open_draft h (drafts_protected bare ds) else open_draft h ds
-  draft_protected bare (settled_draft h ns ends settled) = settled_draft h ns ends settled
+      if is_entered h then element_node h (drafts_protected bare ds)
+      else element_node h (drafts_nodes ds)
+  draft_protected bare (settled_draft h ns ends settled) =
+      if is_entered h then element_node h (lead_protected bare ends ns) else element_node h ns
 
-  pub drafts_protected : List Bool → DraftsView → DraftsView
-  drafts_protected bare no_drafts = no_drafts
+  pub drafts_protected : List Bool → DraftsView → NodesView
+  drafts_protected bare no_drafts = none
   drafts_protected bare (draft d ds) =
-      draft (draft_protected bare d)
+      node (draft_protected bare d)
       (drafts_protected (drop (space_count (draft_look d)) bare) ds)

@@ -10,5 +10,6 @@ pub mod OpenRuns
 pub mod AnswerLists
 pub mod Things
 pub mod Settled
+pub mod Leads
 pub mod Drafts
 pub mod DraftViews

@@ -1,6 +1,5 @@
 -- What lines are made of, as the program has it.
 use Rattle.std.specs.Prelude.{Bool, true, false, List, map}
-use Rattle.std.specs.List.{list_any}
 use Rattle.html_whitespace.specs.BareSpaces.{Thing, border, visible, space}
 use Rattle.html_whitespace.specs.declared.thing.Thing.{Thing as Seen}
 use Rattle.html_whitespace.specs.declared.thing.Thing.TheVariants as seen

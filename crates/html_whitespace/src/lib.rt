@@ -8,6 +8,7 @@ mod answers;
 mod bareness;
 mod draft;
 mod ends;
+mod lead;
 mod look;
 mod made;
 mod nodes;

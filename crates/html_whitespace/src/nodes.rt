@@ -10,7 +10,7 @@ use html_dom::{HtmlElement, HtmlNode};
 use std::alloc::{AllocError, Global};
 
 /// The element with these children.
-fn element_of(mut element: HtmlElement, children: Vec<HtmlNode>) -> HtmlNode
+pub(crate) fn element_of(mut element: HtmlElement, children: Vec<HtmlNode>) -> HtmlNode
     ensures { node_view result ≡ element_node (head_of element) (nodes_view children.items) }
 {
     element.children = children;

@@ -6,7 +6,7 @@ ghost use Rattle.html_whitespace.specs.BareSpaces.{element_things};
 ghost use Rattle.html_whitespace.specs.DraftViews.{draft_view, drafts_view};
 ghost use Rattle.html_whitespace.specs.Drafts.{draft_look, drafts_look};
 ghost use Rattle.html_whitespace.specs.Looks.{head_look, look_things};
-ghost use Rattle.html_whitespace.specs.Settled.{AreEnds, ends_things, end_thing};
+ghost use Rattle.html_whitespace.specs.Settled.{AreEnds, ends_things, end_thing, has_lead, lead_things, past_lead, two_ends};
 ghost use Rattle.html_whitespace.specs.Things.{thing_view, things_view};
 
 use crate::draft::Draft;
@@ -16,7 +16,8 @@ use crate::thing::Thing;
 use html_dom::HtmlElement;
 use std::alloc::{AllocError, Global};
 
-/// What these drafts look like: of nodes whose spaces stay only the ends.
+/// What these drafts look like: of nodes whose spaces stay only the ends, and a space that comes
+/// first.
 pub(crate) fn things_of(alloc: Global, drafts: &[Draft]) -> Result<Vec<Thing>, AllocError>
     ensures { IfOk result (λ things. things_view things.items ≡ drafts_look (drafts_view drafts.now)) }
 {
@@ -60,7 +61,7 @@ fn push_draft(draft: &Draft, things: &mut Vec<Thing>) -> Result<(), AllocError>
 }
 
 /// What an element looks like.
-fn look_of(element: &HtmlElement) -> Look
+pub(crate) fn look_of(element: &HtmlElement) -> Look
     ensures { result ≡ head_look (head_of element.now) }
 {
     element_look(&element.tag, &element.css, element.pre_span)
@@ -82,10 +83,30 @@ fn push_settled(
     push_look(look, things)
 }
 
-/// Adds the first and the last thing of a list.
+/// Adds a lone space that comes first, and the first and the last thing behind it.
 fn push_ends(ends: &Ends, things: &mut Vec<Thing>) -> Result<(), AllocError>
     ensures { OnOk result (things_view things.new.items
         ≡ things_view things.old.items ++ ends_things ends.now) }
+{
+    push_lead(ends.has_lead, things)?;
+    push_two_ends(ends, things)
+}
+
+/// Adds a lone space, if there is one.
+fn push_lead(has_lead: bool, things: &mut Vec<Thing>) -> Result<(), AllocError>
+    ensures { OnOk result (things_view things.new.items
+        ≡ things_view things.old.items ++ lead_things has_lead) }
+{
+    if has_lead {
+        things.push(Thing::Space)?;
+    }
+    Ok(())
+}
+
+/// Adds the first and the last thing of a list.
+fn push_two_ends(ends: &Ends, things: &mut Vec<Thing>) -> Result<(), AllocError>
+    ensures { let two = two_ends ends.now.is_empty ends.now.first_visible ends.now.last_in_line in
+        OnOk result (things_view things.new.items ≡ things_view things.old.items ++ two) }
 {
     if !ends.is_empty {
         things.push(end_thing(ends.first_visible))?;
@@ -119,15 +140,34 @@ fn push_look(look: Look, things: &mut Vec<Thing>) -> Result<(), AllocError>
     Ok(())
 }
 
-/// The first and the last of these things.
-pub(crate) fn ends_of(things: &[Thing]) -> Ends
-    ensures { AreEnds result (things_view things.now) }
+/// Whether a lone space comes first.
+pub(crate) fn has_lead(things: &[Thing]) -> bool
+    ensures { result ≡ has_lead (things_view things.now) }
+{
+    matches!(things.first(), Some(Thing::Space))
+}
+
+/// The things behind a lone space that comes first, or all.
+pub(crate) fn past_lead(things: &[Thing]) -> &[Thing]
+    ensures { things_view result.now ≡ past_lead (things_view things.now) }
+{
+    match things {
+        [Thing::Space, rest @ ..] => rest,
+        _ => things,
+    }
+}
+
+/// The first and the last of these things, and whether a lone space comes before them.
+pub(crate) fn ends_of(has_lead: bool, things: &[Thing]) -> Ends
+    ensures lead { result.has_lead ≡ has_lead }
+    ensures ends { AreEnds result (things_view things.now) }
 {
     let mut last_in_line = false;
     for thing in things {
         last_in_line = !matches!(thing, Thing::Border);
     }
     Ends {
+        has_lead,
         is_empty: things.is_empty(),
         first_visible: matches!(things.first(), Some(Thing::Visible)),
         last_in_line,

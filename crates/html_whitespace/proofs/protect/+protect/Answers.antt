@@ -1,10 +1,11 @@
 use Rattle.std.proofs.Common.{◌≡◌, ◌∙◌, ◌∷◌, length, sym, ap, arith, drop}
 use Rattle.std.specs.Vec.Iter.{into_iter_items}
 use Rattle.std.proofs.lemmas.List.{nil_from_length}
+use Rattle.html_dom.specs.Tree.{element_node}
 use Rattle.html_dom.specs.Views.{head_of}
 use Rattle.html_whitespace.specs.AnswerLists.{answers_view}
 use Rattle.html_whitespace.specs.DraftViews.{drafts_view}
-use Rattle.html_whitespace.specs.Drafts.{open_draft, draft_protected}
+use Rattle.html_whitespace.specs.Drafts.{draft_node, draft_protected}
 use Rattle.html_whitespace.specs.Protected.{space_count}
 use Rattle.html_whitespace.proofs.Drafting.{shut_element, open_element, walk_step, walk_end}
 use Rattle.html_whitespace.proofs.DraftViewing.{open_seen, view_is}
@@ -15,7 +16,7 @@ draft_protected-returns-then-not-is_entered-clause-made t c =
     let e = c.in-Open.element in
     let ds = c.in-Open.children in
     let bs = answers_view c.args.answers.now in
-    c.open.ensures
+    ap draft_node c.open.ensures
     ∙ ((shut_element (head_of e) (drafts_view ds.items) bs
     (sym c.is_entered.ensures ∙ c.if-not-is_entered.true)).0
     ∙ ap (draft_protected bs) (sym (view_is c.args.draft e ds c.in-Open.is)))
@@ -29,19 +30,19 @@ draft_protected-returns-then-not-is_entered-clause-rest t c =
     (sym c.is_entered.ensures ∙ c.if-not-is_entered.true)).1
     ∙ ap (λ ts. drop (space_count ts) bs) (sym (open_seen c.args.draft e ds c.in-Open.is))
 
-pub draft_protected-returns-in_ok-children-in-Open-clause-made : goal.draft_protected-returns-in_ok-children-in-Open-clause-made
-draft_protected-returns-in_ok-children-in-Open-clause-made t c =
+pub draft_protected-returns-in_ok-made-in-Open-clause-made : goal.draft_protected-returns-in_ok-made-in-Open-clause-made
+draft_protected-returns-in_ok-made-in-Open-clause-made t c =
     let e = c.in-Open.element in
     let ds = c.in-Open.children in
     let bs = answers_view c.args.answers.now in
-    c.open-in-Open.ensures
-    ∙ (ap (open_draft (head_of e)) c.in_ok-children-in-Open.ensures.made
+    c.in_ok-made-in-Open.ensures
+    ∙ (ap (element_node (head_of e)) c.in_ok-children-in-Open.ensures.made
     ∙ ((open_element (head_of e) (drafts_view ds.items) bs
     (sym c.is_entered.ensures ∙ c.if-not-is_entered.false)).0
     ∙ ap (draft_protected bs) (sym (view_is c.args.draft e ds c.in-Open.is))))
 
-pub draft_protected-returns-in_ok-children-in-Open-clause-rest : goal.draft_protected-returns-in_ok-children-in-Open-clause-rest
-draft_protected-returns-in_ok-children-in-Open-clause-rest t c =
+pub draft_protected-returns-in_ok-made-in-Open-clause-rest : goal.draft_protected-returns-in_ok-made-in-Open-clause-rest
+draft_protected-returns-in_ok-made-in-Open-clause-rest t c =
     let e = c.in-Open.element in
     let ds = c.in-Open.children in
     let bs = answers_view c.args.answers.now in

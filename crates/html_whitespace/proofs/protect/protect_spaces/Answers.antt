@@ -1,10 +1,9 @@
-use Rattle.std.proofs.Common.{◌≡◌, ◌∙◌, None, true, drop, ap, sym, false}
+use Rattle.std.proofs.Common.{◌≡◌, ◌∙◌, None, ap, sym}
 use Rattle.std.specs.List.{list_all}
 use Rattle.html_whitespace.specs.BareSpaces.{bare_after}
 use Rattle.html_whitespace.specs.DraftViews.{drafts_shown, drafts_view}
 use Rattle.html_whitespace.specs.Drafts.{drafts_look, drafts_nodes, drafts_protected}
 use Rattle.html_whitespace.specs.Things.{things_view}
-use Rattle.html_whitespace.specs.Settled.{all_bare}
 use Rattle.html_whitespace.specs.Protected.{protected_nodes}
 use Rattle.html_whitespace.proofs.Drafting.{ok_by}
 use Rattle.html_whitespace.proofs.Settling.{answers_bare, drafts_as_nodes, drafts_stay}
@@ -28,6 +27,5 @@ returns c =
     ∙ (ap (λ xs. bare_after None (things_view xs)) c.deref-2.ensures.value ∙ ap (bare_after None) look) in
     ok_by _ (λ made. drafts_shown made.items ≡ protected_nodes (drafts_nodes ds))
     c.drafts_protected.result
-    (λ made told. ap drafts_nodes told
-    ∙ (ap (λ bs. drafts_nodes (drafts_protected bs ds)) asked ∙ drafts_as_nodes ds))
+    (λ made told. told ∙ (ap (λ bs. drafts_protected bs ds) asked ∙ drafts_as_nodes ds))
     c.drafts_protected.ensures.made

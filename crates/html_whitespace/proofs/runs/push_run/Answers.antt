@@ -4,7 +4,7 @@ use Rattle.std.proofs.lemmas.List.{map-append}
 use Rattle.html_dom.specs.Views.{head_of}
 use Rattle.html_whitespace.specs.DraftViews.{draft_shown, draft_view}
 use Rattle.html_whitespace.specs.Nodes.{pre_wrap_head}
-use Rattle.html_whitespace.specs.Runs.{is_blank_node, are_kept, run_nodes, first_span}
+use Rattle.html_whitespace.specs.Runs.{is_blank_node, are_kept, first_span}
 use Rattle.html_whitespace.proofs.Blanks.{kept_run}
 use Rattle.html_whitespace.proofs.Drafting.{open_shown}
 use Rattle.html_whitespace.proofs.runs.push_run.Goals as goal

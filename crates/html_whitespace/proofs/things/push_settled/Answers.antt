@@ -1,4 +1,4 @@
-use Rattle.std.proofs.Common.{◌≡◌, ◌++◌, ap, ◌∙◌, sym, subst}
+use Rattle.std.proofs.Common.{◌≡◌, ◌++◌, ◌∙◌, sym, subst}
 use Rattle.std.specs.Prelude.{OnOk}
 use Rattle.html_dom.specs.Views.{head_of}
 use Rattle.html_whitespace.specs.Settled.{ends_things}
