@@ -1,9 +1,9 @@
 -- The lone node of a list by its place, texts in bytes, and lists of css.
-use Rattle.std.proofs.Common.{◌≡◌, ℕ, suc, ◌+◌, ◌-◌, ◌<◌, ◌≤◌, List, [], ◌∷◌, ◌++◌, length, get_or, take, drop, map, Bool, true, false, ◌&&◌, if◌then◌else◌, Option, Some, None, Bor, codes, chars, bytes_eq, IsUtf8, refl, sym, ap, ◌∙◌, add-one, drop-cons, length-drop}
+use Rattle.std.proofs.Common.{◌≡◌, ℕ, suc, ◌+◌, ◌-◌, ◌<◌, ◌≤◌, List, [], ◌∷◌, length, get_or, take, drop, map, Bool, true, false, ◌&&◌, if◌then◌else◌, Option, Some, None, Bor, codes, chars, bytes_eq, IsUtf8, refl, sym, ap, ◌∙◌, add-one, drop-cons, length-drop}
 use Rattle.std.proofs.Math.Seq.{take-length}
 use Rattle.std.specs.List.{list_all}
 use Rattle.std.proofs.lemmas.List.Folds.{list_all-map}
-use Rattle.std.proofs.lemmas.List.{at_drop_all, map-append}
+use Rattle.std.proofs.lemmas.List.{at_drop_all}
 use lib.Utf8.{encodes}
 use Rattle.html_names.specs.Names.{is_ascii}
 use Rattle.html_names.specs.Texts.{TextPair}
@@ -11,10 +11,8 @@ use Rattle.html_names.proofs.Lists.{chars_ascii, bytes_eq-chars}
 use Rattle.html_css.specs.Properties.{with_value, without}
 use Rattle.html_dom.specs.Tree.{Head, NodeView, NodesView, element_node, node}
 use Rattle.html_dom.specs.Views.{nodes_of}
-use Rattle.html_whitespace.specs.DraftViews.{draft_shown, draft_view, drafts_of, drafts_shown}
-use Rattle.html_whitespace.specs.Drafts.{DraftView, draft_node, open_draft}
+use Rattle.html_whitespace.specs.DraftViews.{draft_shown}
 use Rattle.html_whitespace.specs.declared.draft.Draft.{Draft}
-use Rattle.html_whitespace.proofs.Drafting.{open_shown, shown_nodes}
 use Rattle.html_whitespace.specs.Nodes.{is_tag}
 use Rattle.html_flow.specs.declared.lone.DisplayChange.{DisplayChange}
 use Rattle.html_flow.specs.declared.lone.DisplayChange.TheVariants.{Removed, SetTo}
@@ -125,11 +123,3 @@ module _ (h : Head) (o : Option DisplayChangeView) (body : List NodeView) where
   pub wrapped_is : None ≡ o
       → element_node h (nodes_of body) ∷ [] ≡ changed_or_in h o (nodes_of body)
   wrapped_is is = rw (← is) refl
-
--- nodes with an element added
-pub pushed : (new old : List Draft) (d : Draft) (e h : Head) (body : List Draft) →
-    new ≡ old ++ d ∷ [] → draft_view d ≡ open_draft e (drafts_of (map draft_view body)) → e ≡ h →
-    map draft_shown new ≡ map draft_shown old ++ element_node h (nodes_of (map draft_shown body)) ∷ []
-pushed new old d e h body added is same =
-    ap (map draft_shown) added ∙ (map-append draft_shown old (d ∷ [])
-    ∙ ap (λ m. map draft_shown old ++ m ∷ []) (open_shown (draft_view d) e h body is same))

@@ -5,10 +5,10 @@ use Rattle.std.specs.declared.alloc.Global.{Global}
 use Rattle.html_dom.specs.Tree.{NodeView, NodesView}
 use Rattle.html_dom.specs.Views.{nodes_view}
 use Rattle.html_dom.specs.declared.node.HtmlNode.{HtmlNode}
-use Rattle.html_whitespace.specs.DraftViews.{drafts_shown}
-use Rattle.html_whitespace.specs.declared.draft.Draft.{Draft}
+use Rattle.html_flow.specs.Rows.{row_nodes}
 use Rattle.html_flow.specs.declared.fault.FlowFault.{FlowFault}
 use Rattle.html_flow.specs.declared.fault.FlowFault.TheVariants.{OutOfMemory, TooDeep}
+use Rattle.html_flow.specs.declared.row.Row.{Row}
 
 abbrev pub flow_number_of : FlowFault → ℕ
 flow_number_of OutOfMemory = 0
@@ -26,10 +26,9 @@ pub record Converts (r : Result (Vec HtmlNode Global) FlowFault) (nodes : NodesV
   pub shallow : OnOk r (too_deep ≡ None)
   pub fault : IfErr r (λ f. IsDepthFault too_deep f)
 
--- a list is answered by drafts that stand for its nodes
-pub record Drafts (r : Result (Vec Draft Global) FlowFault) (nodes : NodesView)
-    (too_deep : Option ℕ) : Type 0 where
-  pub made : IfOk r (λ made. drafts_shown made.items ≡ nodes)
+-- a list is answered by a row of its nodes
+pub record Rows (r : Result Row FlowFault) (nodes : NodesView) (too_deep : Option ℕ) : Type 0 where
+  pub made : IfOk r (λ made. row_nodes made ≡ nodes)
   pub shallow : OnOk r (too_deep ≡ None)
   pub fault : IfErr r (λ f. IsDepthFault too_deep f)
 

@@ -6,4 +6,5 @@ pub mod Faults
 pub mod Items
 pub mod LoneNode
 pub mod Pieces
+pub mod Rows
 pub mod Views

@@ -6,21 +6,24 @@ ghost use Rattle.html_names.specs.Names.{is_ascii};
 ghost use Rattle.html_names.specs.Texts.{text_view};
 ghost use Rattle.html_dom.specs.Tree.{tag_node, text_node, element_node};
 ghost use Rattle.html_dom.specs.Views.{attrs_view, head_of, tag_view};
-ghost use Rattle.html_whitespace.specs.DraftViews.{draft_shown, drafts_shown};
+ghost use Rattle.html_whitespace.specs.DraftViews.{draft_shown};
 ghost use Rattle.html_flow.specs.Converted.{body_nodes, break_item_node, converted_nodes, element_head, frame_item_node, item_nodes, list_nodes, role_pairs, role_text, text_item_nodes};
-ghost use Rattle.html_flow.specs.Converts.{Adds, Converts, Drafts};
+ghost use Rattle.html_flow.specs.Converts.{Adds, Converts, Rows};
 ghost use Rattle.html_flow.specs.Depth.{body_too_deep, item_too_deep, items_too_deep};
 ghost use Rattle.html_flow.specs.Items.{element_item};
+ghost use Rattle.html_flow.specs.Rows.{is_lone, row_nodes, row_shown};
+ghost use Rattle.html_flow.specs.declared.convert.Whitespace.TheVariants.{Normal};
 ghost use Rattle.html_flow.specs.Views.{body_view, elem_view, frame_elem_view, item_view, items_view};
 
 use crate::fault::FlowFault;
 use crate::item::{FrameElem, HtmlElem, Item, Pair};
-use crate::lone::{push_block, push_box};
+use crate::lone::{lone_node, push_block, push_box};
+use crate::row::Row;
 use crate::setting::{Setting, body_level, passes_role};
 use html_css::Properties;
 use html_dom::{HtmlAttrs, HtmlElement, HtmlFrame, HtmlNode, Span, Tag};
 use html_names::attr;
-use html_whitespace::{Draft, break_element, keep_runs, nodes_of, protect_spaces, push_text_nodes};
+use html_whitespace::{Draft, break_element, keep_runs, nodes_of, protect_spaces};
 use std::alloc::{AllocError, Global};
 
 /// Where a list of items stands.
@@ -58,10 +61,7 @@ pub enum Whitespace {
 /// with the span of the first item, in document order, that has a body, even an empty one, deeper
 /// than `limit`.
 ///
-/// Cost: grows with the number of items and the length of their texts. Only two kinds of items are
-/// gone through at each level of boxes and blocks that stand in one another: tags beside an element
-/// that is alone in them, and a list in which a lone space comes first, or behind a border, right
-/// after another one that stands in an element of its own.
+/// Cost: grows with the number of items at all depths and the length of their texts.
 ///
 /// ```
 /// use html_dom::Span;
@@ -98,8 +98,8 @@ pub fn convert_to_nodes(
         depth,
         limit,
     };
-    let drafts = convert_list(alloc, items, level, setting)?;
-    Ok(nodes_of(alloc, drafts)?)
+    let row = convert_list(alloc, items, level, setting)?;
+    Ok(nodes_of(alloc, row.into_drafts(alloc)?)?)
 }
 
 /// The nodes of a list.
@@ -109,15 +109,15 @@ fn convert_list(
     items: &[Pair],
     level: ConversionLevel,
     setting: Setting<'_>,
-) -> Result<Vec<Draft>, FlowFault>
+) -> Result<Row, FlowFault>
     requires within { setting.depth ≤ setting.limit }
     requires low_limit { setting.limit ≤ 10000 }
-    ensures { Drafts result
+    ensures { Rows result
         (converted_nodes level setting.entry.whitespace (role_text setting.entry.role)
         (items_view items.now))
         (items_too_deep setting.entry.depth setting.entry.limit (items_view items.now)) }
 {
-    let mut nodes = Vec::new(alloc);
+    let mut nodes = Row::new(alloc);
     for pair in items {
         push_item(alloc, &pair.item, setting.with_role(&pair.role), &mut nodes)?;
     }
@@ -132,16 +132,16 @@ fn convert_body(
     span: Span,
     level: ConversionLevel,
     setting: Setting<'_>,
-) -> Result<Vec<Draft>, FlowFault>
+) -> Result<Row, FlowFault>
     requires within { setting.depth ≤ setting.limit }
     requires low_limit { setting.limit ≤ 10000 }
-    ensures { Drafts result
+    ensures { Rows result
         (body_nodes level setting.entry.whitespace (role_text setting.entry.role)
         (body_view body.now))
         (body_too_deep setting.entry.depth setting.entry.limit span.0 (body_view body.now)) }
 {
     let Some(items) = body else {
-        return Ok(Vec::new(alloc));
+        return Ok(Row::new(alloc));
     };
     if setting.depth >= setting.limit {
         return Err(FlowFault::TooDeep { span });
@@ -155,11 +155,11 @@ fn push_item(
     alloc: Global,
     item: &Item,
     setting: Setting<'_>,
-    nodes: &mut Vec<Draft>,
+    nodes: &mut Row,
 ) -> Result<(), FlowFault>
     requires within { setting.depth ≤ setting.limit }
     requires low_limit { setting.limit ≤ 10000 }
-    ensures { Adds result (map draft_shown nodes.old.items) (map draft_shown nodes.new.items)
+    ensures { Adds result (row_shown nodes.old) (row_shown nodes.new)
         (item_nodes setting.entry.whitespace (role_text setting.entry.role) (item_view item.now))
         (item_too_deep setting.entry.depth setting.entry.limit (item_view item.now)) }
 {
@@ -188,12 +188,12 @@ fn push_element(
     alloc: Global,
     element: &HtmlElem,
     setting: Setting<'_>,
-    nodes: &mut Vec<Draft>,
+    nodes: &mut Row,
 ) -> Result<(), FlowFault>
     requires within { setting.depth ≤ setting.limit }
     requires low_limit { setting.limit ≤ 10000 }
     ensures { let view = elem_view element.now in let item = element_item view.0 view.1 in
-        Adds result (map draft_shown nodes.old.items) (map draft_shown nodes.new.items)
+        Adds result (row_shown nodes.old) (row_shown nodes.new)
         (item_nodes setting.entry.whitespace (role_text setting.entry.role) item)
         (item_too_deep setting.entry.depth setting.entry.limit item) }
 {
@@ -210,18 +210,17 @@ fn push_element(
 /// Adds an element with the role of its item and with these children.
 fn push_around(
     alloc: Global,
-    nodes: &mut Vec<Draft>,
+    nodes: &mut Row,
     element: &HtmlElem,
     role: Option<&str>,
-    children: Vec<Draft>,
+    children: Row,
 ) -> Result<(), AllocError>
-    ensures { OnOk result (map draft_shown nodes.new.items ≡ map draft_shown nodes.old.items
+    ensures { OnOk result (row_shown nodes.new ≡ row_shown nodes.old
         ++ element_node (element_head (role_text role.entry) (elem_view element.now).0)
-        (drafts_shown children.items) ∷ []) }
+        (row_nodes children) ∷ []) }
 {
     let made = element_with_role(alloc, element, role)?;
-    nodes.push(Draft::open(made, children))?;
-    Ok(())
+    nodes.push_around(alloc, made, children)
 }
 
 /// The element with the role of its item, without children.
@@ -273,82 +272,76 @@ fn push_role(alloc: Global, attrs: &mut HtmlAttrs, role: Option<&str>) -> Result
 }
 
 /// Adds the node of a tag.
-fn push_tag(nodes: &mut Vec<Draft>, tag: &Tag) -> Result<(), AllocError>
-    ensures { OnOk result (map draft_shown nodes.new.items
-        ≡ map draft_shown nodes.old.items ++ tag_node (tag_view tag.now) ∷ []) }
+fn push_tag(nodes: &mut Row, tag: &Tag) -> Result<(), AllocError>
+    ensures { OnOk result
+        (row_shown nodes.new ≡ row_shown nodes.old ++ tag_node (tag_view tag.now) ∷ []) }
 {
-    nodes.push(Draft::Tag(tag.try_clone()?))?;
-    Ok(())
+    nodes.push_tag(tag.try_clone()?)
 }
 
 /// Adds a text.
-fn push_string(nodes: &mut Vec<Draft>, text: String, span: Span) -> Result<(), AllocError>
-    ensures { OnOk result (map draft_shown nodes.new.items
-        ≡ map draft_shown nodes.old.items ++ text_node (text_view text) span.0 ∷ []) }
+fn push_string(alloc: Global, nodes: &mut Row, text: String, span: Span) -> Result<(), AllocError>
+    ensures { OnOk result (row_shown nodes.new ≡ row_shown nodes.old
+        ++ text_node (text_view text) span.0 ∷ []) }
 {
-    nodes.push(Draft::text(text, span))?;
-    Ok(())
+    nodes.push(alloc, Draft::text(text, span))
 }
 
 /// Adds a text of ASCII.
-fn push_literal(
-    alloc: Global,
-    nodes: &mut Vec<Draft>,
-    text: &str,
-    span: Span,
-) -> Result<(), AllocError>
+fn push_literal(alloc: Global, nodes: &mut Row, text: &str, span: Span) -> Result<(), AllocError>
     requires { IsTrue (is_ascii text.now) }
-    ensures { OnOk result (map draft_shown nodes.new.items
-        ≡ map draft_shown nodes.old.items ++ text_node text.now span.0 ∷ []) }
+    ensures { OnOk result (row_shown nodes.new ≡ row_shown nodes.old
+        ++ text_node text.now span.0 ∷ []) }
 {
-    push_string(nodes, String::from_str(alloc, text)?, span)
+    push_string(alloc, nodes, String::from_str(alloc, text)?, span)
 }
 
 /// Adds the nodes of a text item.
 fn push_text(
     alloc: Global,
-    nodes: &mut Vec<Draft>,
+    nodes: &mut Row,
     text: &String,
     span: Span,
     whitespace: Whitespace,
 ) -> Result<(), AllocError>
-    ensures { OnOk result (map draft_shown nodes.new.items ≡ map draft_shown nodes.old.items
+    ensures { OnOk result (row_shown nodes.new ≡ row_shown nodes.old
         ++ text_item_nodes whitespace (text_view text.now) span.0) }
 {
     match whitespace {
-        Whitespace::Normal => push_text_nodes(alloc, nodes, text.as_str(), span),
-        Whitespace::Pre => push_string(nodes, text.clone()?, span),
+        Whitespace::Normal => nodes.push_text(alloc, text.as_str(), span),
+        Whitespace::Pre => push_string(alloc, nodes, text.clone()?, span),
     }
 }
 
 /// Adds the node of a line break.
 fn push_break(
     alloc: Global,
-    nodes: &mut Vec<Draft>,
+    nodes: &mut Row,
     span: Span,
     whitespace: Whitespace,
 ) -> Result<(), AllocError>
-    ensures { OnOk result (map draft_shown nodes.new.items ≡ map draft_shown nodes.old.items
+    ensures { OnOk result (row_shown nodes.new ≡ row_shown nodes.old
         ++ break_item_node whitespace span.0 ∷ []) }
 {
     match whitespace {
         Whitespace::Normal => {
-            nodes.push(Draft::open(break_element(alloc, span), Vec::new(alloc)))?;
-            Ok(())
+            nodes.push(
+                alloc,
+                Draft::open(break_element(alloc, span), Vec::new(alloc)),
+            )
         }
         Whitespace::Pre => push_literal(alloc, nodes, "\n", span),
     }
 }
 
 /// Adds the node of a frame item.
-fn push_frame(alloc: Global, nodes: &mut Vec<Draft>, frame: &FrameElem) -> Result<(), AllocError>
-    ensures { OnOk result (map draft_shown nodes.new.items ≡ map draft_shown nodes.old.items
+fn push_frame(alloc: Global, nodes: &mut Row, frame: &FrameElem) -> Result<(), AllocError>
+    ensures { OnOk result (row_shown nodes.new ≡ row_shown nodes.old
         ++ frame_item_node (frame_elem_view frame.now) ∷ []) }
 {
     let mut made = HtmlFrame::new(alloc, frame.frame.try_clone()?, frame.text_size, frame.span);
     made.css = block_css(alloc)?;
-    nodes.push(Draft::Frame(made))?;
-    Ok(())
+    nodes.push(alloc, Draft::Frame(made))
 }
 
 /// The css of what is laid out as a block.
@@ -363,21 +356,66 @@ fn block_css(alloc: Global) -> Result<Properties, AllocError>
 /// stay is protected.
 fn finish(
     alloc: Global,
-    nodes: Vec<Draft>,
+    nodes: Row,
     level: ConversionLevel,
     whitespace: Whitespace,
-) -> Result<Vec<Draft>, AllocError>
-    ensures { IfOk result (λ made. drafts_shown made.items
-        ≡ list_nodes level whitespace (map draft_shown nodes.items)) }
+) -> Result<Row, AllocError>
+    ensures { IfOk result (λ made.
+        row_nodes made ≡ list_nodes level whitespace (row_shown nodes)) }
 {
     match whitespace {
         Whitespace::Pre => Ok(nodes),
         Whitespace::Normal => {
-            let nodes = keep_runs(alloc, nodes)?;
-            match level {
-                ConversionLevel::Inline => Ok(nodes),
-                ConversionLevel::Block => protect_spaces(alloc, nodes),
+            if nodes.is_lone() {
+                finish_lone(alloc, nodes, level)
+            } else {
+                finish_list(alloc, nodes, level)
             }
         }
     }
+}
+
+/// The same of one element or frame between tags, where white space collapses: no run of blanks
+/// stands there, and no lone space but in the one.
+fn finish_lone(alloc: Global, nodes: Row, level: ConversionLevel) -> Result<Row, AllocError>
+    requires { IsTrue (is_lone (map draft_shown nodes.middle.items)) }
+    ensures { IfOk result (λ made. row_nodes made ≡ list_nodes level Normal (row_shown nodes)) }
+{
+    match level {
+        ConversionLevel::Inline => Ok(nodes),
+        ConversionLevel::Block => {
+            let Row {
+                before,
+                middle,
+                after,
+            } = nodes;
+            let middle = protect_spaces(alloc, middle)?;
+            Ok(Row {
+                before,
+                middle,
+                after,
+            })
+        }
+    }
+}
+
+/// The same of any nodes.
+fn finish_list(alloc: Global, nodes: Row, level: ConversionLevel) -> Result<Row, AllocError>
+    ensures { IfOk result (λ made. row_nodes made ≡ list_nodes level Normal (row_shown nodes)) }
+{
+    let nodes = keep_runs(alloc, nodes.into_drafts(alloc)?)?;
+    match level {
+        ConversionLevel::Inline => row_of(alloc, nodes),
+        ConversionLevel::Block => row_of(alloc, protect_spaces(alloc, nodes)?),
+    }
+}
+
+/// The nodes as a row. Only if one may stand for a box or block do tags stand apart.
+fn row_of(alloc: Global, nodes: Vec<Draft>) -> Result<Row, AllocError>
+    ensures { IfOk result (λ row. row_shown row ≡ map draft_shown nodes.items) }
+{
+    if lone_node(&nodes).is_none() {
+        return Ok(Row::between(alloc, nodes));
+    }
+    Row::of(alloc, nodes)
 }

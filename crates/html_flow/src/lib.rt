@@ -16,6 +16,7 @@ mod fragment;
 mod item;
 pub mod laws;
 mod lone;
+mod row;
 mod setting;
 
 pub use args::{Arg, ArgValue, Args, ElementInfo};

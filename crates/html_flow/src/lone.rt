@@ -10,8 +10,10 @@ ghost use Rattle.html_flow.specs.LoneNode.{change_view, css_displayed, node_disp
 ghost use Rattle.html_flow.specs.LoneNode.{lone_alone, lone_node, is_math, is_shown_as_block};
 ghost use Rattle.html_flow.specs.LoneNode.{box_change, change_by_display, block_change};
 ghost use Rattle.html_flow.specs.LoneNode.{box_change_of, block_change_of, box_head, block_head, box_nodes, block_nodes};
+ghost use Rattle.html_flow.specs.Rows.{row_nodes, row_shown};
 
 use crate::convert::Whitespace;
+use crate::row::Row;
 use html_css::Properties;
 use html_dom::{HtmlElement, Span};
 use html_names::property::Display;
@@ -66,7 +68,7 @@ fn element_or_frame(node: &Draft) -> Option<&Draft>
 }
 
 /// The one node that is left when tags at both ends are cut off, if it is an element or frame.
-fn lone_node(nodes: &[Draft]) -> Option<&Draft>
+pub(crate) fn lone_node(nodes: &[Draft]) -> Option<&Draft>
     ensures { option_map (λ lone. draft_shown lone.now) result
         ≡ lone_node (nodes_of (map draft_shown nodes.now)) }
 {
@@ -80,6 +82,13 @@ fn lone_node(nodes: &[Draft]) -> Option<&Draft>
         return None;
     }
     None
+}
+
+/// The same of a row.
+fn lone_in_row(row: &Row) -> Option<&Draft>
+    ensures { option_map (λ lone. draft_shown lone.now) result ≡ lone_node (row_nodes row.now) }
+{
+    lone_node(&row.middle)
 }
 
 /// Whether the element is a formula.
@@ -131,11 +140,10 @@ fn box_change(node: &Draft) -> DisplayChange
 }
 
 /// The change of the lone node of a box's body, if it has one.
-fn change_in_box(body: &[Draft]) -> Option<DisplayChange>
-    ensures { option_map change_view result
-        ≡ box_change_of (lone_node (nodes_of (map draft_shown body.now))) }
+fn change_in_box(body: &Row) -> Option<DisplayChange>
+    ensures { option_map change_view result ≡ box_change_of (lone_node (row_nodes body.now)) }
 {
-    let lone = lone_node(body)?;
+    let lone = lone_in_row(body)?;
     Some(box_change(lone))
 }
 
@@ -181,11 +189,10 @@ fn block_change(node: &Draft) -> Option<DisplayChange>
 }
 
 /// The change of the lone node of a block's body, if it has one that can stand for the block.
-fn change_in_block(body: &[Draft]) -> Option<DisplayChange>
-    ensures { option_map change_view result
-        ≡ block_change_of (lone_node (nodes_of (map draft_shown body.now))) }
+fn change_in_block(body: &Row) -> Option<DisplayChange>
+    ensures { option_map change_view result ≡ block_change_of (lone_node (row_nodes body.now)) }
 {
-    block_change(lone_node(body)?)
+    block_change(lone_in_row(body)?)
 }
 
 /// The element with its css changed.
@@ -284,21 +291,46 @@ fn node_displayed(
     }
 }
 
-/// Moves nodes to the end of others, with their css changed.
+/// The nodes with their css changed.
+fn displayed(
+    alloc: Global,
+    nodes: Vec<Draft>,
+    change: DisplayChange,
+    judged: Judged,
+) -> Result<Vec<Draft>, AllocError>
+    ensures { IfOk result (λ made. map draft_shown made.items
+        ≡ map (node_displayed (change_view change)) (map draft_shown nodes.items)) }
+{
+    let mut made = Vec::with_capacity(alloc, nodes.len())?;
+    for node in nodes {
+        made.push(node_displayed(alloc, node, change, judged)?)?;
+    }
+    Ok(made)
+}
+
+/// Adds the nodes of a row, with their css changed. Its tags have none and are not moved.
 fn push_displayed(
     alloc: Global,
-    nodes: &mut Vec<Draft>,
-    body: Vec<Draft>,
+    nodes: &mut Row,
+    body: Row,
     change: DisplayChange,
     judged: Judged,
 ) -> Result<(), AllocError>
-    ensures { OnOk result (map draft_shown nodes.new.items ≡ map draft_shown nodes.old.items
-        ++ map (node_displayed (change_view change)) (map draft_shown body.items)) }
+    ensures { OnOk result (row_shown nodes.new
+        ≡ row_shown nodes.old ++ map (node_displayed (change_view change)) (row_shown body)) }
 {
-    for node in body {
-        nodes.push(node_displayed(alloc, node, change, judged)?)?;
-    }
-    Ok(())
+    let Row {
+        before,
+        middle,
+        after,
+    } = body;
+    let middle = displayed(alloc, middle, change, judged)?;
+    let changed = Row {
+        before,
+        middle,
+        after,
+    };
+    nodes.append(alloc, changed)
 }
 
 /// The css `display: inline-block`.
@@ -335,20 +367,17 @@ fn block_element(alloc: Global, span: Span) -> HtmlElement
 /// on a formula that would be a block, else a `span`.
 pub(crate) fn push_box(
     alloc: Global,
-    nodes: &mut Vec<Draft>,
-    body: Vec<Draft>,
+    nodes: &mut Row,
+    body: Row,
     whitespace: Whitespace,
     span: Span,
 ) -> Result<(), AllocError>
-    ensures { OnOk result (map draft_shown nodes.new.items
-        ≡ map draft_shown nodes.old.items ++ box_nodes span.0 (drafts_shown body.items)) }
+    ensures { OnOk result
+        (row_shown nodes.new ≡ row_shown nodes.old ++ box_nodes span.0 (row_nodes body)) }
 {
     match change_in_box(&body) {
         Some(change) => push_displayed(alloc, nodes, body, change, Judged::of_box(whitespace)),
-        None => {
-            nodes.push(Draft::open(box_element(alloc, span)?, body))?;
-            Ok(())
-        }
+        None => nodes.push_around(alloc, box_element(alloc, span)?, body),
     }
 }
 
@@ -357,19 +386,16 @@ pub(crate) fn push_box(
 /// else a `div`.
 pub(crate) fn push_block(
     alloc: Global,
-    nodes: &mut Vec<Draft>,
-    body: Vec<Draft>,
+    nodes: &mut Row,
+    body: Row,
     whitespace: Whitespace,
     span: Span,
 ) -> Result<(), AllocError>
-    ensures { OnOk result (map draft_shown nodes.new.items
-        ≡ map draft_shown nodes.old.items ++ block_nodes span.0 (drafts_shown body.items)) }
+    ensures { OnOk result
+        (row_shown nodes.new ≡ row_shown nodes.old ++ block_nodes span.0 (row_nodes body)) }
 {
     match change_in_block(&body) {
         Some(change) => push_displayed(alloc, nodes, body, change, Judged::of_block(whitespace)),
-        None => {
-            nodes.push(Draft::open(block_element(alloc, span), body))?;
-            Ok(())
-        }
+        None => nodes.push_around(alloc, block_element(alloc, span), body),
     }
 }

@@ -1,7 +1,7 @@
-use Rattle.std.proofs.Common.{◌≡◌, ◌+◌, ◌*◌, ◌++◌, drop, map}
-use Rattle.html_whitespace.specs.DraftViews.{draft_shown}
+use Rattle.std.proofs.Common.{◌≡◌, ◌+◌, ◌*◌, ◌++◌, drop}
 use Rattle.html_flow.specs.Converted.{items_nodes, role_text}
 use Rattle.html_flow.specs.Depth.{items_too_deep}
+use Rattle.html_flow.specs.Rows.{row_shown}
 use Rattle.html_flow.specs.Views.{items_view}
 use Rattle.html_flow.proofs.convert.+convert.Given as goal
 
@@ -11,7 +11,7 @@ invariant-convert_list-loop-pair l =
     let left = items_view (drop l.pair-index l.items) in
     let all = items_view l.items in
     record {
-      told : map draft_shown l.nodes.items ++ items_nodes l.setting.whitespace role left
+      told : row_shown l.nodes ++ items_nodes l.setting.whitespace role left
           ≡ items_nodes l.setting.whitespace role all;
       shallow : items_too_deep l.setting.depth l.setting.limit left
           ≡ items_too_deep l.setting.depth l.setting.limit all;
