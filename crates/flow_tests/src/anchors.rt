@@ -6,8 +6,9 @@ use html_css::Abs;
 use html_document::{DocumentInfo, HtmlDocument};
 use html_dom::{Frame, FrameItem, HtmlFrame, HtmlNode, Location, Point, Span, Tag};
 use html_encode::HtmlOptions;
-use html_export::{export, html, html_document};
+use html_export::{export, html, html_document, html_document_for_bundle};
 use html_flow::{FrameElem, Item, Pair, Role};
+use html_link::create_link_anchors;
 use std::alloc::Global;
 use std::process::Abort;
 
@@ -27,6 +28,18 @@ fn exported(rt: &impl Abort, alloc: Global, items: &[Pair]) -> String {
     let info = DocumentInfo::new(alloc);
     let (options, frames) = (HtmlOptions::default(), frame_writer(rt, alloc));
     export(alloc, items, &info, &[], 50, &options, &frames).expect(rt, "HTML")
+}
+
+/// The same with anchors put into a document that is there.
+fn anchored(rt: &impl Abort, alloc: Global, items: &[Pair]) -> String {
+    let info = DocumentInfo::new(alloc);
+    let made = html_document_for_bundle(alloc, items, &info, &[], 50);
+    let mut document = made.expect(rt, "a document");
+    let known = document.introspector();
+    let targets = known.link_targets().expect(rt, "memory for targets");
+    let anchors = create_link_anchors(alloc, &mut document, &targets).expect(rt, "anchors");
+    document.introspector_mut().set_anchors(anchors);
+    html_of(rt, alloc, &document)
 }
 
 /// The whole text of a document with that in its body.
@@ -81,6 +94,7 @@ fn assert_row(rt: &impl Abort, alloc: Global, row: &(&str, &str)) {
     let text = html_of(rt, alloc, &document_of(rt, alloc, &items));
     assert_eq!(rt; text.as_str(), wanted.as_str());
     assert_eq!(rt; exported(rt, alloc, &items).as_str(), wanted.as_str());
+    assert_eq!(rt; anchored(rt, alloc, &items).as_str(), wanted.as_str());
 }
 
 fn assert_all(rt: &impl Abort, alloc: Global) {

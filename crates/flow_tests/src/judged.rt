@@ -81,6 +81,47 @@ fn spaces_after_protected_ones(rt: HostRuntime) {
                     r#"<span style="white-space: pre-wrap">&#x20;</span>b</slot>"#,
                 ),
             ),
+            (
+                r#"[["text","x"],["block",[["el","slot",[],[["el","p",[],[]],["el","em",[],[["space"]]],["space"],["text","b"]]]]]]"#,
+                concat!(
+                    r#"x<slot><p></p><em><span style="white-space: pre-wrap">&#x20;</span></em>"#,
+                    r#"<span style="white-space: pre-wrap">&#x20;</span>b</slot>"#,
+                ),
+            ),
+            (
+                r#"[["block",[["el","slot",[],[["el","i",[],[]],["el","em",[],[["space"]]],["el","b",[],[["space"],["text","b"]]]]]]]]"#,
+                concat!(
+                    r#"<slot><i></i><em><span style="white-space: pre-wrap">&#x20;</span></em>"#,
+                    r#"<b><span style="white-space: pre-wrap">&#x20;</span>b</b></slot>"#,
+                ),
+            ),
+        ],
+    );
+}
+
+/// Such a space may stay over several lists, and what stands before the last one decides.
+#[test]
+fn spaces_left_over_twice(rt: HostRuntime) {
+    assert_rows(
+        &rt,
+        rt.alloc(),
+        &LINES,
+        &[
+            (
+                r#"[["text","x"],["block",[["el","slot",[],[["el","em",[],[["space"]]],["block",[["el","slot",[],[["el","em",[],[["space"]]],["space"],["text","b"]]]]]]]]]]"#,
+                concat!(
+                    r#"x<slot><em><span style="white-space: pre-wrap">&#x20;</span></em>"#,
+                    r#"<slot><em><span style="white-space: pre-wrap">&#x20;</span></em> b</slot></slot>"#,
+                ),
+            ),
+            (
+                r#"[["block",[["el","slot",[],[["el","em",[],[["space"]]],["block",[["el","slot",[],[["el","em",[],[["space"]]],["space"],["text","b"]]]]]]]]]]"#,
+                concat!(
+                    r#"<slot><em><span style="white-space: pre-wrap">&#x20;</span></em>"#,
+                    r#"<slot><em><span style="white-space: pre-wrap">&#x20;</span></em>"#,
+                    r#"<span style="white-space: pre-wrap">&#x20;</span>b</slot></slot>"#,
+                ),
+            ),
         ],
     );
 }

@@ -21,6 +21,7 @@ fn texts(rt: HostRuntime) {
                 "<p>a\u{200b} b</p>",
             ),
             (r#"[["el","body",[],[["text","x"]]]]"#, "x"),
+            (r#"[["el","1x",[["a<",""]],[]]]"#, "<1x a<></1x>"),
         ],
     );
 }
@@ -173,7 +174,7 @@ fn nested(rt: &impl Abort, alloc: Global, levels: usize, before: &str, after: &s
 }
 
 /// A list of elements nested that deep.
-pub(crate) fn nested_elements(rt: &impl Abort, alloc: Global, levels: usize) -> String {
+fn nested_elements(rt: &impl Abort, alloc: Global, levels: usize) -> String {
     let inner = nested(rt, alloc, levels, r#"["el","em",[],["#, "]]");
     format!(in alloc; "[{inner}]").expect(rt, "memory for the input")
 }

@@ -4,11 +4,17 @@
 #[cfg(test)]
 mod anchors;
 #[cfg(test)]
+mod bytes;
+#[cfg(test)]
+mod characters;
+#[cfg(test)]
 mod devices;
 #[cfg(test)]
 mod documents;
 #[cfg(test)]
 mod examples;
+#[cfg(test)]
+mod large;
 #[cfg(test)]
 mod names;
 #[cfg(test)]

@@ -1,99 +1,54 @@
 //! Inputs of `doc` that spell no items.
 
-use crate::documents::nested_elements;
-use crate::runs::{BAD_DOCUMENT, answer, assert_row};
-use html_run::Status;
+use crate::runs::{BAD_DOCUMENT, assert_row};
 use std::alloc::Global;
 use std::process::Abort;
 
-fn assert_bad(rt: &impl Abort, alloc: Global, inputs: &[&str]) {
-    for input in inputs {
+static BAD_INPUTS: [&str; 28] = [
+    // No JSON.
+    "",
+    "[] []",
+    r#"[["text","x"]"#,
+    // No list of items.
+    "{}",
+    r#"["text","x"]"#,
+    "[[]]",
+    "[7]",
+    r#"[["frame"]]"#,
+    // Locations.
+    r#"[["start",1.0]]"#,
+    r#"[["start",18446744073709551616]]"#,
+    r#"[["start",-1]]"#,
+    r#"[["start",1,null]]"#,
+    r#"[["end"]]"#,
+    // Fields of items without a body.
+    r#"[["space",1]]"#,
+    r#"[["break",[]]]"#,
+    r#"[["hole",""]]"#,
+    r#"[["text"]]"#,
+    // Bodies.
+    r#"[["block"]]"#,
+    r#"[["block",null]]"#,
+    r#"[["box",[],[]]]"#,
+    r#"[["box",[["block"]]]]"#,
+    r#"[["el","p",[],[["space","x"]]]]"#,
+    // Parts of elements.
+    r#"[["el","p"]]"#,
+    r#"[["el","p",[["id"]],[]]]"#,
+    // The whole shape is judged before any name.
+    r#"[["el","",[],[7]]]"#,
+    r#"[["el","",[],[]],["space",1]]"#,
+    r#"[["block",[["el","p",[["",""]],[]]]],["box"]]"#,
+    r#"[["el","",[["",""]],[]],["text",1]]"#,
+];
+
+fn assert_bad(rt: &impl Abort, alloc: Global) {
+    for input in &BAD_INPUTS {
         assert_row(rt, alloc, &BAD_DOCUMENT, input, "");
     }
 }
 
 #[test]
-fn no_json(rt: HostRuntime) {
-    assert_bad(&rt, rt.alloc(), &["", "[] []", r#"[["text","x"]"#]);
-}
-
-#[test]
-fn no_list(rt: HostRuntime) {
-    assert_bad(
-        &rt,
-        rt.alloc(),
-        &["{}", r#"["text","x"]"#, "[[]]", "[7]", r#"[["frame"]]"#],
-    );
-}
-
-#[test]
-fn locations(rt: HostRuntime) {
-    assert_bad(
-        &rt,
-        rt.alloc(),
-        &[
-            r#"[["start",1.0]]"#,
-            r#"[["start",18446744073709551616]]"#,
-            r#"[["start",-1]]"#,
-            r#"[["start",1,null]]"#,
-            r#"[["end"]]"#,
-        ],
-    );
-}
-
-#[test]
-fn fields_of_lone_items(rt: HostRuntime) {
-    assert_bad(
-        &rt,
-        rt.alloc(),
-        &[
-            r#"[["space",1]]"#,
-            r#"[["break",[]]]"#,
-            r#"[["hole",""]]"#,
-            r#"[["text"]]"#,
-        ],
-    );
-}
-
-#[test]
-fn bodies(rt: HostRuntime) {
-    assert_bad(
-        &rt,
-        rt.alloc(),
-        &[
-            r#"[["block"]]"#,
-            r#"[["block",null]]"#,
-            r#"[["box",[],[]]]"#,
-            r#"[["box",[["block"]]]]"#,
-            r#"[["el","p",[],[["space","x"]]]]"#,
-        ],
-    );
-}
-
-/// The whole shape is judged before any name.
-#[test]
-fn shape_before_names(rt: HostRuntime) {
-    assert_bad(
-        &rt,
-        rt.alloc(),
-        &[
-            r#"[["el","",[],[7]]]"#,
-            r#"[["el","",[],[]],["space",1]]"#,
-            r#"[["block",[["el","p",[["",""]],[]]]],["box"]]"#,
-        ],
-    );
-}
-
-#[test]
-fn no_utf8(rt: HostRuntime) {
-    let mut input = b"[]\xff".as_slice();
-    let (status, _) = answer(&rt, rt.alloc(), &["doc"], &mut input);
-    assert!(rt; status == Status::BadInput);
-}
-
-/// JSON that is nested deeper than its reader goes is bad input.
-#[test]
-fn too_many_levels(rt: HostRuntime) {
-    let input = nested_elements(&rt, rt.alloc(), 66);
-    assert_row(&rt, rt.alloc(), &BAD_DOCUMENT, &input, "");
+fn inputs_that_spell_no_items(rt: HostRuntime) {
+    assert_bad(&rt, rt.alloc());
 }

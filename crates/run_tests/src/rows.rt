@@ -2,7 +2,7 @@
 
 use crate::runs::{PLAIN, assert_rows};
 
-static TEXTS: [(&str, &str); 20] = [
+static TEXTS: [(&str, &str); 22] = [
     // Names and attributes.
     (r#"["el","html",[],[]]"#, "<html></html>"),
     (
@@ -31,6 +31,15 @@ static TEXTS: [(&str, &str); 20] = [
     (
         r#"["el","p",[],[["start",1],["text","a"],["end",1],["text","b"]]]"#,
         "<p>ab</p>",
+    ),
+    // A tree gets no anchors.
+    (
+        r#"["el","p",[],[["end",4],["start",4,4],["end",4],["end",4]]]"#,
+        "<p></p>",
+    ),
+    (
+        r#"["el","p",[["id","loc-1"],["id","loc-2"]],[["start",9,9],["text","x"]]]"#,
+        r#"<p id="loc-1" id="loc-2">x</p>"#,
     ),
     (
         r#"["el","title",[],[["text","a>b & \"c\""]]]"#,

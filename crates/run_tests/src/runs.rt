@@ -11,8 +11,8 @@ use std::process::Abort;
 /// How the rows of a table are run: the program's words, the status, and what is written before and
 /// after the text of each row.
 pub(crate) struct Group {
-    words: &'static [&'static str],
-    status: Status,
+    pub(crate) words: &'static [&'static str],
+    pub(crate) status: Status,
     before: &'static str,
     after: &'static str,
 }
@@ -80,6 +80,14 @@ pub(crate) static REFUSED_DOCUMENT: Group = Group {
     after: "\n",
 };
 
+/// Inputs of `tree` that spell no tree.
+pub(crate) static BAD_TREE: Group = Group {
+    words: &["tree"],
+    status: Status::BadInput,
+    before: "bad input",
+    after: "\n",
+};
+
 /// Inputs of `doc` that spell no items.
 pub(crate) static BAD_DOCUMENT: Group = Group {
     words: &["doc"],
@@ -124,14 +132,31 @@ pub(crate) fn assert_run<R: Read>(
     assert!(rt; out.as_slice() == text.as_bytes());
 }
 
+/// All that is written for a row of the group with that text.
+pub(crate) fn whole(rt: &impl Abort, alloc: Global, group: &Group, text: &str) -> String {
+    let whole = format!(in alloc; "{}{text}{}", group.before, group.after);
+    whole.expect(rt, "memory for the text")
+}
+
+/// Asserts that a run on the bytes answers as the group says. The label tells which row did not.
+pub(crate) fn assert_bytes(
+    rt: &impl Abort,
+    alloc: Global,
+    group: &Group,
+    input: &[u8],
+    text: &str,
+    label: &str,
+) {
+    let mut bytes = input;
+    let (status, out) = answer(rt, alloc, group.words, &mut bytes);
+    assert!(rt; status == group.status, "{label}");
+    let wanted = whole(rt, alloc, group, text);
+    assert!(rt; out.as_slice() == wanted.as_bytes(), "{label}");
+}
+
 /// Asserts that a run on the input answers as the group says.
 pub(crate) fn assert_row(rt: &impl Abort, alloc: Global, group: &Group, input: &str, text: &str) {
-    let mut bytes = input.as_bytes();
-    let (status, out) = answer(rt, alloc, group.words, &mut bytes);
-    assert!(rt; status == group.status, "{input}");
-    let wanted = format!(in alloc; "{}{text}{}", group.before, group.after);
-    let wanted = wanted.expect(rt, "memory for the text");
-    assert!(rt; out.as_slice() == wanted.as_bytes(), "{input}");
+    assert_bytes(rt, alloc, group, input.as_bytes(), text, input);
 }
 
 /// Asserts that a run on each input answers as the group says, with the text that stands beside it.

@@ -107,35 +107,3 @@ static BAD_INPUTS: [&str; 36] = [
 fn inputs_that_spell_no_tree(rt: HostRuntime) {
     assert_bad(&rt, rt.alloc(), &BAD_INPUTS);
 }
-
-#[test]
-fn no_utf8(rt: HostRuntime) {
-    let mut input = b"[\"el\",\"p\",[],[]]\xff".as_slice();
-    assert_run(&rt, rt.alloc(), &mut input, Status::BadInput, BAD_INPUT);
-}
-
-/// The status for elements nested that deep, each in the list of the one around it.
-fn nested(rt: &impl Abort, alloc: Global, levels: usize) -> Status {
-    let mut input = String::new(alloc);
-    for _ in 0..levels {
-        input
-            .push_str(r#"["el","em",[],["#)
-            .expect(rt, "memory for the input");
-    }
-    for _ in 0..levels {
-        input.push_str("]]").expect(rt, "memory for the input");
-    }
-    answer(rt, alloc, &["tree"], &mut input.as_bytes()).0
-}
-
-#[test]
-fn sixty_two_levels(rt: HostRuntime) {
-    assert!(rt; nested(&rt, rt.alloc(), 62) == Status::Done);
-}
-
-/// JSON that is nested deeper than its reader goes is bad input.
-#[test]
-fn too_many_levels(rt: HostRuntime) {
-    assert!(rt; nested(&rt, rt.alloc(), 66) == Status::BadInput);
-    assert!(rt; nested(&rt, rt.alloc(), 5000) == Status::BadInput);
-}

@@ -1,5 +1,5 @@
-use super::{INPUT, OUTPUT};
-use crate::runs::{answer, assert_run};
+use super::{INPUT, OUTPUT, cases};
+use crate::runs::{Group, PLAIN, answer, assert_run};
 use html_run::Status;
 use std::alloc::Global;
 use std::io;
@@ -82,23 +82,40 @@ fn long_input(rt: &impl Abort, alloc: Global, letters: usize) -> String {
 }
 
 /// Asserts that a read that fails ends the run: nothing is written, and nothing is read after that.
-fn assert_failed(rt: &impl Abort, alloc: Global, fails_at: usize, kind: ErrorKind) {
-    let mut reader = Drip::new(INPUT.as_bytes(), fails_at, kind);
-    assert_run(rt, alloc, &mut reader, Status::Failed, "");
-    assert!(rt; reader.reads == fails_at.saturating_add(1));
+fn assert_failed(
+    rt: &impl Abort,
+    alloc: Global,
+    group: &Group,
+    input: &str,
+    fails_at: usize,
+    kind: ErrorKind,
+) {
+    let mut reader = Drip::new(input.as_bytes(), fails_at, kind);
+    let (status, out) = answer(rt, alloc, group.words, &mut reader);
+    assert!(rt; status == Status::Failed, "{input}");
+    assert!(rt; out.is_empty(), "{input}");
+    assert!(rt; reader.reads == fails_at.saturating_add(1), "{input}");
 }
 
+/// Asserts the same of each read.
+fn assert_each_failed(rt: &impl Abort, alloc: Global, group: &Group, input: &str) {
+    for fails_at in 0..=input.len() {
+        assert_failed(rt, alloc, group, input, fails_at, ErrorKind::Other);
+    }
+}
+
+/// What the input spells, and whether it spells anything, makes no difference.
 #[test]
 fn each_read_fails(rt: HostRuntime) {
-    for fails_at in 0..=INPUT.len() {
-        assert_failed(&rt, rt.alloc(), fails_at, ErrorKind::Other);
+    for (group, input, _) in &cases() {
+        assert_each_failed(&rt, rt.alloc(), group, input);
     }
 }
 
 /// A read that was interrupted is not tried again.
 #[test]
 fn interrupted_read(rt: HostRuntime) {
-    assert_failed(&rt, rt.alloc(), 5, ErrorKind::Interrupted);
+    assert_failed(&rt, rt.alloc(), &PLAIN, INPUT, 5, ErrorKind::Interrupted);
 }
 
 #[test]
@@ -120,6 +137,20 @@ fn thousands_of_reads(rt: HostRuntime) {
     let mut reader = Drip::new(input.as_bytes(), usize::MAX, ErrorKind::Other);
     assert_long(&rt, rt.alloc(), &mut reader);
     assert!(rt; reader.reads == input.len().saturating_add(1));
+}
+
+/// The read that tells the end may be the 1,048,576th, and no later one.
+#[test]
+fn as_many_reads_as_there_may_be(rt: HostRuntime) {
+    let input = long_input(&rt, rt.alloc(), 1_048_548);
+    let mut reader = Drip::new(input.as_bytes(), usize::MAX, ErrorKind::Other);
+    let (status, out) = answer(&rt, rt.alloc(), &["tree"], &mut reader);
+    assert!(rt; status == Status::Done);
+    assert!(rt; out.len() == 1_048_570);
+    assert!(rt; reader.reads == 1_048_576);
+    let input = long_input(&rt, rt.alloc(), 1_048_549);
+    let mut reader = Drip::new(input.as_bytes(), usize::MAX, ErrorKind::Other);
+    assert_run(&rt, rt.alloc(), &mut reader, Status::Failed, "");
 }
 
 /// Each read asks for 4,096 bytes.

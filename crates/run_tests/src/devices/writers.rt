@@ -1,5 +1,5 @@
-use super::{INPUT, OUTPUT};
-use crate::runs::words;
+use super::cases;
+use crate::runs::{Group, whole, words};
 use html_run::{Recorded, Status, run};
 use std::alloc::Global;
 use std::io;
@@ -57,78 +57,117 @@ impl Write for Slow {
     }
 }
 
-/// Asserts how the program's work on the input ends, and what the writer has taken.
-fn assert_taken(rt: &impl Abort, alloc: Global, writer: &mut Slow, wanted: Status, taken: &[u8]) {
-    let words = words(rt, alloc, &["tree"]);
-    let mut input = INPUT.as_bytes();
-    let status = run(alloc, &mut input, &mut Recorded::new(&mut *writer), &words);
-    assert!(rt; status == wanted);
-    assert!(rt; writer.taken.as_slice() == taken);
+/// How a run on the input ends. Asserts what the writer has taken.
+fn status_of(
+    rt: &impl Abort,
+    alloc: Global,
+    list: &[&str],
+    input: &str,
+    writer: &mut Slow,
+    taken: &[u8],
+) -> Status {
+    let words = words(rt, alloc, list);
+    let mut bytes = input.as_bytes();
+    let status = run(alloc, &mut bytes, &mut Recorded::new(&mut *writer), &words);
+    assert!(rt; writer.taken.as_slice() == taken, "{input}");
+    status
 }
 
 /// Asserts that a write that fails ends the run: a beginning was written, nothing is tried again,
 /// nothing is flushed.
-fn assert_failed(rt: &impl Abort, alloc: Global, fails_at: usize) {
+fn assert_failed(
+    rt: &impl Abort,
+    alloc: Global,
+    group: &Group,
+    input: &str,
+    text: &str,
+    fails_at: usize,
+) {
     let mut writer = Slow::new(alloc, 1);
     writer.fails_at = fails_at;
-    let beginning = OUTPUT.as_bytes().get(..fails_at).expect(rt, "a beginning");
-    assert_taken(rt, alloc, &mut writer, Status::Failed, beginning);
-    assert!(rt; writer.flushes == 0);
+    let whole = whole(rt, alloc, group, text);
+    let taken = whole.as_bytes().get(..fails_at).expect(rt, "a beginning");
+    let status = status_of(rt, alloc, group.words, input, &mut writer, taken);
+    assert!(rt; status == Status::Failed, "{input}");
+    assert!(rt; writer.flushes == 0, "{input}");
+}
+
+/// Asserts the same of each write.
+fn assert_each_failed(rt: &impl Abort, alloc: Global, group: &Group, input: &str, text: &str) {
+    for fails_at in 0..whole(rt, alloc, group, text).len() {
+        assert_failed(rt, alloc, group, input, text, fails_at);
+    }
 }
 
 #[test]
 fn each_write_fails(rt: HostRuntime) {
-    for fails_at in 0..OUTPUT.len() {
-        assert_failed(&rt, rt.alloc(), fails_at);
+    for (group, input, text) in &cases() {
+        assert_each_failed(&rt, rt.alloc(), group, input, text);
     }
+}
+
+/// Asserts that a write that takes no byte ends the run.
+fn assert_none_taken(rt: &impl Abort, alloc: Global, group: &Group, input: &str) {
+    let mut writer = Slow::new(alloc, 0);
+    let status = status_of(rt, alloc, group.words, input, &mut writer, b"");
+    assert!(rt; status == Status::Failed, "{input}");
+    assert!(rt; writer.writes == 1, "{input}");
 }
 
 #[test]
 fn no_byte_a_write(rt: HostRuntime) {
-    let mut writer = Slow::new(rt.alloc(), 0);
-    assert_taken(&rt, rt.alloc(), &mut writer, Status::Failed, b"");
-    assert!(rt; writer.writes == 1);
+    for (group, input, _) in &cases() {
+        assert_none_taken(&rt, rt.alloc(), group, input);
+    }
+}
+
+/// Asserts that all is written, so many bytes a write, and that the flush comes once, after the last
+/// write.
+fn assert_whole(
+    rt: &impl Abort,
+    alloc: Global,
+    group: &Group,
+    input: &str,
+    whole: &str,
+    most: usize,
+) {
+    let mut writer = Slow::new(alloc, most);
+    let taken = whole.as_bytes();
+    let status = status_of(rt, alloc, group.words, input, &mut writer, taken);
+    assert!(rt; status == group.status, "{input}");
+    assert!(rt; writer.is_flushed, "{input}");
+    assert!(rt; writer.flushes == 1, "{input}");
+}
+
+/// Asserts the same for each number of bytes.
+fn assert_each_whole(rt: &impl Abort, alloc: Global, group: &Group, input: &str, text: &str) {
+    let whole = whole(rt, alloc, group, text);
+    for most in 1usize..=whole.len() {
+        assert_whole(rt, alloc, group, input, &whole, most);
+    }
 }
 
 #[test]
 fn few_bytes_a_write(rt: HostRuntime) {
-    for most in 1usize..=OUTPUT.len() {
-        let mut writer = Slow::new(rt.alloc(), most);
-        assert_taken(
-            &rt,
-            rt.alloc(),
-            &mut writer,
-            Status::Done,
-            OUTPUT.as_bytes(),
-        );
+    for (group, input, text) in &cases() {
+        assert_each_whole(&rt, rt.alloc(), group, input, text);
     }
 }
 
-/// The flush comes once, after the last write.
-#[test]
-fn flush_comes_last(rt: HostRuntime) {
-    let mut writer = Slow::new(rt.alloc(), 7);
-    assert_taken(
-        &rt,
-        rt.alloc(),
-        &mut writer,
-        Status::Done,
-        OUTPUT.as_bytes(),
-    );
-    assert!(rt; writer.is_flushed);
-    assert!(rt; writer.flushes == 1);
+/// Asserts that a flush that fails is a failed write, and is not tried again.
+fn assert_not_flushed(rt: &impl Abort, alloc: Global, group: &Group, input: &str, text: &str) {
+    let mut writer = Slow::new(alloc, 7);
+    writer.flush_fails = true;
+    let whole = whole(rt, alloc, group, text);
+    let taken = whole.as_bytes();
+    let status = status_of(rt, alloc, group.words, input, &mut writer, taken);
+    assert!(rt; status == Status::Failed, "{input}");
+    assert!(rt; writer.flushes == 1, "{input}");
 }
 
 #[test]
 fn flush_fails(rt: HostRuntime) {
-    let mut writer = Slow::new(rt.alloc(), 7);
-    writer.flush_fails = true;
-    assert_taken(
-        &rt,
-        rt.alloc(),
-        &mut writer,
-        Status::Failed,
-        OUTPUT.as_bytes(),
-    );
-    assert!(rt; writer.flushes == 1);
+    for (group, input, text) in &cases() {
+        assert_not_flushed(&rt, rt.alloc(), group, input, text);
+    }
 }

@@ -1,14 +1,15 @@
 //! Writing trees with frames.
 
-ghost use Rattle.std.specs.Prelude.{◌==◌, ◌||◌, [], Some, None, if◌then◌else◌};
+ghost use Rattle.std.specs.Prelude.{◌==◌, [], Some, None, if◌then◌else◌};
 ghost use Rattle.html_dom.specs.Views.{text_view};
 ghost use Rattle.html_encode.specs.Frames.{no_frames, picture_of};
 
 use crate::asserts::{add, tag_of, text_of};
+use crate::encode::large::long_text;
 use crate::encode::{PLAIN, PRETTY, assert_answer};
 use html_css::Abs;
 use html_dom::{Frame, FrameItem, HtmlElement, HtmlFrame, HtmlNode, Location, Point, Span, Tag};
-use html_encode::{FrameFault, FrameWriter};
+use html_encode::{FrameFault, FrameWriter, HtmlOptions};
 use std::alloc::{AllocError, Global};
 use std::process::Abort;
 
@@ -23,42 +24,24 @@ impl FrameWriter for NoFrames {
     }
 }
 
-/// Writes one text for all frames, and refuses the pictures of one number, and all where pretty
-/// writing is on.
-#[derive(Drop)]
-struct OneText {
-    text: String,
-    refused: u64,
-}
-
-impl FrameWriter for OneText {
-    ghost drawing = { λ writer frame pretty.
-        if pretty || (picture_of frame.inner == writer.refused) then None
-        else Some (text_view writer.text) };
-
-    fn write(&self, frame: &HtmlFrame, pretty: bool) -> Result<String, FrameFault> {
-        if pretty || frame.inner.picture == self.refused {
-            return Err(FrameFault::Refused);
-        }
-        match self.text.clone() {
-            Ok(text) => Ok(text),
-            Err(AllocError) => Err(FrameFault::OutOfMemory),
-        }
-    }
-}
-
-/// Writes one text where pretty writing is on, and another where it is off.
+/// Writes one text where pretty writing is on, and another where it is off, and refuses the pictures
+/// of one number.
 #[derive(Drop)]
 struct TwoTexts {
     plain: String,
     pretty: String,
+    refused: u64,
 }
 
 impl FrameWriter for TwoTexts {
     ghost drawing = { λ writer frame pretty.
-        Some (if pretty then text_view writer.pretty else text_view writer.plain) };
+        if picture_of frame.inner == writer.refused then None
+        else Some (if pretty then text_view writer.pretty else text_view writer.plain) };
 
-    fn write(&self, _frame: &HtmlFrame, pretty: bool) -> Result<String, FrameFault> {
+    fn write(&self, frame: &HtmlFrame, pretty: bool) -> Result<String, FrameFault> {
+        if frame.inner.picture == self.refused {
+            return Err(FrameFault::Refused);
+        }
         let text = if pretty { &self.pretty } else { &self.plain };
         match text.clone() {
             Ok(text) => Ok(text),
@@ -119,140 +102,142 @@ fn with_frames(rt: &impl Abort, alloc: Global, name: &str, count: u64) -> HtmlEl
     element
 }
 
-/// An element and how many frames it has, what is written for each, the picture that is refused, and
-/// the answer.
-type PlainRow = (&'static str, u64, &'static str, u64, &'static str);
-
-/// Asserts what plain writing answers.
-fn assert_plain_rows(rt: &impl Abort, alloc: Global, rows: &[PlainRow]) {
-    for (name, count, text, refused, wanted) in rows {
-        let writer = OneText {
-            text: text_of(rt, alloc, text),
-            refused: *refused,
-        };
-        let root = with_frames(rt, alloc, name, *count);
-        assert_answer(rt, &root, &PLAIN, &writer, wanted);
-    }
-}
-
-#[test]
-fn frames_are_their_writers_texts(rt: HostRuntime) {
-    assert_plain_rows(
-        &rt,
-        rt.alloc(),
-        &[
-            (
-                "div",
-                1,
-                "<svg>\n  <g/>\n</svg>",
-                0,
-                "<!DOCTYPE html><div><svg>\n  <g/>\n</svg></div>",
-            ),
-            (
-                "pre",
-                2,
-                "<svg></svg>",
-                0,
-                "<!DOCTYPE html><pre><svg></svg><svg></svg></pre>",
-            ),
-        ],
-    );
-}
-
-#[test]
-fn a_refused_frame_tells_its_span(rt: HostRuntime) {
-    assert_plain_rows(
-        &rt,
-        rt.alloc(),
-        &[("div", 2, "<svg></svg>", 2, "FrameRefused { span: Span(5) }")],
-    );
-}
-
-/// Frames are no text, and a frame is a child: both are told before it is written.
-#[test]
-fn frames_where_none_may_be(rt: HostRuntime) {
-    assert_plain_rows(
-        &rt,
-        rt.alloc(),
-        &[
-            ("script", 2, "<svg></svg>", 1, "RawChild { span: Span(3) }"),
-            ("title", 2, "<svg></svg>", 1, "RawChild { span: Span(3) }"),
-            ("br", 1, "<svg></svg>", 1, "VoidChildren { span: Span(1) }"),
-        ],
-    );
-}
-
-#[test]
-fn a_writer_may_be_out_of_memory(rt: HostRuntime) {
-    let div = with_frames(&rt, rt.alloc(), "div", 1);
-    assert_answer(&rt, &div, &PLAIN, &Exhausted, "OutOfMemory");
-}
-
 /// An element and how many frames it has, what is written for each where pretty writing is off and
-/// where it is on, and the answer.
-type PrettyRow = (&'static str, u64, &'static str, &'static str, &'static str);
+/// where it is on, the picture that is refused, and the answer.
+type Row = (
+    &'static str,
+    u64,
+    &'static str,
+    &'static str,
+    u64,
+    &'static str,
+);
 
-/// Asserts what pretty writing answers.
-fn assert_pretty_rows(rt: &impl Abort, alloc: Global, rows: &[PrettyRow]) {
-    for (name, count, plain, pretty, wanted) in rows {
+/// Asserts what writing answers.
+fn assert_rows(rt: &impl Abort, alloc: Global, options: &HtmlOptions, rows: &[Row]) {
+    for (name, count, plain, pretty, refused, wanted) in rows {
         let writer = TwoTexts {
             plain: text_of(rt, alloc, plain),
             pretty: text_of(rt, alloc, pretty),
+            refused: *refused,
         };
         let root = with_frames(rt, alloc, name, *count);
-        assert_answer(rt, &root, &PRETTY, &writer, wanted);
+        assert_answer(rt, &root, options, &writer, wanted);
     }
 }
 
+/// Frames are no text, and a frame is a child: both are told before it is written.
+static PLAIN_ROWS: [Row; 6] = [
+    (
+        "div",
+        1,
+        "<svg>\n  <g/>\n</svg>",
+        "",
+        0,
+        "<!DOCTYPE html><div><svg>\n  <g/>\n</svg></div>",
+    ),
+    (
+        "pre",
+        2,
+        "<svg></svg>",
+        "",
+        0,
+        "<!DOCTYPE html><pre><svg></svg><svg></svg></pre>",
+    ),
+    ("div", 2, "<svg/>", "", 2, "FrameRefused { span: Span(5) }"),
+    ("script", 2, "<svg/>", "", 1, "RawChild { span: Span(3) }"),
+    ("title", 2, "<svg/>", "", 1, "RawChild { span: Span(3) }"),
+    ("br", 1, "<svg/>", "", 1, "VoidChildren { span: Span(1) }"),
+];
+
 /// The lines of a frame are joined by the indents of its level, and a last line feed is dropped.
-#[test]
-fn lines_of_a_frame_are_indented(rt: HostRuntime) {
-    assert_pretty_rows(
-        &rt,
-        rt.alloc(),
-        &[
-            (
-                "div",
-                1,
-                "<svg/>",
-                "<svg>\n  <g/>\n</svg>",
-                "<!DOCTYPE html>\n<div>\n  <svg>\n    <g/>\n  </svg>\n</div>\n",
-            ),
-            (
-                "div",
-                2,
-                "",
-                "<svg>\r\n</svg>\n",
-                "<!DOCTYPE html>\n<div>\n  <svg>\n  </svg><svg>\n  </svg>\n</div>\n",
-            ),
-        ],
-    );
-}
-
 /// Where pretty writing is off inside an element, the writer of a frame is told so.
-#[test]
-fn a_frame_has_the_mode_of_its_element(rt: HostRuntime) {
-    assert_pretty_rows(
-        &rt,
-        rt.alloc(),
-        &[(
-            "span",
-            1,
-            "<svg>\n</svg>",
-            "<g>\n</g>",
-            "<!DOCTYPE html>\n<span><svg>\n</svg></span>\n",
-        )],
-    );
-}
+static PRETTY_ROWS: [Row; 7] = [
+    (
+        "div",
+        1,
+        "<svg/>",
+        "<svg>\n  <g/>\n</svg>",
+        0,
+        "<!DOCTYPE html>\n<div>\n  <svg>\n    <g/>\n  </svg>\n</div>\n",
+    ),
+    (
+        "div",
+        2,
+        "",
+        "<svg>\r\n</svg>\n",
+        0,
+        "<!DOCTYPE html>\n<div>\n  <svg>\n  </svg><svg>\n  </svg>\n</div>\n",
+    ),
+    (
+        "span",
+        1,
+        "<svg>\n</svg>",
+        "<g>\n</g>",
+        0,
+        "<!DOCTYPE html>\n<span><svg>\n</svg></span>\n",
+    ),
+    ("div", 2, "", "<svg/>", 2, "FrameRefused { span: Span(5) }"),
+    ("span", 3, "<svg/>", "", 3, "FrameRefused { span: Span(7) }"),
+    ("style", 2, "", "<svg/>", 1, "RawChild { span: Span(3) }"),
+    ("br", 1, "", "<svg/>", 1, "VoidChildren { span: Span(1) }"),
+];
 
 #[test]
-fn frames_may_be_refused_in_pretty_writing(rt: HostRuntime) {
-    let div = with_frames(&rt, rt.alloc(), "div", 1);
-    assert_answer(
-        &rt,
-        &div,
-        &PRETTY,
-        &NoFrames,
-        "FrameRefused { span: Span(3) }",
-    );
+fn frames_are_their_writers_texts(rt: HostRuntime) {
+    assert_rows(&rt, rt.alloc(), &PLAIN, &PLAIN_ROWS);
+    assert_rows(&rt, rt.alloc(), &PRETTY, &PRETTY_ROWS);
+}
+
+/// One has no memory, and one refuses all that it is asked for.
+#[test]
+fn writers_that_write_nothing(rt: HostRuntime) {
+    let div = with_frames(&rt, rt.alloc(), "div", 2);
+    let refused = "FrameRefused { span: Span(3) }";
+    for options in [PLAIN, PRETTY] {
+        assert_answer(&rt, &div, &options, &Exhausted, "OutOfMemory");
+        assert_answer(&rt, &div, &options, &NoFrames, refused);
+    }
+}
+
+/// Asserts what is written for two frames of as many lines, where each is the same: what stands before
+/// the first, between two lines, and after the last.
+fn assert_lines(
+    rt: &impl Abort,
+    alloc: Global,
+    options: &HtmlOptions,
+    lines: (&str, usize),
+    around: (&str, &str, &str),
+) {
+    let (line, count) = lines;
+    let (before, between, after) = around;
+    let mut text = text_of(rt, alloc, line);
+    let mut shown = text_of(rt, alloc, line);
+    for _ in 1..count {
+        text.push('\n').expect(rt, "memory for a line");
+        text.push_str(line).expect(rt, "memory for a line");
+        shown.push_str(between).expect(rt, "memory for a line");
+        shown.push_str(line).expect(rt, "memory for a line");
+    }
+    let writer = TwoTexts {
+        plain: text.clone().expect(rt, "memory for a text"),
+        pretty: text,
+        refused: 0,
+    };
+    let wanted = format!(in alloc; "<!DOCTYPE html>{before}{shown}{shown}{after}");
+    let wanted = wanted.expect(rt, "memory for the answer");
+    let root = with_frames(rt, alloc, "div", 2);
+    assert_answer(rt, &root, options, &writer, &wanted);
+}
+
+/// A few lines of a million letters, and many short ones.
+#[test]
+fn long_texts_of_frames(rt: HostRuntime) {
+    let long = long_text(&rt, rt.alloc(), 1_000_000);
+    let plain = ("<div>", "\n", "</div>");
+    let pretty = ("\n<div>\n  ", "\n  ", "\n</div>\n");
+    for lines in [(long.as_str(), 3usize), ("<g/>", 100_000)] {
+        assert_lines(&rt, rt.alloc(), &PLAIN, lines, plain);
+        assert_lines(&rt, rt.alloc(), &PRETTY, lines, pretty);
+    }
 }

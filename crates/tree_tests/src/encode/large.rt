@@ -32,7 +32,7 @@ fn list(rt: &impl Abort, alloc: Global, length: u32) -> HtmlElement {
 }
 
 /// A text of that many `x`.
-fn long_text(rt: &impl Abort, alloc: Global, length: u32) -> String {
+pub(super) fn long_text(rt: &impl Abort, alloc: Global, length: u32) -> String {
     let mut text = String::new(alloc);
     for _ in 0..length {
         text.push('x').expect(rt, "memory for a character");

@@ -1,0 +1,93 @@
+//! What the calls are made on.
+
+use html_css::{Abs, Properties};
+use html_dom::{
+    Frame, FrameItem, HtmlAttrs, HtmlElement, HtmlFrame, HtmlNode, Location, Point, Span, Tag,
+};
+use html_names::{attr, tag};
+use std::alloc::{AllocError, Global};
+
+/// A text.
+pub fn text_of(alloc: Global, text: &str) -> Result<String, AllocError> {
+    String::from_str(alloc, text)
+}
+
+/// A list of one pair, with room for no more.
+pub fn attrs_of(alloc: Global, text: &str) -> Result<HtmlAttrs, AllocError> {
+    let mut pairs = Vec::with_capacity(alloc, 1)?;
+    pairs.push((attr::id, text_of(alloc, text)?))?;
+    Ok(HtmlAttrs(pairs))
+}
+
+/// A colour.
+pub fn css_of(alloc: Global) -> Result<Properties, AllocError> {
+    let mut css = Properties::new(alloc);
+    css.push("color", text_of(alloc, "red")?)?;
+    Ok(css)
+}
+
+/// The start of an element with a label, which links to another.
+pub fn tag_of(alloc: Global) -> Result<Tag, AllocError> {
+    Ok(Tag::Start {
+        location: Location(1),
+        label: Some(text_of(alloc, "here")?),
+        dest: Some(Location(2)),
+    })
+}
+
+/// A place in a frame.
+pub fn place() -> Point {
+    Point {
+        x: Abs::from_millionths(1),
+        y: Abs::from_millionths(2),
+    }
+}
+
+/// A frame with a tag and a link.
+pub fn group_of(alloc: Global) -> Result<Frame, AllocError> {
+    let tag = FrameItem::Tag(tag_of(alloc)?);
+    let link = FrameItem::Link(Some(Location(3)));
+    let items = vec![in alloc; (place(), tag), (place(), link)]?;
+    Ok(Frame { picture: 1, items })
+}
+
+/// A frame with a frame in it.
+pub fn frame_of(alloc: Global) -> Result<Frame, AllocError> {
+    let group = FrameItem::Group(group_of(alloc)?);
+    let items = vec![in alloc; (place(), group), (place(), FrameItem::Other)]?;
+    Ok(Frame { picture: 2, items })
+}
+
+/// A frame with a name, css and an anchor.
+pub fn html_frame_of(alloc: Global) -> Result<HtmlFrame, AllocError> {
+    let inner = frame_of(alloc)?;
+    let mut frame = HtmlFrame::new(alloc, inner, Abs::from_millionths(3), Span(4));
+    frame.id = Some(text_of(alloc, "drawn")?);
+    frame.css = css_of(alloc)?;
+    frame.anchors = vec![in alloc; (place(), text_of(alloc, "anchor")?)]?;
+    Ok(frame)
+}
+
+/// A `p` with css, an attribute, a tag, a text and a frame.
+pub fn inner_of(alloc: Global) -> Result<HtmlElement, AllocError> {
+    let mut element = HtmlElement::new(alloc, tag::p).with_css(css_of(alloc)?);
+    element.attrs = attrs_of(alloc, "inner")?;
+    element.children = vec![in alloc;
+        HtmlNode::from(tag_of(alloc)?),
+        HtmlNode::text(text_of(alloc, "a text")?, Span(5)),
+        HtmlNode::from(html_frame_of(alloc)?),
+    ]?;
+    Ok(element)
+}
+
+/// A `div` with css, an attribute, and a `p` between texts.
+pub fn element_of(alloc: Global) -> Result<HtmlElement, AllocError> {
+    let mut element = HtmlElement::new(alloc, tag::div).with_css(css_of(alloc)?);
+    element.attrs = attrs_of(alloc, "outer")?;
+    element.children = vec![in alloc;
+        HtmlNode::text(text_of(alloc, "one")?, Span(6)),
+        HtmlNode::from(inner_of(alloc)?),
+        HtmlNode::text(text_of(alloc, "two")?, Span(7)),
+    ]?;
+    Ok(element)
+}
