@@ -10,7 +10,7 @@ use crate::runs::{Group, assert_bytes};
 use std::alloc::Global;
 use std::process::Abort;
 
-/// How often a text stands one after another, and the text, in which each `#` stands for the number
+/// How often a text stands one after another, and the text, in which each `%` stands for the number
 /// of the copy, from 1 on.
 type Piece = (usize, &'static str);
 
@@ -33,7 +33,7 @@ fn add_copies(rt: &impl Abort, text: &mut String, times: usize, piece: &str) {
 /// Adds a text with that number in it.
 fn add_numbered(rt: &impl Abort, text: &mut String, number: &str, piece: &str) {
     for c in piece.chars() {
-        if c == '#' {
+        if c == '%' {
             text.push_str(number).expect(rt, "memory for a text");
         } else {
             text.push(c).expect(rt, "memory for a text");
@@ -53,7 +53,7 @@ fn add_each(rt: &impl Abort, alloc: Global, text: &mut String, times: usize, pie
 fn joined(rt: &impl Abort, alloc: Global, pieces: &[Piece]) -> String {
     let mut text = String::new(alloc);
     for (times, piece) in pieces {
-        if piece.contains('#') {
+        if piece.contains('%') {
             add_each(rt, alloc, &mut text, *times, piece);
         } else {
             add_copies(rt, &mut text, *times, piece);

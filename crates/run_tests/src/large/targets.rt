@@ -6,22 +6,22 @@ use crate::runs::DOCUMENT;
 static TARGETS: [Row; 7] = [
     (
         "places with nothing in them",
-        &[(1, r#"["hole"]"#), (40_000, r#",["start",#,#],["end",#]"#)],
-        &[(40_000, "<span id=\"loc-#\"></span>")],
+        &[(1, r#"["hole"]"#), (40_000, r#",["start",%,%],["end",%]"#)],
+        &[(40_000, "<span id=\"loc-%\"></span>")],
     ),
     (
         "places with a text each",
         &[
             (1, r#"["hole"]"#),
-            (5_000, r#",["start",#,#],["text","x"],["end",#]"#),
+            (5_000, r#",["start",%,%],["text","x"],["end",%]"#),
         ],
-        &[(5_000, "<span id=\"loc-#\">x</span>")],
+        &[(5_000, "<span id=\"loc-%\">x</span>")],
     ),
     (
         "places that wait together for a text",
         &[
             (1, r#"["hole"]"#),
-            (5_000, r#",["start",#,#]"#),
+            (5_000, r#",["start",%,%]"#),
             (1, r#",["text","x"]"#),
         ],
         &[(1, "<span id=\"loc-1\">x</span>")],
@@ -30,8 +30,8 @@ static TARGETS: [Row; 7] = [
         "places that end one after another",
         &[
             (1, r#"["hole"]"#),
-            (5_000, r#",["start",#,#]"#),
-            (5_000, r#",["end",#]"#),
+            (5_000, r#",["start",%,%]"#),
+            (5_000, r#",["end",%]"#),
         ],
         &[(1, "<span id=\"loc-1\"></span>")],
     ),
@@ -39,11 +39,11 @@ static TARGETS: [Row; 7] = [
         "names in use",
         &[
             (1, r#"["hole"]"#),
-            (5_000, r#",["el","p",[["id","loc-#"]],[]]"#),
+            (5_000, r#",["el","p",[["id","loc-%"]],[]]"#),
             (1, r#",["start",9,9],["text","x"]"#),
         ],
         &[
-            (5_000, "<p id=\"loc-#\"></p>"),
+            (5_000, "<p id=\"loc-%\"></p>"),
             (1, "<span id=\"loc-5001\">x</span>"),
         ],
     ),
@@ -51,7 +51,7 @@ static TARGETS: [Row; 7] = [
         "elements that have a name",
         &[
             (1, r#"["hole"]"#),
-            (5_000, r#",["start",#,#],["el","p",[["id","q"]],[]]"#),
+            (5_000, r#",["start",%,%],["el","p",[["id","q"]],[]]"#),
         ],
         &[(5_000, "<p id=\"q\"></p>")],
     ),
@@ -59,7 +59,7 @@ static TARGETS: [Row; 7] = [
         "links to one place that come before it",
         &[
             (1, r#"["hole"]"#),
-            (5_000, r#",["start",#,0]"#),
+            (5_000, r#",["start",%,0]"#),
             (1, r#",["start",0],["text","x"]"#),
         ],
         &[(1, "<span id=\"loc-1\">x</span>")],
