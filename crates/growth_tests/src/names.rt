@@ -1,4 +1,4 @@
-//! NumberedNames, numbers for them, and the text that is being written.
+//! Names, numbers for them, and the text that is being written.
 
 use crate::growth::{Answer, Growth, refused, wrong_call};
 use html_names::{HtmlAttr, HtmlTag, NameFault, NameTable, Output, attr, laws, tag};
