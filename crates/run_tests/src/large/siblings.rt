@@ -9,19 +9,19 @@ static MOST: [Row; 2] = [
         "attributes of one name",
         &[
             (1, r#"["el","p",[["a","b"]"#),
-            (49_999, r#",["a","b"]"#),
+            (99_999, r#",["a","b"]"#),
             (1, "],[]]"),
         ],
-        &[(1, "<p"), (50_000, " a=\"b\""), (1, "></p>")],
+        &[(1, "<p"), (100_000, " a=\"b\""), (1, "></p>")],
     ),
     (
         "children",
         &[
             (1, r#"["el","ul",[],[["el","li",[],[]]"#),
-            (49_999, r#",["el","li",[],[]]"#),
+            (199_999, r#",["el","li",[],[]]"#),
             (1, "]]"),
         ],
-        &[(1, "<ul>"), (50_000, "<li></li>"), (1, "</ul>")],
+        &[(1, "<ul>"), (200_000, "<li></li>"), (1, "</ul>")],
     ),
 ];
 
@@ -125,8 +125,12 @@ static LINES: [Row; 2] = [
 ];
 
 #[test]
-fn many_children(rt: HostRuntime) {
+fn most_children(rt: HostRuntime) {
     assert_large(&rt, rt.alloc(), &PLAIN, &MOST);
+}
+
+#[test]
+fn many_children(rt: HostRuntime) {
     assert_large(&rt, rt.alloc(), &PLAIN, &BOTH);
     assert_listed(&rt, rt.alloc(), &DOCUMENT, &BOTH);
     assert_listed(&rt, rt.alloc(), &DOCUMENT, &ITEMS);

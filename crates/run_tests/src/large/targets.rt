@@ -3,12 +3,15 @@
 use super::{Row, assert_listed};
 use crate::runs::DOCUMENT;
 
-static TARGETS: [Row; 7] = [
-    (
-        "places with nothing in them",
-        &[(1, r#"["hole"]"#), (40_000, r#",["start",%,%],["end",%]"#)],
-        &[(40_000, "<span id=\"loc-%\"></span>")],
-    ),
+/// The most ones.
+static MOST: [Row; 1] = [(
+    "places with nothing in them",
+    &[(1, r#"["hole"]"#), (40_000, r#",["start",%,%],["end",%]"#)],
+    &[(40_000, "<span id=\"loc-%\"></span>")],
+)];
+
+/// Items with a place each.
+static TARGETS: [Row; 6] = [
     (
         "places with a text each",
         &[
@@ -65,6 +68,11 @@ static TARGETS: [Row; 7] = [
         &[(1, "<span id=\"loc-1\">x</span>")],
     ),
 ];
+
+#[test]
+fn most_places(rt: HostRuntime) {
+    assert_listed(&rt, rt.alloc(), &DOCUMENT, &MOST);
+}
 
 #[test]
 fn many_places(rt: HostRuntime) {

@@ -6,22 +6,22 @@ use crate::runs::{DOCUMENT, PLAIN, REFUSED, REFUSED_DOCUMENT};
 /// The longest ones, of `tree`.
 static LONGEST: [Row; 2] = [
     (
-        "a text of 4 MB",
+        "a text of 10 MB",
         &[
             (1, r#"["el","p",[],[["text",""#),
-            (40_000, LETTERS),
+            (100_000, LETTERS),
             (1, r#""]]]"#),
         ],
-        &[(1, "<p>"), (40_000, LETTERS), (1, "</p>")],
+        &[(1, "<p>"), (100_000, LETTERS), (1, "</p>")],
     ),
     (
         "beginnings of end tags in a script",
         &[
             (1, r#"["el","script",[],[["text",""#),
-            (300_000, "</scrip"),
+            (1_000_000, "</scrip"),
             (1, r#""]]]"#),
         ],
-        &[(1, "<script>"), (300_000, "</scrip"), (1, "</script>")],
+        &[(1, "<script>"), (1_000_000, "</scrip"), (1, "</script>")],
     ),
 ];
 
@@ -226,8 +226,12 @@ static WRONG: [Row; 3] = [
 ];
 
 #[test]
-fn long_texts(rt: HostRuntime) {
+fn longest_texts(rt: HostRuntime) {
     assert_large(&rt, rt.alloc(), &PLAIN, &LONGEST);
+}
+
+#[test]
+fn long_texts(rt: HostRuntime) {
     assert_large(&rt, rt.alloc(), &PLAIN, &TEXTS);
     assert_listed(&rt, rt.alloc(), &DOCUMENT, &TEXTS);
     assert_listed(&rt, rt.alloc(), &DOCUMENT, &BLANKS);
