@@ -1,0 +1,70 @@
+//! What the calls are made on.
+
+use growth_tests::given::{attrs_of, css_of, frame_of, tag_of, text_of};
+use html_css::Abs;
+use html_dom::Span;
+use html_flow::{FrameElem, HtmlElem, Item, Pair, Role};
+use html_names::{HtmlTag, tag};
+use std::alloc::{AllocError, Global};
+
+/// An item with the role of what it stands in.
+pub fn pair_of(item: Item) -> Pair {
+    Pair {
+        item,
+        role: Role::Inherit,
+    }
+}
+
+/// A frame with a frame in it.
+pub fn frame_elem_of(alloc: Global) -> Result<FrameElem, AllocError> {
+    Ok(FrameElem {
+        frame: frame_of(alloc)?,
+        text_size: Abs::from_millionths(3),
+        span: Span(8),
+    })
+}
+
+/// A text with blanks and a line end.
+pub fn text_item_of(alloc: Global) -> Result<Item, AllocError> {
+    Ok(Item::Text(text_of(alloc, "  two  words \n")?, Span(2)))
+}
+
+/// Items of a line.
+pub fn line_of(alloc: Global) -> Result<Vec<Pair>, AllocError> {
+    let role = Role::Set(text_of(alloc, "note")?);
+    let boxed = vec![in alloc; pair_of(text_item_of(alloc)?)]?;
+    Ok(vec![in alloc;
+        pair_of(Item::Tag(tag_of(alloc)?)),
+        pair_of(Item::Space(Span(1))),
+        pair_of(text_item_of(alloc)?),
+        pair_of(Item::LineBreak(Span(3))),
+        pair_of(Item::Box(Some(boxed), Span(4))),
+        Pair {
+            item: Item::Frame(frame_elem_of(alloc)?),
+            role
+        },
+        pair_of(Item::Hole),
+    ]?)
+}
+
+/// An element with css, an attribute and items of a line.
+pub fn elem_of(alloc: Global, tag: HtmlTag) -> Result<HtmlElem, AllocError> {
+    let mut element = HtmlElem::new(alloc, tag);
+    element.attrs = attrs_of(alloc, "inner")?;
+    element.css = css_of(alloc)?;
+    element.body = Some(line_of(alloc)?);
+    Ok(element)
+}
+
+/// A `p`, a block with items of a line in it, and a table whose cell holds a line.
+pub fn items_of(alloc: Global) -> Result<Vec<Pair>, AllocError> {
+    let block = Item::Block(Some(line_of(alloc)?), Span(5));
+    let cell = elem_of(alloc, tag::td)?;
+    let mut row = HtmlElem::new(alloc, tag::tr);
+    row.body = Some(vec![in alloc; pair_of(Item::Element(cell))]?);
+    Ok(vec![in alloc;
+        pair_of(Item::Element(elem_of(alloc, tag::p)?)),
+        pair_of(block),
+        pair_of(Item::Element(row)),
+    ]?)
+}

@@ -1,0 +1,271 @@
+//! Items: copies of them, the nodes that they become, and elements that arguments make.
+
+use crate::given::{elem_of, frame_elem_of, items_of, line_of, pair_of, text_item_of};
+use crate::shown::is_shown;
+use growth_tests::given::text_of;
+use growth_tests::growth::{Answer, Growth, made, refused, wrong_call};
+use html_dom::{HtmlNode, Span};
+use html_flow::{
+    Arg, ArgValue, Args, ConstructFault, ConversionLevel, ElementInfo, FlowFault, FrameElem,
+    HtmlElem, Item, Pair, Role, Whitespace, construct, convert_to_nodes, html_block_fragment,
+    html_inline_fragment, html_math_fragment,
+};
+use html_names::{Refused, attr, tag};
+use html_values::{AttrType, ListType, NativeType, Value};
+use std::alloc::{AllocError, Global};
+use std::test::Fail;
+
+/// A value that can be copied.
+#[derive(Debug, Drop)]
+enum Thing {
+    Pair(Pair),
+    Role(Role),
+    Frame(FrameElem),
+    Item(Item),
+    Element(HtmlElem),
+}
+
+/// How items become nodes.
+#[derive(Clone, Copy)]
+enum Form {
+    Nodes(ConversionLevel),
+    Block,
+    Inline,
+    Math,
+}
+
+/// The calls on items, each with the text by which what it is called on is shown.
+#[derive(Drop)]
+enum ItemCall {
+    Copy(Thing, String),
+    WithAttr(HtmlElem, String, String),
+    WithOptionalAttr(HtmlElem, String, String),
+    Convert(Form, Vec<Pair>, String),
+    Construct(ElementInfo, Args, String),
+}
+
+impl Growth for ItemCall {
+    fn attempt(self, alloc: Global) -> Answer<ItemCall> {
+        match self {
+            ItemCall::Copy(thing, shown) => copied(thing, shown),
+            ItemCall::WithAttr(element, value, shown) => with_attr(element, value, shown),
+            ItemCall::WithOptionalAttr(element, value, shown) => {
+                with_optional_attr(element, value, shown)
+            }
+            ItemCall::Convert(form, items, shown) => converted(alloc, form, items, shown),
+            ItemCall::Construct(info, args, shown) => constructed(alloc, info, args, shown),
+        }
+    }
+}
+
+fn copy_of(thing: &Thing) -> Result<Thing, AllocError> {
+    Ok(match thing {
+        Thing::Pair(pair) => Thing::Pair(pair.try_clone()?),
+        Thing::Role(role) => Thing::Role(role.try_clone()?),
+        Thing::Frame(frame) => Thing::Frame(frame.try_clone()?),
+        Thing::Item(item) => Thing::Item(item.try_clone()?),
+        Thing::Element(element) => Thing::Element(element.try_clone()?),
+    })
+}
+
+fn copied(thing: Thing, shown: String) -> Answer<ItemCall> {
+    match copy_of(&thing) {
+        Ok(copy) => made(is_shown(&copy, &shown)),
+        Err(AllocError) => refused(is_shown(&thing, &shown), ItemCall::Copy(thing, shown)),
+    }
+}
+
+fn with_attr(element: HtmlElem, value: String, shown: String) -> Answer<ItemCall> {
+    match element.with_attr(attr::class, value) {
+        Ok(_) => Answer::Made,
+        Err(
+            Refused {
+                back: (element, name, value),
+            },
+        ) => {
+            let is_back = name == attr::class && value.as_str() == "held";
+            refused(
+                is_back && is_shown(&element, &shown),
+                ItemCall::WithAttr(element, value, shown),
+            )
+        }
+    }
+}
+
+fn with_optional_attr(element: HtmlElem, value: String, shown: String) -> Answer<ItemCall> {
+    match element.with_optional_attr(attr::class, Some(value)) {
+        Ok(_) => Answer::Made,
+        Err(
+            Refused {
+                back: (element, name, value),
+            },
+        ) => {
+            let Some(value) = value else {
+                return Answer::Wrong;
+            };
+            let is_back = name == attr::class && value.as_str() == "held";
+            refused(
+                is_back && is_shown(&element, &shown),
+                ItemCall::WithOptionalAttr(element, value, shown),
+            )
+        }
+    }
+}
+
+/// The nodes that the items become in that way.
+fn nodes_of(alloc: Global, form: Form, items: &[Pair]) -> Result<Vec<HtmlNode>, FlowFault> {
+    let (span, whitespace) = (Span(1), Whitespace::Normal);
+    match form {
+        Form::Nodes(level) => convert_to_nodes(alloc, items, level, whitespace, None, 0, 9),
+        Form::Block => html_block_fragment(alloc, items, span, whitespace, Some("x"), 0, 9),
+        Form::Inline => html_inline_fragment(alloc, items, span, whitespace, None, 0, 9),
+        Form::Math => html_math_fragment(alloc, items, span, whitespace, None, 0, 9),
+    }
+}
+
+fn converted(alloc: Global, form: Form, items: Vec<Pair>, shown: String) -> Answer<ItemCall> {
+    match nodes_of(alloc, form, &items) {
+        Ok(nodes) => made(!nodes.is_empty()),
+        Err(FlowFault::OutOfMemory) => {
+            let is_kept = is_shown(&items, &shown);
+            refused(is_kept, ItemCall::Convert(form, items, shown))
+        }
+        Err(FlowFault::TooDeep { .. }) => Answer::Wrong,
+    }
+}
+
+fn constructed(
+    alloc: Global,
+    info: ElementInfo,
+    mut args: Args,
+    shown: String,
+) -> Answer<ItemCall> {
+    match construct(alloc, &info, &mut args) {
+        Ok(element) => made(element.attrs.0.len() == 2 && args.items.len() == 1),
+        Err(ConstructFault::OutOfMemory) => {
+            let is_kept = is_shown(&args, &shown);
+            refused(is_kept, ItemCall::Construct(info, args, shown))
+        }
+        Err(_) => Answer::Wrong,
+    }
+}
+
+/// A copy of the value, which is shown as it is now.
+fn copy_call(alloc: Global, thing: Thing) -> Result<ItemCall, AllocError> {
+    let shown = format!(in alloc; "{thing:?}")?;
+    Ok(ItemCall::Copy(thing, shown))
+}
+
+/// Each call that makes a copy.
+fn copies(alloc: Global) -> Result<Vec<ItemCall>, AllocError> {
+    let role = Role::Set(text_of(alloc, "note")?);
+    let pair = Pair {
+        item: text_item_of(alloc)?,
+        role: Role::Set(text_of(alloc, "math")?),
+    };
+    Ok(vec![in alloc;
+        copy_call(alloc, Thing::Pair(pair))?,
+        copy_call(alloc, Thing::Role(role))?,
+        copy_call(alloc, Thing::Frame(frame_elem_of(alloc)?))?,
+        copy_call(
+            alloc,
+            Thing::Item(Item::Block(Some(line_of(alloc)?), Span(6)))
+        )?,
+        copy_call(alloc, Thing::Element(elem_of(alloc, tag::p)?))?,
+    ]?)
+}
+
+/// The items become nodes in that way.
+fn conversion(alloc: Global, form: Form) -> Result<ItemCall, AllocError> {
+    let items = items_of(alloc)?;
+    let shown = format!(in alloc; "{items:?}")?;
+    Ok(ItemCall::Convert(form, items, shown))
+}
+
+/// Each way in which items become nodes.
+fn conversions(alloc: Global) -> Result<Vec<ItemCall>, AllocError> {
+    Ok(vec![in alloc;
+        conversion(alloc, Form::Nodes(ConversionLevel::Block))?,
+        conversion(alloc, Form::Nodes(ConversionLevel::Inline))?,
+        conversion(alloc, Form::Block)?,
+        conversion(alloc, Form::Inline)?,
+        conversion(alloc, Form::Math)?,
+    ]?)
+}
+
+/// The arguments `href`, `class`, one that no type is there for, and a body.
+fn args_of(alloc: Global) -> Result<Args, AllocError> {
+    let classes = vec![in alloc; Value::Str(text_of(alloc, "held")?)]?;
+    let rows = [
+        (
+            Some("href"),
+            ArgValue::Plain(Value::Str(text_of(alloc, "x")?)),
+        ),
+        (Some("class"), ArgValue::Plain(Value::Array(classes))),
+        (Some("other"), ArgValue::Plain(Value::Auto)),
+        (
+            None,
+            ArgValue::Body(vec![in alloc; pair_of(text_item_of(alloc)?)]?),
+        ),
+    ];
+    let mut items = Vec::new(alloc);
+    for (name, value) in rows {
+        items.push(arg_of(alloc, name, value)?)?;
+    }
+    Ok(Args { items })
+}
+
+/// An argument with that name.
+fn arg_of(alloc: Global, name: Option<&str>, value: ArgValue) -> Result<Arg, AllocError> {
+    let name = match name {
+        Some(name) => Some(text_of(alloc, name)?),
+        None => None,
+    };
+    let span = Span(7);
+    Ok(Arg { name, span, value })
+}
+
+/// An `a` with a text and a list of texts.
+fn info_of(alloc: Global) -> Result<ElementInfo, AllocError> {
+    let inner = AttrType::Native(NativeType::Str);
+    let list = AttrType::List(ListType::new(alloc, inner, ' ', false)?);
+    let attrs = vec![in alloc;
+        (attr::href, AttrType::Native(NativeType::Str)),
+        (attr::class, list),
+    ]?;
+    Ok(ElementInfo::new(tag::a, attrs))
+}
+
+/// Each call that changes something.
+fn changes(alloc: Global) -> Result<Vec<ItemCall>, AllocError> {
+    let (element, other) = (elem_of(alloc, tag::p)?, elem_of(alloc, tag::p)?);
+    let shown = format!(in alloc; "{element:?}")?;
+    let args = args_of(alloc)?;
+    let args_shown = format!(in alloc; "{args:?}")?;
+    Ok(vec![in alloc;
+        ItemCall::WithAttr(element, text_of(alloc, "held")?, shown.clone()?),
+        ItemCall::WithOptionalAttr(other, text_of(alloc, "held")?, shown),
+        ItemCall::Construct(info_of(alloc)?, args, args_shown),
+    ]?)
+}
+
+#[test]
+fn copied_items(rt: HostRuntime) -> Result<(), Fail> {
+    let calls = copies(rt.alloc())?;
+    assert_eq!(rt; wrong_call(rt.alloc(), calls)?, None);
+    Ok(())
+}
+
+#[test]
+fn converted_items(rt: HostRuntime) -> Result<(), Fail> {
+    let calls = conversions(rt.alloc())?;
+    assert_eq!(rt; wrong_call(rt.alloc(), calls)?, None);
+    Ok(())
+}
+
+#[test]
+fn changed_items(rt: HostRuntime) -> Result<(), Fail> {
+    let calls = changes(rt.alloc())?;
+    assert_eq!(rt; wrong_call(rt.alloc(), calls)?, None);
+    Ok(())
+}

@@ -1,0 +1,253 @@
+//! Values of attributes: their texts, and what values are cast to.
+
+use growth_tests::given::text_of;
+use growth_tests::growth::{Answer, Growth, made, refused, wrong_call};
+use html_names::Refused;
+use html_values::civil::date;
+use html_values::{
+    AttrType, AutoValue, CastFault, Datetime, Dir, Duration, HorizontalDir, IconSize,
+    ImageCandidate, IntoAttr, ListType, Moment, NativeType, NoneUndefined, NoneValue, OnOffBool,
+    Rgba, Str, TrueFalseBool, Value, YesNoBool,
+};
+use std::alloc::{AllocError, Global};
+use std::num::{NonZeroI64, NonZeroU64};
+use std::test::Fail;
+
+/// A value that has a text as an attribute.
+#[derive(Drop)]
+enum Attribute {
+    None(NoneValue),
+    Undefined(NoneUndefined),
+    Auto(AutoValue),
+    TrueFalse(TrueFalseBool),
+    YesNo(YesNoBool),
+    OnOff(OnOffBool),
+    Int(i64),
+    NonNegativeInt(u64),
+    NonZeroInt(NonZeroI64),
+    PositiveInt(NonZeroU64),
+    Str(Str),
+    Char(char),
+    Color(Rgba),
+    Datetime(Datetime),
+    Duration(Duration),
+    Dir(Dir),
+    HorizontalDir(HorizontalDir),
+    IconSize(IconSize),
+    ImageCandidate(ImageCandidate),
+}
+
+/// The calls on values, with the texts that they give.
+#[derive(Drop)]
+enum ValueCall {
+    Text(Attribute, &'static str),
+    Cast(AttrType, Value, &'static str),
+    List(NativeType),
+}
+
+impl Growth for ValueCall {
+    fn attempt(self, alloc: Global) -> Answer<ValueCall> {
+        match self {
+            ValueCall::Text(value, wanted) => text(alloc, value, wanted),
+            ValueCall::Cast(attr_type, value, wanted) => cast(alloc, attr_type, value, wanted),
+            ValueCall::List(inner) => list(alloc, inner),
+        }
+    }
+}
+
+/// The text of the value.
+fn attr_text(alloc: Global, value: &Attribute) -> Result<String, AllocError> {
+    match value {
+        Attribute::None(value) => value.into_attr(alloc),
+        Attribute::Undefined(value) => value.into_attr(alloc),
+        Attribute::Auto(value) => value.into_attr(alloc),
+        Attribute::TrueFalse(value) => value.into_attr(alloc),
+        Attribute::YesNo(value) => value.into_attr(alloc),
+        Attribute::OnOff(value) => value.into_attr(alloc),
+        Attribute::Int(value) => value.into_attr(alloc),
+        Attribute::NonNegativeInt(value) => value.into_attr(alloc),
+        Attribute::NonZeroInt(value) => value.into_attr(alloc),
+        Attribute::PositiveInt(value) => value.into_attr(alloc),
+        Attribute::Str(value) => value.into_attr(alloc),
+        Attribute::Char(value) => value.into_attr(alloc),
+        Attribute::Color(value) => value.into_attr(alloc),
+        Attribute::Datetime(value) => value.into_attr(alloc),
+        Attribute::Duration(value) => value.into_attr(alloc),
+        Attribute::Dir(value) => value.into_attr(alloc),
+        Attribute::HorizontalDir(value) => value.into_attr(alloc),
+        Attribute::IconSize(value) => value.into_attr(alloc),
+        Attribute::ImageCandidate(value) => value.into_attr(alloc),
+    }
+}
+
+fn text(alloc: Global, value: Attribute, wanted: &'static str) -> Answer<ValueCall> {
+    match attr_text(alloc, &value) {
+        Ok(text) => made(text.as_str() == wanted),
+        Err(AllocError) => refused(true, ValueCall::Text(value, wanted)),
+    }
+}
+
+fn cast(
+    alloc: Global,
+    attr_type: AttrType,
+    value: Value,
+    wanted: &'static str,
+) -> Answer<ValueCall> {
+    match attr_type.cast(alloc, &value) {
+        Ok(Some(text)) => made(text.as_str() == wanted),
+        Err(CastFault::OutOfMemory) => refused(true, ValueCall::Cast(attr_type, value, wanted)),
+        _ => Answer::Wrong,
+    }
+}
+
+fn list(alloc: Global, native: NativeType) -> Answer<ValueCall> {
+    match ListType::new(alloc, AttrType::Native(native), ',', false) {
+        Ok(_) => Answer::Made,
+        Err(Refused { back }) => {
+            let is_back = matches!(back, AttrType::Native(inner) if inner == native);
+            refused(is_back, ValueCall::List(native))
+        }
+    }
+}
+
+/// A colour.
+const RED: Rgba = Rgba {
+    r: 255,
+    g: 0,
+    b: 16,
+    a: 128,
+};
+
+/// Each kind of words and numbers.
+fn words_and_numbers(alloc: Global) -> Result<Vec<ValueCall>, AllocError> {
+    Ok(vec![in alloc;
+        ValueCall::Text(Attribute::None(NoneValue), "none"),
+        ValueCall::Text(Attribute::Undefined(NoneUndefined), "undefined"),
+        ValueCall::Text(Attribute::Auto(AutoValue), "auto"),
+        ValueCall::Text(Attribute::TrueFalse(TrueFalseBool(true)), "true"),
+        ValueCall::Text(Attribute::YesNo(YesNoBool(true)), "yes"),
+        ValueCall::Text(Attribute::OnOff(OnOffBool(true)), "on"),
+        ValueCall::Text(Attribute::Int(-12), "-12"),
+        ValueCall::Text(Attribute::NonNegativeInt(12), "12"),
+        ValueCall::Text(Attribute::Str(Str(text_of(alloc, "<a b")?)), "<a b"),
+        ValueCall::Text(Attribute::Char('é'), "é"),
+        ValueCall::Text(Attribute::Color(RED), "#ff001080"),
+        ValueCall::Text(Attribute::Duration(Duration(694_861)), "1w 1d 1h 1m 1s"),
+        ValueCall::Text(Attribute::Dir(Dir::TTB), "ttb"),
+        ValueCall::Text(Attribute::HorizontalDir(HorizontalDir::RTL), "rtl"),
+    ]?)
+}
+
+/// A source of an image, with a width.
+fn image_of(alloc: Global) -> Result<ImageCandidate, AllocError> {
+    Ok(ImageCandidate {
+        src: text_of(alloc, "x.png")?,
+        width: NonZeroU64::new(480),
+    })
+}
+
+/// Each value of several parts, and the numbers that are not zero.
+fn values_of_parts(alloc: Global) -> Result<Vec<ValueCall>, AllocError> {
+    let size = IconSize {
+        width: 16,
+        height: 0,
+    };
+    let mut calls = vec![in alloc;
+        ValueCall::Text(Attribute::IconSize(size), "16x0"),
+        ValueCall::Text(Attribute::ImageCandidate(image_of(alloc)?), "x.png 480w"),
+    ]?;
+    if let Some(number) = NonZeroI64::new(-7) {
+        calls.push(ValueCall::Text(Attribute::NonZeroInt(number), "-7"))?;
+    }
+    if let Some(number) = NonZeroU64::new(7) {
+        calls.push(ValueCall::Text(Attribute::PositiveInt(number), "7"))?;
+    }
+    if let Ok(day) = Datetime::new(Moment::Date(date(2024, 2, 9))) {
+        calls.push(ValueCall::Text(Attribute::Datetime(day), "2024-02-09"))?;
+    }
+    Ok(calls)
+}
+
+/// A cast to a type of one kind.
+fn native(native: NativeType, value: Value, wanted: &'static str) -> ValueCall {
+    ValueCall::Cast(AttrType::Native(native), value, wanted)
+}
+
+/// Casts to types of words, numbers and texts.
+fn casts_of_words(alloc: Global) -> Result<Vec<ValueCall>, AllocError> {
+    Ok(vec![in alloc;
+        native(NativeType::NoValue, Value::None, "none"),
+        native(NativeType::NoneUndefined, Value::None, "undefined"),
+        native(NativeType::Auto, Value::Auto, "auto"),
+        native(NativeType::TrueFalse, Value::Bool(false), "false"),
+        native(NativeType::YesNo, Value::Bool(false), "no"),
+        native(NativeType::OnOff, Value::Bool(false), "off"),
+        native(NativeType::Int, Value::Int(-1), "-1"),
+        native(NativeType::NonNegativeInt, Value::Int(0), "0"),
+        native(NativeType::PositiveInt, Value::Int(1), "1"),
+        native(NativeType::Str, Value::Str(text_of(alloc, "ab")?), "ab"),
+        native(NativeType::Char, Value::Str(text_of(alloc, "é")?), "é"),
+    ]?)
+}
+
+/// Casts to types of other values.
+fn casts_of_parts(alloc: Global) -> Result<Vec<ValueCall>, AllocError> {
+    let size = vec![in alloc; Value::Int(16), Value::Int(16)]?;
+    let (src, width) = (text_of(alloc, "x.png")?, Some(480));
+    let day = Value::Datetime(Moment::Date(date(2024, 2, 9)));
+    Ok(vec![in alloc;
+        native(NativeType::Datetime, day, "2024-02-09"),
+        native(NativeType::Duration, Value::Duration(59), "59s"),
+        native(NativeType::Color, Value::Color(RED), "#ff001080"),
+        native(NativeType::HorizontalDir, Value::Dir(Dir::LTR), "ltr"),
+        native(NativeType::IconSize, Value::Array(size), "16x16"),
+        native(
+            NativeType::ImageCandidate,
+            Value::Image { src, width },
+            "x.png 480w"
+        ),
+    ]?)
+}
+
+/// Casts to one of several texts, to one of several types, and to a list.
+fn casts_of_several(alloc: Global) -> Result<Vec<ValueCall>, AllocError> {
+    let texts = AttrType::Strings(vec![in alloc; text_of(alloc, "a")?, text_of(alloc, "b")?]?);
+    let inner = AttrType::Native(NativeType::Str);
+    let list = AttrType::List(ListType::new(alloc, inner, ',', false)?);
+    let int = AttrType::Native(NativeType::Int);
+    let union = AttrType::Union(vec![in alloc; int, AttrType::Native(NativeType::Auto)]?);
+    let (one, two) = (text_of(alloc, "a")?, text_of(alloc, "b")?);
+    let array = Value::Array(vec![in alloc; Value::Str(one), Value::Str(two)]?);
+    Ok(vec![in alloc;
+        ValueCall::Cast(texts, Value::Str(text_of(alloc, "b")?), "b"),
+        ValueCall::Cast(union, Value::Auto, "auto"),
+        ValueCall::Cast(list, array, "a, b"),
+        ValueCall::List(NativeType::Int),
+    ]?)
+}
+
+#[test]
+fn texts_of_words(rt: HostRuntime) -> Result<(), Fail> {
+    let calls = words_and_numbers(rt.alloc())?;
+    assert_eq!(rt; wrong_call(rt.alloc(), calls)?, None);
+    Ok(())
+}
+
+#[test]
+fn texts_of_parts(rt: HostRuntime) -> Result<(), Fail> {
+    let calls = values_of_parts(rt.alloc())?;
+    assert_eq!(rt; calls.len(), 5);
+    assert_eq!(rt; wrong_call(rt.alloc(), calls)?, None);
+    Ok(())
+}
+
+#[test]
+fn casts(rt: HostRuntime) -> Result<(), Fail> {
+    let calls = casts_of_words(rt.alloc())?;
+    assert_eq!(rt; wrong_call(rt.alloc(), calls)?, None);
+    let calls = casts_of_parts(rt.alloc())?;
+    assert_eq!(rt; wrong_call(rt.alloc(), calls)?, None);
+    let calls = casts_of_several(rt.alloc())?;
+    assert_eq!(rt; wrong_call(rt.alloc(), calls)?, None);
+    Ok(())
+}
