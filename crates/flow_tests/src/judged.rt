@@ -108,14 +108,20 @@ fn spaces_left_over_twice(rt: HostRuntime) {
         &LINES,
         &[
             (
-                r#"[["text","x"],["block",[["el","slot",[],[["el","em",[],[["space"]]],["block",[["el","slot",[],[["el","em",[],[["space"]]],["space"],["text","b"]]]]]]]]]]"#,
+                concat!(
+                    r#"[["text","x"],["block",[["el","slot",[],[["el","em",[],[["space"]]],"#,
+                    r#"["block",[["el","slot",[],[["el","em",[],[["space"]]],["space"],["text","b"]]]]]]]]]]"#,
+                ),
                 concat!(
                     r#"x<slot><em><span style="white-space: pre-wrap">&#x20;</span></em>"#,
                     r#"<slot><em><span style="white-space: pre-wrap">&#x20;</span></em> b</slot></slot>"#,
                 ),
             ),
             (
-                r#"[["block",[["el","slot",[],[["el","em",[],[["space"]]],["block",[["el","slot",[],[["el","em",[],[["space"]]],["space"],["text","b"]]]]]]]]]]"#,
+                concat!(
+                    r#"[["block",[["el","slot",[],[["el","em",[],[["space"]]],"#,
+                    r#"["block",[["el","slot",[],[["el","em",[],[["space"]]],["space"],["text","b"]]]]]]]]]]"#,
+                ),
                 concat!(
                     r#"<slot><em><span style="white-space: pre-wrap">&#x20;</span></em>"#,
                     r#"<slot><em><span style="white-space: pre-wrap">&#x20;</span></em>"#,

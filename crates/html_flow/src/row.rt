@@ -175,7 +175,7 @@ impl Row {
         }
     }
 
-    /// Adds a node, which is best no tag.
+    /// Adds a node between. A tag is rather added by [`Row::push_tag`], where it stands apart.
     fn push_other(&mut self, alloc: Global, node: Draft) -> Result<(), AllocError>
         ensures { OnOk result (row_shown self.new ≡ row_shown self.old ++ draft_shown node ∷ []) }
     {
