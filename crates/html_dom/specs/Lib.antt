@@ -2,6 +2,7 @@ pub mod Attributes
 pub mod Frames
 pub mod Equal
 pub mod FrameEqual
+pub mod FrameFree
 pub mod FrameViews
 pub mod Hashes
 pub mod Lending

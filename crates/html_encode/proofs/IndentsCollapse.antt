@@ -340,7 +340,7 @@ body_is_not_raw = refl
 is_body : (name : List ℕ) → bytes_eq name (codes "body") ≡ true → is_raw name ≡ false
 is_body name e = ap is_raw ((bytes_eq-Decides name (codes "body")).0 e) ∙ body_is_not_raw
 
-body_normal : (ns below : NodesView) → body_of ns ≡ Some below →
+pub body_normal : (ns below : NodesView) → body_of ns ≡ Some below →
     body_in (nodes_normal ns) ≡ Some (nodes_normal below)
 unfolding nodes_normal
 body_normal none below e = cc

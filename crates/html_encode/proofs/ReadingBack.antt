@@ -21,7 +21,8 @@ use Rattle.html_encode.specs.Faults.{attrs_faults, void_faults, nodes_raw_faults
 use Rattle.html_dom.specs.PlainTree.{Plain, branch, no_plains, plain, put_words, nodes_normal, element_normal}
 use Rattle.html_encode.specs.Reader.{drops_feed, ◌then◌, Outside, Content, Fresh, Less, Open, State, with_text, complete, holds_text_alone, run, step, answer, read}
 use Rattle.html_encode.specs.Frames.{Frames}
-use Rattle.html_encode.specs.ReadingBack.{HeadIsNamed, NodeIsNamed, NodesAreNamed, NodeIsFrameFree, NodesAreFrameFree, ElementIsNamed, ElementIsFrameFree, PlainReadsBack, PrettyReadsBack, ReadsBack}
+use Rattle.html_dom.specs.FrameFree.{NodeIsFrameFree, NodesAreFrameFree, ElementIsFrameFree}
+use Rattle.html_encode.specs.ReadingBack.{HeadIsNamed, NodeIsNamed, NodesAreNamed, ElementIsNamed, PlainReadsBack, PrettyReadsBack, ReadsBack}
 use Rattle.html_encode.proofs.Runs.{read_on, left_empty, right_empty, test_fails}
 use Rattle.html_encode.proofs.References.{chars_read, raw_good, text_read}
 use Rattle.html_encode.proofs.TagsBack.{started, start_read, end_read}

@@ -2,6 +2,7 @@
 use Rattle.std.specs.Prelude.{◌≡◌, true, List, [], Some}
 use Rattle.std.specs.List.{AllByRecursion}
 use Rattle.html_names.specs.Characters.{is_tag_char, is_attr_char, IsOf}
+use Rattle.html_dom.specs.FrameFree.{ElementIsFrameFree}
 use Rattle.html_dom.specs.Tree.{TextPair, Head, NodeView, tag_node, text_node, element_node, frame_node, NodesView, none, node, ElementView}
 use Rattle.html_dom.specs.PlainTree.{element_normal}
 use Rattle.html_encode.specs.Faults.{document_faults}
@@ -34,21 +35,6 @@ unfoldable mutual
 
 abbrev pub ElementIsNamed : ElementView → Type 0
 ElementIsNamed e = NodeIsNamed (element_node e.0 e.1)
-
--- no frame at any depth
-unfoldable mutual
-  pub NodeIsFrameFree : NodeView → Type 0
-  NodeIsFrameFree (tag_node t) = Unit {0}
-  NodeIsFrameFree (text_node s span) = Unit {0}
-  NodeIsFrameFree (element_node h kids) = NodesAreFrameFree kids
-  NodeIsFrameFree (frame_node b) = ⊥
-
-  pub NodesAreFrameFree : NodesView → Type 0
-  NodesAreFrameFree none = Unit {0}
-  NodesAreFrameFree (node n ns) = NodeIsFrameFree n × NodesAreFrameFree ns
-
-abbrev pub ElementIsFrameFree : ElementView → Type 0
-ElementIsFrameFree e = NodesAreFrameFree e.1
 
 -- the plain text of a frame-free tree without a fault reads as the tree's normal form
 abbrev pub PlainReadsBack : Frames → Type 0

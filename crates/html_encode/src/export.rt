@@ -4,7 +4,7 @@ ghost use Rattle.html_dom.specs.Views.{text_view, element_view};
 ghost use Rattle.html_encode.specs.Faults.{document_faults};
 ghost use Rattle.html_encode.specs.Indented.{element_layout, ElementEndsWell};
 ghost use Rattle.html_encode.specs.Reader.{read};
-ghost use Rattle.html_encode.specs.ReadingBack.{ElementIsFrameFree};
+ghost use Rattle.html_dom.specs.FrameFree.{ElementIsFrameFree};
 ghost use Rattle.html_encode.specs.Text.{document_text};
 ghost use Rattle.html_encode.specs.Writes.{Makes};
 

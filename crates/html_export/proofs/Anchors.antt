@@ -1,42 +1,37 @@
 -- The root of a document with anchors, and what its anchors are.
 use Rattle.std.proofs.Common.{◌≡◌, ℕ, zero, suc, Bool, true, List, [], ◌∷◌, drop, Option, Some, None, refl, sym, subst}
+use Rattle.html_dom.specs.FrameFree.{NodeIsFrameFree, NodesAreFrameFree, ElementIsFrameFree}
 use Rattle.html_dom.specs.Tree.{tag_node, text_node, element_node, frame_node, NodesView, none, node, ElementView, new_element}
 use Rattle.html_names.specs.Names.{stands_in}
 use Rattle.html_document.specs.Documents.{DocumentView, document_root, element_at, with_element, given_root}
 use Rattle.html_link.specs.NewNames.{Name}
 use Rattle.html_link.specs.Events.{Targets}
 use Rattle.html_link.specs.Namings.{Naming}
-use Rattle.html_link.specs.Anchors.{text_in, span_before, nodes_size, nodes_anchored, element_namings, element_anchored}
-use Rattle.html_link.specs.Answered.{first_ids, AreFrameFree}
+use Rattle.html_link.specs.Anchors.{span_before, nodes_size, nodes_anchored, element_namings, element_anchored}
+use Rattle.html_link.specs.Answered.{first_ids}
 use Rattle.html_link.specs.LinkAnchors.{document_targets}
 use Rattle.html_link.proofs.Consequences.{answers_are_first_ids}
 use Rattle.html_export.specs.Linked.{document_linked, document_with_anchors, AnchorsAreFirstIds}
 
 -- anchors take no frame away
-free_before : (ns : NodesView) (cs : List Naming) → AreFrameFree (nodes_anchored cs ns)
-    → AreFrameFree ns
-unfolding nodes_anchored AreFrameFree
+free_before : (ns : NodesView) (cs : List Naming) → NodesAreFrameFree (nodes_anchored cs ns) →
+    NodesAreFrameFree ns
+unfolding nodes_anchored NodeIsFrameFree NodesAreFrameFree
 free_before none cs f = tt
 free_before (node n ns) [] f = f
-free_before (node (tag_node t) ns) (c ∷ cs) f = free_before ns cs (by_name c.made f)
+free_before (node (tag_node t) ns) (c ∷ cs) f = (tt, free_before ns cs (by_name c.made f.1))
   where
-    by_name : (made : Option Name) → AreFrameFree (span_before made (nodes_anchored cs ns))
-        → AreFrameFree (nodes_anchored cs ns)
+    by_name : (made : Option Name) → NodesAreFrameFree (span_before made (nodes_anchored cs ns)) →
+        NodesAreFrameFree (nodes_anchored cs ns)
     by_name None h = h
     by_name (Some n) h = h.1
-free_before (node (text_node s span) ns) (c ∷ cs) f = free_before ns cs (by_name c.made f)
-  where
-    by_name : (made : Option Name)
-        → AreFrameFree (node (text_in made s span) (nodes_anchored cs ns))
-        → AreFrameFree (nodes_anchored cs ns)
-    by_name None h = h
-    by_name (Some n) h = h.1
+free_before (node (text_node s span) ns) (c ∷ cs) f = (tt, free_before ns cs f.1)
 free_before (node (element_node h kids) ns) (c ∷ cs) f =
     (free_before kids cs f.0, free_before ns (drop (nodes_size kids) cs) f.1)
-free_before (node (frame_node b) ns) (c ∷ cs) f = absurd f
+free_before (node (frame_node b) ns) (c ∷ cs) f = absurd f.0
 
-root_free_before : (x : Targets) (e : ElementView) → AreFrameFree (element_anchored x e).1
-    → AreFrameFree e.1
+root_free_before : (x : Targets) (e : ElementView) → ElementIsFrameFree (element_anchored x e) →
+    ElementIsFrameFree e
 unfolding element_anchored
 root_free_before x e f = free_before e.1 (element_namings x e) f
 
@@ -63,7 +58,7 @@ module _ (is_target : ℕ → Bool) (d : DocumentView) where
   linked_ids free l n is =
       let x = document_targets is_target d in
       let e = document_root d in
-      let before = root_free_before x e (subst (λ r. AreFrameFree r.1) anchored_root free) in
+      let before = root_free_before x e (subst ElementIsFrameFree anchored_root free) in
       subst (λ r. stands_in (first_ids r.1) n ≡ true) (sym anchored_root)
       (answers_are_first_ids x e before l n is)
 

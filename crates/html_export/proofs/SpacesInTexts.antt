@@ -5,7 +5,7 @@ use Rattle.html_dom.specs.Tree.{ElementView}
 use Rattle.html_dom.specs.Views.{text_view}
 use Rattle.html_encode.specs.Indented.{element_layout, ElementEndsWell}
 use Rattle.html_encode.specs.Reader.{read}
-use Rattle.html_encode.specs.ReadingBack.{ElementIsFrameFree}
+use Rattle.html_dom.specs.FrameFree.{ElementIsFrameFree}
 use Rattle.html_encode.specs.declared.fault.ExportFault.{ExportFault}
 use Rattle.html_flow.specs.Items.{ItemsView, no_items}
 use Rattle.html_spaces.specs.ItemText.{items_text}

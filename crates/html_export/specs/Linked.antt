@@ -1,9 +1,10 @@
 -- Documents of items with anchors for all locations to which links lead.
 use Rattle.std.specs.Prelude.{◌≡◌, ℕ, Bool, true, List, Some}
+use Rattle.html_dom.specs.FrameFree.{ElementIsFrameFree}
 use Rattle.html_names.specs.Names.{stands_in}
 use Rattle.html_document.specs.Documents.{InfoView, DocumentView, document_root}
 use Rattle.html_flow.specs.Items.{ItemsView}
-use Rattle.html_link.specs.Answered.{first_ids, AreFrameFree}
+use Rattle.html_link.specs.Answered.{first_ids}
 use Rattle.html_link.specs.LinkAnchors.{document_anchored, document_anchor}
 use Rattle.html_export.specs.Assembled.{assembled_document}
 
@@ -22,6 +23,6 @@ linked_document info items notes = document_with_anchors (assembled_document inf
 
 -- in a document without frames each anchor is the first `id` of an element below the root
 abbrev pub AnchorsAreFirstIds : DocumentView → Type 0
-AnchorsAreFirstIds d = AreFrameFree (document_root d).1 → (location : ℕ) (name : List ℕ) →
+AnchorsAreFirstIds d = ElementIsFrameFree (document_root d) → (location : ℕ) (name : List ℕ) →
     d.introspector.anchor location ≡ Some name →
     stands_in (first_ids (document_root d).1) name ≡ true

@@ -5,7 +5,8 @@ use Rattle.html_dom.specs.Tree.{ElementView}
 use Rattle.html_encode.specs.Faults as writing
 use Rattle.html_encode.specs.Frames.{Frames}
 use Rattle.html_encode.specs.Indented.{element_layout, ElementEndsWell}
-use Rattle.html_encode.specs.ReadingBack.{ElementIsNamed, ElementIsFrameFree}
+use Rattle.html_dom.specs.FrameFree.{ElementIsFrameFree}
+use Rattle.html_encode.specs.ReadingBack.{ElementIsNamed}
 use Rattle.html_encode.specs.Text.{document_text}
 use Rattle.html_encode.specs.declared.options.HtmlOptions.{HtmlOptions}
 use Rattle.html_document.specs.Documents.{InfoView, DocumentView, document_root}

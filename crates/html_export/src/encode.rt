@@ -8,7 +8,7 @@ ghost use Rattle.html_encode.specs.FaultViews.{IsFirstView};
 ghost use Rattle.html_encode.specs.Faults.{document_faults};
 ghost use Rattle.html_encode.specs.Indented.{element_layout, ElementEndsWell};
 ghost use Rattle.html_encode.specs.Reader.{read};
-ghost use Rattle.html_encode.specs.ReadingBack.{ElementIsFrameFree};
+ghost use Rattle.html_dom.specs.FrameFree.{ElementIsFrameFree};
 ghost use Rattle.html_encode.specs.Text.{document_text};
 ghost use Rattle.html_encode.specs.Writes.{Makes};
 ghost use Rattle.html_document.specs.Documents.{document_root};

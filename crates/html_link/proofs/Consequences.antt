@@ -1,6 +1,7 @@
 -- What follows for trees without frames, and for locations that are no targets.
 use Rattle.std.proofs.Common.{◌≡◌, ℕ, Bool, true, false, List, [], ◌∷◌, ◌++◌, drop, Option, Some, None, refl, ap, sym, ◌∙◌, subst}
 use Rattle.std.proofs.lemmas.List.{append-nil}
+use Rattle.html_dom.specs.FrameFree.{NodeIsFrameFree, NodesAreFrameFree}
 use Rattle.html_dom.specs.Frames.{PointView, FrameView, frame, FrameItemsView, no_items, item, tag_item, group_item, link_item, other_item}
 use Rattle.html_dom.specs.Tree.{starts, ends, tag_node, text_node, element_node, frame_node, NodesView, none, node}
 use Rattle.html_names.specs.Names.{stands_in}
@@ -8,45 +9,44 @@ use Rattle.html_link.specs.NewNames.{Name, element_names}
 use Rattle.html_link.specs.Events.{Targets, with_frame_start, items_starts, frame_starts}
 use Rattle.html_link.specs.Namings.{Naming}
 use Rattle.html_link.specs.Anchors.{text_in, span_before, nodes_size, nodes_anchored, element_namings, element_anchored}
-use Rattle.html_link.specs.Answered.{names_shown, first_ids, AreFrameFree, AnswersAreFirstIds, StaysFrameFree, NoTargetNoChange}
+use Rattle.html_link.specs.Answered.{names_shown, first_ids, AnswersAreFirstIds, StaysFrameFree, NoTargetNoChange}
 use Rattle.html_link.specs.Walk.{walk, at_first}
 use Rattle.html_link.proofs.Showing.{answers_are_shown}
 use Rattle.html_link.proofs.States.{or_else-none}
 use Rattle.html_link.proofs.Walks.{one_walk_serves}
 
-free-anchored : (ns : NodesView) (cs : List Naming) → AreFrameFree ns →
-    AreFrameFree (nodes_anchored cs ns)
-unfolding nodes_anchored AreFrameFree
+free-anchored : (ns : NodesView) (cs : List Naming) → NodesAreFrameFree ns →
+    NodesAreFrameFree (nodes_anchored cs ns)
+unfolding nodes_anchored NodeIsFrameFree NodesAreFrameFree
 free-anchored none cs f = f
 free-anchored (node n ns) [] f = f
-free-anchored (node (tag_node t) ns) (c ∷ cs) f = by_name c.made (free-anchored ns cs f)
+free-anchored (node (tag_node t) ns) (c ∷ cs) f = (tt, by_name c.made (free-anchored ns cs f.1))
   where
-    by_name : (made : Option Name) → AreFrameFree (nodes_anchored cs ns) →
-        AreFrameFree (span_before made (nodes_anchored cs ns))
+    by_name : (made : Option Name) → NodesAreFrameFree (nodes_anchored cs ns) →
+        NodesAreFrameFree (span_before made (nodes_anchored cs ns))
     by_name None h = h
     by_name (Some n) h = (tt, h)
-free-anchored (node (text_node s span) ns) (c ∷ cs) f = by_name c.made (free-anchored ns cs f)
+free-anchored (node (text_node s span) ns) (c ∷ cs) f = (by_name c.made, free-anchored ns cs f.1)
   where
-    by_name : (made : Option Name) → AreFrameFree (nodes_anchored cs ns) →
-        AreFrameFree (node (text_in made s span) (nodes_anchored cs ns))
-    by_name None h = h
-    by_name (Some n) h = (tt, h)
+    by_name : (made : Option Name) → NodeIsFrameFree (text_in made s span)
+    by_name None = tt
+    by_name (Some n) = (tt, tt)
 free-anchored (node (element_node h kids) ns) (c ∷ cs) f =
     (free-anchored kids cs f.0, free-anchored ns (drop (nodes_size kids) cs) f.1)
-free-anchored (node (frame_node b) ns) (c ∷ cs) f = absurd f
+free-anchored (node (frame_node b) ns) (c ∷ cs) f = absurd f.0
 
 pub stays_frame_free : StaysFrameFree
 unfolding element_anchored
 stays_frame_free x e f = free-anchored e.1 (element_namings x e) f
 
-shown_first : (ns : NodesView) → AreFrameFree ns → names_shown ns ≡ first_ids ns
-unfolding names_shown first_ids AreFrameFree
+shown_first : (ns : NodesView) → NodesAreFrameFree ns → names_shown ns ≡ first_ids ns
+unfolding names_shown first_ids NodeIsFrameFree NodesAreFrameFree
 shown_first none f = refl
-shown_first (node (tag_node t) ns) f = shown_first ns f
-shown_first (node (text_node s span) ns) f = shown_first ns f
+shown_first (node (tag_node t) ns) f = shown_first ns f.1
+shown_first (node (text_node s span) ns) f = shown_first ns f.1
 shown_first (node (element_node h kids) ns) f =
     rw (shown_first kids f.0, shown_first ns f.1) refl
-shown_first (node (frame_node b) ns) f = absurd f
+shown_first (node (frame_node b) ns) f = absurd f.0
 
 pub answers_are_first_ids : AnswersAreFirstIds
 answers_are_first_ids x e f l n is =

@@ -1,5 +1,6 @@
 -- Names that are answered stand in the new tree.
 use Rattle.std.specs.Prelude.{◌≡◌, ℕ, false, true, List, [], ◌++◌, Some, None, option_to_list}
+use Rattle.html_dom.specs.FrameFree.{ElementIsFrameFree}
 use Rattle.html_dom.specs.Tree.{tag_node, text_node, element_node, frame_node, NodesView, none, node, ElementView}
 use Rattle.html_names.specs.Names.{stands_in}
 use Rattle.html_link.specs.NewNames.{Name, first_id, frame_names}
@@ -24,14 +25,6 @@ first_ids (node (element_node h kids) ns) =
     option_to_list (first_id h) ++ (first_ids kids ++ first_ids ns)
 first_ids (node (frame_node f) ns) = first_ids ns
 
--- no frame at any depth
-unfoldable pub AreFrameFree : NodesView → Type 0
-AreFrameFree none = Unit {0}
-AreFrameFree (node (tag_node t) ns) = AreFrameFree ns
-AreFrameFree (node (text_node s span) ns) = AreFrameFree ns
-AreFrameFree (node (element_node h kids) ns) = AreFrameFree kids × AreFrameFree ns
-AreFrameFree (node (frame_node f) ns) = ⊥
-
 -- each name that is answered is the first `id` of an element below the root, or a frame's `id`, or
 -- one of a frame's anchors
 abbrev pub AnswersAreShown : Type 0
@@ -40,13 +33,13 @@ AnswersAreShown = (x : Targets) (e : ElementView) (l : ℕ) (n : Name) → ancho
 
 -- in a tree without frames it is the first `id` of an element
 abbrev pub AnswersAreFirstIds : Type 0
-AnswersAreFirstIds = (x : Targets) (e : ElementView) → AreFrameFree e.1 → (l : ℕ) (n : Name) →
+AnswersAreFirstIds = (x : Targets) (e : ElementView) → ElementIsFrameFree e → (l : ℕ) (n : Name) →
     anchor_of x e l ≡ Some n → stands_in (first_ids (element_anchored x e).1) n ≡ true
 
 -- anchors bring no frame
 abbrev pub StaysFrameFree : Type 0
-StaysFrameFree = (x : Targets) (e : ElementView) → AreFrameFree e.1 →
-    AreFrameFree (element_anchored x e).1
+StaysFrameFree = (x : Targets) (e : ElementView) → ElementIsFrameFree e →
+    ElementIsFrameFree (element_anchored x e)
 
 -- without a target the tree stays, and no location gets a name
 abbrev pub NoTargetNoChange : Type 0

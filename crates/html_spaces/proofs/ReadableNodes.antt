@@ -8,7 +8,7 @@ use Rattle.html_dom.specs.Tree.{tag_node, text_node, element_node, frame_node, N
 use Rattle.html_encode.specs.Indented.{NodeEndsWell, NodesEndWell}
 use Rattle.html_encode.specs.IndentsCollapse.{body_of}
 use Rattle.html_encode.specs.Layout.{is_pretty_inside}
-use Rattle.html_encode.specs.ReadingBack.{NodeIsFrameFree, NodesAreFrameFree}
+use Rattle.html_dom.specs.FrameFree.{NodeIsFrameFree, NodesAreFrameFree}
 use Rattle.html_spaces.specs.ReadableNodes.{AreReadable, ReadableNodesCanBeRead, AnchorsKeepReadable, AnchorsKeepFrameFree, AnchorsKeepBody}
 use Rattle.html_spaces.specs.Anchored.{Anchored, at_end, at_tag, after_tag, at_text, around_text, at_element, of_element, at_frame, IsAny}
 

@@ -5,7 +5,7 @@ use Rattle.html_dom.specs.Styled.{nodes_styled}
 use Rattle.html_dom.specs.Tree.{NodeView, tag_node, text_node, element_node, frame_node, NodesView, none, node}
 use Rattle.html_encode.specs.Indented.{NodesEndWell}
 use Rattle.html_encode.specs.IndentsCollapse.{NodesAreEdged}
-use Rattle.html_encode.specs.ReadingBack.{NodesAreFrameFree}
+use Rattle.html_dom.specs.FrameFree.{NodesAreFrameFree}
 use Rattle.html_flow.specs.Converted.{RoleText, converted_nodes}
 use Rattle.html_flow.specs.Items.{ItemsView}
 use Rattle.html_flow.specs.declared.convert.ConversionLevel.TheVariants.{Block}

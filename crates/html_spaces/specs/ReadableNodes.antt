@@ -5,7 +5,7 @@ use Rattle.html_names.specs.Kinds.{is_raw}
 use Rattle.html_dom.specs.Tree.{NodeView, tag_node, text_node, element_node, frame_node, NodesView, none, node}
 use Rattle.html_encode.specs.Indented.{NodesEndWell}
 use Rattle.html_encode.specs.IndentsCollapse.{body_of}
-use Rattle.html_encode.specs.ReadingBack.{NodesAreFrameFree}
+use Rattle.html_dom.specs.FrameFree.{NodesAreFrameFree}
 use Rattle.html_spaces.specs.Anchored.{Anchored, IsAny}
 
 abbrev mutual

@@ -10,7 +10,8 @@ use Rattle.html_encode.specs.Frames.{Frames}
 use Rattle.html_encode.specs.Indented.{ElementEndsWell}
 use Rattle.html_encode.specs.IndentsCollapse.{NodesAreEdged, body_of, body_in}
 use Rattle.html_encode.specs.Reader.{read}
-use Rattle.html_encode.specs.ReadingBack.{ElementIsNamed, ElementIsFrameFree}
+use Rattle.html_dom.specs.FrameFree.{ElementIsFrameFree}
+use Rattle.html_encode.specs.ReadingBack.{ElementIsNamed}
 use Rattle.html_encode.specs.Text.{document_text}
 use Rattle.html_encode.specs.declared.options.HtmlOptions.{HtmlOptions}
 use Rattle.html_flow.specs.Converted.{RoleText, converted_nodes}
