@@ -1,5 +1,5 @@
 -- Names that are made of clean labels are clean: they are the label or `loc`, a hyphen and digits.
-use Rattle.std.proofs.Common.{◌≡◌, ℕ, zero, suc, ◌+◌, ◌%◌, ◌<◌, ◌≤◌, ◌^◌, Bool, true, false, ◌&&◌, ◌==◌, List, [], ◌∷◌, ◌++◌, codes, Option, Some, None, refl, arith}
+use Rattle.std.proofs.Common.{◌≡◌, ℕ, zero, suc, ◌+◌, ◌%◌, ◌<◌, ◌^◌, Bool, true, false, ◌&&◌, ◌==◌, List, [], ◌∷◌, ◌++◌, codes, Option, Some, None, refl, arith}
 use Rattle.std.specs.Prelude.{decimal, if◌then◌else◌}
 use Rattle.std.proofs.lemmas.Bool.{and_parts, false≢true}
 use Rattle.std.proofs.lemmas.Fmt.{decimal_by_steps}
@@ -11,6 +11,7 @@ use Rattle.html_link.specs.NewNames.{Name, numbered, first_free, stem_of, first_
 use Rattle.html_link.specs.Events.{Start, Event, other_start, target_start, end_tag, element, text, html_frame, Targets, start_event, events}
 use Rattle.html_link.specs.Groups.{serves, waiting_after, cut_at, cuts, own_name, first_label, label_of, label_for}
 use Rattle.html_link.specs.Namings.{made_for, used_after, namings}
+use Rattle.html_link.proofs.Numbers.{free_within, first_is_low}
 use Rattle.html_spaces.specs.CleanNodes.{is_clean_text, is_clean_content, is_clean_head, is_clean_node, are_clean_nodes, IsCleanId}
 use Rattle.html_spaces.proofs.Each.{Each, Each-append}
 use Rattle.html_export.proofs.AnchoredRoots.{Passing, MadePasses}
@@ -37,19 +38,6 @@ decimal_is_text = decimal_by_steps (λ m ds. all is_text_char ds ≡ true)
     (λ m ds l h. all_append is_text_char ds ((48 + m % 10) ∷ []) h
     (rw (digit_is_text (m % 10) (omega arith)) refl))
 
-free_within : (stem : Name) (used : Name → Bool) (tries n : ℕ) →
-    first_free stem used tries n ≤ n + tries
-unfolding first_free
-free_within stem used zero n = omega arith
-free_within stem used (suc tries) n =
-    by_test (used (numbered stem n)) (free_within stem used tries (suc n))
-  where
-    by_test : (b : Bool) → first_free stem used tries (suc n) ≤ suc n + tries →
-        elim b as (λ a. ℕ) [ true ↦ first_free stem used tries (suc n) | false ↦ n ]
-        ≤ n + suc tries
-    by_test true so = omega (arith, so)
-    by_test false so = omega arith
-
 -- names
 
 numbered_is_clean : (stem : Name) (n : ℕ) → n < 2 ^ 64 → IsCleanId stem →
@@ -61,16 +49,12 @@ stem_is_clean : (label : Name) → IsCleanId label → IsCleanId (stem_of label)
 stem_is_clean [] e = refl
 stem_is_clean (c ∷ cs) e = e
 
-low : (label : Name) → first_number label ≤ 2
-low [] = omega arith
-low (c ∷ cs) = omega arith
-
 free_is_clean : (label : Name) (used : Name → Bool) → IsCleanId label →
     IsCleanId (free_name label used)
 free_is_clean label used e =
     let n = first_free (stem_of label) used (2 ^ 63) (first_number label) in
     let within = free_within (stem_of label) used (2 ^ 63) (first_number label) in
-    let start = low label in
+    let start = first_is_low label in
     numbered_is_clean (stem_of label) n (omega (arith, within, start)) (stem_is_clean label e)
 
 new_is_clean : (label : Option Name) (used : Name → Bool) → is_clean_text label ≡ true →

@@ -106,9 +106,9 @@ all_tried stem names (suc t) n e =
     by_test true s e so = (s, so e)
     by_test false s e so = cc
 
-low : (label : Name) → first_number label ≤ 2
-low [] = omega arith
-low (c ∷ cs) = omega arith
+pub first_is_low : (label : Name) → first_number label ≤ 2
+first_is_low [] = omega arith
+first_is_low (c ∷ cs) = omega arith
 
 free_is_new : (label : Name) (names : List Name) → length names ≤ 2 ^ 63 →
     stands_in names (free_name label (stands_in names)) ≡ false
@@ -118,7 +118,7 @@ free_is_new label names b = by_test (stands_in names (free_name label (stands_in
     by_test false e = refl
     by_test true e =
         let n = first_number label in
-        let l = low label in
+        let l = first_is_low label in
         let all = all_tried (stem_of label) names (2 ^ 63) n e in
         let k = fewer (stem_of label) names (2 ^ 63) n (omega (arith, l)) all in
         absurd (omega (arith, k))
@@ -237,10 +237,10 @@ at_least stem used (suc t) n = by_test (used (numbered stem n)) (at_least stem u
     by_test true so = omega (arith, so)
     by_test false so = omega arith
 
-at_most : (stem : Name) (used : Name → Bool) (t n : ℕ) → first_free stem used t n ≤ n + t
+pub free_within : (stem : Name) (used : Name → Bool) (t n : ℕ) → first_free stem used t n ≤ n + t
 unfolding first_free
-at_most stem used zero n = omega arith
-at_most stem used (suc t) n = by_test (used (numbered stem n)) (at_most stem used t (suc n))
+free_within stem used zero n = omega arith
+free_within stem used (suc t) n = by_test (used (numbered stem n)) (free_within stem used t (suc n))
   where
     by_test : (b : Bool) → first_free stem used t (suc n) ≤ suc n + t →
         elim b as (λ c. ℕ) [ true ↦ first_free stem used t (suc n) | false ↦ n ] ≤ n + suc t
@@ -255,7 +255,7 @@ used_below_found label used =
     let first = first_number label in
     record {
       from_first = at_least stem used (2 ^ 63) first;
-      within = at_most stem used (2 ^ 63) first;
+      within = free_within stem used (2 ^ 63) first;
       below = below_first stem used (2 ^ 63) first;
     }
 

@@ -1,15 +1,14 @@
 -- What is seen of the body of a document that is written and read.
-use Rattle.std.proofs.Common.{◌≡◌, ℕ, Bool, true, false, List, [], ◌∷◌, Some, inl, inr, refl, ap, ◌∙◌, codes, bytes_eq}
-use Rattle.std.proofs.lemmas.Bool.{cases_Bool}
+use Rattle.std.proofs.Common.{◌≡◌, Bool, true, false, Some, ap, ◌∙◌}
 use Rattle.html_names.specs.Kinds.{is_raw}
-use Rattle.html_dom.specs.PlainTree.{words, branch, Plains, no_plains, plain, put_words, nodes_normal, element_normal}
+use Rattle.html_dom.specs.PlainTree.{nodes_normal, element_normal}
 use Rattle.html_dom.specs.Styled.{nodes_styled}
-use Rattle.html_dom.specs.Tree.{tag_node, text_node, element_node, frame_node, NodesView, none, node, ElementView}
+use Rattle.html_dom.specs.Tree.{NodesView, ElementView}
 use Rattle.html_encode.specs.Frames.{Frames}
 use Rattle.html_encode.specs.Indented.{element_layout}
-use Rattle.html_encode.specs.IndentsCollapse.{NodesAreEdged, body_of, body_in}
+use Rattle.html_encode.specs.IndentsCollapse.{NodesAreEdged, body_of}
 use Rattle.html_encode.specs.Text.{document_text, plain_options, pretty_options}
-use Rattle.html_encode.proofs.IndentsCollapse.{body_collapses}
+use Rattle.html_encode.proofs.IndentsCollapse.{body_collapses, body_normal}
 use Rattle.html_encode.proofs.ReadingBack.{reads_back}
 use Rattle.html_flow.specs.Converted.{converted_nodes}
 use Rattle.html_flow.specs.declared.convert.ConversionLevel.TheVariants.{Block}
@@ -17,33 +16,6 @@ use Rattle.html_flow.specs.declared.convert.Whitespace.TheVariants.{Normal}
 use Rattle.html_spaces.specs.SeenBody.{plains_seen, body_seen, tree_seen, text_seen, CanBeRead, BodyIsSeen, ItemsAreSeen}
 use Rattle.html_spaces.proofs.EdgedNodes.{converted_are_edged}
 use Rattle.html_spaces.proofs.SpacesStay.{spaces_stay}
-
--- the body of a normal form
-
-past_words : (s : List ℕ) (ps : Plains) → body_in (put_words s ps) ≡ body_in ps
-past_words [] ps = refl
-past_words (c ∷ cs) no_plains = refl
-past_words (c ∷ cs) (plain (words t) ps) = refl
-past_words (c ∷ cs) (plain (branch name attrs kids) ps) = refl
-
-body_normal : (ns body : NodesView) → body_of ns ≡ Some body →
-    body_in (nodes_normal ns) ≡ Some (nodes_normal body)
-unfolding nodes_normal
-body_normal none body e = cc
-body_normal (node (tag_node t) ns) body e = body_normal ns body e
-body_normal (node (text_node s span) ns) body e =
-    past_words s (nodes_normal ns) ∙ body_normal ns body e
-body_normal (node (frame_node b) ns) body e = body_normal ns body e
-body_normal (node (element_node h kids) ns) body e =
-    elim (cases_Bool (bytes_eq h.name (codes "body"))) [
-      | inl t ↦
-          let f : Some kids ≡ Some body = rw t at e in
-          let same : kids ≡ body = cc in
-          rw (t, same) refl
-      | inr t ↦
-          let f : body_of ns ≡ Some body = rw t at e in
-          rw t (body_normal ns body f)
-    ]
 
 -- of the tree that a root's text reads as
 
