@@ -5,7 +5,7 @@ use growth_item_tests::shown::is_shown;
 use growth_tests::growth::{Answer, Growth, made, refused, wrong_call};
 use html_document::{DocumentInfo, HtmlDocument, HtmlOutput, Locale};
 use html_dom::Location;
-use html_link::create_link_anchors;
+use html_link::{create_link_anchors, with_link_anchors};
 use html_names::Refused;
 use std::alloc::{AllocError, Global};
 use std::collections::BTreeSet;
@@ -20,12 +20,14 @@ enum Thing {
     Document(HtmlDocument),
 }
 
-/// The calls on documents, each with the text by which what it is called on is shown.
+/// The calls on documents, each with the text by which what it is called on is shown. The last one
+/// consumes a document that is made for each attempt; it remembers whether it was refused yet.
 #[derive(Drop)]
 enum DocumentCall {
     New(HtmlOutput, DocumentInfo, (String, String)),
     Copy(Thing, String),
     Anchors(HtmlDocument, BTreeSet<Location>, String),
+    WithAnchors(BTreeSet<Location>, bool),
 }
 
 impl Growth for DocumentCall {
@@ -35,6 +37,9 @@ impl Growth for DocumentCall {
             DocumentCall::Copy(thing, shown) => copied(thing, shown),
             DocumentCall::Anchors(document, targets, shown) => {
                 anchors(alloc, document, targets, shown)
+            }
+            DocumentCall::WithAnchors(targets, was_refused) => {
+                with_anchors(alloc, targets, was_refused)
             }
         }
     }
@@ -95,6 +100,20 @@ fn anchors(
     }
 }
 
+fn with_anchors(
+    alloc: Global,
+    targets: BTreeSet<Location>,
+    was_refused: bool,
+) -> Answer<DocumentCall> {
+    let Ok(document) = document_of(alloc) else {
+        return Answer::Refused(DocumentCall::WithAnchors(targets, was_refused));
+    };
+    match with_link_anchors(alloc, document, &targets) {
+        Ok((_, anchors)) => made(was_refused && anchors.contains_key(&Location(1))),
+        Err(AllocError) => Answer::Refused(DocumentCall::WithAnchors(targets, true)),
+    }
+}
+
 /// A copy of the value, which is shown as it is now.
 fn copy_call(alloc: Global, thing: Thing) -> Result<DocumentCall, AllocError> {
     let shown = format!(in alloc; "{thing:?}")?;
@@ -111,12 +130,17 @@ fn new_call(alloc: Global) -> Result<DocumentCall, AllocError> {
     Ok(DocumentCall::New(output, info, shown))
 }
 
-/// Anchors are made of the element that starts in a document, and of the one after it.
-fn anchors_call(alloc: Global) -> Result<DocumentCall, AllocError> {
-    let document = document_of(alloc)?;
+/// The element that starts in a document, and the one after it.
+fn targets_of(alloc: Global) -> Result<BTreeSet<Location>, AllocError> {
     let mut targets = BTreeSet::new(alloc);
     targets.insert(Location(1))?;
     targets.insert(Location(2))?;
+    Ok(targets)
+}
+
+/// Anchors of these are made in a document.
+fn anchors_call(alloc: Global) -> Result<DocumentCall, AllocError> {
+    let (document, targets) = (document_of(alloc)?, targets_of(alloc)?);
     let shown = format!(in alloc; "{document:?}")?;
     Ok(DocumentCall::Anchors(document, targets, shown))
 }
@@ -130,6 +154,7 @@ fn calls_of(alloc: Global) -> Result<Vec<DocumentCall>, AllocError> {
         copy_call(alloc, Thing::Output(output_of(alloc)?))?,
         copy_call(alloc, Thing::Document(document_of(alloc)?))?,
         anchors_call(alloc)?,
+        DocumentCall::WithAnchors(targets_of(alloc)?, false),
     ]?)
 }
 

@@ -9,4 +9,6 @@ mod items;
 mod nodes;
 pub mod shown;
 #[cfg(test)]
+mod taken;
+#[cfg(test)]
 mod values;

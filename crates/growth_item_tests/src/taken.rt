@@ -1,0 +1,121 @@
+//! Calls that consume what they are called on, and do not give it back: it is made anew for each.
+
+use growth_tests::given::{element_of, tag_of, text_of};
+use growth_tests::growth::{Answer, Growth, made, wrong_call};
+use html_dom::{HtmlElement, Span, with_inline_styles};
+use html_names::{attr, tag};
+use html_whitespace::{Draft, keep_runs, nodes_of, protect_spaces, push_text_nodes, settled};
+use std::alloc::{AllocError, Global};
+use std::test::Fail;
+
+/// The calls on an element, and on nodes that are being made.
+#[derive(Clone, Copy)]
+enum Step {
+    Styles,
+    Nodes,
+    Runs,
+    Spaces,
+    Settled,
+    TextNodes,
+}
+
+/// A call, and whether it was refused yet: what it consumes may be refused before.
+#[derive(Drop)]
+struct Taking {
+    step: Step,
+    was_refused: bool,
+}
+
+impl Growth for Taking {
+    fn attempt(self, alloc: Global) -> Answer<Taking> {
+        let Taking { step, was_refused } = self;
+        let Ok(element) = element_of(alloc) else {
+            return Answer::Refused(Taking { step, was_refused });
+        };
+        let Ok(drafts) = drafts_of(alloc) else {
+            return Answer::Refused(Taking { step, was_refused });
+        };
+        match is_right(alloc, step, element, drafts) {
+            Ok(is_right) => made(was_refused && is_right),
+            Err(AllocError) => Answer::Refused(Taking {
+                step,
+                was_refused: true,
+            }),
+        }
+    }
+}
+
+/// Makes the call; whether what it makes is right.
+fn is_right(
+    alloc: Global,
+    step: Step,
+    element: HtmlElement,
+    drafts: Vec<Draft>,
+) -> Result<bool, AllocError> {
+    match step {
+        Step::Styles => {
+            let styled = with_inline_styles(alloc, element)?;
+            Ok(styled.attrs.get(&attr::style).is_some())
+        }
+        Step::Nodes => Ok(nodes_of(alloc, drafts)?.len() == COUNT),
+        Step::Runs => Ok(is_kept_at(&keep_runs(alloc, drafts)?, TAB)),
+        Step::Spaces => Ok(is_kept_at(&protect_spaces(alloc, drafts)?, SPACE)),
+        Step::Settled => Ok(is_settled(&settled(alloc, element, drafts)?)),
+        Step::TextNodes => Ok(with_text(alloc, drafts)?.len() == COUNT + 3),
+    }
+}
+
+/// The drafts, and those of a text of three pieces.
+fn with_text(alloc: Global, mut drafts: Vec<Draft>) -> Result<Vec<Draft>, AllocError> {
+    push_text_nodes(alloc, &mut drafts, "two\twords", Span(9))?;
+    Ok(drafts)
+}
+
+/// Whether they are as many as before, and the one at that place is no text any more.
+fn is_kept_at(drafts: &[Draft], place: usize) -> bool {
+    drafts.len() == COUNT && !matches!(drafts.get(place), None | Some(Draft::Text(_, _)))
+}
+
+fn is_settled(draft: &Draft) -> bool {
+    matches!(draft, Draft::Settled(_, _))
+}
+
+/// How many drafts are made, and at which places a lone space and a tab stand.
+const COUNT: usize = 5;
+
+const SPACE: usize = 0;
+
+const TAB: usize = 3;
+
+/// A lone space, a tag, a text, a tab, and a `b` with a text.
+fn drafts_of(alloc: Global) -> Result<Vec<Draft>, AllocError> {
+    let inner = vec![in alloc; Draft::text(text_of(alloc, "two")?, Span(4))]?;
+    Ok(vec![in alloc;
+        Draft::text(text_of(alloc, " ")?, Span(1)),
+        Draft::Tag(tag_of(alloc)?),
+        Draft::text(text_of(alloc, "one")?, Span(2)),
+        Draft::text(text_of(alloc, "\t")?, Span(3)),
+        Draft::open(HtmlElement::new(alloc, tag::b), inner),
+    ]?)
+}
+
+#[test]
+fn taken(rt: HostRuntime) -> Result<(), Fail> {
+    let steps = [
+        Step::Styles,
+        Step::Nodes,
+        Step::Runs,
+        Step::Spaces,
+        Step::Settled,
+        Step::TextNodes,
+    ];
+    let mut calls = Vec::new(rt.alloc());
+    for step in steps {
+        calls.push(Taking {
+            step,
+            was_refused: false,
+        })?;
+    }
+    assert_eq!(rt; wrong_call(rt.alloc(), calls)?, None);
+    Ok(())
+}
