@@ -49,23 +49,11 @@ pub fn resolve_inline_styles(alloc: Global, element: &mut HtmlElement) -> Result
 pub fn with_inline_styles(alloc: Global, element: HtmlElement) -> Result<HtmlElement, AllocError>
     ensures { IfOk result (λ made. element_view made ≡ element_styled (element_view element)) }
 {
-    let HtmlElement {
-        tag,
-        attrs,
-        css,
-        children,
-        parent,
-        span,
-        pre_span,
-    } = element;
+    let attrs = element.attrs;
     Ok(HtmlElement {
-        tag,
-        attrs: attrs_styled(alloc, &css, attrs)?,
-        css,
-        children: nodes_styled(alloc, children)?,
-        parent,
-        span,
-        pre_span,
+        attrs: attrs_styled(alloc, &element.css, attrs)?,
+        children: nodes_styled(alloc, element.children)?,
+        ..element
     })
 }
 

@@ -31,26 +31,13 @@ fn push_element(
         ≡ nodes_before (nodes_view made.old.items) (walk (targets_view sought.entry)
         (node (element_node e.0 e.1) none) (walk_view state.old))) }
 {
-    let HtmlElement {
-        tag,
-        attrs,
-        css,
-        children,
-        parent,
-        span,
-        pre_span,
-    } = element;
-    let name = state.serve(alloc, attrs.get(&attr::id))?;
-    let attrs = named_attrs(attrs, name)?;
-    let children = anchored_nodes(state, alloc, sought, children)?;
+    let name = state.serve(alloc, element.attrs.get(&attr::id))?;
+    let attrs = named_attrs(element.attrs, name)?;
+    let children = anchored_nodes(state, alloc, sought, element.children)?;
     made.push(HtmlNode::Element(HtmlElement {
-        tag,
         attrs,
-        css,
         children,
-        parent,
-        span,
-        pre_span,
+        ..element
     }))?;
     Ok(())
 }

@@ -97,23 +97,9 @@ fn element_lead_kept(
         *waits = shows_nothing(look);
         return Ok(HtmlNode::Element(element));
     }
-    let HtmlElement {
-        tag,
-        attrs,
-        css,
-        children,
-        parent,
-        span,
-        pre_span,
-    } = element;
     Ok(HtmlNode::Element(HtmlElement {
-        tag,
-        attrs,
-        css,
-        children: nodes_lead_kept(alloc, children, waits)?,
-        parent,
-        span,
-        pre_span,
+        children: nodes_lead_kept(alloc, element.children, waits)?,
+        ..element
     }))
 }
 
