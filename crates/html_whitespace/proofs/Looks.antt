@@ -1,23 +1,16 @@
 -- What nodes look like where lines are made of them.
-use Rattle.std.proofs.Common.{◌≡◌, ℕ, Bool, true, false, ◌||◌, ◌&&◌, not, if◌then◌else◌, List, [], ◌∷◌, ◌++◌, Option, Some, map, length, get_or, drop, ◌+◌, ◌<◌, ◌≤◌, refl, sym, ap, ◌∙◌, append_assoc, append-nil, codes}
-use Rattle.std.proofs.lemmas.Bool.{false≢true}
-use Rattle.std.proofs.lemmas.List.{map-append, drop_all, drop_more}
+use Rattle.std.proofs.Common.{◌≡◌, ℕ, Bool, true, false, ◌||◌, ◌&&◌, not, if◌then◌else◌, List, [], ◌∷◌, ◌++◌, map, length, get_or, drop, ◌+◌, ◌<◌, ◌≤◌, refl, sym, ap, ◌∙◌, append_assoc, append-nil}
+use Rattle.std.proofs.lemmas.List.{drop_all, drop_more}
 use Rattle.std.specs.List.{list_any, list_all}
-use Rattle.html_dom.specs.Tree.{Head, NodeView, text_node}
-use Rattle.html_dom.specs.Views.{node_view, nodes_of, nodes_view}
-use Rattle.html_dom.specs.declared.node.HtmlNode.{HtmlNode}
-use Rattle.html_whitespace.specs.Nodes.{is_one, break_node}
-use Rattle.html_whitespace.specs.BareSpaces.{Thing, border, visible, space, text_things, is_border, is_entered, element_things, node_things, nodes_things, makes_block, bare_after}
+use Rattle.html_dom.specs.Tree.{Head}
+use Rattle.html_whitespace.specs.Nodes.{is_one}
+use Rattle.html_whitespace.specs.BareSpaces.{Thing, border, visible, space, text_things, is_border, is_entered, element_things, makes_block}
 use Rattle.html_whitespace.specs.Drafts.{draft, draft_look, drafts_look}
 use Rattle.html_whitespace.specs.DraftViews.{draft_view, drafts_view}
-use Rattle.html_whitespace.specs.Things.{thing_view, things_view, is_space}
 use Rattle.html_whitespace.specs.declared.draft.Draft.{Draft}
-use Rattle.html_whitespace.specs.declared.thing.Thing.{Thing as Seen}
-use Rattle.html_whitespace.specs.declared.thing.Thing.TheVariants as seen
 use Rattle.html_whitespace.specs.Looks.{look_things, head_look, text_look, is_inside}
 use Rattle.html_whitespace.specs.declared.look.Look.{Look}
 use Rattle.html_whitespace.specs.declared.look.Look.TheVariants.{Border, Visible, Space, Nothing, Inside}
-use Rattle.html_names.specs.Names.{stands_in}
 use Rattle.html_names.specs.Characters.{is_ignorable}
 use Rattle.html_names.specs.Kinds.{is_replaced, is_whitespace_collapsing}
 
@@ -91,37 +84,6 @@ text_by false false = refl
 pub text_seen : (s : List ℕ) → text_things s ≡ look_things (text_look s) []
 text_seen s = text_by (is_one 32 s) (list_all is_ignorable s)
 
--- the things of a list are those of its nodes
-pub things_append : (xs ys : List NodeView) →
-    nodes_things (nodes_of (xs ++ ys)) ≡ nodes_things (nodes_of xs) ++ nodes_things (nodes_of ys)
-unfolding nodes_things
-things_append [] ys = refl
-things_append (x ∷ xs) ys =
-    ap (λ ts. node_things x ++ ts) (things_append xs ys)
-    ∙ sym (append_assoc (node_things x) (nodes_things (nodes_of xs)) (nodes_things (nodes_of ys)))
-
-pub things_pushed : (old new : List HtmlNode) (n : HtmlNode) → new ≡ old ++ n ∷ [] →
-    nodes_things (nodes_view new) ≡ nodes_things (nodes_view old) ++ node_things (node_view n)
-unfolding nodes_things
-things_pushed old new n e =
-    ap (λ ns. nodes_things (nodes_view ns)) e
-    ∙ (ap (λ ns. nodes_things (nodes_of ns)) (map-append node_view old (n ∷ []))
-    ∙ (things_append (map node_view old) (node_view n ∷ [])
-    ∙ ap (λ ts. nodes_things (nodes_view old) ++ ts) (append-nil (node_things (node_view n)))))
-
--- nodes that are made to look like something
-pub break_seen : (span : ℕ) → node_things (break_node span) ≡ border ∷ []
-unfolding node_things is_border stands_in
-break_seen span = refl
-
-pub visible_seen : (span : ℕ) → node_things (text_node (codes "x") span) ≡ visible ∷ []
-unfolding node_things is_ignorable
-visible_seen span = refl
-
-pub space_seen : (span : ℕ) → node_things (text_node (codes " ") span) ≡ space ∷ []
-unfolding node_things
-space_seen span = refl
-
 -- drafts in a row
 
 pub drafts_first : (drafts : List Draft) (i : ℕ) (d : Draft) → i < length drafts →
@@ -147,28 +109,3 @@ unfolding draft_look
 looks_end start old drafts i beyond before =
     sym (append-nil old) ∙ (ap (λ ds. old ++ drafts_look (drafts_view ds)) (sym (drop_all i drafts beyond))
     ∙ before)
-
--- things in a row
-
-pub things_step : (made new start : List Thing) (things : List Seen) (i : ℕ) (t : Seen) →
-    i < length things → t ≡ get_or things i t → made ++ things_view (drop i things) ≡ start →
-    new ≡ made ++ thing_view t ∷ [] → new ++ things_view (drop (i + 1) things) ≡ start
-things_step made new start things i t below is before pushed =
-    ap (λ ts. ts ++ things_view (drop (i + 1) things)) pushed
-    ∙ (append_assoc made (thing_view t ∷ []) (things_view (drop (i + 1) things))
-    ∙ (ap (λ (m : Seen). made ++ thing_view m ∷ things_view (drop (i + 1) things)) is
-    ∙ (ap (λ ts. made ++ things_view ts) (sym (drop_more things i t below)) ∙ before)))
-
-pub things_end : (made start : List Thing) (things : List Seen) (i : ℕ) → length things ≤ i →
-    made ++ things_view (drop i things) ≡ start → made ≡ start
-things_end made start things i beyond before =
-    sym (append-nil made) ∙ (ap (λ ts. made ++ things_view ts) (sym (drop_all i things beyond)) ∙ before)
-
--- without lone spaces there is no answer
-pub no_answers : (before : Option Thing) (things : List Seen) → list_any is_space things ≡ false →
-    bare_after before (things_view things) ≡ []
-unfolding bare_after
-no_answers before [] e = refl
-no_answers before (seen.Border ∷ ts) e = no_answers (Some border) ts e
-no_answers before (seen.Visible ∷ ts) e = no_answers (Some visible) ts e
-no_answers before (seen.Space ∷ ts) e = absurd (false≢true (sym e))

@@ -8,8 +8,8 @@ use Rattle.html_whitespace.specs.BareSpaces.{Thing, visible, space, bare_after, 
 use Rattle.html_whitespace.specs.Looks.{is_inside}
 use Rattle.html_whitespace.specs.declared.look.Look.{Look}
 use Rattle.html_whitespace.specs.declared.look.Look.TheVariants as look
-use Rattle.html_whitespace.specs.declared.bareness.Last.{Last}
-use Rattle.html_whitespace.specs.declared.bareness.Last.TheVariants as last
+use Rattle.html_whitespace.specs.declared.line.Last.{Last}
+use Rattle.html_whitespace.specs.declared.line.Last.TheVariants as last
 
 -- a space after it stands in a line
 abbrev pub is_within : Last → Bool

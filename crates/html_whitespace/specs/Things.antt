@@ -1,6 +1,8 @@
 -- What lines are made of, as the program has it.
-use Rattle.std.specs.Prelude.{Bool, true, false, List, map}
+use Rattle.std.specs.Prelude.{List, map}
 use Rattle.html_whitespace.specs.BareSpaces.{Thing, border, visible, space}
+use Rattle.html_whitespace.specs.declared.look.Look.{Look}
+use Rattle.html_whitespace.specs.declared.look.Look.TheVariants as look
 use Rattle.html_whitespace.specs.declared.thing.Thing.{Thing as Seen}
 use Rattle.html_whitespace.specs.declared.thing.Thing.TheVariants as seen
 
@@ -12,7 +14,8 @@ thing_view seen.Space = space
 abbrev pub things_view : List Seen → List Thing
 things_view = map thing_view
 
-abbrev pub is_space : Seen → Bool
-is_space seen.Border = false
-is_space seen.Visible = false
-is_space seen.Space = true
+-- what a node looks like that is seen as that
+abbrev pub thing_look : Seen → Look
+thing_look seen.Border = look.Border
+thing_look seen.Visible = look.Visible
+thing_look seen.Space = look.Space

@@ -1,12 +1,13 @@
 //! Which lone spaces may stay bare.
 
-ghost use Rattle.std.specs.Prelude.{◌≡◌, ◌+◌, ◌<◌, ◌^◌, ◌++◌, true, IfOk, OnOk};
+ghost use Rattle.std.specs.Prelude.{◌≡◌, ◌+◌, ◌<◌, ◌^◌, true, IfOk};
 ghost use Rattle.html_flat.specs.FlatTrees.{tree_nodes};
 ghost use Rattle.html_flat.specs.FlatViews.{flat_node_view, is_node_given};
 ghost use Rattle.html_whitespace.specs.BareSpaces.{bare_spaces, nodes_turns};
-ghost use Rattle.html_whitespace.specs.Lines.{is_within, last_after, answer_before, place_past, next_place};
+ghost use Rattle.html_whitespace.specs.Lines.{place_past, next_place};
 ghost use Rattle.html_whitespace.specs.Looks.{flat_look};
 
+use crate::line::{Last, push_answer};
 use crate::look::{Look, element_look, text_look};
 use html_flat::{FlatNode, FlatTree};
 use html_names::NameTable;
@@ -21,51 +22,6 @@ pub struct Bareness {
     /// How many nodes were looked at: those that stand inside of no element that is not looked into.
     /// Such an element itself is one of them.
     pub turns: usize,
-}
-
-/// What stands last in a line so far.
-#[derive(Clone, Copy)]
-enum Last {
-    /// A border, or nothing.
-    Border,
-    /// Something visible.
-    Visible,
-    /// A lone space, and whether what stands before it is there and no border.
-    Space(bool),
-}
-
-impl Last {
-    /// Whether a space after it stands in a line.
-    fn is_within(self) -> bool
-        ensures { result ≡ is_within self }
-    {
-        !matches!(self, Last::Border)
-    }
-
-    /// What stands last after one more.
-    fn after(self, next: Look) -> Last
-        ensures { result ≡ last_after self next }
-    {
-        match next {
-            Look::Border => Last::Border,
-            Look::Visible => Last::Visible,
-            Look::Space => Last::Space(self.is_within()),
-            Look::Nothing | Look::Inside => self,
-        }
-    }
-}
-
-/// Adds the answer for a space that stands last, if something stands after it.
-fn push_answer(bare: &mut Vec<bool>, last: Last, next: Look) -> Result<(), AllocError>
-    ensures { OnOk result (bare.new.items ≡ bare.old.items ++ answer_before last next) }
-{
-    if matches!(next, Look::Nothing | Look::Inside) {
-        return Ok(());
-    }
-    if let Last::Space(in_line) = last {
-        bare.push(in_line && matches!(next, Look::Visible))?;
-    }
-    Ok(())
 }
 
 /// What a node of a list looks like.

@@ -9,6 +9,7 @@ mod bareness;
 mod draft;
 mod ends;
 mod lead;
+mod line;
 mod look;
 mod made;
 mod nodes;

@@ -1,8 +1,17 @@
-use Rattle.std.proofs.Common.{◌∙◌, sym, None}
-use Rattle.html_whitespace.proofs.Looks.{no_answers}
+use Rattle.std.proofs.Common.{rules}
+use Rattle.html_whitespace.proofs.Lines.{thing_judged, things_judged}
 use Rattle.html_whitespace.proofs.answers.answers_for.Goals as goal
 
-pub returns-then-not-has_space : goal.returns-then-not-has_space
-returns-then-not-has_space c =
-    c.new.ensures.items
-    ∙ sym (no_answers None c.args.things.now (sym c.has_space.ensures ∙ c.if-not-has_space.true))
+pub loop-thing-preserved : goal.loop-thing-preserved
+loop-thing-preserved c =
+    let at = c.loop-thing in
+    rw c.after-last.ensures
+    (thing_judged _ at.bare.items c.push_answer.new.bare.items c.args.things.now at.thing-index
+    _ at.last c.look-look.result c.loop-thing-test.true (search rules)
+    c.look-look.ensures at.invariant c.in_ok-push_answer.ensures)
+
+pub returns : goal.returns
+returns c =
+    let at = c.loop-thing in
+    things_judged _ at.bare.items c.push_answer-2.new.bare.items c.args.things.now at.thing-index
+    at.last c.loop-thing-test.false at.invariant c.in_ok-push_answer-2.ensures
