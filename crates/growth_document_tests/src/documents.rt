@@ -147,15 +147,15 @@ fn anchors_call(alloc: Global) -> Result<DocumentCall, AllocError> {
 
 /// Each call on documents.
 fn calls_of(alloc: Global) -> Result<Vec<DocumentCall>, AllocError> {
-    Ok(vec![in alloc;
-        new_call(alloc)?,
-        copy_call(alloc, Thing::Locale(locale_of(alloc)?))?,
-        copy_call(alloc, Thing::Info(info_of(alloc)?))?,
-        copy_call(alloc, Thing::Output(output_of(alloc)?))?,
-        copy_call(alloc, Thing::Document(document_of(alloc)?))?,
-        anchors_call(alloc)?,
-        DocumentCall::WithAnchors(targets_of(alloc)?, false),
-    ]?)
+    let mut calls = Vec::new(alloc);
+    calls.push(new_call(alloc)?)?;
+    calls.push(copy_call(alloc, Thing::Locale(locale_of(alloc)?))?)?;
+    calls.push(copy_call(alloc, Thing::Info(info_of(alloc)?))?)?;
+    calls.push(copy_call(alloc, Thing::Output(output_of(alloc)?))?)?;
+    calls.push(copy_call(alloc, Thing::Document(document_of(alloc)?))?)?;
+    calls.push(anchors_call(alloc)?)?;
+    calls.push(DocumentCall::WithAnchors(targets_of(alloc)?, false))?;
+    Ok(calls)
 }
 
 #[test]

@@ -33,18 +33,18 @@ pub fn text_item_of(alloc: Global) -> Result<Item, AllocError> {
 pub fn line_of(alloc: Global) -> Result<Vec<Pair>, AllocError> {
     let role = Role::Set(text_of(alloc, "note")?);
     let boxed = vec![in alloc; pair_of(text_item_of(alloc)?)]?;
-    Ok(vec![in alloc;
-        pair_of(Item::Tag(tag_of(alloc)?)),
-        pair_of(Item::Space(Span(1))),
-        pair_of(text_item_of(alloc)?),
-        pair_of(Item::LineBreak(Span(3))),
-        pair_of(Item::Box(Some(boxed), Span(4))),
-        Pair {
-            item: Item::Frame(frame_elem_of(alloc)?),
-            role
-        },
-        pair_of(Item::Hole),
-    ]?)
+    let mut items = Vec::new(alloc);
+    items.push(pair_of(Item::Tag(tag_of(alloc)?)))?;
+    items.push(pair_of(Item::Space(Span(1))))?;
+    items.push(pair_of(text_item_of(alloc)?))?;
+    items.push(pair_of(Item::LineBreak(Span(3))))?;
+    items.push(pair_of(Item::Box(Some(boxed), Span(4))))?;
+    items.push(Pair {
+        item: Item::Frame(frame_elem_of(alloc)?),
+        role,
+    })?;
+    items.push(pair_of(Item::Hole))?;
+    Ok(items)
 }
 
 /// An element with css, an attribute and items of a line.

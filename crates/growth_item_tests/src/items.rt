@@ -163,16 +163,16 @@ fn copies(alloc: Global) -> Result<Vec<ItemCall>, AllocError> {
         item: text_item_of(alloc)?,
         role: Role::Set(text_of(alloc, "math")?),
     };
-    Ok(vec![in alloc;
-        copy_call(alloc, Thing::Pair(pair))?,
-        copy_call(alloc, Thing::Role(role))?,
-        copy_call(alloc, Thing::Frame(frame_elem_of(alloc)?))?,
-        copy_call(
-            alloc,
-            Thing::Item(Item::Block(Some(line_of(alloc)?), Span(6)))
-        )?,
-        copy_call(alloc, Thing::Element(elem_of(alloc, tag::p)?))?,
-    ]?)
+    let mut calls = Vec::new(alloc);
+    calls.push(copy_call(alloc, Thing::Pair(pair))?)?;
+    calls.push(copy_call(alloc, Thing::Role(role))?)?;
+    calls.push(copy_call(alloc, Thing::Frame(frame_elem_of(alloc)?))?)?;
+    calls.push(copy_call(
+        alloc,
+        Thing::Item(Item::Block(Some(line_of(alloc)?), Span(6))),
+    )?)?;
+    calls.push(copy_call(alloc, Thing::Element(elem_of(alloc, tag::p)?))?)?;
+    Ok(calls)
 }
 
 /// The items become nodes in that way.
@@ -184,13 +184,13 @@ fn conversion(alloc: Global, form: Form) -> Result<ItemCall, AllocError> {
 
 /// Each way in which items become nodes.
 fn conversions(alloc: Global) -> Result<Vec<ItemCall>, AllocError> {
-    Ok(vec![in alloc;
-        conversion(alloc, Form::Nodes(ConversionLevel::Block))?,
-        conversion(alloc, Form::Nodes(ConversionLevel::Inline))?,
-        conversion(alloc, Form::Block)?,
-        conversion(alloc, Form::Inline)?,
-        conversion(alloc, Form::Math)?,
-    ]?)
+    let mut calls = Vec::new(alloc);
+    calls.push(conversion(alloc, Form::Nodes(ConversionLevel::Block))?)?;
+    calls.push(conversion(alloc, Form::Nodes(ConversionLevel::Inline))?)?;
+    calls.push(conversion(alloc, Form::Block)?)?;
+    calls.push(conversion(alloc, Form::Inline)?)?;
+    calls.push(conversion(alloc, Form::Math)?)?;
+    Ok(calls)
 }
 
 /// The arguments `href`, `class`, one that no type is there for, and a body.

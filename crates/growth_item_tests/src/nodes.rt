@@ -128,15 +128,15 @@ fn spaces_of(alloc: Global) -> Result<FlatTree, AllocError> {
 fn calls_of(alloc: Global) -> Result<Vec<NodeCall>, AllocError> {
     let shown = format!(in alloc; "{:?}", element_of(alloc)?)?;
     let tree = FlatTree::from_nodes(alloc, &nodes_of(alloc)?)?;
-    Ok(vec![in alloc;
-        NodeCall::FlatNodes(nodes_of(alloc)?, shown_nodes(alloc)?),
-        NodeCall::FlatElement(element_of(alloc)?, shown),
-        NodeCall::Spelled(tree, shown_nodes(alloc)?),
-        NodeCall::Positions(nodes_of(alloc)?, shown_nodes(alloc)?),
-        NodeCall::LinkTargets(introspector_of(alloc)?),
-        NodeCall::Copy(introspector_of(alloc)?),
-        NodeCall::BareSpaces(spaces_of(alloc)?),
-    ]?)
+    let mut calls = Vec::new(alloc);
+    calls.push(NodeCall::FlatNodes(nodes_of(alloc)?, shown_nodes(alloc)?))?;
+    calls.push(NodeCall::FlatElement(element_of(alloc)?, shown))?;
+    calls.push(NodeCall::Spelled(tree, shown_nodes(alloc)?))?;
+    calls.push(NodeCall::Positions(nodes_of(alloc)?, shown_nodes(alloc)?))?;
+    calls.push(NodeCall::LinkTargets(introspector_of(alloc)?))?;
+    calls.push(NodeCall::Copy(introspector_of(alloc)?))?;
+    calls.push(NodeCall::BareSpaces(spaces_of(alloc)?))?;
+    Ok(calls)
 }
 
 #[test]

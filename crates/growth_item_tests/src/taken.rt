@@ -90,13 +90,13 @@ const TAB: usize = 3;
 /// A lone space, a tag, a text, a tab, and a `b` with a text.
 fn drafts_of(alloc: Global) -> Result<Vec<Draft>, AllocError> {
     let inner = vec![in alloc; Draft::text(text_of(alloc, "two")?, Span(4))]?;
-    Ok(vec![in alloc;
-        Draft::text(text_of(alloc, " ")?, Span(1)),
-        Draft::Tag(tag_of(alloc)?),
-        Draft::text(text_of(alloc, "one")?, Span(2)),
-        Draft::text(text_of(alloc, "\t")?, Span(3)),
-        Draft::open(HtmlElement::new(alloc, tag::b), inner),
-    ]?)
+    let mut drafts = Vec::new(alloc);
+    drafts.push(Draft::text(text_of(alloc, " ")?, Span(1)))?;
+    drafts.push(Draft::Tag(tag_of(alloc)?))?;
+    drafts.push(Draft::text(text_of(alloc, "one")?, Span(2)))?;
+    drafts.push(Draft::text(text_of(alloc, "\t")?, Span(3)))?;
+    drafts.push(Draft::open(HtmlElement::new(alloc, tag::b), inner))?;
+    Ok(drafts)
 }
 
 #[test]

@@ -120,22 +120,22 @@ const RED: Rgba = Rgba {
 
 /// Each kind of words and numbers.
 fn words_and_numbers(alloc: Global) -> Result<Vec<ValueCall>, AllocError> {
-    Ok(vec![in alloc;
-        ValueCall::Text(Attribute::None(NoneValue), "none"),
-        ValueCall::Text(Attribute::Undefined(NoneUndefined), "undefined"),
-        ValueCall::Text(Attribute::Auto(AutoValue), "auto"),
-        ValueCall::Text(Attribute::TrueFalse(TrueFalseBool(true)), "true"),
-        ValueCall::Text(Attribute::YesNo(YesNoBool(true)), "yes"),
-        ValueCall::Text(Attribute::OnOff(OnOffBool(true)), "on"),
-        ValueCall::Text(Attribute::Int(-12), "-12"),
-        ValueCall::Text(Attribute::NonNegativeInt(12), "12"),
-        ValueCall::Text(Attribute::Str(Str(text_of(alloc, "<a b")?)), "<a b"),
-        ValueCall::Text(Attribute::Char('é'), "é"),
-        ValueCall::Text(Attribute::Color(RED), "#ff001080"),
-        ValueCall::Text(Attribute::Duration(Duration(694_861)), "1w 1d 1h 1m 1s"),
-        ValueCall::Text(Attribute::Dir(Dir::TTB), "ttb"),
-        ValueCall::Text(Attribute::HorizontalDir(HorizontalDir::RTL), "rtl"),
-    ]?)
+    let mut calls = Vec::new(alloc);
+    calls.push(ValueCall::Text(Attribute::None(NoneValue), "none"))?;
+    calls.push(ValueCall::Text(Attribute::Undefined(NoneUndefined), "undefined"))?;
+    calls.push(ValueCall::Text(Attribute::Auto(AutoValue), "auto"))?;
+    calls.push(ValueCall::Text(Attribute::TrueFalse(TrueFalseBool(true)), "true"))?;
+    calls.push(ValueCall::Text(Attribute::YesNo(YesNoBool(true)), "yes"))?;
+    calls.push(ValueCall::Text(Attribute::OnOff(OnOffBool(true)), "on"))?;
+    calls.push(ValueCall::Text(Attribute::Int(-12), "-12"))?;
+    calls.push(ValueCall::Text(Attribute::NonNegativeInt(12), "12"))?;
+    calls.push(ValueCall::Text(Attribute::Str(Str(text_of(alloc, "<a b")?)), "<a b"))?;
+    calls.push(ValueCall::Text(Attribute::Char('é'), "é"))?;
+    calls.push(ValueCall::Text(Attribute::Color(RED), "#ff001080"))?;
+    calls.push(ValueCall::Text(Attribute::Duration(Duration(694_861)), "1w 1d 1h 1m 1s"))?;
+    calls.push(ValueCall::Text(Attribute::Dir(Dir::TTB), "ttb"))?;
+    calls.push(ValueCall::Text(Attribute::HorizontalDir(HorizontalDir::RTL), "rtl"))?;
+    Ok(calls)
 }
 
 /// A source of an image, with a width.
@@ -175,19 +175,19 @@ fn native(native: NativeType, value: Value, wanted: &'static str) -> ValueCall {
 
 /// Casts to types of words, numbers and texts.
 fn casts_of_words(alloc: Global) -> Result<Vec<ValueCall>, AllocError> {
-    Ok(vec![in alloc;
-        native(NativeType::NoValue, Value::None, "none"),
-        native(NativeType::NoneUndefined, Value::None, "undefined"),
-        native(NativeType::Auto, Value::Auto, "auto"),
-        native(NativeType::TrueFalse, Value::Bool(false), "false"),
-        native(NativeType::YesNo, Value::Bool(false), "no"),
-        native(NativeType::OnOff, Value::Bool(false), "off"),
-        native(NativeType::Int, Value::Int(-1), "-1"),
-        native(NativeType::NonNegativeInt, Value::Int(0), "0"),
-        native(NativeType::PositiveInt, Value::Int(1), "1"),
-        native(NativeType::Str, Value::Str(text_of(alloc, "ab")?), "ab"),
-        native(NativeType::Char, Value::Str(text_of(alloc, "é")?), "é"),
-    ]?)
+    let mut calls = Vec::new(alloc);
+    calls.push(native(NativeType::NoValue, Value::None, "none"))?;
+    calls.push(native(NativeType::NoneUndefined, Value::None, "undefined"))?;
+    calls.push(native(NativeType::Auto, Value::Auto, "auto"))?;
+    calls.push(native(NativeType::TrueFalse, Value::Bool(false), "false"))?;
+    calls.push(native(NativeType::YesNo, Value::Bool(false), "no"))?;
+    calls.push(native(NativeType::OnOff, Value::Bool(false), "off"))?;
+    calls.push(native(NativeType::Int, Value::Int(-1), "-1"))?;
+    calls.push(native(NativeType::NonNegativeInt, Value::Int(0), "0"))?;
+    calls.push(native(NativeType::PositiveInt, Value::Int(1), "1"))?;
+    calls.push(native(NativeType::Str, Value::Str(text_of(alloc, "ab")?), "ab"))?;
+    calls.push(native(NativeType::Char, Value::Str(text_of(alloc, "é")?), "é"))?;
+    Ok(calls)
 }
 
 /// Casts to types of other values.
@@ -195,18 +195,18 @@ fn casts_of_parts(alloc: Global) -> Result<Vec<ValueCall>, AllocError> {
     let size = vec![in alloc; Value::Int(16), Value::Int(16)]?;
     let (src, width) = (text_of(alloc, "x.png")?, Some(480));
     let day = Value::Datetime(Moment::Date(date(2024, 2, 9)));
-    Ok(vec![in alloc;
-        native(NativeType::Datetime, day, "2024-02-09"),
-        native(NativeType::Duration, Value::Duration(59), "59s"),
-        native(NativeType::Color, Value::Color(RED), "#ff001080"),
-        native(NativeType::HorizontalDir, Value::Dir(Dir::LTR), "ltr"),
-        native(NativeType::IconSize, Value::Array(size), "16x16"),
-        native(
-            NativeType::ImageCandidate,
-            Value::Image { src, width },
-            "x.png 480w"
-        ),
-    ]?)
+    let mut calls = Vec::new(alloc);
+    calls.push(native(NativeType::Datetime, day, "2024-02-09"))?;
+    calls.push(native(NativeType::Duration, Value::Duration(59), "59s"))?;
+    calls.push(native(NativeType::Color, Value::Color(RED), "#ff001080"))?;
+    calls.push(native(NativeType::HorizontalDir, Value::Dir(Dir::LTR), "ltr"))?;
+    calls.push(native(NativeType::IconSize, Value::Array(size), "16x16"))?;
+    calls.push(native(
+        NativeType::ImageCandidate,
+        Value::Image { src, width },
+        "x.png 480w",
+    ))?;
+    Ok(calls)
 }
 
 /// Casts to one of several texts, to one of several types, and to a list.
@@ -218,12 +218,12 @@ fn casts_of_several(alloc: Global) -> Result<Vec<ValueCall>, AllocError> {
     let union = AttrType::Union(vec![in alloc; int, AttrType::Native(NativeType::Auto)]?);
     let (one, two) = (text_of(alloc, "a")?, text_of(alloc, "b")?);
     let array = Value::Array(vec![in alloc; Value::Str(one), Value::Str(two)]?);
-    Ok(vec![in alloc;
-        ValueCall::Cast(texts, Value::Str(text_of(alloc, "b")?), "b"),
-        ValueCall::Cast(union, Value::Auto, "auto"),
-        ValueCall::Cast(list, array, "a, b"),
-        ValueCall::List(NativeType::Int),
-    ]?)
+    let mut calls = Vec::new(alloc);
+    calls.push(ValueCall::Cast(texts, Value::Str(text_of(alloc, "b")?), "b"))?;
+    calls.push(ValueCall::Cast(union, Value::Auto, "auto"))?;
+    calls.push(ValueCall::Cast(list, array, "a, b"))?;
+    calls.push(ValueCall::List(NativeType::Int))?;
+    Ok(calls)
 }
 
 #[test]

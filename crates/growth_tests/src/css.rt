@@ -367,17 +367,17 @@ fn writings(alloc: Global) -> Result<Vec<CssCall>, AllocError> {
 
 /// Each call on sinks, maps and builders.
 fn others(alloc: Global) -> Result<Vec<CssCall>, AllocError> {
-    Ok(vec![in alloc;
-        CssCall::Fail(sink_of(alloc)?),
-        CssCall::Warn(sink_of(alloc)?),
-        CssCall::Push(map_of(alloc)?, text_of(alloc, "1em")?),
-        CssCall::With(map_of(alloc)?, text_of(alloc, "1em")?),
-        CssCall::Copy(map_of(alloc)?),
-        CssCall::CopyOne(property_of(alloc)?),
-        CssCall::Build(builder_of(alloc)?),
-        CssCall::BuildWith(builder_of(alloc)?),
-        CssCall::BuildWarned(sink_of(alloc)?),
-    ]?)
+    let mut calls = Vec::new(alloc);
+    calls.push(CssCall::Fail(sink_of(alloc)?))?;
+    calls.push(CssCall::Warn(sink_of(alloc)?))?;
+    calls.push(CssCall::Push(map_of(alloc)?, text_of(alloc, "1em")?))?;
+    calls.push(CssCall::With(map_of(alloc)?, text_of(alloc, "1em")?))?;
+    calls.push(CssCall::Copy(map_of(alloc)?))?;
+    calls.push(CssCall::CopyOne(property_of(alloc)?))?;
+    calls.push(CssCall::Build(builder_of(alloc)?))?;
+    calls.push(CssCall::BuildWith(builder_of(alloc)?))?;
+    calls.push(CssCall::BuildWarned(sink_of(alloc)?))?;
+    Ok(calls)
 }
 
 #[test]

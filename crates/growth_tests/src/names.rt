@@ -156,14 +156,14 @@ fn write(piece: Piece, mut out: Output, held: String) -> Answer<NameCall> {
 fn namings(alloc: Global) -> Result<Vec<NameCall>, AllocError> {
     let tag = HtmlTag::constant(alloc, "font-face")?;
     let attr = HtmlAttr::constant(alloc, "data-x")?;
-    Ok(vec![in alloc;
-        NameCall::Name(Naming::InternTag),
-        NameCall::Name(Naming::InternAttr),
-        NameCall::Name(Naming::TagConstant),
-        NameCall::Name(Naming::AttrConstant),
-        NameCall::Name(Naming::CloneTag(tag)),
-        NameCall::Name(Naming::CloneAttr(attr)),
-    ]?)
+    let mut calls = Vec::new(alloc);
+    calls.push(NameCall::Name(Naming::InternTag))?;
+    calls.push(NameCall::Name(Naming::InternAttr))?;
+    calls.push(NameCall::Name(Naming::TagConstant))?;
+    calls.push(NameCall::Name(Naming::AttrConstant))?;
+    calls.push(NameCall::Name(Naming::CloneTag(tag)))?;
+    calls.push(NameCall::Name(Naming::CloneAttr(attr)))?;
+    Ok(calls)
 }
 
 fn names_of(alloc: Global) -> Result<NumberedNames, AllocError> {

@@ -145,15 +145,15 @@ fn resolve(alloc: Global, mut element: HtmlElement, copy: HtmlElement) -> Answer
 
 /// A value of each type that can be copied.
 fn things_of(alloc: Global) -> Result<Vec<Thing>, AllocError> {
-    Ok(vec![in alloc;
-        Thing::Attrs(attrs_of(alloc, "inner")?),
-        Thing::Tag(tag_of(alloc)?),
-        Thing::Frame(frame_of(alloc)?),
-        Thing::FrameItem(FrameItem::Group(group_of(alloc)?)),
-        Thing::HtmlFrame(html_frame_of(alloc)?),
-        Thing::Node(HtmlNode::from(inner_of(alloc)?)),
-        Thing::Element(element_of(alloc)?),
-    ]?)
+    let mut things = Vec::new(alloc);
+    things.push(Thing::Attrs(attrs_of(alloc, "inner")?))?;
+    things.push(Thing::Tag(tag_of(alloc)?))?;
+    things.push(Thing::Frame(frame_of(alloc)?))?;
+    things.push(Thing::FrameItem(FrameItem::Group(group_of(alloc)?)))?;
+    things.push(Thing::HtmlFrame(html_frame_of(alloc)?))?;
+    things.push(Thing::Node(HtmlNode::from(inner_of(alloc)?)))?;
+    things.push(Thing::Element(element_of(alloc)?))?;
+    Ok(things)
 }
 
 /// Each call that makes a copy.
@@ -169,13 +169,13 @@ fn copies(alloc: Global) -> Result<Vec<TreeCall>, AllocError> {
 fn changes(alloc: Global) -> Result<Vec<TreeCall>, AllocError> {
     let (element, copy) = (inner_of(alloc)?, inner_of(alloc)?);
     let (root, root_copy) = (element_of(alloc)?, element_of(alloc)?);
-    Ok(vec![in alloc;
-        TreeCall::Push(attrs_of(alloc, "inner")?, text_of(alloc, "held")?),
-        TreeCall::PushFront(attrs_of(alloc, "inner")?, text_of(alloc, "held")?),
-        TreeCall::Fold(attrs_of(alloc, "inner")?, attrs_of(alloc, "outer")?),
-        TreeCall::WithAttr(element, copy, text_of(alloc, "held")?),
-        TreeCall::Resolve(root, root_copy),
-    ]?)
+    let mut calls = Vec::new(alloc);
+    calls.push(TreeCall::Push(attrs_of(alloc, "inner")?, text_of(alloc, "held")?))?;
+    calls.push(TreeCall::PushFront(attrs_of(alloc, "inner")?, text_of(alloc, "held")?))?;
+    calls.push(TreeCall::Fold(attrs_of(alloc, "inner")?, attrs_of(alloc, "outer")?))?;
+    calls.push(TreeCall::WithAttr(element, copy, text_of(alloc, "held")?))?;
+    calls.push(TreeCall::Resolve(root, root_copy))?;
+    Ok(calls)
 }
 
 #[test]
