@@ -21,13 +21,13 @@ enum Thing {
 }
 
 /// The calls on documents, each with the text by which what it is called on is shown. The last one
-/// consumes a document that is made for each attempt; it remembers whether it was refused yet.
+/// consumes a document at each attempt.
 #[derive(Drop)]
 enum DocumentCall {
     New(HtmlOutput, DocumentInfo, (String, String)),
     Copy(Thing, String),
     Anchors(HtmlDocument, BTreeSet<Location>, String),
-    WithAnchors(BTreeSet<Location>, bool),
+    WithAnchors(Vec<HtmlDocument>, BTreeSet<Location>),
 }
 
 impl Growth for DocumentCall {
@@ -38,9 +38,7 @@ impl Growth for DocumentCall {
             DocumentCall::Anchors(document, targets, shown) => {
                 anchors(alloc, document, targets, shown)
             }
-            DocumentCall::WithAnchors(targets, was_refused) => {
-                with_anchors(alloc, targets, was_refused)
-            }
+            DocumentCall::WithAnchors(spares, targets) => with_anchors(alloc, spares, targets),
         }
     }
 }
@@ -102,15 +100,15 @@ fn anchors(
 
 fn with_anchors(
     alloc: Global,
+    mut spares: Vec<HtmlDocument>,
     targets: BTreeSet<Location>,
-    was_refused: bool,
 ) -> Answer<DocumentCall> {
-    let Ok(document) = document_of(alloc) else {
-        return Answer::Refused(DocumentCall::WithAnchors(targets, was_refused));
+    let Some(document) = spares.pop() else {
+        return Answer::Wrong;
     };
     match with_link_anchors(alloc, document, &targets) {
-        Ok((_, anchors)) => made(was_refused && anchors.contains_key(&Location(1))),
-        Err(AllocError) => Answer::Refused(DocumentCall::WithAnchors(targets, true)),
+        Ok((_, anchors)) => made(anchors.contains_key(&Location(1))),
+        Err(AllocError) => Answer::Refused(DocumentCall::WithAnchors(spares, targets)),
     }
 }
 
@@ -145,6 +143,19 @@ fn anchors_call(alloc: Global) -> Result<DocumentCall, AllocError> {
     Ok(DocumentCall::Anchors(document, targets, shown))
 }
 
+/// How many attempts there are at most of the call that consumes documents: what a refused one
+/// frees is there for the next.
+const SPARES: usize = 40;
+
+/// Anchors of these are made in a document that is consumed.
+fn with_anchors_call(alloc: Global) -> Result<DocumentCall, AllocError> {
+    let mut spares = Vec::new(alloc);
+    for _ in 0..SPARES {
+        spares.push(document_of(alloc)?)?;
+    }
+    Ok(DocumentCall::WithAnchors(spares, targets_of(alloc)?))
+}
+
 /// Each call on documents.
 fn calls_of(alloc: Global) -> Result<Vec<DocumentCall>, AllocError> {
     let mut calls = Vec::new(alloc);
@@ -154,7 +165,7 @@ fn calls_of(alloc: Global) -> Result<Vec<DocumentCall>, AllocError> {
     calls.push(copy_call(alloc, Thing::Output(output_of(alloc)?))?)?;
     calls.push(copy_call(alloc, Thing::Document(document_of(alloc)?))?)?;
     calls.push(anchors_call(alloc)?)?;
-    calls.push(DocumentCall::WithAnchors(targets_of(alloc)?, false))?;
+    calls.push(with_anchors_call(alloc)?)?;
     Ok(calls)
 }
 

@@ -47,9 +47,9 @@ impl Growth for Run {
 
 /// A run with those words on that input.
 fn run_of(alloc: Global, words: &[&str], input: &'static str) -> Result<Run, AllocError> {
-    let mut runs = Vec::new(alloc);
+    let mut list = Vec::new(alloc);
     for word in words {
-        runs.push(text_of(alloc, word)?)?;
+        list.push(text_of(alloc, word)?)?;
     }
     Ok(Run {
         words: list,
@@ -60,12 +60,12 @@ fn run_of(alloc: Global, words: &[&str], input: &'static str) -> Result<Run, All
 
 /// Each task of the program.
 fn runs(alloc: Global) -> Result<Vec<Run>, AllocError> {
-    let mut runs = Vec::new(alloc);
-    runs.push(run_of(alloc, &["tree"], TREE)?)?;
-    runs.push(run_of(alloc, &["tree", "--pretty"], TREE)?)?;
-    runs.push(run_of(alloc, &["doc"], ITEMS)?)?;
-    runs.push(run_of(alloc, &["doc", "--pretty"], ITEMS)?)?;
-    Ok(runs)
+    Ok(vec![in alloc;
+        run_of(alloc, &["tree"], TREE)?,
+        run_of(alloc, &["tree", "--pretty"], TREE)?,
+        run_of(alloc, &["doc"], ITEMS)?,
+        run_of(alloc, &["doc", "--pretty"], ITEMS)?,
+    ]?)
 }
 
 #[test]

@@ -1,4 +1,4 @@
-//! Calls that consume what they are called on, and do not give it back: it is made anew for each.
+//! Calls that consume what they are called on, and do not give it back: each attempt takes another.
 
 use growth_tests::given::{element_of, tag_of, text_of};
 use growth_tests::growth::{Answer, Growth, made, wrong_call};
@@ -19,28 +19,21 @@ enum Step {
     TextNodes,
 }
 
-/// A call, and whether it was refused yet: what it consumes may be refused before.
+/// A call, with what its attempts consume.
 #[derive(Drop)]
 struct Taking {
     step: Step,
-    was_refused: bool,
+    spares: Vec<(HtmlElement, Vec<Draft>)>,
 }
 
 impl Growth for Taking {
-    fn attempt(self, alloc: Global) -> Answer<Taking> {
-        let Taking { step, was_refused } = self;
-        let Ok(element) = element_of(alloc) else {
-            return Answer::Refused(Taking { step, was_refused });
+    fn attempt(mut self, alloc: Global) -> Answer<Taking> {
+        let Some((element, drafts)) = self.spares.pop() else {
+            return Answer::Wrong;
         };
-        let Ok(drafts) = drafts_of(alloc) else {
-            return Answer::Refused(Taking { step, was_refused });
-        };
-        match is_right(alloc, step, element, drafts) {
-            Ok(is_right) => made(was_refused && is_right),
-            Err(AllocError) => Answer::Refused(Taking {
-                step,
-                was_refused: true,
-            }),
+        match is_right(alloc, self.step, element, drafts) {
+            Ok(is_right) => made(is_right),
+            Err(AllocError) => Answer::Refused(self),
         }
     }
 }
@@ -99,6 +92,18 @@ fn drafts_of(alloc: Global) -> Result<Vec<Draft>, AllocError> {
     Ok(drafts)
 }
 
+/// How many attempts there are at most: what a refused one frees is there for the next.
+const SPARES: usize = 40;
+
+/// The call, with an element and drafts for each attempt.
+fn call_of(alloc: Global, step: Step) -> Result<Taking, AllocError> {
+    let mut spares = Vec::new(alloc);
+    for _ in 0..SPARES {
+        spares.push((element_of(alloc)?, drafts_of(alloc)?))?;
+    }
+    Ok(Taking { step, spares })
+}
+
 #[test]
 fn taken(rt: HostRuntime) -> Result<(), Fail> {
     let steps = [
@@ -111,10 +116,7 @@ fn taken(rt: HostRuntime) -> Result<(), Fail> {
     ];
     let mut calls = Vec::new(rt.alloc());
     for step in steps {
-        calls.push(Taking {
-            step,
-            was_refused: false,
-        })?;
+        calls.push(call_of(rt.alloc(), step)?)?;
     }
     assert_eq!(rt; wrong_call(rt.alloc(), calls)?, None);
     Ok(())
