@@ -21,8 +21,9 @@ pub(crate) fn info_of(alloc: Global) -> Result<DocumentInfo, AllocError> {
     let mut info = DocumentInfo::new(alloc);
     info.title = Some(text_of(alloc, "Tides")?);
     info.description = Some(text_of(alloc, "Of the moon")?);
-    info.author = vec![in alloc; text_of(alloc, "A. Hill")?, text_of(alloc, "B. Lake")?]?;
-    info.keywords = vec![in alloc; text_of(alloc, "sea")?]?;
+    info.author.push(text_of(alloc, "A. Hill")?)?;
+    info.author.push(text_of(alloc, "B. Lake")?)?;
+    info.keywords.push(text_of(alloc, "sea")?)?;
     info.locale = Some(locale_of(alloc)?);
     Ok(info)
 }
@@ -59,9 +60,9 @@ fn link_of(alloc: Global) -> Result<HtmlElem, AllocError> {
 
 /// Items of a document.
 pub(crate) fn content_of(alloc: Global) -> Result<Vec<Pair>, AllocError> {
-    Ok(vec![in alloc;
-        pair_of(Item::Element(elem_of(alloc, tag::p)?)),
-        pair_of(Item::Block(Some(line_of(alloc)?), Span(5))),
-        pair_of(Item::Element(link_of(alloc)?)),
-    ]?)
+    let mut items = Vec::new(alloc);
+    items.push(pair_of(Item::Element(elem_of(alloc, tag::p)?)))?;
+    items.push(pair_of(Item::Block(Some(line_of(alloc)?), Span(5))))?;
+    items.push(pair_of(Item::Element(link_of(alloc)?)))?;
+    Ok(items)
 }

@@ -60,12 +60,12 @@ fn run_of(alloc: Global, words: &[&str], input: &'static str) -> Result<Run, All
 
 /// Each task of the program.
 fn runs(alloc: Global) -> Result<Vec<Run>, AllocError> {
-    Ok(vec![in alloc;
-        run_of(alloc, &["tree"], TREE)?,
-        run_of(alloc, &["tree", "--pretty"], TREE)?,
-        run_of(alloc, &["doc"], ITEMS)?,
-        run_of(alloc, &["doc", "--pretty"], ITEMS)?,
-    ]?)
+    let mut calls = Vec::new(alloc);
+    calls.push(run_of(alloc, &["tree"], TREE)?)?;
+    calls.push(run_of(alloc, &["tree", "--pretty"], TREE)?)?;
+    calls.push(run_of(alloc, &["doc"], ITEMS)?)?;
+    calls.push(run_of(alloc, &["doc", "--pretty"], ITEMS)?)?;
+    Ok(calls)
 }
 
 #[test]

@@ -167,10 +167,10 @@ fn writings(alloc: Global) -> Result<Vec<TextCall>, AllocError> {
 
 /// Each call that makes a document.
 fn makings(alloc: Global) -> Result<Vec<TextCall>, AllocError> {
-    Ok(vec![in alloc;
-        call(alloc, Source::Bundled(sources_of(alloc)?), false)?,
-        call(alloc, Source::Made(sources_of(alloc)?), false)?,
-    ]?)
+    let mut calls = Vec::new(alloc);
+    calls.push(call(alloc, Source::Bundled(sources_of(alloc)?), false)?)?;
+    calls.push(call(alloc, Source::Made(sources_of(alloc)?), false)?)?;
+    Ok(calls)
 }
 
 #[test]

@@ -62,9 +62,9 @@ pub fn items_of(alloc: Global) -> Result<Vec<Pair>, AllocError> {
     let cell = elem_of(alloc, tag::td)?;
     let mut row = HtmlElem::new(alloc, tag::tr);
     row.body = Some(vec![in alloc; pair_of(Item::Element(cell))]?);
-    Ok(vec![in alloc;
-        pair_of(Item::Element(elem_of(alloc, tag::p)?)),
-        pair_of(block),
-        pair_of(Item::Element(row)),
-    ]?)
+    let mut items = Vec::new(alloc);
+    items.push(pair_of(Item::Element(elem_of(alloc, tag::p)?)))?;
+    items.push(pair_of(block))?;
+    items.push(pair_of(Item::Element(row)))?;
+    Ok(items)
 }

@@ -195,33 +195,22 @@ fn conversions(alloc: Global) -> Result<Vec<ItemCall>, AllocError> {
 
 /// The arguments `href`, `class`, one that no type is there for, and a body.
 fn args_of(alloc: Global) -> Result<Args, AllocError> {
+    let address = Value::Str(text_of(alloc, "x")?);
     let classes = vec![in alloc; Value::Str(text_of(alloc, "held")?)]?;
-    let rows = [
-        (
-            Some("href"),
-            ArgValue::Plain(Value::Str(text_of(alloc, "x")?)),
-        ),
-        (Some("class"), ArgValue::Plain(Value::Array(classes))),
-        (Some("other"), ArgValue::Plain(Value::Auto)),
-        (
-            None,
-            ArgValue::Body(vec![in alloc; pair_of(text_item_of(alloc)?)]?),
-        ),
-    ];
+    let value = ArgValue::Body(vec![in alloc; pair_of(text_item_of(alloc)?)]?);
+    let (name, span) = (None, Span(7));
     let mut items = Vec::new(alloc);
-    for (name, value) in rows {
-        items.push(arg_of(alloc, name, value)?)?;
-    }
+    items.push(Arg { name, span, value })?;
+    items.push(arg_of(alloc, "href", address)?)?;
+    items.push(arg_of(alloc, "class", Value::Array(classes))?)?;
+    items.push(arg_of(alloc, "other", Value::Auto)?)?;
     Ok(Args { items })
 }
 
 /// An argument with that name.
-fn arg_of(alloc: Global, name: Option<&str>, value: ArgValue) -> Result<Arg, AllocError> {
-    let name = match name {
-        Some(name) => Some(text_of(alloc, name)?),
-        None => None,
-    };
-    let span = Span(7);
+fn arg_of(alloc: Global, name: &str, value: Value) -> Result<Arg, AllocError> {
+    let (name, span) = (Some(text_of(alloc, name)?), Span(7));
+    let value = ArgValue::Plain(value);
     Ok(Arg { name, span, value })
 }
 
@@ -229,10 +218,9 @@ fn arg_of(alloc: Global, name: Option<&str>, value: ArgValue) -> Result<Arg, All
 fn info_of(alloc: Global) -> Result<ElementInfo, AllocError> {
     let inner = AttrType::Native(NativeType::Str);
     let list = AttrType::List(ListType::new(alloc, inner, ' ', false)?);
-    let attrs = vec![in alloc;
-        (attr::href, AttrType::Native(NativeType::Str)),
-        (attr::class, list),
-    ]?;
+    let mut attrs = Vec::new(alloc);
+    attrs.push((attr::href, AttrType::Native(NativeType::Str)))?;
+    attrs.push((attr::class, list))?;
     Ok(ElementInfo::new(tag::a, attrs))
 }
 
@@ -242,11 +230,13 @@ fn changes(alloc: Global) -> Result<Vec<ItemCall>, AllocError> {
     let shown = format!(in alloc; "{element:?}")?;
     let args = args_of(alloc)?;
     let args_shown = format!(in alloc; "{args:?}")?;
-    Ok(vec![in alloc;
-        ItemCall::WithAttr(element, text_of(alloc, "held")?, shown.clone()?),
-        ItemCall::WithOptionalAttr(other, text_of(alloc, "held")?, shown),
-        ItemCall::Construct(info_of(alloc)?, args, args_shown),
-    ]?)
+    let mut calls = Vec::new(alloc);
+    calls.push(ItemCall::Construct(info_of(alloc)?, args, args_shown))?;
+    let value = text_of(alloc, "held")?;
+    calls.push(ItemCall::WithAttr(element, value, shown.clone()?))?;
+    let value = text_of(alloc, "held")?;
+    calls.push(ItemCall::WithOptionalAttr(other, value, shown))?;
+    Ok(calls)
 }
 
 #[test]

@@ -114,13 +114,12 @@ fn introspector_of(alloc: Global) -> Result<HtmlIntrospector, AllocError> {
 
 /// A space at the beginning, and one between two words.
 fn spaces_of(alloc: Global) -> Result<FlatTree, AllocError> {
-    let nodes = vec![in alloc;
-        HtmlNode::text(text_of(alloc, " ")?, Span(1)),
-        HtmlNode::text(text_of(alloc, "one")?, Span(2)),
-        HtmlNode::from(tag_of(alloc)?),
-        HtmlNode::text(text_of(alloc, " ")?, Span(3)),
-        HtmlNode::text(text_of(alloc, "two")?, Span(4)),
-    ]?;
+    let mut nodes = Vec::new(alloc);
+    nodes.push(HtmlNode::text(text_of(alloc, " ")?, Span(1)))?;
+    nodes.push(HtmlNode::text(text_of(alloc, "one")?, Span(2)))?;
+    nodes.push(HtmlNode::from(tag_of(alloc)?))?;
+    nodes.push(HtmlNode::text(text_of(alloc, " ")?, Span(3)))?;
+    nodes.push(HtmlNode::text(text_of(alloc, "two")?, Span(4)))?;
     FlatTree::from_nodes(alloc, &nodes)
 }
 

@@ -152,10 +152,10 @@ fn values_of_parts(alloc: Global) -> Result<Vec<ValueCall>, AllocError> {
         width: 16,
         height: 0,
     };
-    let mut calls = vec![in alloc;
-        ValueCall::Text(Attribute::IconSize(size), "16x0"),
-        ValueCall::Text(Attribute::ImageCandidate(image_of(alloc)?), "x.png 480w"),
-    ]?;
+    let image = Attribute::ImageCandidate(image_of(alloc)?);
+    let mut calls = Vec::new(alloc);
+    calls.push(ValueCall::Text(Attribute::IconSize(size), "16x0"))?;
+    calls.push(ValueCall::Text(image, "x.png 480w"))?;
     if let Some(number) = NonZeroI64::new(-7) {
         calls.push(ValueCall::Text(Attribute::NonZeroInt(number), "-7"))?;
     }
@@ -209,19 +209,39 @@ fn casts_of_parts(alloc: Global) -> Result<Vec<ValueCall>, AllocError> {
     Ok(calls)
 }
 
-/// Casts to one of several texts, to one of several types, and to a list.
-fn casts_of_several(alloc: Global) -> Result<Vec<ValueCall>, AllocError> {
-    let texts = AttrType::Strings(vec![in alloc; text_of(alloc, "a")?, text_of(alloc, "b")?]?);
+/// A cast to one of several texts.
+fn cast_to_texts(alloc: Global) -> Result<ValueCall, AllocError> {
+    let mut texts = Vec::new(alloc);
+    texts.push(text_of(alloc, "a")?)?;
+    texts.push(text_of(alloc, "b")?)?;
+    let value = Value::Str(text_of(alloc, "b")?);
+    Ok(ValueCall::Cast(AttrType::Strings(texts), value, "b"))
+}
+
+/// A cast to one of several types.
+fn cast_to_union(alloc: Global) -> Result<ValueCall, AllocError> {
+    let mut types = Vec::new(alloc);
+    types.push(AttrType::Native(NativeType::Int))?;
+    types.push(AttrType::Native(NativeType::Auto))?;
+    Ok(ValueCall::Cast(AttrType::Union(types), Value::Auto, "auto"))
+}
+
+/// A cast to a list.
+fn cast_to_list(alloc: Global) -> Result<ValueCall, AllocError> {
+    let mut array = Vec::new(alloc);
+    array.push(Value::Str(text_of(alloc, "a")?))?;
+    array.push(Value::Str(text_of(alloc, "b")?))?;
     let inner = AttrType::Native(NativeType::Str);
     let list = AttrType::List(ListType::new(alloc, inner, ',', false)?);
-    let int = AttrType::Native(NativeType::Int);
-    let union = AttrType::Union(vec![in alloc; int, AttrType::Native(NativeType::Auto)]?);
-    let (one, two) = (text_of(alloc, "a")?, text_of(alloc, "b")?);
-    let array = Value::Array(vec![in alloc; Value::Str(one), Value::Str(two)]?);
+    Ok(ValueCall::Cast(list, Value::Array(array), "a, b"))
+}
+
+/// Casts to one of several texts, to one of several types, and to a list.
+fn casts_of_several(alloc: Global) -> Result<Vec<ValueCall>, AllocError> {
     let mut calls = Vec::new(alloc);
-    calls.push(ValueCall::Cast(texts, Value::Str(text_of(alloc, "b")?), "b"))?;
-    calls.push(ValueCall::Cast(union, Value::Auto, "auto"))?;
-    calls.push(ValueCall::Cast(list, array, "a, b"))?;
+    calls.push(cast_to_texts(alloc)?)?;
+    calls.push(cast_to_union(alloc)?)?;
+    calls.push(cast_to_list(alloc)?)?;
     calls.push(ValueCall::List(NativeType::Int))?;
     Ok(calls)
 }

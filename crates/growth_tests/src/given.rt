@@ -47,14 +47,18 @@ pub fn place() -> Point {
 pub fn group_of(alloc: Global) -> Result<Frame, AllocError> {
     let tag = FrameItem::Tag(tag_of(alloc)?);
     let link = FrameItem::Link(Some(Location(3)));
-    let items = vec![in alloc; (place(), tag), (place(), link)]?;
+    let mut items = Vec::new(alloc);
+    items.push((place(), tag))?;
+    items.push((place(), link))?;
     Ok(Frame { picture: 1, items })
 }
 
 /// A frame with a frame in it.
 pub fn frame_of(alloc: Global) -> Result<Frame, AllocError> {
     let group = FrameItem::Group(group_of(alloc)?);
-    let items = vec![in alloc; (place(), group), (place(), FrameItem::Other)]?;
+    let mut items = Vec::new(alloc);
+    items.push((place(), group))?;
+    items.push((place(), FrameItem::Other))?;
     Ok(Frame { picture: 2, items })
 }
 
@@ -72,11 +76,11 @@ pub fn html_frame_of(alloc: Global) -> Result<HtmlFrame, AllocError> {
 pub fn inner_of(alloc: Global) -> Result<HtmlElement, AllocError> {
     let mut element = HtmlElement::new(alloc, tag::p).with_css(css_of(alloc)?);
     element.attrs = attrs_of(alloc, "inner")?;
-    element.children = vec![in alloc;
-        HtmlNode::from(tag_of(alloc)?),
-        HtmlNode::text(text_of(alloc, "a text")?, Span(5)),
-        HtmlNode::from(html_frame_of(alloc)?),
-    ]?;
+    element.children.push(HtmlNode::from(tag_of(alloc)?))?;
+    let text = text_of(alloc, "a text")?;
+    element.children.push(HtmlNode::text(text, Span(5)))?;
+    let frame = html_frame_of(alloc)?;
+    element.children.push(HtmlNode::from(frame))?;
     Ok(element)
 }
 
@@ -84,10 +88,11 @@ pub fn inner_of(alloc: Global) -> Result<HtmlElement, AllocError> {
 pub fn element_of(alloc: Global) -> Result<HtmlElement, AllocError> {
     let mut element = HtmlElement::new(alloc, tag::div).with_css(css_of(alloc)?);
     element.attrs = attrs_of(alloc, "outer")?;
-    element.children = vec![in alloc;
-        HtmlNode::text(text_of(alloc, "one")?, Span(6)),
-        HtmlNode::from(inner_of(alloc)?),
-        HtmlNode::text(text_of(alloc, "two")?, Span(7)),
-    ]?;
+    let text = text_of(alloc, "one")?;
+    element.children.push(HtmlNode::text(text, Span(6)))?;
+    let inner = inner_of(alloc)?;
+    element.children.push(HtmlNode::from(inner))?;
+    let text = text_of(alloc, "two")?;
+    element.children.push(HtmlNode::text(text, Span(7)))?;
     Ok(element)
 }
