@@ -118,14 +118,25 @@ fn copy_call(alloc: Global, thing: Thing) -> Result<DocumentCall, AllocError> {
     Ok(DocumentCall::Copy(thing, shown))
 }
 
+/// The output, and the text by which it is shown.
+fn shown_output_of(alloc: Global) -> Result<(HtmlOutput, String), AllocError> {
+    let output = output_of(alloc)?;
+    let shown = format!(in alloc; "{output:?}")?;
+    Ok((output, shown))
+}
+
+/// The information, and the text by which it is shown.
+fn shown_info_of(alloc: Global) -> Result<(DocumentInfo, String), AllocError> {
+    let info = info_of(alloc)?;
+    let shown = format!(in alloc; "{info:?}")?;
+    Ok((info, shown))
+}
+
 /// A document is made.
 fn new_call(alloc: Global) -> Result<DocumentCall, AllocError> {
-    let (output, info) = (output_of(alloc)?, info_of(alloc)?);
-    let shown = (
-        format!(in alloc; "{output:?}")?,
-        format!(in alloc; "{info:?}")?,
-    );
-    Ok(DocumentCall::New(output, info, shown))
+    let (output, output_shown) = shown_output_of(alloc)?;
+    let (info, info_shown) = shown_info_of(alloc)?;
+    Ok(DocumentCall::New(output, info, (output_shown, info_shown)))
 }
 
 /// The element that starts in a document, and the one after it.

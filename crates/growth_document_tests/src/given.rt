@@ -1,6 +1,6 @@
 //! What the calls are made on.
 
-use growth_item_tests::given::{elem_of, line_of, pair_of};
+use growth_item_tests::given::{block_of, elem_of, element_item_of, pair_of};
 use growth_tests::given::{element_of, text_of};
 use html_document::{DocumentInfo, HtmlDocument, HtmlOutput, Locale};
 use html_dom::{HtmlElement, HtmlNode, Span};
@@ -16,14 +16,21 @@ pub(crate) fn locale_of(alloc: Global) -> Result<Locale, AllocError> {
     })
 }
 
+/// Two authors.
+fn authors_of(alloc: Global) -> Result<Vec<String>, AllocError> {
+    let mut authors = Vec::new(alloc);
+    authors.push(text_of(alloc, "A. Hill")?)?;
+    authors.push(text_of(alloc, "B. Lake")?)?;
+    Ok(authors)
+}
+
 /// Information of each kind.
 pub(crate) fn info_of(alloc: Global) -> Result<DocumentInfo, AllocError> {
     let mut info = DocumentInfo::new(alloc);
     info.title = Some(text_of(alloc, "Tides")?);
     info.description = Some(text_of(alloc, "Of the moon")?);
-    info.author.push(text_of(alloc, "A. Hill")?)?;
-    info.author.push(text_of(alloc, "B. Lake")?)?;
-    info.keywords.push(text_of(alloc, "sea")?)?;
+    info.author = authors_of(alloc)?;
+    info.keywords = vec![in alloc; text_of(alloc, "sea")?]?;
     info.locale = Some(locale_of(alloc)?);
     Ok(info)
 }
@@ -61,8 +68,8 @@ fn link_of(alloc: Global) -> Result<HtmlElem, AllocError> {
 /// Items of a document.
 pub(crate) fn content_of(alloc: Global) -> Result<Vec<Pair>, AllocError> {
     let mut items = Vec::new(alloc);
-    items.push(pair_of(Item::Element(elem_of(alloc, tag::p)?)))?;
-    items.push(pair_of(Item::Block(Some(line_of(alloc)?), Span(5))))?;
+    items.push(element_item_of(alloc, tag::p)?)?;
+    items.push(block_of(alloc)?)?;
     items.push(pair_of(Item::Element(link_of(alloc)?)))?;
     Ok(items)
 }

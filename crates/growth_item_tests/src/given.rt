@@ -29,20 +29,28 @@ pub fn text_item_of(alloc: Global) -> Result<Item, AllocError> {
     Ok(Item::Text(text_of(alloc, "  two  words \n")?, Span(2)))
 }
 
+/// A box with a text in it.
+fn box_of(alloc: Global) -> Result<Pair, AllocError> {
+    let items = vec![in alloc; pair_of(text_item_of(alloc)?)]?;
+    Ok(pair_of(Item::Box(Some(items), Span(4))))
+}
+
+/// A frame with a role.
+fn noted_frame_of(alloc: Global) -> Result<Pair, AllocError> {
+    let role = Role::Set(text_of(alloc, "note")?);
+    let item = Item::Frame(frame_elem_of(alloc)?);
+    Ok(Pair { item, role })
+}
+
 /// Items of a line.
 pub fn line_of(alloc: Global) -> Result<Vec<Pair>, AllocError> {
-    let role = Role::Set(text_of(alloc, "note")?);
-    let boxed = vec![in alloc; pair_of(text_item_of(alloc)?)]?;
     let mut items = Vec::new(alloc);
     items.push(pair_of(Item::Tag(tag_of(alloc)?)))?;
     items.push(pair_of(Item::Space(Span(1))))?;
     items.push(pair_of(text_item_of(alloc)?))?;
     items.push(pair_of(Item::LineBreak(Span(3))))?;
-    items.push(pair_of(Item::Box(Some(boxed), Span(4))))?;
-    items.push(Pair {
-        item: Item::Frame(frame_elem_of(alloc)?),
-        role,
-    })?;
+    items.push(box_of(alloc)?)?;
+    items.push(noted_frame_of(alloc)?)?;
     items.push(pair_of(Item::Hole))?;
     Ok(items)
 }
@@ -56,15 +64,29 @@ pub fn elem_of(alloc: Global, tag: HtmlTag) -> Result<HtmlElem, AllocError> {
     Ok(element)
 }
 
-/// A `p`, a block with items of a line in it, and a table whose cell holds a line.
-pub fn items_of(alloc: Global) -> Result<Vec<Pair>, AllocError> {
-    let block = Item::Block(Some(line_of(alloc)?), Span(5));
-    let cell = elem_of(alloc, tag::td)?;
+/// A block with items of a line in it.
+pub fn block_of(alloc: Global) -> Result<Pair, AllocError> {
+    Ok(pair_of(Item::Block(Some(line_of(alloc)?), Span(5))))
+}
+
+/// An element with css, an attribute and items of a line, as an item.
+pub fn element_item_of(alloc: Global, tag: HtmlTag) -> Result<Pair, AllocError> {
+    Ok(pair_of(Item::Element(elem_of(alloc, tag)?)))
+}
+
+/// A row of a table whose cell holds a line.
+fn row_of(alloc: Global) -> Result<Pair, AllocError> {
+    let cells = vec![in alloc; element_item_of(alloc, tag::td)?]?;
     let mut row = HtmlElem::new(alloc, tag::tr);
-    row.body = Some(vec![in alloc; pair_of(Item::Element(cell))]?);
+    row.body = Some(cells);
+    Ok(pair_of(Item::Element(row)))
+}
+
+/// A `p`, a block with items of a line in it, and a row of a table whose cell holds a line.
+pub fn items_of(alloc: Global) -> Result<Vec<Pair>, AllocError> {
     let mut items = Vec::new(alloc);
-    items.push(pair_of(Item::Element(elem_of(alloc, tag::p)?)))?;
-    items.push(pair_of(block))?;
-    items.push(pair_of(Item::Element(row)))?;
+    items.push(element_item_of(alloc, tag::p)?)?;
+    items.push(block_of(alloc)?)?;
+    items.push(row_of(alloc)?)?;
     Ok(items)
 }

@@ -1,6 +1,6 @@
 //! Items: copies of them, the nodes that they become, and elements that arguments make.
 
-use crate::given::{elem_of, frame_elem_of, items_of, line_of, pair_of, text_item_of};
+use crate::given::{block_of, elem_of, frame_elem_of, items_of, pair_of, text_item_of};
 use crate::shown::is_shown;
 use growth_tests::given::text_of;
 use growth_tests::growth::{Answer, Growth, made, refused, wrong_call};
@@ -156,21 +156,25 @@ fn copy_call(alloc: Global, thing: Thing) -> Result<ItemCall, AllocError> {
     Ok(ItemCall::Copy(thing, shown))
 }
 
+/// A role of its own.
+fn role_of(alloc: Global, role: &str) -> Result<Role, AllocError> {
+    Ok(Role::Set(text_of(alloc, role)?))
+}
+
+/// A text with a role of its own.
+fn noted_text_of(alloc: Global) -> Result<Pair, AllocError> {
+    let role = role_of(alloc, "math")?;
+    let item = text_item_of(alloc)?;
+    Ok(Pair { item, role })
+}
+
 /// Each call that makes a copy.
 fn copies(alloc: Global) -> Result<Vec<ItemCall>, AllocError> {
-    let role = Role::Set(text_of(alloc, "note")?);
-    let pair = Pair {
-        item: text_item_of(alloc)?,
-        role: Role::Set(text_of(alloc, "math")?),
-    };
     let mut calls = Vec::new(alloc);
-    calls.push(copy_call(alloc, Thing::Pair(pair))?)?;
-    calls.push(copy_call(alloc, Thing::Role(role))?)?;
+    calls.push(copy_call(alloc, Thing::Pair(noted_text_of(alloc)?))?)?;
+    calls.push(copy_call(alloc, Thing::Role(role_of(alloc, "note")?))?)?;
     calls.push(copy_call(alloc, Thing::Frame(frame_elem_of(alloc)?))?)?;
-    calls.push(copy_call(
-        alloc,
-        Thing::Item(Item::Block(Some(line_of(alloc)?), Span(6))),
-    )?)?;
+    calls.push(copy_call(alloc, Thing::Item(block_of(alloc)?.item))?)?;
     calls.push(copy_call(alloc, Thing::Element(elem_of(alloc, tag::p)?))?)?;
     Ok(calls)
 }
@@ -193,20 +197,6 @@ fn conversions(alloc: Global) -> Result<Vec<ItemCall>, AllocError> {
     Ok(calls)
 }
 
-/// The arguments `href`, `class`, one that no type is there for, and a body.
-fn args_of(alloc: Global) -> Result<Args, AllocError> {
-    let address = Value::Str(text_of(alloc, "x")?);
-    let classes = vec![in alloc; Value::Str(text_of(alloc, "held")?)]?;
-    let value = ArgValue::Body(vec![in alloc; pair_of(text_item_of(alloc)?)]?);
-    let (name, span) = (None, Span(7));
-    let mut items = Vec::new(alloc);
-    items.push(Arg { name, span, value })?;
-    items.push(arg_of(alloc, "href", address)?)?;
-    items.push(arg_of(alloc, "class", Value::Array(classes))?)?;
-    items.push(arg_of(alloc, "other", Value::Auto)?)?;
-    Ok(Args { items })
-}
-
 /// An argument with that name.
 fn arg_of(alloc: Global, name: &str, value: Value) -> Result<Arg, AllocError> {
     let (name, span) = (Some(text_of(alloc, name)?), Span(7));
@@ -214,28 +204,68 @@ fn arg_of(alloc: Global, name: &str, value: Value) -> Result<Arg, AllocError> {
     Ok(Arg { name, span, value })
 }
 
+/// An argument with that name, and with that text or a list of it.
+fn text_arg_of(alloc: Global, name: &str, text: &str, is_list: bool) -> Result<Arg, AllocError> {
+    let text = Value::Str(text_of(alloc, text)?);
+    if is_list {
+        return arg_of(alloc, name, Value::Array(vec![in alloc; text]?));
+    }
+    arg_of(alloc, name, text)
+}
+
+/// A body.
+fn body_arg_of(alloc: Global) -> Result<Arg, AllocError> {
+    let value = ArgValue::Body(vec![in alloc; pair_of(text_item_of(alloc)?)]?);
+    let (name, span) = (None, Span(7));
+    Ok(Arg { name, span, value })
+}
+
+/// The arguments `href`, `class`, one that no type is there for, and a body.
+fn args_of(alloc: Global) -> Result<Args, AllocError> {
+    let mut items = Vec::new(alloc);
+    items.push(text_arg_of(alloc, "href", "x", false)?)?;
+    items.push(text_arg_of(alloc, "class", "held", true)?)?;
+    items.push(arg_of(alloc, "other", Value::Auto)?)?;
+    items.push(body_arg_of(alloc)?)?;
+    Ok(Args { items })
+}
+
+/// The type of lists of texts.
+fn list_type_of(alloc: Global) -> Result<AttrType, AllocError> {
+    let inner = AttrType::Native(NativeType::Str);
+    Ok(AttrType::List(ListType::new(alloc, inner, ' ', false)?))
+}
+
 /// An `a` with a text and a list of texts.
 fn info_of(alloc: Global) -> Result<ElementInfo, AllocError> {
-    let inner = AttrType::Native(NativeType::Str);
-    let list = AttrType::List(ListType::new(alloc, inner, ' ', false)?);
     let mut attrs = Vec::new(alloc);
+    attrs.push((attr::class, list_type_of(alloc)?))?;
     attrs.push((attr::href, AttrType::Native(NativeType::Str)))?;
-    attrs.push((attr::class, list))?;
     Ok(ElementInfo::new(tag::a, attrs))
+}
+
+/// An element, a value for it, and the text by which the element is shown.
+fn held_of(alloc: Global) -> Result<(HtmlElem, String, String), AllocError> {
+    let element = elem_of(alloc, tag::p)?;
+    let shown = format!(in alloc; "{element:?}")?;
+    Ok((element, text_of(alloc, "held")?, shown))
+}
+
+/// An element is made of arguments.
+fn construct_call(alloc: Global) -> Result<ItemCall, AllocError> {
+    let args = args_of(alloc)?;
+    let shown = format!(in alloc; "{args:?}")?;
+    Ok(ItemCall::Construct(info_of(alloc)?, args, shown))
 }
 
 /// Each call that changes something.
 fn changes(alloc: Global) -> Result<Vec<ItemCall>, AllocError> {
-    let (element, other) = (elem_of(alloc, tag::p)?, elem_of(alloc, tag::p)?);
-    let shown = format!(in alloc; "{element:?}")?;
-    let args = args_of(alloc)?;
-    let args_shown = format!(in alloc; "{args:?}")?;
     let mut calls = Vec::new(alloc);
-    calls.push(ItemCall::Construct(info_of(alloc)?, args, args_shown))?;
-    let value = text_of(alloc, "held")?;
-    calls.push(ItemCall::WithAttr(element, value, shown.clone()?))?;
-    let value = text_of(alloc, "held")?;
-    calls.push(ItemCall::WithOptionalAttr(other, value, shown))?;
+    let (element, value, shown) = held_of(alloc)?;
+    calls.push(ItemCall::WithAttr(element, value, shown))?;
+    let (element, value, shown) = held_of(alloc)?;
+    calls.push(ItemCall::WithOptionalAttr(element, value, shown))?;
+    calls.push(construct_call(alloc)?)?;
     Ok(calls)
 }
 

@@ -1,9 +1,9 @@
 //! Flat trees, positions of located elements, and spaces that are bare.
 
 use crate::shown::is_shown;
-use growth_tests::given::{element_of, tag_of, text_of};
+use growth_tests::given::{element_of, tag_of, text_node_of};
 use growth_tests::growth::{Answer, Growth, made, refused, wrong_call};
-use html_dom::{HtmlElement, HtmlNode, Location, Span};
+use html_dom::{HtmlElement, HtmlNode, Location};
 use html_flat::FlatTree;
 use html_introspect::HtmlIntrospector;
 use html_whitespace::bare_spaces;
@@ -113,25 +113,58 @@ fn introspector_of(alloc: Global) -> Result<HtmlIntrospector, AllocError> {
 }
 
 /// A space at the beginning, and one between two words.
-fn spaces_of(alloc: Global) -> Result<FlatTree, AllocError> {
+fn spaced_nodes_of(alloc: Global) -> Result<Vec<HtmlNode>, AllocError> {
     let mut nodes = Vec::new(alloc);
-    nodes.push(HtmlNode::text(text_of(alloc, " ")?, Span(1)))?;
-    nodes.push(HtmlNode::text(text_of(alloc, "one")?, Span(2)))?;
+    nodes.push(text_node_of(alloc, " ", 1)?)?;
+    nodes.push(text_node_of(alloc, "one", 2)?)?;
     nodes.push(HtmlNode::from(tag_of(alloc)?))?;
-    nodes.push(HtmlNode::text(text_of(alloc, " ")?, Span(3)))?;
-    nodes.push(HtmlNode::text(text_of(alloc, "two")?, Span(4)))?;
-    FlatTree::from_nodes(alloc, &nodes)
+    nodes.push(text_node_of(alloc, " ", 3)?)?;
+    nodes.push(text_node_of(alloc, "two", 4)?)?;
+    Ok(nodes)
+}
+
+/// The tree of those nodes.
+fn spaces_of(alloc: Global) -> Result<FlatTree, AllocError> {
+    FlatTree::from_nodes(alloc, &spaced_nodes_of(alloc)?)
+}
+
+/// The tree of the element.
+fn tree_of(alloc: Global) -> Result<FlatTree, AllocError> {
+    FlatTree::from_nodes(alloc, &nodes_of(alloc)?)
+}
+
+/// The nodes become a tree.
+fn flat_nodes_call(alloc: Global) -> Result<NodeCall, AllocError> {
+    let nodes = nodes_of(alloc)?;
+    Ok(NodeCall::FlatNodes(nodes, shown_nodes(alloc)?))
+}
+
+/// The element becomes a tree.
+fn flat_element_call(alloc: Global) -> Result<NodeCall, AllocError> {
+    let element = element_of(alloc)?;
+    let shown = format!(in alloc; "{element:?}")?;
+    Ok(NodeCall::FlatElement(element, shown))
+}
+
+/// The tree becomes nodes.
+fn spelled_call(alloc: Global) -> Result<NodeCall, AllocError> {
+    let tree = tree_of(alloc)?;
+    Ok(NodeCall::Spelled(tree, shown_nodes(alloc)?))
+}
+
+/// Positions of the nodes are recorded.
+fn positions_call(alloc: Global) -> Result<NodeCall, AllocError> {
+    let nodes = nodes_of(alloc)?;
+    Ok(NodeCall::Positions(nodes, shown_nodes(alloc)?))
 }
 
 /// Each call on nodes.
 fn calls_of(alloc: Global) -> Result<Vec<NodeCall>, AllocError> {
-    let shown = format!(in alloc; "{:?}", element_of(alloc)?)?;
-    let tree = FlatTree::from_nodes(alloc, &nodes_of(alloc)?)?;
     let mut calls = Vec::new(alloc);
-    calls.push(NodeCall::FlatNodes(nodes_of(alloc)?, shown_nodes(alloc)?))?;
-    calls.push(NodeCall::FlatElement(element_of(alloc)?, shown))?;
-    calls.push(NodeCall::Spelled(tree, shown_nodes(alloc)?))?;
-    calls.push(NodeCall::Positions(nodes_of(alloc)?, shown_nodes(alloc)?))?;
+    calls.push(flat_nodes_call(alloc)?)?;
+    calls.push(flat_element_call(alloc)?)?;
+    calls.push(spelled_call(alloc)?)?;
+    calls.push(positions_call(alloc)?)?;
     calls.push(NodeCall::LinkTargets(introspector_of(alloc)?))?;
     calls.push(NodeCall::Copy(introspector_of(alloc)?))?;
     calls.push(NodeCall::BareSpaces(spaces_of(alloc)?))?;

@@ -46,22 +46,36 @@ fn is_right(
     drafts: Vec<Draft>,
 ) -> Result<bool, AllocError> {
     match step {
-        Step::Styles => {
-            let styled = with_inline_styles(alloc, element)?;
-            Ok(styled.attrs.get(&attr::style).is_some())
-        }
-        Step::Nodes => Ok(nodes_of(alloc, drafts)?.len() == COUNT),
-        Step::Runs => Ok(is_kept_at(&keep_runs(alloc, drafts)?, TAB)),
-        Step::Spaces => Ok(is_kept_at(&protect_spaces(alloc, drafts)?, SPACE)),
-        Step::Settled => Ok(is_settled(&settled(alloc, element, drafts)?)),
-        Step::TextNodes => Ok(with_text(alloc, drafts)?.len() == COUNT + 3),
+        Step::Styles => has_styles(alloc, element),
+        Step::Nodes => makes_nodes(alloc, drafts),
+        Step::Runs => keeps_runs(alloc, drafts),
+        Step::Spaces => keeps_spaces(alloc, drafts),
+        Step::Settled => is_settled(alloc, element, drafts),
+        Step::TextNodes => adds_text(alloc, drafts),
     }
 }
 
-/// The drafts, and those of a text of three pieces.
-fn with_text(alloc: Global, mut drafts: Vec<Draft>) -> Result<Vec<Draft>, AllocError> {
+fn has_styles(alloc: Global, element: HtmlElement) -> Result<bool, AllocError> {
+    let styled = with_inline_styles(alloc, element)?;
+    Ok(styled.attrs.get(&attr::style).is_some())
+}
+
+fn makes_nodes(alloc: Global, drafts: Vec<Draft>) -> Result<bool, AllocError> {
+    Ok(nodes_of(alloc, drafts)?.len() == COUNT)
+}
+
+fn keeps_runs(alloc: Global, drafts: Vec<Draft>) -> Result<bool, AllocError> {
+    Ok(is_kept_at(&keep_runs(alloc, drafts)?, TAB))
+}
+
+fn keeps_spaces(alloc: Global, drafts: Vec<Draft>) -> Result<bool, AllocError> {
+    Ok(is_kept_at(&protect_spaces(alloc, drafts)?, SPACE))
+}
+
+/// Whether there are as many drafts more as a text of three pieces has.
+fn adds_text(alloc: Global, mut drafts: Vec<Draft>) -> Result<bool, AllocError> {
     push_text_nodes(alloc, &mut drafts, "two\twords", Span(9))?;
-    Ok(drafts)
+    Ok(drafts.len() == COUNT + 3)
 }
 
 /// Whether they are as many as before, and the one at that place is no text any more.
@@ -69,8 +83,9 @@ fn is_kept_at(drafts: &[Draft], place: usize) -> bool {
     drafts.len() == COUNT && !matches!(drafts.get(place), None | Some(Draft::Text(_, _)))
 }
 
-fn is_settled(draft: &Draft) -> bool {
-    matches!(draft, Draft::Settled(_, _))
+fn is_settled(alloc: Global, element: HtmlElement, drafts: Vec<Draft>) -> Result<bool, AllocError> {
+    let draft = settled(alloc, element, drafts)?;
+    Ok(matches!(draft, Draft::Settled(_, _)))
 }
 
 /// How many drafts are made, and at which places a lone space and a tab stand.
@@ -80,15 +95,25 @@ const SPACE: usize = 0;
 
 const TAB: usize = 3;
 
+/// A text with that span.
+fn text_draft_of(alloc: Global, text: &str, span: u64) -> Result<Draft, AllocError> {
+    Ok(Draft::text(text_of(alloc, text)?, Span(span)))
+}
+
+/// A `b` with a text.
+fn open_draft_of(alloc: Global) -> Result<Draft, AllocError> {
+    let inner = vec![in alloc; text_draft_of(alloc, "two", 4)?]?;
+    Ok(Draft::open(HtmlElement::new(alloc, tag::b), inner))
+}
+
 /// A lone space, a tag, a text, a tab, and a `b` with a text.
 fn drafts_of(alloc: Global) -> Result<Vec<Draft>, AllocError> {
-    let inner = vec![in alloc; Draft::text(text_of(alloc, "two")?, Span(4))]?;
     let mut drafts = Vec::new(alloc);
-    drafts.push(Draft::text(text_of(alloc, " ")?, Span(1)))?;
+    drafts.push(text_draft_of(alloc, " ", 1)?)?;
     drafts.push(Draft::Tag(tag_of(alloc)?))?;
-    drafts.push(Draft::text(text_of(alloc, "one")?, Span(2)))?;
-    drafts.push(Draft::text(text_of(alloc, "\t")?, Span(3)))?;
-    drafts.push(Draft::open(HtmlElement::new(alloc, tag::b), inner))?;
+    drafts.push(text_draft_of(alloc, "one", 2)?)?;
+    drafts.push(text_draft_of(alloc, "\t", 3)?)?;
+    drafts.push(open_draft_of(alloc)?)?;
     Ok(drafts)
 }
 

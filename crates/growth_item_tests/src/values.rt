@@ -173,7 +173,7 @@ fn native(native: NativeType, value: Value, wanted: &'static str) -> ValueCall {
     ValueCall::Cast(AttrType::Native(native), value, wanted)
 }
 
-/// Casts to types of words, numbers and texts.
+/// Casts to types of words.
 fn casts_of_words(alloc: Global) -> Result<Vec<ValueCall>, AllocError> {
     let mut calls = Vec::new(alloc);
     calls.push(native(NativeType::NoValue, Value::None, "none"))?;
@@ -182,6 +182,12 @@ fn casts_of_words(alloc: Global) -> Result<Vec<ValueCall>, AllocError> {
     calls.push(native(NativeType::TrueFalse, Value::Bool(false), "false"))?;
     calls.push(native(NativeType::YesNo, Value::Bool(false), "no"))?;
     calls.push(native(NativeType::OnOff, Value::Bool(false), "off"))?;
+    Ok(calls)
+}
+
+/// Casts to types of numbers and texts.
+fn casts_of_numbers(alloc: Global) -> Result<Vec<ValueCall>, AllocError> {
+    let mut calls = Vec::new(alloc);
     calls.push(native(NativeType::Int, Value::Int(-1), "-1"))?;
     calls.push(native(NativeType::NonNegativeInt, Value::Int(0), "0"))?;
     calls.push(native(NativeType::PositiveInt, Value::Int(1), "1"))?;
@@ -190,22 +196,29 @@ fn casts_of_words(alloc: Global) -> Result<Vec<ValueCall>, AllocError> {
     Ok(calls)
 }
 
+/// A cast to two numbers.
+fn cast_to_size(alloc: Global) -> Result<ValueCall, AllocError> {
+    let size = vec![in alloc; Value::Int(16), Value::Int(16)]?;
+    Ok(native(NativeType::IconSize, Value::Array(size), "16x16"))
+}
+
+/// A cast to a source of an image.
+fn cast_to_image(alloc: Global) -> Result<ValueCall, AllocError> {
+    let (src, width) = (text_of(alloc, "x.png")?, Some(480));
+    let image = Value::Image { src, width };
+    Ok(native(NativeType::ImageCandidate, image, "x.png 480w"))
+}
+
 /// Casts to types of other values.
 fn casts_of_parts(alloc: Global) -> Result<Vec<ValueCall>, AllocError> {
-    let size = vec![in alloc; Value::Int(16), Value::Int(16)]?;
-    let (src, width) = (text_of(alloc, "x.png")?, Some(480));
     let day = Value::Datetime(Moment::Date(date(2024, 2, 9)));
     let mut calls = Vec::new(alloc);
     calls.push(native(NativeType::Datetime, day, "2024-02-09"))?;
     calls.push(native(NativeType::Duration, Value::Duration(59), "59s"))?;
     calls.push(native(NativeType::Color, Value::Color(RED), "#ff001080"))?;
     calls.push(native(NativeType::HorizontalDir, Value::Dir(Dir::LTR), "ltr"))?;
-    calls.push(native(NativeType::IconSize, Value::Array(size), "16x16"))?;
-    calls.push(native(
-        NativeType::ImageCandidate,
-        Value::Image { src, width },
-        "x.png 480w",
-    ))?;
+    calls.push(cast_to_size(alloc)?)?;
+    calls.push(cast_to_image(alloc)?)?;
     Ok(calls)
 }
 
@@ -264,6 +277,8 @@ fn texts_of_parts(rt: HostRuntime) -> Result<(), Fail> {
 #[test]
 fn casts(rt: HostRuntime) -> Result<(), Fail> {
     let calls = casts_of_words(rt.alloc())?;
+    assert_eq!(rt; wrong_call(rt.alloc(), calls)?, None);
+    let calls = casts_of_numbers(rt.alloc())?;
     assert_eq!(rt; wrong_call(rt.alloc(), calls)?, None);
     let calls = casts_of_parts(rt.alloc())?;
     assert_eq!(rt; wrong_call(rt.alloc(), calls)?, None);

@@ -4,7 +4,7 @@ use html_css::{Abs, Properties};
 use html_dom::{
     Frame, FrameItem, HtmlAttrs, HtmlElement, HtmlFrame, HtmlNode, Location, Point, Span, Tag,
 };
-use html_names::{attr, tag};
+use html_names::{HtmlTag, attr, tag};
 use std::alloc::{AllocError, Global};
 
 /// A text.
@@ -62,37 +62,59 @@ pub fn frame_of(alloc: Global) -> Result<Frame, AllocError> {
     Ok(Frame { picture: 2, items })
 }
 
+/// An anchor.
+fn anchors_of(alloc: Global) -> Result<Vec<(Point, String)>, AllocError> {
+    Ok(vec![in alloc; (place(), text_of(alloc, "anchor")?)]?)
+}
+
 /// A frame with a name, css and an anchor.
 pub fn html_frame_of(alloc: Global) -> Result<HtmlFrame, AllocError> {
     let inner = frame_of(alloc)?;
     let mut frame = HtmlFrame::new(alloc, inner, Abs::from_millionths(3), Span(4));
     frame.id = Some(text_of(alloc, "drawn")?);
     frame.css = css_of(alloc)?;
-    frame.anchors = vec![in alloc; (place(), text_of(alloc, "anchor")?)]?;
+    frame.anchors = anchors_of(alloc)?;
     Ok(frame)
+}
+
+/// A text with that span.
+pub fn text_node_of(alloc: Global, text: &str, span: u64) -> Result<HtmlNode, AllocError> {
+    Ok(HtmlNode::text(text_of(alloc, text)?, Span(span)))
+}
+
+/// An element with css and an attribute.
+fn styled_of(alloc: Global, tag: HtmlTag, id: &str) -> Result<HtmlElement, AllocError> {
+    let mut element = HtmlElement::new(alloc, tag).with_css(css_of(alloc)?);
+    element.attrs = attrs_of(alloc, id)?;
+    Ok(element)
+}
+
+/// A tag, a text and a frame.
+fn inner_nodes_of(alloc: Global) -> Result<Vec<HtmlNode>, AllocError> {
+    let mut nodes = Vec::new(alloc);
+    nodes.push(HtmlNode::from(tag_of(alloc)?))?;
+    nodes.push(text_node_of(alloc, "a text", 5)?)?;
+    nodes.push(HtmlNode::from(html_frame_of(alloc)?))?;
+    Ok(nodes)
 }
 
 /// A `p` with css, an attribute, a tag, a text and a frame.
 pub fn inner_of(alloc: Global) -> Result<HtmlElement, AllocError> {
-    let mut element = HtmlElement::new(alloc, tag::p).with_css(css_of(alloc)?);
-    element.attrs = attrs_of(alloc, "inner")?;
-    element.children.push(HtmlNode::from(tag_of(alloc)?))?;
-    let text = text_of(alloc, "a text")?;
-    element.children.push(HtmlNode::text(text, Span(5)))?;
-    let frame = html_frame_of(alloc)?;
-    element.children.push(HtmlNode::from(frame))?;
-    Ok(element)
+    let nodes = inner_nodes_of(alloc)?;
+    Ok(styled_of(alloc, tag::p, "inner")?.with_children(nodes))
+}
+
+/// A `p` between texts.
+fn outer_nodes_of(alloc: Global) -> Result<Vec<HtmlNode>, AllocError> {
+    let mut nodes = Vec::new(alloc);
+    nodes.push(text_node_of(alloc, "one", 6)?)?;
+    nodes.push(HtmlNode::from(inner_of(alloc)?))?;
+    nodes.push(text_node_of(alloc, "two", 7)?)?;
+    Ok(nodes)
 }
 
 /// A `div` with css, an attribute, and a `p` between texts.
 pub fn element_of(alloc: Global) -> Result<HtmlElement, AllocError> {
-    let mut element = HtmlElement::new(alloc, tag::div).with_css(css_of(alloc)?);
-    element.attrs = attrs_of(alloc, "outer")?;
-    let text = text_of(alloc, "one")?;
-    element.children.push(HtmlNode::text(text, Span(6)))?;
-    let inner = inner_of(alloc)?;
-    element.children.push(HtmlNode::from(inner))?;
-    let text = text_of(alloc, "two")?;
-    element.children.push(HtmlNode::text(text, Span(7)))?;
-    Ok(element)
+    let nodes = outer_nodes_of(alloc)?;
+    Ok(styled_of(alloc, tag::div, "outer")?.with_children(nodes))
 }

@@ -143,15 +143,25 @@ fn resolve(alloc: Global, mut element: HtmlElement, copy: HtmlElement) -> Answer
     }
 }
 
+/// A frame in a frame, as an item.
+fn item_of(alloc: Global) -> Result<FrameItem, AllocError> {
+    Ok(FrameItem::Group(group_of(alloc)?))
+}
+
+/// A node with an element.
+fn node_of(alloc: Global) -> Result<HtmlNode, AllocError> {
+    Ok(HtmlNode::from(inner_of(alloc)?))
+}
+
 /// A value of each type that can be copied.
 fn things_of(alloc: Global) -> Result<Vec<Thing>, AllocError> {
     let mut things = Vec::new(alloc);
     things.push(Thing::Attrs(attrs_of(alloc, "inner")?))?;
     things.push(Thing::Tag(tag_of(alloc)?))?;
     things.push(Thing::Frame(frame_of(alloc)?))?;
-    things.push(Thing::FrameItem(FrameItem::Group(group_of(alloc)?)))?;
+    things.push(Thing::FrameItem(item_of(alloc)?))?;
     things.push(Thing::HtmlFrame(html_frame_of(alloc)?))?;
-    things.push(Thing::Node(HtmlNode::from(inner_of(alloc)?)))?;
+    things.push(Thing::Node(node_of(alloc)?))?;
     things.push(Thing::Element(element_of(alloc)?))?;
     Ok(things)
 }
@@ -165,16 +175,41 @@ fn copies(alloc: Global) -> Result<Vec<TreeCall>, AllocError> {
     Ok(calls)
 }
 
+/// Styles are resolved in an element.
+fn resolve_call(alloc: Global) -> Result<TreeCall, AllocError> {
+    let root = element_of(alloc)?;
+    Ok(TreeCall::Resolve(root, element_of(alloc)?))
+}
+
+/// An attribute is added to an element.
+fn with_attr_call(alloc: Global) -> Result<TreeCall, AllocError> {
+    let value = text_of(alloc, "held")?;
+    let element = inner_of(alloc)?;
+    Ok(TreeCall::WithAttr(element, inner_of(alloc)?, value))
+}
+
+/// Two lists become one.
+fn fold_call(alloc: Global) -> Result<TreeCall, AllocError> {
+    let inner = attrs_of(alloc, "inner")?;
+    Ok(TreeCall::Fold(inner, attrs_of(alloc, "outer")?))
+}
+
+/// A list, and a text that is to be added to it.
+fn pushed_of(alloc: Global) -> Result<(HtmlAttrs, String), AllocError> {
+    let list = attrs_of(alloc, "inner")?;
+    Ok((list, text_of(alloc, "held")?))
+}
+
 /// Each call that changes something.
 fn changes(alloc: Global) -> Result<Vec<TreeCall>, AllocError> {
-    let (element, copy) = (inner_of(alloc)?, inner_of(alloc)?);
-    let (root, root_copy) = (element_of(alloc)?, element_of(alloc)?);
     let mut calls = Vec::new(alloc);
-    calls.push(TreeCall::Push(attrs_of(alloc, "inner")?, text_of(alloc, "held")?))?;
-    calls.push(TreeCall::PushFront(attrs_of(alloc, "inner")?, text_of(alloc, "held")?))?;
-    calls.push(TreeCall::Fold(attrs_of(alloc, "inner")?, attrs_of(alloc, "outer")?))?;
-    calls.push(TreeCall::WithAttr(element, copy, text_of(alloc, "held")?))?;
-    calls.push(TreeCall::Resolve(root, root_copy))?;
+    let (list, value) = pushed_of(alloc)?;
+    calls.push(TreeCall::Push(list, value))?;
+    let (list, value) = pushed_of(alloc)?;
+    calls.push(TreeCall::PushFront(list, value))?;
+    calls.push(fold_call(alloc)?)?;
+    calls.push(with_attr_call(alloc)?)?;
+    calls.push(resolve_call(alloc)?)?;
     Ok(calls)
 }
 
