@@ -8,7 +8,7 @@ use Rattle.serde_json.specs.declared.value.Value.{Value}
 use Rattle.html_flow.specs.Items as flow
 use Rattle.html_flow.specs.Items.{ItemView, ItemsView}
 use Rattle.html_run.proofs.ItemForms.{element_form-three}
-use Rattle.html_run.proofs.Presence.{maps_some, if_some, leaf-some, element_from-some, from_parts, text_some}
+use Rattle.html_run.proofs.Presence.{maps_some, then_some, if_some, leaf-some, element_from-some, from_parts, text_some}
 use Rattle.html_run.proofs.Rows.{Row, row_from-some}
 use Rattle.html_run.proofs.Wrong.{IsOwnFirst}
 use Rattle.html_run.specs.Fields.{text_at, pairs_at, text_form, start_form, end_form, no_fields}
@@ -40,12 +40,6 @@ kind_from-some k a b c d e f g h p q r s =
     if_some (bytes_eq k (codes "el")) a e _ _ p
     (if_some (bytes_eq k (codes "block")) b f _ _ q
     (if_some (bytes_eq k (codes "box")) c g _ _ r s))
-
-then_some : (kind : Option (List ℕ)) (f g : List ℕ → Option (ItemView × ℕ))
-    → ((k : List ℕ) → is_some (f k) ≡ is_some (g k))
-    → is_some (option_and_then f kind) ≡ is_some (option_and_then g kind)
-then_some None f g h = refl
-then_some (Some k) f g h = h k
 
 -- whether a value spells an item does not hang on the numbers
 mutual

@@ -1,5 +1,5 @@
 -- Whether something is spelled does not hang on the numbers.
-use Rattle.std.proofs.Common.{◌≡◌, ℕ, List, Bool, true, false, is_some, Option, Some, None, option_map, if◌then◌else◌, refl, ◌∙◌}
+use Rattle.std.proofs.Common.{◌≡◌, ℕ, List, Bool, true, false, is_some, Option, Some, None, option_map, option_and_then, if◌then◌else◌, refl, ◌∙◌}
 use Rattle.std.proofs.lemmas.Bool.{true≢false, false≢true}
 use Rattle.serde_json.specs.Data.{Data}
 use Rattle.serde_json.specs.Find.{as_str}
@@ -21,6 +21,12 @@ maps_some f g None None h = refl
 maps_some f g None (Some b) h = absurd (false≢true h)
 maps_some f g (Some a) None h = absurd (true≢false h)
 maps_some f g (Some a) (Some b) h = refl
+
+pub then_some : {A B : Type 0} (o : Option A) (f g : A → Option B)
+    → ((a : A) → is_some (f a) ≡ is_some (g a))
+    → is_some (option_and_then f o) ≡ is_some (option_and_then g o)
+then_some None f g h = refl
+then_some (Some a) f g h = h a
 
 pub leaf-some : {A B : Type 0} (f g : A → B) (o : Option A) (n m : ℕ)
     → is_some (leaf f o n) ≡ is_some (leaf g o m)

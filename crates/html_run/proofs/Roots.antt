@@ -7,22 +7,21 @@ use Rattle.serde_json.specs.View.{view, items_view}
 use Rattle.serde_json.specs.declared.value.Value.{Value}
 use Rattle.html_dom.specs.Tree.{NodeView, tag_node, text_node, element_node, frame_node, NodesView, none, node}
 use Rattle.html_run.proofs.Forms.{element_form-three}
-use Rattle.html_run.proofs.Presence.{if_some, leaf-some, element_from-some, from_parts, text_some}
+use Rattle.html_run.proofs.Presence.{then_some, if_some, leaf-some, element_from-some, from_parts, text_some}
 use Rattle.html_run.proofs.Rows.{Row, row_from-some}
 use Rattle.html_run.proofs.Wrong.{IsOwnFirst}
 use Rattle.html_run.specs.Fields.{text_at, pairs_at, text_form, start_form, end_form}
 use Rattle.html_run.specs.Names.{name_refusals, all_name_refusals, element_refusals}
 use Rattle.html_run.specs.Refusals.{IsFirst}
-use Rattle.html_run.specs.Spelled.{element_made, form_from, spelled, form, element_form, list_at, spelled_all, element_of}
+use Rattle.html_run.specs.Spelled.{element_made, kind_from, spelled, form, element_form, list_at, spelled_all, element_of}
 use Rattle.html_run.specs.declared.refusal.Refusal.TheVariants.{At}
 use Rattle.html_dom.specs.declared.span.Span.{Span}
 
-form_from-some : (kind : Option (List ℕ)) (a b c d e f g h : Option (NodeView × ℕ))
+kind_from-some : (k : List ℕ) (a b c d e f g h : Option (NodeView × ℕ))
     → is_some a ≡ is_some e → is_some b ≡ is_some f → is_some c ≡ is_some g
     → is_some d ≡ is_some h
-    → is_some (form_from kind a b c d) ≡ is_some (form_from kind e f g h)
-form_from-some None a b c d e f g h p q r s = refl
-form_from-some (Some k) a b c d e f g h p q r s =
+    → is_some (kind_from k a b c d) ≡ is_some (kind_from k e f g h)
+kind_from-some k a b c d e f g h p q r s =
     if_some (bytes_eq k (codes "text")) a e _ _ p
     (if_some (bytes_eq k (codes "el")) b f _ _ q
     (if_some (bytes_eq k (codes "start")) c g _ _ r
@@ -40,9 +39,10 @@ mutual
 
   form-some : (items : Items) (n m : ℕ) → is_some (form items n) ≡ is_some (form items m)
   form-some no_items n m = refl
-  form-some (item kind fields) n m = form_from-some (as_str kind) _ _ _ _ _ _ _ _
+  form-some (item kind fields) n m = then_some (as_str kind) _ _
+      (λ k. kind_from-some k _ _ _ _ _ _ _ _
       (leaf-some _ _ (text_form fields) n m) (element_form-some fields n m)
-      (leaf-some _ _ (start_form fields) n m) (leaf-some _ _ (end_form fields) n m)
+      (leaf-some _ _ (start_form fields) n m) (leaf-some _ _ (end_form fields) n m))
 
   element_form-some : (fields : Items) (n m : ℕ)
       → is_some (element_form fields n) ≡ is_some (element_form fields m)

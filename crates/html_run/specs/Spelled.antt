@@ -15,12 +15,12 @@ head_of tag pairs span =
 abbrev pub element_made : (span : ℕ) → List ℕ → List TextPair → NodesView → NodeView
 element_made span tag pairs kids = element_node (head_of tag pairs span) kids
 
-abbrev pub form_from : (kind : Option (List ℕ))
+abbrev pub kind_from : (kind : List ℕ)
     (as_text as_element as_start as_end : Option (NodeView × ℕ)) → Option (NodeView × ℕ)
-form_from kind as_text as_element as_start as_end = option_and_then (λ k.
+kind_from k as_text as_element as_start as_end =
     if bytes_eq k (codes "text") then as_text else (if bytes_eq k (codes "el") then as_element
     else (if bytes_eq k (codes "start") then as_start
-    else (if bytes_eq k (codes "end") then as_end else None)))) kind
+    else (if bytes_eq k (codes "end") then as_end else None)))
 
 abbrev pub text_spelled : Items → ℕ → Option (NodeView × ℕ)
 text_spelled fields n = leaf (λ t. text_node t n) (text_form fields) n
@@ -33,8 +33,9 @@ abbrev mutual
 
   pub form : Items → ℕ → Option (NodeView × ℕ)
   form no_items n = None
-  form (item kind fields) n = form_from (as_str kind) (text_spelled fields n) (element_form fields n)
-      (leaf tag_node (start_form fields) n) (leaf tag_node (end_form fields) n)
+  form (item kind fields) n = option_and_then (λ k. kind_from k (text_spelled fields n)
+      (element_form fields n) (leaf tag_node (start_form fields) n)
+      (leaf tag_node (end_form fields) n)) (as_str kind)
 
   pub element_form : Items → ℕ → Option (NodeView × ℕ)
   element_form (item tag (item attrs (item children no_items))) n =
@@ -48,6 +49,11 @@ abbrev mutual
   pub spelled_all : Items → ℕ → Option (NodesView × ℕ)
   spelled_all no_items n = Some (none, n)
   spelled_all (item d ds) n = row_from node (spelled d n) (spelled_all ds)
+
+-- a node of that kind
+abbrev pub kind_form : (kind : List ℕ) → Items → (n : ℕ) → Option (NodeView × ℕ)
+kind_form k fields n = kind_from k (text_spelled fields n) (element_form fields n)
+    (leaf tag_node (start_form fields) n) (leaf tag_node (end_form fields) n)
 
 abbrev pub element_of : NodeView × ℕ → Option ElementView
 element_of (element_node h kids, n) = Some (h, kids)

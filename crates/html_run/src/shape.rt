@@ -4,7 +4,7 @@ ghost use Rattle.std.specs.Prelude.{◌≡◌, chars, is_some, option_map};
 ghost use Rattle.serde_json.specs.View.{view, items_view};
 ghost use Rattle.html_dom.specs.Views.{tag_view};
 ghost use Rattle.html_run.specs.Fields.{text_form, dest_form, start_form, end_form, no_fields, pairs_at, pair_form};
-ghost use Rattle.html_run.specs.Spelled.{spelled, element_form, list_at};
+ghost use Rattle.html_run.specs.Spelled.{spelled, kind_form, element_form, list_at};
 
 use html_dom::{Location, Tag};
 use serde_json::Value;
@@ -112,11 +112,22 @@ pub(crate) fn is_node(value: &Value) -> bool
     let [kind, fields @ ..] = items.as_slice() else {
         return false;
     };
-    match kind.as_str() {
-        Some("text") => is_text(fields),
-        Some("el") => is_element(fields),
-        Some("start") => is_start(fields),
-        Some("end") => is_end(fields),
+    let Some(kind) = kind.as_str() else {
+        return false;
+    };
+    is_form(kind, fields)
+}
+
+/// Whether a node of that kind has these fields.
+#[cycle(shape)]
+fn is_form(kind: &str, fields: &[Value]) -> bool
+    ensures { result ≡ is_some (kind_form kind.now (items_view fields.now) 0) }
+{
+    match kind {
+        "text" => is_text(fields),
+        "el" => is_element(fields),
+        "start" => is_start(fields),
+        "end" => is_end(fields),
         _ => false,
     }
 }

@@ -4,7 +4,7 @@ ghost use Rattle.std.specs.Prelude.{◌≡◌};
 ghost use Rattle.serde_json.specs.View.{view, items_view};
 ghost use Rattle.html_dom.specs.Tree.{tag_node};
 ghost use Rattle.html_run.specs.Fields.{leaf, start_form, end_form, pairs_at, pair_at, pair_form};
-ghost use Rattle.html_run.specs.Spelled.{element_spelled, spelled, text_spelled, element_form, list_at};
+ghost use Rattle.html_run.specs.Spelled.{element_spelled, spelled, kind_form, text_spelled, element_form, list_at};
 ghost use Rattle.html_run.specs.Spelling.{SpellsElement, SpellsNode, SpellsNodes, SpellsPairs, SpellsPair};
 
 use crate::names::{attr_of, tag_of};
@@ -96,11 +96,27 @@ fn node_of(alloc: Global, value: &Value, number: u64) -> Result<(HtmlNode, u64),
     let [kind, fields @ ..] = items.as_slice() else {
         return Err(SpellFault::BadInput);
     };
-    match kind.as_str() {
-        Some("text") => text_of(alloc, fields, number),
-        Some("el") => element_of(alloc, fields, number),
-        Some("start") => start_of(fields, number),
-        Some("end") => end_of(fields, number),
+    let Some(kind) = kind.as_str() else {
+        return Err(SpellFault::BadInput);
+    };
+    form_of(alloc, kind, fields, number)
+}
+
+/// The node of that kind.
+#[cycle(spell)]
+fn form_of(
+    alloc: Global,
+    kind: &str,
+    fields: &[Value],
+    number: u64,
+) -> Result<(HtmlNode, u64), SpellFault>
+    ensures { SpellsNode result (kind_form kind.now (items_view fields.now) number) }
+{
+    match kind {
+        "text" => text_of(alloc, fields, number),
+        "el" => element_of(alloc, fields, number),
+        "start" => start_of(fields, number),
+        "end" => end_of(fields, number),
         _ => Err(SpellFault::BadInput),
     }
 }
