@@ -35,9 +35,14 @@ fn box_of(alloc: Global) -> Result<Pair, AllocError> {
     Ok(pair_of(Item::Box(Some(items), Span(4))))
 }
 
-/// A frame with a role.
+/// A role of its own.
+pub(crate) fn role_of(alloc: Global, role: &str) -> Result<Role, AllocError> {
+    Ok(Role::Set(text_of(alloc, role)?))
+}
+
+/// A frame with a role of its own.
 fn noted_frame_of(alloc: Global) -> Result<Pair, AllocError> {
-    let role = Role::Set(text_of(alloc, "note")?);
+    let role = role_of(alloc, "note")?;
     let item = Item::Frame(frame_elem_of(alloc)?);
     Ok(Pair { item, role })
 }

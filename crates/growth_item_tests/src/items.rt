@@ -1,6 +1,6 @@
 //! Items: copies of them, the nodes that they become, and elements that arguments make.
 
-use crate::given::{block_of, elem_of, frame_elem_of, items_of, pair_of, text_item_of};
+use crate::given::{block_of, elem_of, frame_elem_of, items_of, pair_of, role_of, text_item_of};
 use crate::shown::is_shown;
 use growth_tests::given::text_of;
 use growth_tests::growth::{Answer, Growth, made, refused, wrong_call};
@@ -156,11 +156,6 @@ fn copy_call(alloc: Global, thing: Thing) -> Result<ItemCall, AllocError> {
     Ok(ItemCall::Copy(thing, shown))
 }
 
-/// A role of its own.
-fn role_of(alloc: Global, role: &str) -> Result<Role, AllocError> {
-    Ok(Role::Set(text_of(alloc, role)?))
-}
-
 /// A text with a role of its own.
 fn noted_text_of(alloc: Global) -> Result<Pair, AllocError> {
     let role = role_of(alloc, "math")?;
@@ -204,13 +199,14 @@ fn arg_of(alloc: Global, name: &str, value: Value) -> Result<Arg, AllocError> {
     Ok(Arg { name, span, value })
 }
 
-/// An argument with that name, and with that text or a list of it.
-fn text_arg_of(alloc: Global, name: &str, text: &str, is_list: bool) -> Result<Arg, AllocError> {
-    let text = Value::Str(text_of(alloc, text)?);
-    if is_list {
-        return arg_of(alloc, name, Value::Array(vec![in alloc; text]?));
-    }
-    arg_of(alloc, name, text)
+/// A value that is a text.
+fn text_value_of(alloc: Global, text: &str) -> Result<Value, AllocError> {
+    Ok(Value::Str(text_of(alloc, text)?))
+}
+
+/// A value that is a list of one text.
+fn list_value_of(alloc: Global, text: &str) -> Result<Value, AllocError> {
+    Ok(Value::Array(vec![in alloc; text_value_of(alloc, text)?]?))
 }
 
 /// A body.
@@ -223,8 +219,8 @@ fn body_arg_of(alloc: Global) -> Result<Arg, AllocError> {
 /// The arguments `href`, `class`, one that no type is there for, and a body.
 fn args_of(alloc: Global) -> Result<Args, AllocError> {
     let mut items = Vec::new(alloc);
-    items.push(text_arg_of(alloc, "href", "x", false)?)?;
-    items.push(text_arg_of(alloc, "class", "held", true)?)?;
+    items.push(arg_of(alloc, "href", text_value_of(alloc, "x")?)?)?;
+    items.push(arg_of(alloc, "class", list_value_of(alloc, "held")?)?)?;
     items.push(arg_of(alloc, "other", Value::Auto)?)?;
     items.push(body_arg_of(alloc)?)?;
     Ok(Args { items })

@@ -186,7 +186,7 @@ fn casts_of_words(alloc: Global) -> Result<Vec<ValueCall>, AllocError> {
 }
 
 /// Casts to types of numbers and texts.
-fn casts_of_numbers(alloc: Global) -> Result<Vec<ValueCall>, AllocError> {
+fn casts_of_numbers_and_texts(alloc: Global) -> Result<Vec<ValueCall>, AllocError> {
     let mut calls = Vec::new(alloc);
     calls.push(native(NativeType::Int, Value::Int(-1), "-1"))?;
     calls.push(native(NativeType::NonNegativeInt, Value::Int(0), "0"))?;
@@ -278,7 +278,7 @@ fn texts_of_parts(rt: HostRuntime) -> Result<(), Fail> {
 fn casts(rt: HostRuntime) -> Result<(), Fail> {
     let calls = casts_of_words(rt.alloc())?;
     assert_eq!(rt; wrong_call(rt.alloc(), calls)?, None);
-    let calls = casts_of_numbers(rt.alloc())?;
+    let calls = casts_of_numbers_and_texts(rt.alloc())?;
     assert_eq!(rt; wrong_call(rt.alloc(), calls)?, None);
     let calls = casts_of_parts(rt.alloc())?;
     assert_eq!(rt; wrong_call(rt.alloc(), calls)?, None);

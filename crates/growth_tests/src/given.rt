@@ -62,7 +62,7 @@ pub fn frame_of(alloc: Global) -> Result<Frame, AllocError> {
     Ok(Frame { picture: 2, items })
 }
 
-/// An anchor.
+/// A list of one anchor.
 fn anchors_of(alloc: Global) -> Result<Vec<(Point, String)>, AllocError> {
     Ok(vec![in alloc; (place(), text_of(alloc, "anchor")?)]?)
 }

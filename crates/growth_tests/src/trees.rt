@@ -143,7 +143,7 @@ fn resolve(alloc: Global, mut element: HtmlElement, copy: HtmlElement) -> Answer
     }
 }
 
-/// A frame in a frame, as an item.
+/// A frame, as an item of another.
 fn item_of(alloc: Global) -> Result<FrameItem, AllocError> {
     Ok(FrameItem::Group(group_of(alloc)?))
 }
