@@ -1,7 +1,7 @@
 //! Css texts, where their warnings go, and maps of properties.
 
-use crate::given::text_of;
-use crate::growth::{Answer, Growth, refused, wrong_call};
+use crate::given::{add, list_of, properties_of, text_of};
+use crate::growth::{Answer, Growth, assert_growths, refused};
 use html_css::{
     Abs, Angle, CssWriter, Em, Length, Paint, Properties, PropertiesBuilder, Property, Ratio, Rel,
     Rgba, Separator, ToCss, Warning, WarningSink,
@@ -9,7 +9,7 @@ use html_css::{
 use html_names::Refused;
 use html_names::property::Display;
 use std::alloc::{AllocError, Global};
-use std::test::Fail;
+use std::process::Abort;
 
 /// How many letters fill the text of a writer that got them one by one.
 const FULL: usize = 32;
@@ -258,33 +258,29 @@ fn build_warned(alloc: Global, mut sink: Vec<Warning>) -> Answer<CssCall> {
 }
 
 /// A sink that has no room for a further warning.
-fn sink_of(alloc: Global) -> Result<Vec<Warning>, AllocError> {
-    let mut sink = Vec::with_capacity(alloc, MOST_WARNINGS)?;
-    for _ in 0..MOST_WARNINGS {
-        sink.push(Warning::Tiling)?;
-    }
-    Ok(sink)
+fn sink_of(rt: &impl Abort, alloc: Global) -> Vec<Warning> {
+    list_of(rt, alloc, [Warning::Tiling; MOST_WARNINGS])
 }
 
 /// A colour and a width.
-fn map_of(alloc: Global) -> Result<Properties, AllocError> {
-    let mut map = Properties::new(alloc);
-    map.push("color", text_of(alloc, "red")?)?;
-    map.push("width", text_of(alloc, "2pt")?)?;
-    Ok(map)
+fn map_of(rt: &impl Abort, alloc: Global) -> Properties {
+    properties_of(rt, alloc, &[("color", "red"), ("width", "2pt")])
 }
 
-fn property_of(alloc: Global) -> Result<Property, AllocError> {
-    let name = text_of(alloc, "color")?;
-    let value = text_of(alloc, "red")?;
-    Ok(Property { name, value })
+fn property_of(rt: &impl Abort, alloc: Global) -> Property {
+    Property {
+        name: text_of(rt, alloc, "color"),
+        value: text_of(rt, alloc, "red"),
+    }
 }
 
 /// A builder that has a colour.
-fn builder_of(alloc: Global) -> Result<PropertiesBuilder<()>, AllocError> {
+fn builder_of(rt: &impl Abort, alloc: Global) -> PropertiesBuilder<()> {
     let mut builder = Properties::build(alloc, ());
-    builder.push("color", &"red")?;
-    Ok(builder)
+    builder
+        .push("color", &"red")
+        .expect(rt, "memory for a property");
+    builder
 }
 
 fn length_of() -> Length {
@@ -308,8 +304,8 @@ const COLOR: Rgba = Rgba {
     a: 4,
 };
 
-/// A value of each type that has a text in css.
-fn values() -> [CssValue; 11] {
+/// A value of each type that has a text in css and writes it.
+fn values() -> [CssValue; 10] {
     [
         CssValue::Abs(Abs::from_millionths(250_000)),
         CssValue::Em(Em::from_millionths(-500_000)),
@@ -319,77 +315,92 @@ fn values() -> [CssValue; 11] {
         CssValue::Rel(relative()),
         CssValue::Color(COLOR),
         CssValue::Paint(Paint::Solid(COLOR)),
-        CssValue::Paint(Paint::Gradient),
         CssValue::Display(Display::Block),
         CssValue::Text,
     ]
 }
 
-/// The calls on a writer with room for that many letters.
-fn add_writing(
-    alloc: Global,
-    calls: &mut Vec<CssCall>,
-    writing: Writing,
-    room: usize,
-) -> Result<(), AllocError> {
+/// The call that gives the text of a value.
+fn text_call(rt: &impl Abort, alloc: Global, value: CssValue) -> CssCall {
+    CssCall::Text(value, sink_of(rt, alloc))
+}
+
+/// The call on a writer with room for that many letters.
+fn writing_call(rt: &impl Abort, alloc: Global, writing: Writing, room: usize) -> CssCall {
     let mut out = CssWriter::new(alloc, ());
     for _ in room..FULL {
-        out.write("x")?;
+        out.write("x").expect(rt, "memory for a letter");
     }
-    let held = text_of(alloc, out.text())?;
-    calls.push(CssCall::Write(writing, out, held))?;
-    Ok(())
+    let held = text_of(rt, alloc, out.text());
+    CssCall::Write(writing, out, held)
 }
 
-/// Adds the calls for a value.
-fn add_value(alloc: Global, calls: &mut Vec<CssCall>, value: CssValue) -> Result<(), AllocError> {
-    calls.push(CssCall::Text(value, sink_of(alloc)?))?;
-    if matches!(value, CssValue::Paint(Paint::Gradient)) {
-        return Ok(());
-    }
-    add_writing(alloc, calls, Writing::Value(value), 0)
-}
-
-/// Each call on values and writers. The calls that write several pieces stand with room for all
-/// that come before a piece.
-fn writings(alloc: Global) -> Result<Vec<CssCall>, AllocError> {
+/// Each call on values, and on writers that are given one.
+fn values_written(rt: &impl Abort, alloc: Global) -> Vec<CssCall> {
     let mut calls = Vec::new(alloc);
     for value in values() {
-        add_value(alloc, &mut calls, value)?;
+        add(rt, &mut calls, text_call(rt, alloc, value));
     }
-    add_writing(alloc, &mut calls, Writing::Text, 0)?;
-    for room in 0..10 {
-        add_writing(alloc, &mut calls, Writing::Call, room)?;
-        add_writing(alloc, &mut calls, Writing::Calc, room)?;
+    for value in values() {
+        add(
+            rt,
+            &mut calls,
+            writing_call(rt, alloc, Writing::Value(value), 0),
+        );
     }
-    Ok(calls)
+    add(
+        rt,
+        &mut calls,
+        text_call(rt, alloc, CssValue::Paint(Paint::Gradient)),
+    );
+    calls
 }
 
-/// Each call on sinks, maps and builders.
-fn others(alloc: Global) -> Result<Vec<CssCall>, AllocError> {
+/// The other calls on writers. Those that write several pieces stand with room for all that come
+/// before a piece.
+fn pieces_written(rt: &impl Abort, alloc: Global) -> Vec<CssCall> {
     let mut calls = Vec::new(alloc);
-    calls.push(CssCall::Fail(sink_of(alloc)?))?;
-    calls.push(CssCall::Warn(sink_of(alloc)?))?;
-    calls.push(CssCall::Push(map_of(alloc)?, text_of(alloc, "1em")?))?;
-    calls.push(CssCall::With(map_of(alloc)?, text_of(alloc, "1em")?))?;
-    calls.push(CssCall::Copy(map_of(alloc)?))?;
-    calls.push(CssCall::CopyOne(property_of(alloc)?))?;
-    calls.push(CssCall::Build(builder_of(alloc)?))?;
-    calls.push(CssCall::BuildWith(builder_of(alloc)?))?;
-    calls.push(CssCall::BuildWarned(sink_of(alloc)?))?;
-    Ok(calls)
+    add(rt, &mut calls, writing_call(rt, alloc, Writing::Text, 0));
+    for room in 0..10 {
+        add(rt, &mut calls, writing_call(rt, alloc, Writing::Call, room));
+        add(rt, &mut calls, writing_call(rt, alloc, Writing::Calc, room));
+    }
+    calls
 }
 
 #[test]
-fn texts(rt: HostRuntime) -> Result<(), Fail> {
-    let calls = writings(rt.alloc())?;
-    assert_eq!(rt; wrong_call(rt.alloc(), calls)?, None);
-    Ok(())
+fn values_and_writers(rt: HostRuntime) {
+    assert_growths(&rt, rt.alloc(), values_written(&rt, rt.alloc()));
+    assert_growths(&rt, rt.alloc(), pieces_written(&rt, rt.alloc()));
 }
 
 #[test]
-fn maps(rt: HostRuntime) -> Result<(), Fail> {
-    let calls = others(rt.alloc())?;
-    assert_eq!(rt; wrong_call(rt.alloc(), calls)?, None);
-    Ok(())
+fn sinks(rt: HostRuntime) {
+    let alloc = rt.alloc();
+    let fail = CssCall::Fail(sink_of(&rt, alloc));
+    let warn = CssCall::Warn(sink_of(&rt, alloc));
+    let build = CssCall::BuildWarned(sink_of(&rt, alloc));
+    assert_growths(&rt, alloc, list_of(&rt, alloc, [fail, warn, build]));
+}
+
+#[test]
+fn maps(rt: HostRuntime) {
+    let alloc = rt.alloc();
+    let push = CssCall::Push(map_of(&rt, alloc), text_of(&rt, alloc, "1em"));
+    let with = CssCall::With(map_of(&rt, alloc), text_of(&rt, alloc, "1em"));
+    let copy = CssCall::Copy(map_of(&rt, alloc));
+    let copy_one = CssCall::CopyOne(property_of(&rt, alloc));
+    assert_growths(
+        &rt,
+        alloc,
+        list_of(&rt, alloc, [push, with, copy, copy_one]),
+    );
+}
+
+#[test]
+fn builders(rt: HostRuntime) {
+    let alloc = rt.alloc();
+    let build = CssCall::Build(builder_of(&rt, alloc));
+    let build_with = CssCall::BuildWith(builder_of(&rt, alloc));
+    assert_growths(&rt, alloc, list_of(&rt, alloc, [build, build_with]));
 }

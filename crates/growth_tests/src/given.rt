@@ -1,42 +1,75 @@
-//! What the calls are made on.
+//! What the calls are made on. It is made while memory is there.
+
+pub(crate) mod documents;
+pub(crate) mod items;
 
 use html_css::{Abs, Properties};
 use html_dom::{
     Frame, FrameItem, HtmlAttrs, HtmlElement, HtmlFrame, HtmlNode, Location, Point, Span, Tag,
 };
 use html_names::{HtmlTag, attr, tag};
-use std::alloc::{AllocError, Global};
+use std::alloc::{AllocFailed, Global};
+use std::process::Abort;
+
+/// A list of these, with room for no more.
+pub(crate) fn list_of<T: Drop, const N: usize>(
+    rt: &impl Abort,
+    alloc: Global,
+    items: [T; N],
+) -> Vec<T> {
+    match Vec::from_array(alloc, items) {
+        Ok(list) => list,
+        Err(AllocFailed { .. }) => panic!(rt; "no memory for a list"),
+    }
+}
+
+/// Adds an item to the list.
+pub(crate) fn add<T: Drop>(rt: &impl Abort, list: &mut Vec<T>, item: T) {
+    if list.push(item).is_err() {
+        panic!(rt; "no memory for an item");
+    }
+}
 
 /// A text.
-pub fn text_of(alloc: Global, text: &str) -> Result<String, AllocError> {
-    String::from_str(alloc, text)
+pub(crate) fn text_of(rt: &impl Abort, alloc: Global, text: &str) -> String {
+    String::from_str(alloc, text).expect(rt, "memory for a text")
 }
 
 /// A list of one pair, with room for no more.
-pub fn attrs_of(alloc: Global, text: &str) -> Result<HtmlAttrs, AllocError> {
-    let mut pairs = Vec::with_capacity(alloc, 1)?;
-    pairs.push((attr::id, text_of(alloc, text)?))?;
-    Ok(HtmlAttrs(pairs))
+pub(crate) fn attrs_of(rt: &impl Abort, alloc: Global, text: &str) -> HtmlAttrs {
+    HtmlAttrs(list_of(rt, alloc, [(attr::id, text_of(rt, alloc, text))]))
+}
+
+/// Properties of these names and values.
+pub(crate) fn properties_of(
+    rt: &impl Abort,
+    alloc: Global,
+    pairs: &[(&'static str, &str)],
+) -> Properties {
+    let mut css = Properties::new(alloc);
+    for (name, value) in pairs {
+        css.push(name, text_of(rt, alloc, value))
+            .expect(rt, "memory for a property");
+    }
+    css
 }
 
 /// A colour.
-pub fn css_of(alloc: Global) -> Result<Properties, AllocError> {
-    let mut css = Properties::new(alloc);
-    css.push("color", text_of(alloc, "red")?)?;
-    Ok(css)
+pub(crate) fn css_of(rt: &impl Abort, alloc: Global) -> Properties {
+    properties_of(rt, alloc, &[("color", "red")])
 }
 
 /// The start of an element with a label, which links to another.
-pub fn tag_of(alloc: Global) -> Result<Tag, AllocError> {
-    Ok(Tag::Start {
+pub(crate) fn tag_of(rt: &impl Abort, alloc: Global) -> Tag {
+    Tag::Start {
         location: Location(1),
-        label: Some(text_of(alloc, "here")?),
+        label: Some(text_of(rt, alloc, "here")),
         dest: Some(Location(2)),
-    })
+    }
 }
 
 /// A place in a frame.
-pub fn place() -> Point {
+pub(crate) fn place() -> Point {
     Point {
         x: Abs::from_millionths(1),
         y: Abs::from_millionths(2),
@@ -44,77 +77,68 @@ pub fn place() -> Point {
 }
 
 /// A frame with a tag and a link.
-pub fn group_of(alloc: Global) -> Result<Frame, AllocError> {
-    let tag = FrameItem::Tag(tag_of(alloc)?);
+pub(crate) fn group_of(rt: &impl Abort, alloc: Global) -> Frame {
+    let tag = FrameItem::Tag(tag_of(rt, alloc));
     let link = FrameItem::Link(Some(Location(3)));
-    let mut items = Vec::new(alloc);
-    items.push((place(), tag))?;
-    items.push((place(), link))?;
-    Ok(Frame { picture: 1, items })
+    let items = list_of(rt, alloc, [(place(), tag), (place(), link)]);
+    Frame { picture: 1, items }
 }
 
 /// A frame with a frame in it.
-pub fn frame_of(alloc: Global) -> Result<Frame, AllocError> {
-    let group = FrameItem::Group(group_of(alloc)?);
-    let mut items = Vec::new(alloc);
-    items.push((place(), group))?;
-    items.push((place(), FrameItem::Other))?;
-    Ok(Frame { picture: 2, items })
-}
-
-/// A list of one anchor.
-fn anchors_of(alloc: Global) -> Result<Vec<(Point, String)>, AllocError> {
-    Ok(vec![in alloc; (place(), text_of(alloc, "anchor")?)]?)
+pub(crate) fn frame_of(rt: &impl Abort, alloc: Global) -> Frame {
+    let group = FrameItem::Group(group_of(rt, alloc));
+    let items = list_of(rt, alloc, [(place(), group), (place(), FrameItem::Other)]);
+    Frame { picture: 2, items }
 }
 
 /// A frame with a name, css and an anchor.
-pub fn html_frame_of(alloc: Global) -> Result<HtmlFrame, AllocError> {
-    let inner = frame_of(alloc)?;
-    let mut frame = HtmlFrame::new(alloc, inner, Abs::from_millionths(3), Span(4));
-    frame.id = Some(text_of(alloc, "drawn")?);
-    frame.css = css_of(alloc)?;
-    frame.anchors = anchors_of(alloc)?;
-    Ok(frame)
+pub(crate) fn html_frame_of(rt: &impl Abort, alloc: Global) -> HtmlFrame {
+    HtmlFrame {
+        id: Some(text_of(rt, alloc, "drawn")),
+        css: css_of(rt, alloc),
+        anchors: list_of(rt, alloc, [(place(), text_of(rt, alloc, "anchor"))]),
+        ..HtmlFrame::new(alloc, frame_of(rt, alloc), Abs::from_millionths(3), Span(4))
+    }
 }
 
 /// A text with that span.
-pub fn text_node_of(alloc: Global, text: &str, span: u64) -> Result<HtmlNode, AllocError> {
-    Ok(HtmlNode::text(text_of(alloc, text)?, Span(span)))
+pub(crate) fn text_node_of(rt: &impl Abort, alloc: Global, text: &str, span: u64) -> HtmlNode {
+    HtmlNode::text(text_of(rt, alloc, text), Span(span))
 }
 
-/// An element with css and an attribute.
-fn styled_of(alloc: Global, tag: HtmlTag, id: &str) -> Result<HtmlElement, AllocError> {
-    let mut element = HtmlElement::new(alloc, tag).with_css(css_of(alloc)?);
-    element.attrs = attrs_of(alloc, id)?;
-    Ok(element)
-}
-
-/// A tag, a text and a frame.
-fn inner_nodes_of(alloc: Global) -> Result<Vec<HtmlNode>, AllocError> {
-    let mut nodes = Vec::new(alloc);
-    nodes.push(HtmlNode::from(tag_of(alloc)?))?;
-    nodes.push(text_node_of(alloc, "a text", 5)?)?;
-    nodes.push(HtmlNode::from(html_frame_of(alloc)?))?;
-    Ok(nodes)
+/// An element with css, an attribute and these nodes.
+fn styled_of(
+    rt: &impl Abort,
+    alloc: Global,
+    tag: HtmlTag,
+    id: &str,
+    nodes: Vec<HtmlNode>,
+) -> HtmlElement {
+    HtmlElement {
+        attrs: attrs_of(rt, alloc, id),
+        css: css_of(rt, alloc),
+        ..HtmlElement::new(alloc, tag).with_children(nodes)
+    }
 }
 
 /// A `p` with css, an attribute, a tag, a text and a frame.
-pub fn inner_of(alloc: Global) -> Result<HtmlElement, AllocError> {
-    let nodes = inner_nodes_of(alloc)?;
-    Ok(styled_of(alloc, tag::p, "inner")?.with_children(nodes))
-}
-
-/// A `p` between texts.
-fn outer_nodes_of(alloc: Global) -> Result<Vec<HtmlNode>, AllocError> {
-    let mut nodes = Vec::new(alloc);
-    nodes.push(text_node_of(alloc, "one", 6)?)?;
-    nodes.push(HtmlNode::from(inner_of(alloc)?))?;
-    nodes.push(text_node_of(alloc, "two", 7)?)?;
-    Ok(nodes)
+pub(crate) fn inner_of(rt: &impl Abort, alloc: Global) -> HtmlElement {
+    let tag = HtmlNode::from(tag_of(rt, alloc));
+    let frame = HtmlNode::from(html_frame_of(rt, alloc));
+    let nodes = list_of(
+        rt,
+        alloc,
+        [tag, text_node_of(rt, alloc, "a text", 5), frame],
+    );
+    styled_of(rt, alloc, tag::p, "inner", nodes)
 }
 
 /// A `div` with css, an attribute, and a `p` between texts.
-pub fn element_of(alloc: Global) -> Result<HtmlElement, AllocError> {
-    let nodes = outer_nodes_of(alloc)?;
-    Ok(styled_of(alloc, tag::div, "outer")?.with_children(nodes))
+pub(crate) fn element_of(rt: &impl Abort, alloc: Global) -> HtmlElement {
+    let (one, two) = (
+        text_node_of(rt, alloc, "one", 6),
+        text_node_of(rt, alloc, "two", 7),
+    );
+    let nodes = list_of(rt, alloc, [one, HtmlNode::from(inner_of(rt, alloc)), two]);
+    styled_of(rt, alloc, tag::div, "outer", nodes)
 }

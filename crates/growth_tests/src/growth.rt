@@ -1,14 +1,15 @@
 //! Calls that are refused their first growth, their second, and so on until a run succeeds.
 
 use crate::memory::Memory;
-use std::alloc::{AllocError, Global};
+use std::alloc::Global;
+use std::process::Abort;
 
 /// How often a call is tried at most.
 const MOST_ATTEMPTS: usize = 100_000;
 
 /// How an attempt ends.
 #[derive(Drop)]
-pub enum Answer<C> {
+pub(crate) enum Answer<C> {
     /// The call succeeded.
     Made,
     /// It answered "out of memory" and all is as it was, so it can be made again.
@@ -18,13 +19,13 @@ pub enum Answer<C> {
 }
 
 /// A public call that takes memory, with what it is called on.
-pub trait Growth {
+pub(crate) trait Growth {
     /// Makes the call.
     fn attempt(self, alloc: Global) -> Answer<Self>;
 }
 
 /// The answer of a call that succeeded, if what it made is right.
-pub fn made<C: Drop>(is_right: bool) -> Answer<C> {
+pub(crate) fn made<C: Drop>(is_right: bool) -> Answer<C> {
     if is_right {
         Answer::Made
     } else {
@@ -33,7 +34,7 @@ pub fn made<C: Drop>(is_right: bool) -> Answer<C> {
 }
 
 /// The answer after a refusal: the same call, if all is as it was.
-pub fn refused<C: Drop>(is_kept: bool, call: C) -> Answer<C> {
+pub(crate) fn refused<C: Drop>(is_kept: bool, call: C) -> Answer<C> {
     if is_kept {
         Answer::Refused(call)
     } else {
@@ -57,17 +58,19 @@ fn refusals<C: Growth + Drop>(memory: &mut Memory, alloc: Global, call: C) -> Op
 
 /// Makes each call with no memory, and then with a little more each time. The place of the first
 /// call that is not refused at first, or gives another answer before it succeeds.
-pub fn wrong_call<C: Growth + Drop>(
-    alloc: Global,
-    calls: Vec<C>,
-) -> Result<Option<usize>, AllocError> {
-    let mut memory = Memory::take(alloc)?;
+fn wrong_call<C: Growth + Drop>(mut memory: Memory, alloc: Global, calls: Vec<C>) -> Option<usize> {
     for (place, call) in calls.into_iter().enumerate() {
         let count = refusals(&mut memory, alloc, call);
         if count.unwrap_or(0) == 0 {
-            return Ok(Some(place));
+            return Some(place);
         }
         memory.take_small(alloc);
     }
-    Ok(None)
+    None
+}
+
+/// Asserts that each call is refused at first, and succeeds once it is refused no more.
+pub(crate) fn assert_growths<C: Growth + Drop>(rt: &impl Abort, alloc: Global, calls: Vec<C>) {
+    let memory = Memory::take(alloc).expect(rt, "memory for what is held");
+    assert_eq!(rt; wrong_call(memory, alloc, calls), None);
 }

@@ -1,13 +1,34 @@
 //! Public calls that take memory: their first growth is refused, their second, and so on until a run
-//! succeeds. The tests of other crates take the driver and the trees from here.
+//! succeeds.
 #![tactic(auto)]
 
 #[cfg(test)]
+mod copies;
+#[cfg(test)]
 mod css;
-pub mod given;
-pub mod growth;
+#[cfg(test)]
+mod documents;
+#[cfg(test)]
+mod given;
+#[cfg(test)]
+mod growth;
+#[cfg(test)]
+mod items;
+#[cfg(test)]
 mod memory;
 #[cfg(test)]
 mod names;
 #[cfg(test)]
+mod nodes;
+#[cfg(test)]
+mod program;
+#[cfg(test)]
+mod shown;
+#[cfg(test)]
+mod taken;
+#[cfg(test)]
+mod texts;
+#[cfg(test)]
 mod trees;
+#[cfg(test)]
+mod values;

@@ -1,9 +1,10 @@
 //! Names, numbers for them, and the text that is being written.
 
-use crate::growth::{Answer, Growth, refused, wrong_call};
+use crate::given::{add, list_of, text_of};
+use crate::growth::{Answer, Growth, assert_growths, refused};
 use html_names::{HtmlAttr, HtmlTag, NameFault, NameTable, Output, attr, laws, tag};
 use std::alloc::{AllocError, Global};
-use std::test::Fail;
+use std::process::Abort;
 
 /// How many letters fill the text of an `Output` that got them one by one.
 const FULL: usize = 32;
@@ -152,31 +153,31 @@ fn write(piece: Piece, mut out: Output, held: String) -> Answer<NameCall> {
     }
 }
 
-/// Each call that makes a name.
-fn namings(alloc: Global) -> Result<Vec<NameCall>, AllocError> {
-    let tag = HtmlTag::constant(alloc, "font-face")?;
-    let attr = HtmlAttr::constant(alloc, "data-x")?;
-    let mut calls = Vec::new(alloc);
-    calls.push(NameCall::Name(Naming::InternTag))?;
-    calls.push(NameCall::Name(Naming::InternAttr))?;
-    calls.push(NameCall::Name(Naming::TagConstant))?;
-    calls.push(NameCall::Name(Naming::AttrConstant))?;
-    calls.push(NameCall::Name(Naming::CloneTag(tag)))?;
-    calls.push(NameCall::Name(Naming::CloneAttr(attr)))?;
-    Ok(calls)
+/// A tag that is not known.
+fn tag_of(rt: &impl Abort, alloc: Global, name: &str) -> HtmlTag {
+    HtmlTag::intern(alloc, name).expect(rt, "the name of a tag")
 }
 
-fn names_of(alloc: Global) -> Result<NumberedNames, AllocError> {
+/// An attribute that is not known.
+fn attr_of(rt: &impl Abort, alloc: Global, name: &str) -> HtmlAttr {
+    HtmlAttr::intern(alloc, name).expect(rt, "the name of an attribute")
+}
+
+fn table_of(rt: &impl Abort, alloc: Global) -> NameTable {
     let mut table = NameTable::new(alloc);
-    table.tag(&tag::p)?;
-    table.attr(&attr::class)?;
-    Ok(NumberedNames {
-        table,
-        tag: HtmlTag::constant(alloc, "font-face")?,
-        other_tag: HtmlTag::constant(alloc, "color-profile")?,
-        attr: HtmlAttr::constant(alloc, "data-x")?,
-        other_attr: HtmlAttr::constant(alloc, "data-y")?,
-    })
+    table.tag(&tag::p).expect(rt, "memory for a number");
+    table.attr(&attr::class).expect(rt, "memory for a number");
+    table
+}
+
+fn names_of(rt: &impl Abort, alloc: Global) -> NumberedNames {
+    NumberedNames {
+        table: table_of(rt, alloc),
+        tag: tag_of(rt, alloc, "x-one"),
+        other_tag: tag_of(rt, alloc, "x-two"),
+        attr: attr_of(rt, alloc, "data-x"),
+        other_attr: attr_of(rt, alloc, "data-y"),
+    }
 }
 
 /// The calls on tables.
@@ -191,14 +192,6 @@ const NUMBERINGS: [Numbering; 8] = [
     Numbering::AttrAt,
 ];
 
-/// Adds each call on a table.
-fn add_numberings(alloc: Global, calls: &mut Vec<NameCall>) -> Result<(), AllocError> {
-    for numbering in NUMBERINGS {
-        calls.push(NameCall::Number(numbering, names_of(alloc)?))?;
-    }
-    Ok(())
-}
-
 /// What is added to texts, and how many letters there is room for before.
 const PIECES: [(Piece, usize); 7] = [
     (Piece::Char, 0),
@@ -211,29 +204,44 @@ const PIECES: [(Piece, usize); 7] = [
 ];
 
 /// The call that adds a piece to a text with room for that many letters.
-fn writing(alloc: Global, piece: Piece, room: usize) -> Result<NameCall, AllocError> {
+fn writing(rt: &impl Abort, alloc: Global, piece: Piece, room: usize) -> NameCall {
     let mut out = Output::new(alloc);
     for _ in room..FULL {
-        out.push('x')?;
+        out.push('x').expect(rt, "memory for a letter");
     }
-    let held = String::from_str(alloc, out.as_str())?;
-    Ok(NameCall::Write(piece, out, held))
-}
-
-/// Adds each call on a text.
-fn add_writings(alloc: Global, calls: &mut Vec<NameCall>) -> Result<(), AllocError> {
-    for (piece, room) in PIECES {
-        calls.push(writing(alloc, piece, room)?)?;
-    }
-    Ok(())
+    let held = text_of(rt, alloc, out.as_str());
+    NameCall::Write(piece, out, held)
 }
 
 #[test]
-fn names(rt: HostRuntime) -> Result<(), Fail> {
+fn made_names(rt: HostRuntime) {
     let alloc = rt.alloc();
-    let mut calls = namings(alloc)?;
-    add_numberings(alloc, &mut calls)?;
-    add_writings(alloc, &mut calls)?;
-    assert_eq!(rt; wrong_call(alloc, calls)?, None);
-    Ok(())
+    let calls = [
+        NameCall::Name(Naming::InternTag),
+        NameCall::Name(Naming::InternAttr),
+        NameCall::Name(Naming::TagConstant),
+        NameCall::Name(Naming::AttrConstant),
+        NameCall::Name(Naming::CloneTag(tag_of(&rt, alloc, "x-one"))),
+        NameCall::Name(Naming::CloneAttr(attr_of(&rt, alloc, "data-x"))),
+    ];
+    assert_growths(&rt, alloc, list_of(&rt, alloc, calls));
+}
+
+#[test]
+fn numbered_names(rt: HostRuntime) {
+    let mut calls = Vec::new(rt.alloc());
+    for numbering in NUMBERINGS {
+        let names = names_of(&rt, rt.alloc());
+        add(&rt, &mut calls, NameCall::Number(numbering, names));
+    }
+    assert_growths(&rt, rt.alloc(), calls);
+}
+
+#[test]
+fn written_texts(rt: HostRuntime) {
+    let mut calls = Vec::new(rt.alloc());
+    for (piece, room) in PIECES {
+        add(&rt, &mut calls, writing(&rt, rt.alloc(), piece, room));
+    }
+    assert_growths(&rt, rt.alloc(), calls);
 }

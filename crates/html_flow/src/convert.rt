@@ -143,7 +143,7 @@ fn convert_body(
     let Some(items) = body else {
         return Ok(Row::new(alloc));
     };
-    if setting.depth >= setting.limit {
+    if setting.is_deepest() {
         return Err(FlowFault::TooDeep { span });
     }
     convert_list(alloc, items, level, setting.deeper())

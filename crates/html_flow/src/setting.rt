@@ -1,6 +1,6 @@
 //! How a list of items stands.
 
-ghost use Rattle.std.specs.Prelude.{◌≡◌, ◌+◌, ◌<◌, bytes_eq, codes};
+ghost use Rattle.std.specs.Prelude.{◌≡◌, ◌+◌, ◌<◌, bytes_eq, codes, nat_lt};
 ghost use Rattle.html_names.specs.Displays.{default_display};
 ghost use Rattle.html_names.specs.Kinds.{shows_border};
 ghost use Rattle.html_flow.specs.Converted.{body_level, body_role, body_whitespace, is_preformatted, item_role, passes_role, role_text};
@@ -65,6 +65,13 @@ impl<'a> Setting<'a> {
             role,
             ..self
         }
+    }
+
+    /// Whether a list one deeper stands too deep.
+    pub(crate) fn is_deepest(self) -> bool
+        ensures { result ≡ nat_lt self.entry.limit (self.entry.depth + 1) }
+    {
+        self.depth >= self.limit
     }
 
     /// That of a list one deeper.

@@ -1,12 +1,12 @@
 //! Calls that consume what they are called on, and do not give it back: each attempt takes another.
 
-use growth_tests::given::{element_of, tag_of, text_of};
-use growth_tests::growth::{Answer, Growth, made, wrong_call};
+use crate::given::{add, element_of, list_of, tag_of, text_of};
+use crate::growth::{Answer, Growth, assert_growths, made};
 use html_dom::{HtmlElement, Span, with_inline_styles};
 use html_names::{attr, tag};
 use html_whitespace::{Draft, keep_runs, nodes_of, protect_spaces, push_text_nodes, settled};
 use std::alloc::{AllocError, Global};
-use std::test::Fail;
+use std::process::Abort;
 
 /// The calls on an element, and on nodes that are being made.
 #[derive(Clone, Copy)]
@@ -96,53 +96,59 @@ const SPACE: usize = 0;
 const TAB: usize = 3;
 
 /// A text with that span.
-fn text_draft_of(alloc: Global, text: &str, span: u64) -> Result<Draft, AllocError> {
-    Ok(Draft::text(text_of(alloc, text)?, Span(span)))
+fn text_draft_of(rt: &impl Abort, alloc: Global, text: &str, span: u64) -> Draft {
+    Draft::text(text_of(rt, alloc, text), Span(span))
 }
 
 /// A `b` with a text.
-fn open_draft_of(alloc: Global) -> Result<Draft, AllocError> {
-    let inner = vec![in alloc; text_draft_of(alloc, "two", 4)?]?;
-    Ok(Draft::open(HtmlElement::new(alloc, tag::b), inner))
+fn open_draft_of(rt: &impl Abort, alloc: Global) -> Draft {
+    let inner = list_of(rt, alloc, [text_draft_of(rt, alloc, "two", 4)]);
+    Draft::open(HtmlElement::new(alloc, tag::b), inner)
 }
 
 /// A lone space, a tag, a text, a tab, and a `b` with a text.
-fn drafts_of(alloc: Global) -> Result<Vec<Draft>, AllocError> {
-    let mut drafts = Vec::new(alloc);
-    drafts.push(text_draft_of(alloc, " ", 1)?)?;
-    drafts.push(Draft::Tag(tag_of(alloc)?))?;
-    drafts.push(text_draft_of(alloc, "one", 2)?)?;
-    drafts.push(text_draft_of(alloc, "\t", 3)?)?;
-    drafts.push(open_draft_of(alloc)?)?;
-    Ok(drafts)
+fn drafts_of(rt: &impl Abort, alloc: Global) -> Vec<Draft> {
+    let drafts = [
+        text_draft_of(rt, alloc, " ", 1),
+        Draft::Tag(tag_of(rt, alloc)),
+        text_draft_of(rt, alloc, "one", 2),
+        text_draft_of(rt, alloc, "\t", 3),
+        open_draft_of(rt, alloc),
+    ];
+    list_of(rt, alloc, drafts)
 }
 
 /// How many attempts there are at most: what a refused one frees is there for the next.
 const SPARES: usize = 40;
 
 /// The call, with an element and drafts for each attempt.
-fn call_of(alloc: Global, step: Step) -> Result<Taking, AllocError> {
+fn call_of(rt: &impl Abort, alloc: Global, step: Step) -> Taking {
     let mut spares = Vec::new(alloc);
     for _ in 0..SPARES {
-        spares.push((element_of(alloc)?, drafts_of(alloc)?))?;
+        add(
+            rt,
+            &mut spares,
+            (element_of(rt, alloc), drafts_of(rt, alloc)),
+        );
     }
-    Ok(Taking { step, spares })
+    Taking { step, spares }
 }
 
+/// The calls.
+const STEPS: [Step; 6] = [
+    Step::Styles,
+    Step::Nodes,
+    Step::Runs,
+    Step::Spaces,
+    Step::Settled,
+    Step::TextNodes,
+];
+
 #[test]
-fn taken(rt: HostRuntime) -> Result<(), Fail> {
-    let steps = [
-        Step::Styles,
-        Step::Nodes,
-        Step::Runs,
-        Step::Spaces,
-        Step::Settled,
-        Step::TextNodes,
-    ];
+fn taken(rt: HostRuntime) {
     let mut calls = Vec::new(rt.alloc());
-    for step in steps {
-        calls.push(call_of(rt.alloc(), step)?)?;
+    for step in STEPS {
+        add(&rt, &mut calls, call_of(&rt, rt.alloc(), step));
     }
-    assert_eq!(rt; wrong_call(rt.alloc(), calls)?, None);
-    Ok(())
+    assert_growths(&rt, rt.alloc(), calls);
 }

@@ -1,10 +1,10 @@
 //! The program, which ends with status 3 and writes nothing where memory fails.
 
-use growth_tests::given::text_of;
-use growth_tests::growth::{Answer, Growth, made, refused, wrong_call};
+use crate::given::{add, list_of, text_of};
+use crate::growth::{Answer, Growth, assert_growths, made, refused};
 use html_run::{Recorded, Status, run};
-use std::alloc::{AllocError, Global};
-use std::test::Fail;
+use std::alloc::Global;
+use std::process::Abort;
 
 /// How many bytes are written at most.
 const ROOM: usize = 4096;
@@ -46,31 +46,26 @@ impl Growth for Run {
 }
 
 /// A run with those words on that input.
-fn run_of(alloc: Global, words: &[&str], input: &'static str) -> Result<Run, AllocError> {
+fn run_of(rt: &impl Abort, alloc: Global, words: &[&str], input: &'static str) -> Run {
     let mut list = Vec::new(alloc);
     for word in words {
-        list.push(text_of(alloc, word)?)?;
+        add(rt, &mut list, text_of(rt, alloc, word));
     }
-    Ok(Run {
+    Run {
         words: list,
         input,
-        out: Vec::with_capacity(alloc, ROOM)?,
-    })
-}
-
-/// Each task of the program.
-fn runs(alloc: Global) -> Result<Vec<Run>, AllocError> {
-    let mut calls = Vec::new(alloc);
-    calls.push(run_of(alloc, &["tree"], TREE)?)?;
-    calls.push(run_of(alloc, &["tree", "--pretty"], TREE)?)?;
-    calls.push(run_of(alloc, &["doc"], ITEMS)?)?;
-    calls.push(run_of(alloc, &["doc", "--pretty"], ITEMS)?)?;
-    Ok(calls)
+        out: Vec::with_capacity(alloc, ROOM).expect(rt, "memory for what is written"),
+    }
 }
 
 #[test]
-fn program(rt: HostRuntime) -> Result<(), Fail> {
-    let calls = runs(rt.alloc())?;
-    assert_eq!(rt; wrong_call(rt.alloc(), calls)?, None);
-    Ok(())
+fn program(rt: HostRuntime) {
+    let alloc = rt.alloc();
+    let runs = [
+        run_of(&rt, alloc, &["tree"], TREE),
+        run_of(&rt, alloc, &["tree", "--pretty"], TREE),
+        run_of(&rt, alloc, &["doc"], ITEMS),
+        run_of(&rt, alloc, &["doc", "--pretty"], ITEMS),
+    ];
+    assert_growths(&rt, alloc, list_of(&rt, alloc, runs));
 }

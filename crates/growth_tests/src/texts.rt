@@ -3,18 +3,18 @@
 ghost use Rattle.std.specs.Prelude.{Some};
 ghost use Rattle.html_dom.specs.Views.{text_view};
 
-use crate::given::{content_of, document_of, info_of};
-use growth_item_tests::given::line_of;
-use growth_item_tests::shown::is_shown;
-use growth_tests::given::{element_of, text_of};
-use growth_tests::growth::{Answer, Growth, made, refused, wrong_call};
+use crate::given::documents::{content_of, document_of, info_of};
+use crate::given::items::line_of;
+use crate::given::{element_of, list_of, text_of};
+use crate::growth::{Answer, Growth, assert_growths, made, refused};
+use crate::shown::{is_shown, shown_of};
 use html_document::{DocumentInfo, HtmlDocument};
 use html_dom::{HtmlElement, HtmlFrame};
 use html_encode::{ExportFault, FrameFault, FrameWriter, HtmlOptions, html_in_bundle};
 use html_export::{export, html, html_document, html_document_for_bundle};
 use html_flow::Pair;
 use std::alloc::{AllocError, Global};
-use std::test::Fail;
+use std::process::Abort;
 
 /// Writes one text for each frame.
 #[derive(Drop)]
@@ -132,57 +132,49 @@ impl Growth for TextCall {
 }
 
 /// What a document with a footnote is made of.
-fn sources_of(alloc: Global) -> Result<Content, AllocError> {
-    Ok(Content {
-        items: content_of(alloc)?,
-        footnotes: line_of(alloc)?,
-        info: info_of(alloc)?,
-    })
+fn sources_of(rt: &impl Abort, alloc: Global) -> Content {
+    Content {
+        items: content_of(rt, alloc),
+        footnotes: line_of(rt, alloc),
+        info: info_of(rt, alloc),
+    }
 }
 
 /// A call on the source, plain or pretty.
-fn call(alloc: Global, source: Source, pretty: bool) -> Result<TextCall, AllocError> {
-    let shown = format!(in alloc; "{source:?}")?;
-    let frames = OneText {
-        text: text_of(alloc, "[frame]")?,
-    };
-    Ok(TextCall {
+fn call(rt: &impl Abort, alloc: Global, source: Source, pretty: bool) -> TextCall {
+    let shown = shown_of(rt, alloc, &source);
+    let text = text_of(rt, alloc, "[frame]");
+    TextCall {
         source,
         options: HtmlOptions { pretty },
-        frames,
+        frames: OneText { text },
         shown,
-    })
+    }
 }
 
 /// Each call that writes a text.
-fn writings(alloc: Global) -> Result<Vec<TextCall>, AllocError> {
-    let mut calls = Vec::new(alloc);
+fn writings(rt: &impl Abort, alloc: Global, pretty: bool) -> [TextCall; 3] {
+    [
+        call(rt, alloc, Source::Tree(element_of(rt, alloc)), pretty),
+        call(rt, alloc, Source::Document(document_of(rt, alloc)), pretty),
+        call(rt, alloc, Source::Exported(sources_of(rt, alloc)), pretty),
+    ]
+}
+
+#[test]
+fn texts(rt: HostRuntime) {
     for pretty in [false, true] {
-        calls.push(call(alloc, Source::Tree(element_of(alloc)?), pretty)?)?;
-        calls.push(call(alloc, Source::Document(document_of(alloc)?), pretty)?)?;
-        calls.push(call(alloc, Source::Exported(sources_of(alloc)?), pretty)?)?;
+        let calls = list_of(&rt, rt.alloc(), writings(&rt, rt.alloc(), pretty));
+        assert_growths(&rt, rt.alloc(), calls);
     }
-    Ok(calls)
-}
-
-/// Each call that makes a document.
-fn makings(alloc: Global) -> Result<Vec<TextCall>, AllocError> {
-    let mut calls = Vec::new(alloc);
-    calls.push(call(alloc, Source::Bundled(sources_of(alloc)?), false)?)?;
-    calls.push(call(alloc, Source::Made(sources_of(alloc)?), false)?)?;
-    Ok(calls)
 }
 
 #[test]
-fn texts(rt: HostRuntime) -> Result<(), Fail> {
-    let calls = writings(rt.alloc())?;
-    assert_eq!(rt; wrong_call(rt.alloc(), calls)?, None);
-    Ok(())
-}
-
-#[test]
-fn made_documents(rt: HostRuntime) -> Result<(), Fail> {
-    let calls = makings(rt.alloc())?;
-    assert_eq!(rt; wrong_call(rt.alloc(), calls)?, None);
-    Ok(())
+fn made_documents(rt: HostRuntime) {
+    let alloc = rt.alloc();
+    let calls = [
+        call(&rt, alloc, Source::Bundled(sources_of(&rt, alloc)), false),
+        call(&rt, alloc, Source::Made(sources_of(&rt, alloc)), false),
+    ];
+    assert_growths(&rt, alloc, list_of(&rt, alloc, calls));
 }

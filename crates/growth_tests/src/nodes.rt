@@ -1,14 +1,14 @@
 //! Flat trees, positions of located elements, and spaces that are bare.
 
-use crate::shown::is_shown;
-use growth_tests::given::{element_of, tag_of, text_node_of};
-use growth_tests::growth::{Answer, Growth, made, refused, wrong_call};
+use crate::given::{element_of, list_of, tag_of, text_node_of};
+use crate::growth::{Answer, Growth, assert_growths, made, refused};
+use crate::shown::{is_shown, shown_of};
 use html_dom::{HtmlElement, HtmlNode, Location};
 use html_flat::FlatTree;
 use html_introspect::HtmlIntrospector;
 use html_whitespace::bare_spaces;
 use std::alloc::{AllocError, Global};
-use std::test::Fail;
+use std::process::Abort;
 
 /// The calls on nodes, each with the text by which what it is called on is shown.
 #[derive(Drop)]
@@ -98,82 +98,61 @@ fn bare(alloc: Global, tree: FlatTree) -> Answer<NodeCall> {
 const COUNT: usize = 7;
 
 /// The element as the only node.
-fn nodes_of(alloc: Global) -> Result<Vec<HtmlNode>, AllocError> {
-    Ok(vec![in alloc; HtmlNode::from(element_of(alloc)?)]?)
-}
-
-/// The text by which those nodes are shown.
-fn shown_nodes(alloc: Global) -> Result<String, AllocError> {
-    format!(in alloc; "{:?}", nodes_of(alloc)?)
+fn nodes_of(rt: &impl Abort, alloc: Global) -> Vec<HtmlNode> {
+    list_of(rt, alloc, [HtmlNode::from(element_of(rt, alloc))])
 }
 
 /// What is known of those nodes.
-fn introspector_of(alloc: Global) -> Result<HtmlIntrospector, AllocError> {
-    HtmlIntrospector::new(alloc, &nodes_of(alloc)?)
+fn introspector_of(rt: &impl Abort, alloc: Global) -> HtmlIntrospector {
+    HtmlIntrospector::new(alloc, &nodes_of(rt, alloc)).expect(rt, "memory for positions")
+}
+
+/// The tree of the nodes.
+fn tree_of(rt: &impl Abort, alloc: Global, nodes: &[HtmlNode]) -> FlatTree {
+    FlatTree::from_nodes(alloc, nodes).expect(rt, "memory for a tree")
 }
 
 /// A space at the beginning, and one between two words.
-fn spaced_nodes_of(alloc: Global) -> Result<Vec<HtmlNode>, AllocError> {
-    let mut nodes = Vec::new(alloc);
-    nodes.push(text_node_of(alloc, " ", 1)?)?;
-    nodes.push(text_node_of(alloc, "one", 2)?)?;
-    nodes.push(HtmlNode::from(tag_of(alloc)?))?;
-    nodes.push(text_node_of(alloc, " ", 3)?)?;
-    nodes.push(text_node_of(alloc, "two", 4)?)?;
-    Ok(nodes)
-}
-
-/// The tree of those nodes.
-fn spaces_of(alloc: Global) -> Result<FlatTree, AllocError> {
-    FlatTree::from_nodes(alloc, &spaced_nodes_of(alloc)?)
-}
-
-/// The tree of the element.
-fn tree_of(alloc: Global) -> Result<FlatTree, AllocError> {
-    FlatTree::from_nodes(alloc, &nodes_of(alloc)?)
-}
-
-/// The nodes become a tree.
-fn flat_nodes_call(alloc: Global) -> Result<NodeCall, AllocError> {
-    let nodes = nodes_of(alloc)?;
-    Ok(NodeCall::FlatNodes(nodes, shown_nodes(alloc)?))
-}
-
-/// The element becomes a tree.
-fn flat_element_call(alloc: Global) -> Result<NodeCall, AllocError> {
-    let element = element_of(alloc)?;
-    let shown = format!(in alloc; "{element:?}")?;
-    Ok(NodeCall::FlatElement(element, shown))
-}
-
-/// The tree becomes nodes.
-fn spelled_call(alloc: Global) -> Result<NodeCall, AllocError> {
-    let tree = tree_of(alloc)?;
-    Ok(NodeCall::Spelled(tree, shown_nodes(alloc)?))
-}
-
-/// Positions of the nodes are recorded.
-fn positions_call(alloc: Global) -> Result<NodeCall, AllocError> {
-    let nodes = nodes_of(alloc)?;
-    Ok(NodeCall::Positions(nodes, shown_nodes(alloc)?))
-}
-
-/// Each call on nodes.
-fn calls_of(alloc: Global) -> Result<Vec<NodeCall>, AllocError> {
-    let mut calls = Vec::new(alloc);
-    calls.push(flat_nodes_call(alloc)?)?;
-    calls.push(flat_element_call(alloc)?)?;
-    calls.push(spelled_call(alloc)?)?;
-    calls.push(positions_call(alloc)?)?;
-    calls.push(NodeCall::LinkTargets(introspector_of(alloc)?))?;
-    calls.push(NodeCall::Copy(introspector_of(alloc)?))?;
-    calls.push(NodeCall::BareSpaces(spaces_of(alloc)?))?;
-    Ok(calls)
+fn spaces_of(rt: &impl Abort, alloc: Global) -> FlatTree {
+    let nodes = [
+        text_node_of(rt, alloc, " ", 1),
+        text_node_of(rt, alloc, "one", 2),
+        HtmlNode::from(tag_of(rt, alloc)),
+        text_node_of(rt, alloc, " ", 3),
+        text_node_of(rt, alloc, "two", 4),
+    ];
+    tree_of(rt, alloc, &list_of(rt, alloc, nodes))
 }
 
 #[test]
-fn nodes(rt: HostRuntime) -> Result<(), Fail> {
-    let calls = calls_of(rt.alloc())?;
-    assert_eq!(rt; wrong_call(rt.alloc(), calls)?, None);
-    Ok(())
+fn flat_trees(rt: HostRuntime) {
+    let alloc = rt.alloc();
+    let (nodes, element) = (nodes_of(&rt, alloc), element_of(&rt, alloc));
+    let tree = tree_of(&rt, alloc, &nodes);
+    let (shown, shown_element) = (shown_of(&rt, alloc, &nodes), shown_of(&rt, alloc, &element));
+    let spelled = NodeCall::Spelled(tree, shown_of(&rt, alloc, &nodes));
+    let flat = NodeCall::FlatNodes(nodes, shown);
+    let flat_element = NodeCall::FlatElement(element, shown_element);
+    assert_growths(
+        &rt,
+        alloc,
+        list_of(&rt, alloc, [flat, flat_element, spelled]),
+    );
+}
+
+#[test]
+fn positions_of_nodes(rt: HostRuntime) {
+    let alloc = rt.alloc();
+    let nodes = nodes_of(&rt, alloc);
+    let shown = shown_of(&rt, alloc, &nodes);
+    let positions = NodeCall::Positions(nodes, shown);
+    let targets = NodeCall::LinkTargets(introspector_of(&rt, alloc));
+    let copy = NodeCall::Copy(introspector_of(&rt, alloc));
+    assert_growths(&rt, alloc, list_of(&rt, alloc, [positions, targets, copy]));
+}
+
+#[test]
+fn spaces(rt: HostRuntime) {
+    let call = NodeCall::BareSpaces(spaces_of(&rt, rt.alloc()));
+    assert_growths(&rt, rt.alloc(), list_of(&rt, rt.alloc(), [call]));
 }

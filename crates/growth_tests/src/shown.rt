@@ -1,6 +1,8 @@
-//! Values that are held to the text by which they were shown before. No memory is taken.
+//! Values that are held to the text by which they were shown before, for which no memory is taken.
 
+use std::alloc::Global;
 use std::fmt::{self, Debug, Write};
+use std::process::Abort;
 
 /// What is left of a text that is to be written.
 #[derive(Drop)]
@@ -21,7 +23,12 @@ impl fmt::Write for Left<'_> {
 }
 
 /// Whether `{:?}` shows the value by that text.
-pub fn is_shown<T: Debug>(value: &T, text: &str) -> bool {
+pub(crate) fn is_shown<T: Debug>(value: &T, text: &str) -> bool {
     let mut left = Left { text };
     write!(left, "{value:?}").is_ok() && left.text.is_empty()
+}
+
+/// The text by which the value is shown.
+pub(crate) fn shown_of<T: Debug>(rt: &impl Abort, alloc: Global, value: &T) -> String {
+    format!(in alloc; "{value:?}").expect(rt, "memory for a text")
 }
