@@ -1,5 +1,6 @@
 //! Documents made of items, and their HTML.
 
+use crate::asserts::{assert_text, text_of};
 use crate::given::{items_after, items_of};
 use crate::shown::frame_writer;
 use html_document::{DocumentInfo, Locale};
@@ -40,11 +41,6 @@ fn answer(rt: &impl Abort, alloc: Global, items: &str, footnotes: &str, limit: u
         Ok(text) => text,
         Err(fault) => format!(in alloc; "{fault:?}").expect(rt, "memory for a text"),
     }
-}
-
-/// Asserts that a text is the one that is wanted.
-fn assert_text(rt: &impl Abort, text: &str, wanted: &str) {
-    assert_eq!(rt; text, wanted);
 }
 
 /// The HTML of a document in that language, with that at the end of its head and in its body.
@@ -240,10 +236,6 @@ fn depths(rt: HostRuntime) {
     let wanted = document_text(&rt, rt.alloc(), "en", "", inside.as_str());
     assert_deep(&rt, rt.alloc(), 50, &wanted);
     assert_deep(&rt, rt.alloc(), 51, "TooDeep { span: Span(51) }");
-}
-
-fn text_of(rt: &impl Abort, alloc: Global, text: &str) -> String {
-    String::from_str(alloc, text).expect(rt, "memory for a text")
 }
 
 fn texts_of(rt: &impl Abort, alloc: Global, texts: &[&str]) -> Vec<String> {

@@ -1,14 +1,18 @@
-//! Tests of items that become nodes and documents, each over public calls.
+//! Tests of items that arguments make, and that become nodes and documents, each over public calls.
 #![tactic(auto)]
 
 #[cfg(test)]
 mod anchors;
+#[cfg(test)]
+mod asserts;
 #[cfg(test)]
 mod bare;
 #[cfg(test)]
 mod blanks;
 #[cfg(test)]
 mod boxes;
+#[cfg(test)]
+mod construction;
 #[cfg(test)]
 mod depth;
 #[cfg(test)]

@@ -1,4 +1,4 @@
-//! Tests of trees, documents, items and writing, each over public calls.
+//! Tests of trees, documents and writing, each over public calls.
 #![tactic(auto)]
 
 #[cfg(test)]
@@ -11,7 +11,5 @@ mod dom;
 mod encode;
 #[cfg(test)]
 mod flat;
-#[cfg(test)]
-mod flow;
 #[cfg(test)]
 mod places;

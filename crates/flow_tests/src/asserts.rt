@@ -1,0 +1,20 @@
+//! What tests make texts and names by, and assert by.
+
+use html_names::HtmlTag;
+use std::alloc::Global;
+use std::process::Abort;
+
+/// Asserts that a text is the one that is wanted.
+pub(crate) fn assert_text(rt: &impl Abort, text: &str, wanted: &str) {
+    assert_eq!(rt; text, wanted);
+}
+
+/// A text on the heap.
+pub(crate) fn text_of(rt: &impl Abort, alloc: Global, text: &str) -> String {
+    String::from_str(alloc, text).expect(rt, "memory for a text")
+}
+
+/// The tag of that name.
+pub(crate) fn tag_of(rt: &impl Abort, alloc: Global, name: &str) -> HtmlTag {
+    HtmlTag::intern(alloc, name).expect(rt, "the name of a tag")
+}
