@@ -3,10 +3,10 @@
 use crate::given::documents::{document_of, info_of, locale_of, output_of};
 use crate::given::items::{block_of, elem_of, frame_elem_of, noted_frame_of, role_of};
 use crate::given::{
-    add, attrs_of, element_of, frame_of, group_of, html_frame_of, inner_of, tag_of,
+    add, assert_growths, attrs_of, element_of, frame_of, group_of, html_frame_of, inner_of, tag_of,
 };
-use crate::growth::{Answer, Growth, assert_growths, made, refused};
 use crate::shown::{is_shown, shown_of};
+use growth::{Answer, Growth, made, refused};
 use html_document::{DocumentInfo, HtmlDocument, HtmlOutput, Locale};
 use html_dom::{Frame, FrameItem, HtmlAttrs, HtmlElement, HtmlFrame, HtmlNode, Tag};
 use html_flow::{FrameElem, HtmlElem, Item, Pair, Role};

@@ -1,7 +1,7 @@
 //! Css texts, where their warnings go, and maps of properties.
 
-use crate::given::{add, list_of, properties_of, text_of};
-use crate::growth::{Answer, Growth, assert_growths, refused};
+use crate::given::{add, assert_growths, list_of, properties_of, text_of};
+use growth::{Answer, Growth, refused};
 use html_css::{
     Abs, Angle, CssWriter, Em, Length, Paint, Properties, PropertiesBuilder, Property, Ratio, Rel,
     Rgba, Separator, ToCss, Warning, WarningSink,

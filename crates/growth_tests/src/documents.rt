@@ -1,9 +1,9 @@
 //! Documents: what they are made of, and anchors of links.
 
 use crate::given::documents::{document_of, info_of, output_of};
-use crate::given::{add, list_of};
-use crate::growth::{Answer, Growth, assert_growths, made, refused};
+use crate::given::{add, assert_growths, list_of};
 use crate::shown::{is_shown, shown_of};
+use growth::{Answer, Growth, made, refused};
 use html_document::{DocumentInfo, HtmlDocument, HtmlOutput};
 use html_dom::Location;
 use html_link::{create_link_anchors, with_link_anchors};

@@ -3,6 +3,7 @@
 pub(crate) mod documents;
 pub(crate) mod items;
 
+use growth::{Growth, wrong_call};
 use html_css::{Abs, Properties};
 use html_dom::{
     Frame, FrameItem, HtmlAttrs, HtmlElement, HtmlFrame, HtmlNode, Location, Point, Span, Tag,
@@ -10,6 +11,12 @@ use html_dom::{
 use html_names::{HtmlTag, attr, tag};
 use std::alloc::{AllocFailed, Global};
 use std::process::Abort;
+
+/// Asserts that each call is refused at first, and succeeds once it is refused no more.
+pub(crate) fn assert_growths<C: Growth + Drop>(rt: &impl Abort, alloc: Global, calls: Vec<C>) {
+    let wrong = wrong_call(alloc, calls).expect(rt, "memory for what is held");
+    assert_eq!(rt; wrong, None);
+}
 
 /// A list of these, with room for no more.
 pub(crate) fn list_of<T: Drop, const N: usize>(

@@ -11,17 +11,11 @@ mod documents;
 #[cfg(test)]
 mod given;
 #[cfg(test)]
-mod growth;
-#[cfg(test)]
 mod items;
-#[cfg(test)]
-mod memory;
 #[cfg(test)]
 mod names;
 #[cfg(test)]
 mod nodes;
-#[cfg(test)]
-mod program;
 #[cfg(test)]
 mod shown;
 #[cfg(test)]

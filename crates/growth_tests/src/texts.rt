@@ -5,9 +5,9 @@ ghost use Rattle.html_dom.specs.Views.{text_view};
 
 use crate::given::documents::{content_of, document_of, info_of};
 use crate::given::items::line_of;
-use crate::given::{element_of, list_of, text_of};
-use crate::growth::{Answer, Growth, assert_growths, made, refused};
+use crate::given::{assert_growths, element_of, list_of, text_of};
 use crate::shown::{is_shown, shown_of};
+use growth::{Answer, Growth, made, refused};
 use html_document::{DocumentInfo, HtmlDocument};
 use html_dom::{HtmlElement, HtmlFrame};
 use html_encode::{ExportFault, FrameFault, FrameWriter, HtmlOptions, html_in_bundle};

@@ -1,7 +1,7 @@
 //! Values of attributes: their texts, and what values are cast to.
 
-use crate::given::{list_of, text_of};
-use crate::growth::{Answer, Growth, assert_growths, made, refused};
+use crate::given::{assert_growths, list_of, text_of};
+use growth::{Answer, Growth, made, refused};
 use html_names::Refused;
 use html_values::civil::date;
 use html_values::{

@@ -5,8 +5,8 @@ use Rattle.html_dom.specs.Tree.{NodesView}
 use Rattle.html_document.specs.Documents.{InfoView}
 use Rattle.html_encode.specs.FaultViews.{ExportFaultView, not_alone, IsFirstView}
 use Rattle.html_encode.specs.declared.fault.ExportFault.{ExportFault}
-use Rattle.html_flow.specs.Depth.{items_too_deep}
-use Rattle.html_flow.specs.Items.{ItemsView, no_items, item}
+use Rattle.html_convert.specs.Depth.{items_too_deep}
+use Rattle.html_convert.specs.Items.{ItemsView, no_items, item}
 use Rattle.html_export.specs.Assembled.{Outline, own_html, own_body, nothing_own, own_among_others, document_outline, first_own, shown_count, output_by, assembled_output, output_styled, item_spans, note_faults, outline_faults, depth_faults, assembly_faults}
 use Rattle.html_export.specs.Roots.{root_styled}
 use Rattle.html_export.proofs.Firsts.{first_of_more, first_after_none, none_after_none}

@@ -20,7 +20,7 @@ use Rattle.html_encode.specs.Layout.{is_pretty_inside}
 use Rattle.html_encode.specs.Text.{ends_at_once, escaping_of}
 use Rattle.html_encode.proofs.Stretches.{all_append}
 use Rattle.html_encode.specs.declared.options.HtmlOptions.{HtmlOptions}
-use Rattle.html_flow.specs.Items.{ItemsView}
+use Rattle.html_convert.specs.Items.{ItemsView}
 use Rattle.html_link.specs.Anchors.{nodes_size, nodes_anchored, element_anchored}
 use Rattle.html_link.specs.Events.{Event, Targets, events}
 use Rattle.html_link.specs.Groups.{cuts}

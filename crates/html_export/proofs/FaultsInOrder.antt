@@ -11,7 +11,7 @@ use Rattle.html_encode.specs.declared.options.HtmlOptions.{HtmlOptions}
 use Rattle.html_encode.specs.FaultViews.{ExportFaultView, export_fault_view, IsFirstView}
 use Rattle.html_encode.specs.declared.fault.ExportFault.{ExportFault}
 use Rattle.html_encode.specs.declared.fault.ExportFault.TheVariants as fault
-use Rattle.html_flow.specs.Items.{ItemsView}
+use Rattle.html_convert.specs.Items.{ItemsView}
 use Rattle.html_export.specs.Assembled.{document_faults}
 use Rattle.html_export.specs.Assembles.{Assembles}
 use Rattle.html_export.specs.Exported.{export_text, root_faults, export_faults}

@@ -3,7 +3,7 @@ use Rattle.std.proofs.Common.{◌≡◌, ℕ, suc, ◌+◌, ◌<◌, List, ◌�
 use Rattle.std.proofs.lemmas.List.{map-append}
 use Rattle.html_dom.specs.Views.{node_view, nodes_of, nodes_view}
 use Rattle.html_dom.specs.declared.node.HtmlNode.{HtmlNode}
-use Rattle.html_flow.proofs.LoneNodes.{node_list_of}
+use Rattle.html_convert.proofs.LoneNodes.{node_list_of}
 use Rattle.html_export.specs.Assembled.{both_nodes}
 
 pub both_view : (ns others : List HtmlNode)

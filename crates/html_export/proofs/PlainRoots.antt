@@ -13,10 +13,10 @@ use Rattle.html_document.specs.Documents.{InfoView, OutputView, DocumentView, no
 use Rattle.html_link.specs.Anchors.{element_anchored}
 use Rattle.html_link.specs.Events.{Targets}
 use Rattle.html_link.specs.LinkAnchors.{document_targets}
-use Rattle.html_flow.specs.Converted.{item_nodes}
-use Rattle.html_flow.specs.Depth.{item_too_deep}
-use Rattle.html_flow.specs.Items.{ItemsView, no_items}
-use Rattle.html_flow.specs.LoneNode.{node_list}
+use Rattle.html_convert.specs.Converted.{item_nodes}
+use Rattle.html_convert.specs.Depth.{item_too_deep}
+use Rattle.html_convert.specs.Items.{ItemsView, no_items}
+use Rattle.html_convert.specs.LoneNode.{node_list}
 use Rattle.html_spaces.specs.PlainFlow.{is_plain_flow, is_plain_name}
 use Rattle.html_spaces.specs.PlainNodes.{is_plain_node, are_plain_nodes}
 use Rattle.html_spaces.proofs.PlainNodes.{makes_plain_nodes, names_are_inside}

@@ -13,7 +13,7 @@ use Rattle.html_encode.specs.Text.{document_text}
 use Rattle.html_document.specs.Documents.{InfoView, DocumentView, document_root}
 use Rattle.html_link.specs.Anchors.{element_anchored}
 use Rattle.html_link.specs.Events.{Targets}
-use Rattle.html_flow.specs.Items.{ItemsView, no_items}
+use Rattle.html_convert.specs.Items.{ItemsView, no_items}
 use Rattle.html_encode.proofs.ReadingBack.{reads_back}
 use Rattle.html_spaces.specs.Anchored.{Anchored, IsAny}
 use Rattle.html_spaces.specs.ItemText.{items_text}

@@ -7,7 +7,7 @@ use Rattle.html_encode.specs.Indented.{element_layout, ElementEndsWell}
 use Rattle.html_encode.specs.Reader.{read}
 use Rattle.html_dom.specs.FrameFree.{ElementIsFrameFree}
 use Rattle.html_encode.specs.declared.fault.ExportFault.{ExportFault}
-use Rattle.html_flow.specs.Items.{ItemsView, no_items}
+use Rattle.html_convert.specs.Items.{ItemsView, no_items}
 use Rattle.html_spaces.specs.ItemText.{items_text}
 use Rattle.html_spaces.specs.PlainFlow.{is_plain_flow}
 use Rattle.html_spaces.specs.SeenBody.{tree_seen, text_seen}

@@ -7,12 +7,12 @@ use Rattle.html_dom.specs.Tree.{Head, NodeView, tag_node, text_node, element_nod
 use Rattle.html_dom.specs.Views.{nodes_of}
 use Rattle.html_document.specs.Documents.{InfoView, OutputView, DocumentView, new_document}
 use Rattle.html_whitespace.specs.Nodes.{is_tag}
-use Rattle.html_flow.specs.Converted.{converted_nodes}
-use Rattle.html_flow.specs.Depth.{items_too_deep}
-use Rattle.html_flow.specs.Items.{ItemsView, no_items, item, item_span}
-use Rattle.html_flow.specs.LoneNode.{node_list}
-use Rattle.html_flow.specs.declared.convert.ConversionLevel.TheVariants.{Block}
-use Rattle.html_flow.specs.declared.convert.Whitespace.TheVariants.{Normal}
+use Rattle.html_convert.specs.Converted.{converted_nodes}
+use Rattle.html_convert.specs.Depth.{items_too_deep}
+use Rattle.html_convert.specs.Items.{ItemsView, no_items, item, item_span}
+use Rattle.html_convert.specs.LoneNode.{node_list}
+use Rattle.html_convert.specs.declared.convert.ConversionLevel.TheVariants.{Block}
+use Rattle.html_convert.specs.declared.convert.Whitespace.TheVariants.{Normal}
 use Rattle.html_encode.specs.FaultViews.{ExportFaultView, too_deep, not_alone, footnotes}
 use Rattle.html_export.specs.DocumentHead.{made_node, head_node, lang_text}
 

@@ -6,7 +6,7 @@ use Rattle.html_names.specs.Characters.{all, is_text_char}
 use Rattle.html_document.specs.Documents.{LocaleView, InfoView}
 use Rattle.html_encode.specs.Frames.{Frames}
 use Rattle.html_encode.specs.declared.options.HtmlOptions.{HtmlOptions}
-use Rattle.html_flow.specs.Items.{ItemsView, no_items}
+use Rattle.html_convert.specs.Items.{ItemsView, no_items}
 use Rattle.html_spaces.specs.CleanItems.{are_clean_items}
 use Rattle.html_spaces.specs.CleanNodes.{is_clean_text}
 use Rattle.html_spaces.specs.PlainFlow.{is_plain_flow}

@@ -7,7 +7,7 @@ use Rattle.html_encode.specs.FaultViews.{ExportFaultView, export_fault_view}
 use Rattle.html_encode.specs.Frames.{Frames}
 use Rattle.html_encode.specs.Text.{document_text}
 use Rattle.html_encode.specs.declared.options.HtmlOptions.{HtmlOptions}
-use Rattle.html_flow.specs.Items.{ItemsView}
+use Rattle.html_convert.specs.Items.{ItemsView}
 use Rattle.html_export.specs.Assembled.{document_faults}
 use Rattle.html_export.specs.Linked.{linked_document}
 

@@ -3,7 +3,7 @@ use Rattle.std.specs.Prelude.{◌≡◌, ℕ, Bool, true, List, Some}
 use Rattle.html_dom.specs.FrameFree.{ElementIsFrameFree}
 use Rattle.html_names.specs.Names.{stands_in}
 use Rattle.html_document.specs.Documents.{InfoView, DocumentView, document_root}
-use Rattle.html_flow.specs.Items.{ItemsView}
+use Rattle.html_convert.specs.Items.{ItemsView}
 use Rattle.html_link.specs.Answered.{first_ids}
 use Rattle.html_link.specs.LinkAnchors.{document_anchored, document_anchor}
 use Rattle.html_export.specs.Assembled.{assembled_document}

@@ -10,8 +10,8 @@ use Rattle.html_encode.specs.ReadingBack.{ElementIsNamed}
 use Rattle.html_encode.specs.Text.{document_text}
 use Rattle.html_encode.specs.declared.options.HtmlOptions.{HtmlOptions}
 use Rattle.html_document.specs.Documents.{InfoView, DocumentView, document_root}
-use Rattle.html_flow.specs.Depth.{items_too_deep}
-use Rattle.html_flow.specs.Items.{ItemsView, no_items}
+use Rattle.html_convert.specs.Depth.{items_too_deep}
+use Rattle.html_convert.specs.Items.{ItemsView, no_items}
 use Rattle.html_spaces.specs.ItemText.{items_text}
 use Rattle.html_spaces.specs.PlainFlow.{is_plain_flow}
 use Rattle.html_spaces.specs.SeenBody.{tree_seen, text_seen}

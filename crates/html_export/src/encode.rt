@@ -12,7 +12,7 @@ ghost use Rattle.html_dom.specs.FrameFree.{ElementIsFrameFree};
 ghost use Rattle.html_encode.specs.Text.{document_text};
 ghost use Rattle.html_encode.specs.Writes.{Makes};
 ghost use Rattle.html_document.specs.Documents.{document_root};
-ghost use Rattle.html_flow.specs.Views.{items_view};
+ghost use Rattle.html_convert.specs.Views.{items_view};
 ghost use Rattle.html_spaces.specs.CleanItems.{are_clean_items};
 ghost use Rattle.html_export.specs.Assembles.{Assembles, FailsByMemoryAlone};
 ghost use Rattle.html_export.specs.CleanInfo.{is_clean_info};
@@ -20,9 +20,9 @@ ghost use Rattle.html_export.specs.Exported.{export_faults, export_text, linked_
 ghost use Rattle.html_export.specs.SpacesInDocuments.{ArePlainItems, SpacesAreSeen};
 
 use crate::document::html_document;
+use html_convert::Pair;
 use html_document::{DocumentInfo, HtmlDocument};
 use html_encode::{ExportFault, FrameWriter, HtmlOptions, html_in_bundle};
-use html_flow::Pair;
 use std::alloc::Global;
 
 /// The HTML text of a document: that of its root, as [`html_in_bundle`] writes it.

@@ -11,9 +11,9 @@ use Rattle.html_values.specs.Values.{ValueView, none_value, str_value, value_vie
 use Rattle.html_values.specs.declared.attr_type.AttrType.{AttrType}
 use Rattle.html_values.specs.declared.cast_fault.CastFault.{CastFault}
 use Rattle.html_values.specs.declared.cast_fault.CastFault.TheVariants.{WrongKind}
-use Rattle.html_flow.specs.Items.{ElemView, ItemsView, no_items, item, text_item, inherits, BodyView, absent, present, new_head}
-use Rattle.html_flow.specs.Views.{elem_view, items_view}
-use Rattle.html_flow.specs.declared.item.HtmlElem.{HtmlElem}
+use Rattle.html_convert.specs.Items.{ElemView, ItemsView, no_items, item, text_item, inherits, BodyView, absent, present, new_head}
+use Rattle.html_convert.specs.Views.{elem_view, items_view}
+use Rattle.html_convert.specs.declared.item.HtmlElem.{HtmlElem}
 use Rattle.html_flow.specs.declared.args.ArgValue.{ArgValue}
 use Rattle.html_flow.specs.declared.args.ArgValue.TheVariants.{Plain, Body as Items}
 use Rattle.html_flow.specs.declared.args.Arg.{Arg}

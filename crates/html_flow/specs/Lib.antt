@@ -1,10 +1,3 @@
 pub mod Construct
-pub mod Converted
-pub mod Converts
-pub mod Depth
 pub mod Faults
-pub mod Items
-pub mod LoneNode
 pub mod Pieces
-pub mod Rows
-pub mod Views

@@ -1,6 +1,6 @@
 ghost use Rattle.std.specs.Prelude.{◌≡◌};
 
-use crate::item::Pair;
+use html_convert::Pair;
 use html_dom::Span;
 use html_names::{HtmlAttr, HtmlTag};
 use html_values::{AttrType, Value};

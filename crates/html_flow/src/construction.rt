@@ -8,12 +8,12 @@ ghost use Rattle.html_flow.specs.Pieces.{CastsArgs, Chooses, MakesBody, arg_at, 
 ghost use Rattle.html_values.specs.Casts.{Casts, option_answer};
 ghost use Rattle.html_values.specs.Types.{attr_type_view};
 ghost use Rattle.html_flow.specs.declared.fault.ConstructFault.TheVariants.{OutOfMemory};
-ghost use Rattle.html_flow.specs.Items.{present};
-ghost use Rattle.html_flow.specs.Views.{body_view, items_view, elem_view};
+ghost use Rattle.html_convert.specs.Items.{present};
+ghost use Rattle.html_convert.specs.Views.{body_view, items_view, elem_view};
 
 use crate::args::{Arg, ArgValue, Args, ElementInfo};
 use crate::fault::ConstructFault;
-use crate::item::{HtmlElem, Item, Pair, Role};
+use html_convert::{HtmlElem, Item, Pair, Role};
 use html_css::Properties;
 use html_dom::{HtmlAttrs, Span};
 use html_names::{HtmlAttr, HtmlTag, tag};

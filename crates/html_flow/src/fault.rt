@@ -1,5 +1,4 @@
 ghost use Rattle.std.specs.Prelude.{◌≡◌};
-ghost use Rattle.html_flow.specs.Converts.{flow_number_of};
 ghost use Rattle.html_flow.specs.Faults.{number_of};
 
 use html_dom::Span;
@@ -69,41 +68,5 @@ impl From<Refused<(HtmlAttr, String)>> for ConstructFault {
 
     fn from(_refused: Refused<(HtmlAttr, String)>) -> ConstructFault {
         ConstructFault::OutOfMemory
-    }
-}
-
-/// Why items did not become nodes.
-#[derive(Clone, Copy, Debug, PartialEq, Eq, Error)]
-pub enum FlowFault {
-    /// An allocation failed.
-    #[error("out of memory")]
-    OutOfMemory,
-    /// A body stands deeper than the limit.
-    #[error("items are nested too deeply")]
-    TooDeep {
-        /// The span of the item that has the body.
-        span: Span,
-    },
-}
-
-impl FlowFault {
-    /// The fault's number: 0 for out of memory, 8 for a body that stands too deep.
-    pub fn number(&self) -> u8
-        ensures { result ≡ flow_number_of self.now }
-    {
-        match self {
-            FlowFault::OutOfMemory => 0,
-            FlowFault::TooDeep { .. } => 8,
-        }
-    }
-}
-
-impl From<AllocError> for FlowFault {
-    ghost use Rattle.html_flow.specs.declared.fault.FlowFault.TheVariants.{OutOfMemory};
-
-    ghost from_gives = { λ _ e. e ≡ OutOfMemory };
-
-    fn from(_refused: AllocError) -> FlowFault {
-        FlowFault::OutOfMemory
     }
 }

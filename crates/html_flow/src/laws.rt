@@ -3,33 +3,12 @@
 ghost use Rattle.std.specs.Prelude.{◌≡◌, ◌↔◌, IsTrue};
 ghost use Rattle.html_flow.specs.Faults.{construct_fault_view};
 
-use crate::convert::{ConversionLevel, Whitespace};
-use crate::fault::{ConstructFault, FlowFault};
+use crate::fault::ConstructFault;
+pub use html_convert::laws::{equal_conversion_levels, equal_flow_faults, equal_whitespaces};
 
 /// Faults are equal where they are of one kind, and their spans and their faults of casts are.
 pub fn equal_construct_faults(a: &ConstructFault, b: &ConstructFault) -> bool
     ensures { IsTrue result ↔ (construct_fault_view a.now ≡ construct_fault_view b.now) }
-{
-    a == b
-}
-
-/// Faults of conversion are equal where they are of one kind, with the same span.
-pub fn equal_flow_faults(a: FlowFault, b: FlowFault) -> bool
-    ensures { IsTrue result ↔ (a ≡ b) }
-{
-    a == b
-}
-
-/// What becomes of white space is equal where it is the same.
-pub fn equal_whitespaces(a: Whitespace, b: Whitespace) -> bool
-    ensures { IsTrue result ↔ (a ≡ b) }
-{
-    a == b
-}
-
-/// Levels are equal where they are the same.
-pub fn equal_conversion_levels(a: ConversionLevel, b: ConversionLevel) -> bool
-    ensures { IsTrue result ↔ (a ≡ b) }
 {
     a == b
 }

@@ -1,5 +1,5 @@
 //! What a document flows: items, elements that are constructed of typed arguments, and the nodes
-//! that items become.
+//! that items become. Items and their conversion are html_convert's.
 //!
 //! ```
 //! let link = HtmlElem::new(alloc, tag::a).with_attr(attr::href, String::from_str(alloc, "x")?)?;
@@ -10,19 +10,13 @@
 
 mod args;
 mod construction;
-mod convert;
 mod fault;
-mod fragment;
-mod item;
 pub mod laws;
-mod lone;
-mod row;
-mod setting;
 
 pub use args::{Arg, ArgValue, Args, ElementInfo};
 pub use construction::construct;
-pub use convert::{ConversionLevel, Whitespace, convert_to_nodes};
-pub use fault::{ConstructFault, FlowFault};
-pub use fragment::{html_block_fragment, html_inline_fragment, html_math_fragment};
-pub use html_whitespace::{Bareness, bare_spaces};
-pub use item::{FrameElem, HtmlElem, Item, Pair, Role};
+pub use fault::ConstructFault;
+pub use html_convert::{
+    Bareness, ConversionLevel, FlowFault, FrameElem, HtmlElem, Item, Pair, Role, Whitespace,
+    bare_spaces, convert_to_nodes, html_block_fragment, html_inline_fragment, html_math_fragment,
+};

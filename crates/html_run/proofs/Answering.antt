@@ -4,14 +4,14 @@ use Rattle.std.specs.declared.alloc.Global.{Global}
 use Rattle.std.proofs.lemmas.Str.{encodes-chars, IsUtf8-string_bytes}
 use lib.Utf8.{encodes}
 use Rattle.html_run.specs.Answers.{first_refusal_or_text, answer_if}
-use Rattle.html_run.specs.Names.{Refusal}
-use Rattle.html_run.specs.Refusals.{IsFirst}
+use Rattle.html_spell.specs.Names.{Refusal}
+use Rattle.html_spell.specs.Refusals.{IsFirst}
 use Rattle.html_run.specs.Replies.{Says}
-use Rattle.html_run.specs.Spelling.{refused_name, IsTold}
-use Rattle.html_run.specs.declared.refusal.Refusal as own
-use Rattle.html_run.specs.declared.refusal.Refusal.TheVariants.{OutOfMemory, At}
-use Rattle.html_run.specs.declared.spell.SpellFault.{SpellFault}
-use Rattle.html_run.specs.declared.spell.SpellFault.TheVariants as fault
+use Rattle.html_spell.specs.Spelling.{refused_name, IsTold}
+use Rattle.html_spell.specs.declared.refusal.Refusal as own
+use Rattle.html_spell.specs.declared.refusal.Refusal.TheVariants.{OutOfMemory, At}
+use Rattle.html_spell.specs.declared.spell.SpellFault.{SpellFault}
+use Rattle.html_spell.specs.declared.spell.SpellFault.TheVariants as fault
 use Rattle.html_run.specs.declared.status.Status.TheVariants.{Done}
 
 -- the text is answered where nothing is refused

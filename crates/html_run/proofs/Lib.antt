@@ -1,11 +1,4 @@
 pub mod Answering
 pub mod Bytes
-pub mod Firsts
-pub mod Forms
+pub mod FirstFaults
 pub mod Inputs
-pub mod ItemForms
-pub mod ItemRoots
-pub mod Presence
-pub mod Roots
-pub mod Rows
-pub mod Wrong

@@ -10,12 +10,12 @@ use Rattle.html_encode.specs.FaultViews.{ExportFaultView, out_of_memory, too_dee
 use Rattle.html_encode.specs.Frames.{no_frames}
 use Rattle.html_encode.specs.Text.{document_text}
 use Rattle.html_encode.specs.declared.options.HtmlOptions.{HtmlOptions}
-use Rattle.html_flow.specs.Items.{ItemsView, no_items}
+use Rattle.html_convert.specs.Items.{ItemsView, no_items}
 use Rattle.html_export.specs.Exported.{root_faults, export_faults, export_text}
 use Rattle.html_run.specs.Json.{json_of}
-use Rattle.html_run.specs.Names.{Refusal, element_refusals, items_refusals}
-use Rattle.html_run.specs.Spelled.{element_spelled}
-use Rattle.html_run.specs.SpelledItems.{items_spelled}
+use Rattle.html_spell.specs.Names.{Refusal, element_refusals, items_refusals}
+use Rattle.html_spell.specs.Spelled.{element_spelled}
+use Rattle.html_spell.specs.SpelledItems.{items_spelled}
 use Rattle.html_run.specs.Words.{wanted_task}
 use Rattle.html_run.specs.Writing.{AppendsBeginning}
 use Rattle.html_run.specs.declared.recorded.LastCall.{LastCall}

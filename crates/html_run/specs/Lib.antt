@@ -1,11 +1,6 @@
 pub mod Answers
-pub mod Fields
 pub mod Json
-pub mod Names
 pub mod Refusals
 pub mod Replies
-pub mod Spelled
-pub mod SpelledItems
-pub mod Spelling
 pub mod Words
 pub mod Writing

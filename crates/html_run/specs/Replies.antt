@@ -3,8 +3,8 @@ use Rattle.std.specs.Prelude.{◌≡◌, ℕ, List, Option, Result, MatchResult,
 use Rattle.std.specs.declared.alloc.Global.{Global}
 use Rattle.html_run.specs.Answers.{Answer, IsAll, bad_input, refused_answer, words_answer}
 use Rattle.html_run.specs.declared.program.Reply.{Reply}
-use Rattle.html_run.specs.declared.spell.SpellFault.{SpellFault}
-use Rattle.html_run.specs.declared.spell.SpellFault.TheVariants.{OutOfMemory, BadInput, Refused}
+use Rattle.html_spell.specs.declared.spell.SpellFault.{SpellFault}
+use Rattle.html_spell.specs.declared.spell.SpellFault.TheVariants.{OutOfMemory, BadInput, Refused}
 use Rattle.html_run.specs.declared.status.Status.TheVariants.{Done}
 
 abbrev pub shown : Reply → Answer

@@ -3,15 +3,9 @@
 #![tactic(auto)]
 
 mod frames;
-mod item_shape;
-mod item_spell;
 mod json;
-mod names;
 mod program;
 mod recorded;
-mod refusal;
-mod shape;
-mod spell;
 mod status;
 mod words;
 

@@ -2,30 +2,29 @@
 
 ghost use Rattle.std.specs.Prelude.{◌≡◌, None, IfSome, IfOk};
 ghost use Rattle.html_dom.specs.Views.{text_view, element_view};
-ghost use Rattle.html_flow.specs.Views.{items_view};
+ghost use Rattle.html_convert.specs.Views.{items_view};
 ghost use Rattle.serde_json.specs.View.{view};
 ghost use Rattle.html_run.specs.Answers.{EndsAs, EndsOn, answer_if, bad_input, input_answer};
 ghost use Rattle.html_run.specs.Answers.{doc_answer, doc_refusals, doc_text, refused_answer};
 ghost use Rattle.html_run.specs.Answers.{tree_answer, tree_refusals, tree_text, value_answer};
-ghost use Rattle.html_run.specs.Refusals.{Makes};
+ghost use Rattle.html_spell.specs.Refusals.{Makes};
+ghost use Rattle.html_run.specs.Refusals.{export_refusal};
 ghost use Rattle.html_run.specs.Replies.{Answers, IsReply, RepliesOn, shown};
-ghost use Rattle.html_run.specs.Spelled.{element_spelled};
-ghost use Rattle.html_run.specs.SpelledItems.{items_spelled};
+ghost use Rattle.html_spell.specs.Spelled.{element_spelled};
+ghost use Rattle.html_spell.specs.SpelledItems.{items_spelled};
 ghost use Rattle.html_run.specs.Words.{texts_of, wanted_task};
 
 use crate::frames::NoFrames;
-use crate::item_spell::items_in;
 use crate::json::parse;
 use crate::recorded::{Recorded, WriteFailed};
-use crate::refusal::Refusal;
-use crate::spell::{SpellFault, element_in};
 use crate::status::Status;
 use crate::words::{Task, wanted_task};
+use html_convert::Pair;
 use html_document::DocumentInfo;
 use html_dom::{HtmlElement, Span};
-use html_encode::{HtmlOptions, html_in_bundle};
+use html_encode::{ExportFault, HtmlOptions, html_in_bundle};
 use html_export::export;
-use html_flow::Pair;
+use html_spell::{Refusal, SpellFault, element_in, items_in};
 use serde_json::Value;
 use std::alloc::{AllocError, Global};
 use std::io::{Read, Write};
@@ -88,8 +87,25 @@ fn refused(alloc: Global, number: u8, span: Span) -> Result<Reply, AllocError>
     make_reply(alloc, Status::Refused, line.as_bytes())
 }
 
+/// A fault of a tree or of items as a refusal.
+fn refusal_of(fault: &ExportFault) -> Refusal
+    ensures { result ≡ export_refusal fault.now }
+{
+    match fault {
+        ExportFault::OutOfMemory => Refusal::OutOfMemory,
+        ExportFault::TooDeep { .. }
+        | ExportFault::NotAlone { .. }
+        | ExportFault::Footnotes { .. }
+        | ExportFault::Unencodable { .. }
+        | ExportFault::VoidChildren { .. }
+        | ExportFault::RawChild { .. }
+        | ExportFault::RawClosing { .. }
+        | ExportFault::FrameRefused { .. } => Refusal::At(fault.number(), fault.span()),
+    }
+}
+
 /// The text of an element.
-#[tactic(auto, using(crate::proofs::Firsts::first_faults))]
+#[tactic(auto, using(crate::proofs::FirstFaults::first_faults))]
 fn element_text(alloc: Global, element: &HtmlElement, pretty: bool) -> Result<String, Refusal>
     ensures { Makes text_view result (tree_text pretty (element_view element.now))
         (tree_refusals pretty (element_view element.now)) }
@@ -97,12 +113,12 @@ fn element_text(alloc: Global, element: &HtmlElement, pretty: bool) -> Result<St
     let options = HtmlOptions { pretty };
     match html_in_bundle(alloc, element, &options, &NoFrames) {
         Ok(text) => Ok(text),
-        Err(fault) => Err(Refusal::from(fault)),
+        Err(fault) => Err(refusal_of(&fault)),
     }
 }
 
 /// The text of items.
-#[tactic(auto, using(crate::proofs::Firsts::first_faults))]
+#[tactic(auto, using(crate::proofs::FirstFaults::first_faults))]
 fn items_text(alloc: Global, items: &[Pair], pretty: bool) -> Result<String, Refusal>
     ensures { Makes text_view result (doc_text pretty (items_view items.now))
         (doc_refusals pretty (items_view items.now)) }
@@ -111,7 +127,7 @@ fn items_text(alloc: Global, items: &[Pair], pretty: bool) -> Result<String, Ref
     let settings = HtmlOptions { pretty };
     match export(alloc, items, &info, &[], DEPTH_LIMIT, &settings, &NoFrames) {
         Ok(text) => Ok(text),
-        Err(fault) => Err(Refusal::from(fault)),
+        Err(fault) => Err(refusal_of(&fault)),
     }
 }
 

@@ -8,7 +8,7 @@ use Rattle.html_names.specs.Texts.{TextPair}
 use Rattle.html_dom.specs.Styled.{attrs_styled}
 use Rattle.html_dom.specs.Tree.{Head, NodeView, tag_node, text_node, element_node, frame_node, NodesView, none, node}
 use Rattle.html_encode.specs.Collapsing.{Piece, has_border}
-use Rattle.html_flow.specs.LoneNode.{DisplayChangeView, node_displayed, css_displayed, node_list, are_tags, lone_node, block_change, block_change_of, changed_or_in, block_head, block_nodes}
+use Rattle.html_convert.specs.LoneNode.{DisplayChangeView, node_displayed, css_displayed, node_list, are_tags, lone_node, block_change, block_change_of, changed_or_in, block_head, block_nodes}
 use Rattle.html_spaces.specs.AtomContexts.{SameButEdges}
 use Rattle.html_spaces.specs.ItemText.{between_edges}
 use Rattle.html_spaces.proofs.Edges.{same-equal, same-trans, same-edged}

@@ -7,13 +7,13 @@ use Rattle.html_names.specs.Names.{stands_in}
 use Rattle.html_dom.specs.Tree.{Head, element_node, NodesView}
 use Rattle.html_whitespace.specs.Nodes.{plain_head, pre_wrap_head, is_one}
 use Rattle.html_whitespace.specs.Pieces.{PieceView, stretch, alone, line_break, is_in_stretch, in_stretch, is_carriage_return, outside_stretch, pieces_after, piece_node}
-use Rattle.html_flow.specs.Converted.{RoleText, item_role, passes_role, role_pairs, element_head, body_level, body_whitespace, body_role, text_item_nodes, item_nodes, items_nodes, body_nodes, converted_nodes}
-use Rattle.html_flow.specs.Items.{RoleView, inherits, sets, unsets, ElemHead, ItemView, tag_item, element_item, space_item, text_item, hole_item, break_item, box_item, block_item, frame_item, ItemsView, no_items, item, BodyView, absent, present}
-use Rattle.html_flow.specs.LoneNode.{DisplayChangeView, css_displayed, block_change, block_head}
-use Rattle.html_flow.specs.declared.convert.ConversionLevel.{ConversionLevel}
-use Rattle.html_flow.specs.declared.convert.ConversionLevel.TheVariants.{Block}
-use Rattle.html_flow.specs.declared.convert.Whitespace.{Whitespace}
-use Rattle.html_flow.specs.declared.convert.Whitespace.TheVariants.{Normal, Pre}
+use Rattle.html_convert.specs.Converted.{RoleText, item_role, passes_role, role_pairs, element_head, body_level, body_whitespace, body_role, text_item_nodes, item_nodes, items_nodes, body_nodes, converted_nodes}
+use Rattle.html_convert.specs.Items.{RoleView, inherits, sets, unsets, ElemHead, ItemView, tag_item, element_item, space_item, text_item, hole_item, break_item, box_item, block_item, frame_item, ItemsView, no_items, item, BodyView, absent, present}
+use Rattle.html_convert.specs.LoneNode.{DisplayChangeView, css_displayed, block_change, block_head}
+use Rattle.html_convert.specs.declared.convert.ConversionLevel.{ConversionLevel}
+use Rattle.html_convert.specs.declared.convert.ConversionLevel.TheVariants.{Block}
+use Rattle.html_convert.specs.declared.convert.Whitespace.{Whitespace}
+use Rattle.html_convert.specs.declared.convert.Whitespace.TheVariants.{Normal, Pre}
 use Rattle.html_spaces.specs.CleanItems.{is_clean_role, is_absent, is_clean_item, are_clean_items, is_clean_body, CleanItemsMakeCleanNodes}
 use Rattle.html_spaces.specs.CleanNodes.{is_clean_text, are_clean_values, is_empty}
 use Rattle.html_spaces.specs.PlainFlow.{is_plain_head, is_one_break, is_plain_item, are_plain_items, is_plain_body}

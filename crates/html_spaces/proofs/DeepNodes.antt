@@ -10,12 +10,12 @@ use Rattle.html_whitespace.specs.BareSpaces.{node_things, nodes_things, is_enter
 use Rattle.html_whitespace.specs.Nodes.{pre_wrap_head, is_one, is_tag}
 use Rattle.html_whitespace.specs.Protected.{text_protected}
 use Rattle.html_whitespace.specs.Runs.{is_blank_node, first_span, are_kept, run_nodes, front_nodes, front, after_front, nodes_with_runs}
-use Rattle.html_flow.specs.Converted.{list_nodes}
-use Rattle.html_flow.specs.LoneNode.{node_list, are_tags, lone_node, DisplayChangeView, css_displayed, node_displayed, block_change, changed_or_in, block_change_of, block_head, block_nodes}
-use Rattle.html_flow.specs.declared.convert.ConversionLevel.{ConversionLevel}
-use Rattle.html_flow.specs.declared.convert.ConversionLevel.TheVariants.{Block, Inline}
-use Rattle.html_flow.specs.declared.convert.Whitespace.{Whitespace}
-use Rattle.html_flow.specs.declared.convert.Whitespace.TheVariants.{Normal, Pre}
+use Rattle.html_convert.specs.Converted.{list_nodes}
+use Rattle.html_convert.specs.LoneNode.{node_list, are_tags, lone_node, DisplayChangeView, css_displayed, node_displayed, block_change, changed_or_in, block_change_of, block_head, block_nodes}
+use Rattle.html_convert.specs.declared.convert.ConversionLevel.{ConversionLevel}
+use Rattle.html_convert.specs.declared.convert.ConversionLevel.TheVariants.{Block, Inline}
+use Rattle.html_convert.specs.declared.convert.Whitespace.{Whitespace}
+use Rattle.html_convert.specs.declared.convert.Whitespace.TheVariants.{Normal, Pre}
 use Rattle.html_spaces.specs.CleanNodes.{is_empty}
 use Rattle.html_spaces.specs.LineContexts.{visible_at, line_past, node_between, nodes_between}
 use Rattle.html_spaces.proofs.Each.{Each, Each-append}

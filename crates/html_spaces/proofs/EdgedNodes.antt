@@ -14,10 +14,10 @@ use Rattle.html_dom.specs.Tree.{Head, tag_node, text_node, element_node, frame_n
 use Rattle.html_encode.specs.Collapsing.{preserves, has_border_display}
 use Rattle.html_encode.specs.IndentsCollapse.{HeadIsEdged, NodesAreEdged}
 use Rattle.html_encode.specs.Layout.{is_of_lines, allows_pretty_inside, wants_pretty_around}
-use Rattle.html_flow.specs.Converted.{RoleText, items_nodes, converted_nodes}
-use Rattle.html_flow.specs.Items.{ItemsView}
-use Rattle.html_flow.specs.declared.convert.ConversionLevel.TheVariants.{Block}
-use Rattle.html_flow.specs.declared.convert.Whitespace.TheVariants.{Normal}
+use Rattle.html_convert.specs.Converted.{RoleText, items_nodes, converted_nodes}
+use Rattle.html_convert.specs.Items.{ItemsView}
+use Rattle.html_convert.specs.declared.convert.ConversionLevel.TheVariants.{Block}
+use Rattle.html_convert.specs.declared.convert.Whitespace.TheVariants.{Normal}
 use Rattle.html_spaces.specs.PlainFlow.{is_plain_name, is_plain_flow}
 use Rattle.html_spaces.proofs.MadeHeads.{MadeCss, plain, block, wrap, block_wrap, made_style, MadeHead, head_style_is, is_wrap, is_away, plain_is_there, plain_is_no_math, listed_pass}
 use Rattle.html_spaces.proofs.MadeNodes.{AreMade, list_made, items_made}

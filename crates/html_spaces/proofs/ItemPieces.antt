@@ -8,12 +8,12 @@ use Rattle.html_names.specs.Texts.{TextPair}
 use Rattle.html_dom.specs.Attributes.{first}
 use Rattle.html_dom.specs.Tree.{NodeView, element_node, NodesView}
 use Rattle.html_encode.specs.Collapsing.{Piece, char, thing, line, has_border}
-use Rattle.html_flow.specs.Converted.{RoleText, item_role, element_head, body_role, body_level, body_whitespace, item_nodes, items_nodes, body_nodes, converted_nodes}
-use Rattle.html_flow.specs.Items.{ElemHead, ItemView, tag_item, element_item, space_item, text_item, hole_item, break_item, box_item, block_item, frame_item, ItemsView, no_items, item, BodyView, absent, present}
-use Rattle.html_flow.specs.declared.convert.ConversionLevel.{ConversionLevel}
-use Rattle.html_flow.specs.declared.convert.ConversionLevel.TheVariants.{Block}
-use Rattle.html_flow.specs.declared.convert.Whitespace.{Whitespace}
-use Rattle.html_flow.specs.declared.convert.Whitespace.TheVariants.{Normal, Pre}
+use Rattle.html_convert.specs.Converted.{RoleText, item_role, element_head, body_role, body_level, body_whitespace, item_nodes, items_nodes, body_nodes, converted_nodes}
+use Rattle.html_convert.specs.Items.{ElemHead, ItemView, tag_item, element_item, space_item, text_item, hole_item, break_item, box_item, block_item, frame_item, ItemsView, no_items, item, BodyView, absent, present}
+use Rattle.html_convert.specs.declared.convert.ConversionLevel.{ConversionLevel}
+use Rattle.html_convert.specs.declared.convert.ConversionLevel.TheVariants.{Block}
+use Rattle.html_convert.specs.declared.convert.Whitespace.{Whitespace}
+use Rattle.html_convert.specs.declared.convert.Whitespace.TheVariants.{Normal, Pre}
 use Rattle.html_spaces.specs.AtomContexts.{SameButEdges}
 use Rattle.html_spaces.specs.ItemText.{between_edges, text_pieces, break_piece, element_pieces, item_pieces, items_pieces, body_pieces}
 use Rattle.html_spaces.specs.PlainFlow.{is_plain_head, is_one_break, is_plain_item, are_plain_items, is_plain_body}

@@ -12,13 +12,13 @@ use Rattle.html_whitespace.specs.Nodes.{is_one}
 use Rattle.html_whitespace.specs.Pieces.{PieceView, stretch, alone, line_break, is_in_stretch, in_stretch, is_carriage_return, pieces_after, piece_node}
 use Rattle.html_whitespace.specs.Protected.{space_count, is_bare, node_protected, nodes_protected}
 use Rattle.html_whitespace.specs.Runs.{is_blank_node, are_kept, run_nodes, nodes_with_runs}
-use Rattle.html_flow.specs.Converted.{text_item_nodes, list_nodes}
-use Rattle.html_flow.specs.Items.{ItemView, text_item, ItemsView, no_items, item, BodyView, absent, present}
-use Rattle.html_flow.specs.LoneNode.{node_list, are_tags, lone_node, DisplayChangeView, node_displayed}
-use Rattle.html_flow.specs.declared.convert.ConversionLevel.{ConversionLevel}
-use Rattle.html_flow.specs.declared.convert.ConversionLevel.TheVariants.{Block, Inline}
-use Rattle.html_flow.specs.declared.convert.Whitespace.{Whitespace}
-use Rattle.html_flow.specs.declared.convert.Whitespace.TheVariants.{Normal, Pre}
+use Rattle.html_convert.specs.Converted.{text_item_nodes, list_nodes}
+use Rattle.html_convert.specs.Items.{ItemView, text_item, ItemsView, no_items, item, BodyView, absent, present}
+use Rattle.html_convert.specs.LoneNode.{node_list, are_tags, lone_node, DisplayChangeView, node_displayed}
+use Rattle.html_convert.specs.declared.convert.ConversionLevel.{ConversionLevel}
+use Rattle.html_convert.specs.declared.convert.ConversionLevel.TheVariants.{Block, Inline}
+use Rattle.html_convert.specs.declared.convert.Whitespace.{Whitespace}
+use Rattle.html_convert.specs.declared.convert.Whitespace.TheVariants.{Normal, Pre}
 use Rattle.html_spaces.specs.ItemText.{chars_by_line}
 use Rattle.html_spaces.specs.PlainFlow.{is_nothing, are_nothing, is_break, are_one_break, is_one_break}
 use Rattle.html_spaces.proofs.Runs.{with_runs}

@@ -16,7 +16,7 @@ use Rattle.html_dom.specs.Attributes.{first}
 use Rattle.html_dom.specs.Styled.{attrs_styled}
 use Rattle.html_dom.specs.Tree.{Head, element_node, NodesView}
 use Rattle.html_whitespace.specs.BareSpaces.{is_border, makes_block}
-use Rattle.html_flow.specs.LoneNode.{DisplayChangeView, removed, set_to, css_displayed, change_by_display, block_change}
+use Rattle.html_convert.specs.LoneNode.{DisplayChangeView, removed, set_to, css_displayed, change_by_display, block_change}
 use Rattle.html_encode.specs.Collapsing.{preserves, has_border, style_is}
 use Rattle.html_spaces.specs.PlainFlow.{is_inline, is_plain_name, unplain_names}
 

@@ -7,13 +7,13 @@ use Rattle.html_names.specs.Names.{stands_in}
 use Rattle.html_dom.specs.Tree.{NodeView, NodesView}
 use Rattle.html_whitespace.specs.Nodes.{plain_head, pre_wrap_head}
 use Rattle.html_whitespace.specs.Pieces.{PieceView, stretch, alone, line_break, piece_node, pieces}
-use Rattle.html_flow.specs.Converted.{RoleText, item_role, body_level, body_whitespace, body_role, text_item_nodes, list_nodes, item_nodes, items_nodes, body_nodes}
-use Rattle.html_flow.specs.Items.{ItemView, tag_item, element_item, space_item, text_item, hole_item, break_item, box_item, block_item, frame_item, ItemsView, no_items, item, BodyView, absent, present}
-use Rattle.html_flow.specs.LoneNode.{block_head, block_nodes}
-use Rattle.html_flow.specs.declared.convert.ConversionLevel.{ConversionLevel}
-use Rattle.html_flow.specs.declared.convert.ConversionLevel.TheVariants.{Block}
-use Rattle.html_flow.specs.declared.convert.Whitespace.{Whitespace}
-use Rattle.html_flow.specs.declared.convert.Whitespace.TheVariants.{Normal, Pre}
+use Rattle.html_convert.specs.Converted.{RoleText, item_role, body_level, body_whitespace, body_role, text_item_nodes, list_nodes, item_nodes, items_nodes, body_nodes}
+use Rattle.html_convert.specs.Items.{ItemView, tag_item, element_item, space_item, text_item, hole_item, break_item, box_item, block_item, frame_item, ItemsView, no_items, item, BodyView, absent, present}
+use Rattle.html_convert.specs.LoneNode.{block_head, block_nodes}
+use Rattle.html_convert.specs.declared.convert.ConversionLevel.{ConversionLevel}
+use Rattle.html_convert.specs.declared.convert.ConversionLevel.TheVariants.{Block}
+use Rattle.html_convert.specs.declared.convert.Whitespace.{Whitespace}
+use Rattle.html_convert.specs.declared.convert.Whitespace.TheVariants.{Normal, Pre}
 use Rattle.html_spaces.specs.PlainFlow.{is_plain_name, is_plain_head, is_one_break, is_plain_item, are_plain_items, is_plain_body}
 use Rattle.html_spaces.proofs.DeepNodes.{HoldsOf, HoldsOfAll, HoldsOnTheWay, of_list, of_block}
 use Rattle.html_spaces.proofs.Each.{Each, Each-append, Each-map}

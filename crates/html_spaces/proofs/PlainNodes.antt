@@ -7,9 +7,9 @@ use Rattle.html_names.specs.Kinds.{is_raw, is_replaced}
 use Rattle.html_names.specs.Names.{stands_in}
 use Rattle.html_dom.specs.Styled.{nodes_styled}
 use Rattle.html_dom.specs.Tree.{NodeView, tag_node, text_node, element_node, frame_node, NodesView, none, node}
-use Rattle.html_flow.specs.Converted.{items_nodes, converted_nodes}
-use Rattle.html_flow.specs.declared.convert.ConversionLevel.TheVariants.{Block}
-use Rattle.html_flow.specs.declared.convert.Whitespace.TheVariants.{Normal}
+use Rattle.html_convert.specs.Converted.{items_nodes, converted_nodes}
+use Rattle.html_convert.specs.declared.convert.ConversionLevel.TheVariants.{Block}
+use Rattle.html_convert.specs.declared.convert.Whitespace.TheVariants.{Normal}
 use Rattle.html_spaces.specs.PlainFlow.{is_plain_name}
 use Rattle.html_spaces.specs.PlainNodes.{is_plain_node, are_plain_nodes, PlainFlowMakesPlainNodes, PlainNodesCanBeRead, PlainNamesAreInside}
 use Rattle.html_spaces.specs.ReadableNodes.{AreReadable}

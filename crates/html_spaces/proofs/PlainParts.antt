@@ -8,8 +8,8 @@ use Rattle.html_names.specs.Names.{stands_in}
 use Rattle.html_names.specs.Texts.{TextPair}
 use Rattle.html_dom.specs.Attributes.{first, has}
 use Rattle.html_encode.specs.Collapsing.{has_border}
-use Rattle.html_flow.specs.Converted.{RoleText, passes_role, role_pairs, element_head}
-use Rattle.html_flow.specs.Items.{ElemHead}
+use Rattle.html_convert.specs.Converted.{RoleText, passes_role, role_pairs, element_head}
+use Rattle.html_convert.specs.Items.{ElemHead}
 use Rattle.html_spaces.specs.PlainFlow.{is_plain_name, has_no_css, is_plain_head}
 use Rattle.html_spaces.proofs.MadeHeads.{plain, MadeHead, listed_pass}
 

@@ -9,7 +9,7 @@ use Rattle.html_dom.specs.Tree.{TextPair, Head, NodeView, tag_node, text_node, e
 use Rattle.html_whitespace.specs.BareSpaces.{is_border}
 use Rattle.html_encode.specs.Collapsing.{Atom, object, preserves, has_border, bordered_atoms}
 use Rattle.html_encode.proofs.NodeAtoms.{nodes_atoms}
-use Rattle.html_flow.specs.LoneNode.{node_list, are_tags, lone_node, DisplayChangeView, css_displayed, node_displayed, block_change, changed_or_in, block_change_of, block_head, block_nodes}
+use Rattle.html_convert.specs.LoneNode.{node_list, are_tags, lone_node, DisplayChangeView, css_displayed, node_displayed, block_change, changed_or_in, block_change_of, block_head, block_nodes}
 use Rattle.html_spaces.specs.AtomContexts.{AtomsStay, support_at}
 use Rattle.html_spaces.proofs.AtomContexts.{AtomsStay-front, AtomsStay-bordered, AtomsStay-inside}
 use Rattle.html_spaces.proofs.DeepNodes.{text_is_not_alone}

@@ -15,10 +15,10 @@ use Rattle.html_whitespace.specs.BareSpaces.{is_border, makes_block, is_entered}
 use Rattle.html_whitespace.specs.Runs.{nodes_with_runs}
 use Rattle.html_encode.specs.Collapsing.{Atom, object, char_atom, text_atoms, preserves, has_border, element_atoms}
 use Rattle.html_encode.proofs.NodeAtoms.{node_atoms, nodes_atoms}
-use Rattle.html_flow.specs.Converted.{RoleText, is_preformatted, body_level, body_whitespace, body_role, element_head, items_nodes, body_nodes}
-use Rattle.html_flow.specs.Items.{ElemHead, BodyView, absent, present}
-use Rattle.html_flow.specs.declared.convert.ConversionLevel.TheVariants.{Block, Inline}
-use Rattle.html_flow.specs.declared.convert.Whitespace.TheVariants.{Normal}
+use Rattle.html_convert.specs.Converted.{RoleText, is_preformatted, body_level, body_whitespace, body_role, element_head, items_nodes, body_nodes}
+use Rattle.html_convert.specs.Items.{ElemHead, BodyView, absent, present}
+use Rattle.html_convert.specs.declared.convert.ConversionLevel.TheVariants.{Block, Inline}
+use Rattle.html_convert.specs.declared.convert.Whitespace.TheVariants.{Normal}
 use Rattle.html_spaces.specs.AtomContexts.{AtomStays, AtomsStay}
 use Rattle.html_spaces.specs.PlainFlow.{is_plain_name, is_plain_body}
 use Rattle.html_spaces.proofs.AtomContexts.{AtomsStay-append, AtomsStay-bordered}

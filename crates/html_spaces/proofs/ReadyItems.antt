@@ -2,11 +2,11 @@
 use Rattle.std.proofs.Common.{◌≡◌, true, not, inr}
 use Rattle.std.proofs.lemmas.Bool.{false≢true, and_parts}
 use Rattle.html_whitespace.specs.Runs.{nodes_with_runs}
-use Rattle.html_flow.specs.Converted.{RoleText, item_role, body_whitespace, body_role, item_nodes, items_nodes, body_nodes, converted_nodes}
-use Rattle.html_flow.specs.Items.{ItemView, tag_item, element_item, space_item, text_item, hole_item, break_item, box_item, block_item, frame_item, ItemsView, no_items, item, BodyView, absent, present}
-use Rattle.html_flow.specs.LoneNode.{block_nodes}
-use Rattle.html_flow.specs.declared.convert.ConversionLevel.TheVariants.{Block}
-use Rattle.html_flow.specs.declared.convert.Whitespace.TheVariants.{Normal}
+use Rattle.html_convert.specs.Converted.{RoleText, item_role, body_whitespace, body_role, item_nodes, items_nodes, body_nodes, converted_nodes}
+use Rattle.html_convert.specs.Items.{ItemView, tag_item, element_item, space_item, text_item, hole_item, break_item, box_item, block_item, frame_item, ItemsView, no_items, item, BodyView, absent, present}
+use Rattle.html_convert.specs.LoneNode.{block_nodes}
+use Rattle.html_convert.specs.declared.convert.ConversionLevel.TheVariants.{Block}
+use Rattle.html_convert.specs.declared.convert.Whitespace.TheVariants.{Normal}
 use Rattle.html_spaces.specs.PlainFlow.{is_plain_head, is_one_break, is_plain_item, are_plain_items, is_plain_body}
 use Rattle.html_spaces.proofs.Each.{Each, Each-append, Each-weaker}
 use Rattle.html_spaces.proofs.MadeNodes.{body_made}

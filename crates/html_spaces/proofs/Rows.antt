@@ -12,8 +12,8 @@ use Rattle.html_whitespace.specs.BareSpaces.{is_border, is_entered, node_things,
 use Rattle.html_whitespace.specs.Pieces.{pieces_after}
 use Rattle.html_whitespace.specs.Protected.{node_protected}
 use Rattle.html_whitespace.specs.Runs.{front, after_front}
-use Rattle.html_flow.specs.Converted.{item_nodes}
-use Rattle.html_flow.specs.LoneNode.{lone_node, node_list}
+use Rattle.html_convert.specs.Converted.{item_nodes}
+use Rattle.html_convert.specs.LoneNode.{lone_node, node_list}
 use Rattle.html_spaces.specs.ItemText.{item_pieces}
 use Rattle.html_spaces.specs.PlainFlow.{is_plain_name, is_plain_item}
 use Rattle.html_spaces.specs.Rows.{AreSeen, AreNotPlain, lines, blocks, lists_and_tables, others}

@@ -10,9 +10,9 @@ use Rattle.html_encode.specs.IndentsCollapse.{NodesAreEdged, body_of}
 use Rattle.html_encode.specs.Text.{document_text, plain_options, pretty_options}
 use Rattle.html_encode.proofs.IndentsCollapse.{body_collapses, body_normal}
 use Rattle.html_encode.proofs.ReadingBack.{reads_back}
-use Rattle.html_flow.specs.Converted.{converted_nodes}
-use Rattle.html_flow.specs.declared.convert.ConversionLevel.TheVariants.{Block}
-use Rattle.html_flow.specs.declared.convert.Whitespace.TheVariants.{Normal}
+use Rattle.html_convert.specs.Converted.{converted_nodes}
+use Rattle.html_convert.specs.declared.convert.ConversionLevel.TheVariants.{Block}
+use Rattle.html_convert.specs.declared.convert.Whitespace.TheVariants.{Normal}
 use Rattle.html_spaces.specs.SeenBody.{plains_seen, body_seen, tree_seen, text_seen, CanBeRead, BodyIsSeen, ItemsAreSeen}
 use Rattle.html_spaces.proofs.EdgedNodes.{converted_are_edged}
 use Rattle.html_spaces.proofs.SpacesStay.{spaces_stay}

@@ -5,9 +5,9 @@ use Rattle.html_dom.specs.Tree.{NodesView}
 use Rattle.html_encode.specs.Collapsing.{merged_edges, collapsed_pieces}
 use Rattle.html_encode.proofs.IndentsCollapse.{content_collapses}
 use Rattle.html_encode.proofs.NodeAtoms.{nodes_atoms, normal_atoms}
-use Rattle.html_flow.specs.Converted.{converted_nodes}
-use Rattle.html_flow.specs.declared.convert.ConversionLevel.TheVariants.{Block}
-use Rattle.html_flow.specs.declared.convert.Whitespace.TheVariants.{Normal}
+use Rattle.html_convert.specs.Converted.{converted_nodes}
+use Rattle.html_convert.specs.declared.convert.ConversionLevel.TheVariants.{Block}
+use Rattle.html_convert.specs.declared.convert.Whitespace.TheVariants.{Normal}
 use Rattle.html_spaces.specs.AtomContexts.{AtomsStay}
 use Rattle.html_spaces.specs.SpacesStay.{seen_pieces, SpacesStay, PrettySpacesStay}
 use Rattle.html_spaces.proofs.AtomContexts.{own_collapsed}

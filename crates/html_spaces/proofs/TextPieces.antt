@@ -11,11 +11,11 @@ use Rattle.html_whitespace.specs.BareSpaces.{bare_spaces}
 use Rattle.html_whitespace.specs.Nodes.{break_node}
 use Rattle.html_whitespace.specs.Pieces.{PieceView, stretch, alone, line_break, is_normal, is_normal_there, first_char, is_in_stretch, in_stretch, is_carriage_return, pieces_after, piece_node}
 use Rattle.html_whitespace.specs.Runs.{nodes_with_runs}
-use Rattle.html_flow.specs.Converted.{list_nodes, text_item_nodes, break_item_node}
-use Rattle.html_flow.specs.declared.convert.ConversionLevel.{ConversionLevel}
-use Rattle.html_flow.specs.declared.convert.ConversionLevel.TheVariants.{Block, Inline}
-use Rattle.html_flow.specs.declared.convert.Whitespace.{Whitespace}
-use Rattle.html_flow.specs.declared.convert.Whitespace.TheVariants.{Normal, Pre}
+use Rattle.html_convert.specs.Converted.{list_nodes, text_item_nodes, break_item_node}
+use Rattle.html_convert.specs.declared.convert.ConversionLevel.{ConversionLevel}
+use Rattle.html_convert.specs.declared.convert.ConversionLevel.TheVariants.{Block, Inline}
+use Rattle.html_convert.specs.declared.convert.Whitespace.{Whitespace}
+use Rattle.html_convert.specs.declared.convert.Whitespace.TheVariants.{Normal, Pre}
 use Rattle.html_spaces.specs.ItemText.{chars_by_line, text_pieces, break_piece}
 use Rattle.html_spaces.proofs.OwnPieces.{node_pieces, nodes_pieces, list_pieces, nodes_protected_pieces}
 use Rattle.html_spaces.proofs.Runs.{runs_pieces}

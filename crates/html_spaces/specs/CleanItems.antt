@@ -4,10 +4,10 @@ use Rattle.std.specs.Prelude.{◌≡◌, Bool, true, false, not, ◌&&◌, ◌||
 use Rattle.html_names.specs.Characters.{all, is_text_char}
 use Rattle.html_names.specs.Kinds.{is_void}
 use Rattle.html_dom.specs.Styled.{nodes_styled}
-use Rattle.html_flow.specs.Converted.{RoleText, converted_nodes}
-use Rattle.html_flow.specs.Items.{RoleView, inherits, sets, unsets, ItemView, tag_item, element_item, space_item, text_item, hole_item, break_item, box_item, block_item, frame_item, ItemsView, no_items, item, BodyView, absent, present}
-use Rattle.html_flow.specs.declared.convert.ConversionLevel.TheVariants.{Block}
-use Rattle.html_flow.specs.declared.convert.Whitespace.TheVariants.{Normal}
+use Rattle.html_convert.specs.Converted.{RoleText, converted_nodes}
+use Rattle.html_convert.specs.Items.{RoleView, inherits, sets, unsets, ItemView, tag_item, element_item, space_item, text_item, hole_item, break_item, box_item, block_item, frame_item, ItemsView, no_items, item, BodyView, absent, present}
+use Rattle.html_convert.specs.declared.convert.ConversionLevel.TheVariants.{Block}
+use Rattle.html_convert.specs.declared.convert.Whitespace.TheVariants.{Normal}
 use Rattle.html_spaces.specs.CleanNodes.{is_clean_text, is_clean_tag, are_clean_values, are_clean_nodes}
 use Rattle.html_spaces.specs.PlainFlow.{is_plain_flow}
 

@@ -3,10 +3,10 @@ use Rattle.std.specs.Prelude.{ℕ, Bool, true, false, ◌==◌, List, [], ◌∷
 use Rattle.html_names.specs.Displays.{default_display}
 use Rattle.html_names.specs.Kinds.{is_replaced, is_line_break, shows_border}
 use Rattle.html_encode.specs.Collapsing.{Piece, char, thing, line, edge, merged_edges}
-use Rattle.html_flow.specs.Converted.{body_whitespace}
-use Rattle.html_flow.specs.Items.{ItemView, tag_item, element_item, space_item, text_item, hole_item, break_item, box_item, block_item, frame_item, ItemsView, no_items, item, BodyView, absent, present}
-use Rattle.html_flow.specs.declared.convert.Whitespace.{Whitespace}
-use Rattle.html_flow.specs.declared.convert.Whitespace.TheVariants.{Normal, Pre}
+use Rattle.html_convert.specs.Converted.{body_whitespace}
+use Rattle.html_convert.specs.Items.{ItemView, tag_item, element_item, space_item, text_item, hole_item, break_item, box_item, block_item, frame_item, ItemsView, no_items, item, BodyView, absent, present}
+use Rattle.html_convert.specs.declared.convert.Whitespace.{Whitespace}
+use Rattle.html_convert.specs.declared.convert.Whitespace.TheVariants.{Normal, Pre}
 
 -- characters where white space collapses: CR LF, CR and LF are one line break each
 abbrev pub chars_by_line : (after_return : Bool) → List ℕ → List Piece

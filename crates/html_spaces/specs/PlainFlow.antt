@@ -7,10 +7,10 @@ use Rattle.html_names.specs.Texts.{TextPair}
 use Rattle.html_names.specs.declared.property.Display.{Display}
 use Rattle.html_names.specs.declared.property.Display.TheVariants as display
 use Rattle.html_dom.specs.Attributes.{has}
-use Rattle.html_flow.specs.Converted.{body_whitespace}
-use Rattle.html_flow.specs.Items.{ElemHead, ItemView, tag_item, element_item, space_item, text_item, hole_item, break_item, box_item, block_item, frame_item, ItemsView, no_items, item, BodyView, absent, present}
-use Rattle.html_flow.specs.declared.convert.Whitespace.{Whitespace}
-use Rattle.html_flow.specs.declared.convert.Whitespace.TheVariants.{Normal}
+use Rattle.html_convert.specs.Converted.{body_whitespace}
+use Rattle.html_convert.specs.Items.{ElemHead, ItemView, tag_item, element_item, space_item, text_item, hole_item, break_item, box_item, block_item, frame_item, ItemsView, no_items, item, BodyView, absent, present}
+use Rattle.html_convert.specs.declared.convert.Whitespace.{Whitespace}
+use Rattle.html_convert.specs.declared.convert.Whitespace.TheVariants.{Normal}
 
 abbrev pub is_inline : Option Display → Bool
 is_inline (Some display.Inline) = true

@@ -6,10 +6,10 @@ use Rattle.html_dom.specs.Tree.{NodeView, tag_node, text_node, element_node, fra
 use Rattle.html_encode.specs.Indented.{NodesEndWell}
 use Rattle.html_encode.specs.IndentsCollapse.{NodesAreEdged}
 use Rattle.html_dom.specs.FrameFree.{NodesAreFrameFree}
-use Rattle.html_flow.specs.Converted.{RoleText, converted_nodes}
-use Rattle.html_flow.specs.Items.{ItemsView}
-use Rattle.html_flow.specs.declared.convert.ConversionLevel.TheVariants.{Block}
-use Rattle.html_flow.specs.declared.convert.Whitespace.TheVariants.{Normal}
+use Rattle.html_convert.specs.Converted.{RoleText, converted_nodes}
+use Rattle.html_convert.specs.Items.{ItemsView}
+use Rattle.html_convert.specs.declared.convert.ConversionLevel.TheVariants.{Block}
+use Rattle.html_convert.specs.declared.convert.Whitespace.TheVariants.{Normal}
 use Rattle.html_spaces.specs.PlainFlow.{is_plain_name, is_plain_flow}
 
 -- at any depth

@@ -2,10 +2,10 @@
 use Rattle.std.specs.Prelude.{◌≡◌, ℕ, Bool, true, false, List, [], ◌∷◌, ◌++◌, map, codes, None}
 use Rattle.html_dom.specs.Tags.{starts, ends}
 use Rattle.html_encode.specs.Collapsing.{Piece, char, thing, line, edge}
-use Rattle.html_flow.specs.Converted.{converted_nodes}
-use Rattle.html_flow.specs.Items.{inherits, ItemView, tag_item, element_item, text_item, space_item, hole_item, break_item, box_item, block_item, ItemsView, no_items, item, absent, present, new_head}
-use Rattle.html_flow.specs.declared.convert.ConversionLevel.TheVariants.{Block}
-use Rattle.html_flow.specs.declared.convert.Whitespace.TheVariants.{Normal}
+use Rattle.html_convert.specs.Converted.{converted_nodes}
+use Rattle.html_convert.specs.Items.{inherits, ItemView, tag_item, element_item, text_item, space_item, hole_item, break_item, box_item, block_item, ItemsView, no_items, item, absent, present, new_head}
+use Rattle.html_convert.specs.declared.convert.ConversionLevel.TheVariants.{Block}
+use Rattle.html_convert.specs.declared.convert.Whitespace.TheVariants.{Normal}
 use Rattle.html_spaces.specs.ItemText.{items_text}
 use Rattle.html_spaces.specs.PlainFlow.{is_plain_flow}
 use Rattle.html_spaces.specs.SpacesStay.{seen_pieces}

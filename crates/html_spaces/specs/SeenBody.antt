@@ -14,10 +14,10 @@ use Rattle.html_dom.specs.FrameFree.{ElementIsFrameFree}
 use Rattle.html_encode.specs.ReadingBack.{ElementIsNamed}
 use Rattle.html_encode.specs.Text.{document_text}
 use Rattle.html_encode.specs.declared.options.HtmlOptions.{HtmlOptions}
-use Rattle.html_flow.specs.Converted.{RoleText, converted_nodes}
-use Rattle.html_flow.specs.Items.{ItemsView}
-use Rattle.html_flow.specs.declared.convert.ConversionLevel.TheVariants.{Block}
-use Rattle.html_flow.specs.declared.convert.Whitespace.TheVariants.{Normal}
+use Rattle.html_convert.specs.Converted.{RoleText, converted_nodes}
+use Rattle.html_convert.specs.Items.{ItemsView}
+use Rattle.html_convert.specs.declared.convert.ConversionLevel.TheVariants.{Block}
+use Rattle.html_convert.specs.declared.convert.Whitespace.TheVariants.{Normal}
 use Rattle.html_spaces.specs.ItemText.{items_text}
 use Rattle.html_spaces.specs.PlainFlow.{is_plain_flow}
 

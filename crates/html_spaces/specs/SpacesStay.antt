@@ -7,10 +7,10 @@ use Rattle.html_names.specs.Kinds.{is_raw}
 use Rattle.html_dom.specs.Tree.{Head, NodesView}
 use Rattle.html_encode.specs.Collapsing.{Piece, plains_atoms, collapsed_pieces}
 use Rattle.html_encode.specs.Indented.{content_layout}
-use Rattle.html_flow.specs.Converted.{RoleText, converted_nodes}
-use Rattle.html_flow.specs.Items.{ItemsView}
-use Rattle.html_flow.specs.declared.convert.ConversionLevel.TheVariants.{Block}
-use Rattle.html_flow.specs.declared.convert.Whitespace.TheVariants.{Normal}
+use Rattle.html_convert.specs.Converted.{RoleText, converted_nodes}
+use Rattle.html_convert.specs.Items.{ItemsView}
+use Rattle.html_convert.specs.declared.convert.ConversionLevel.TheVariants.{Block}
+use Rattle.html_convert.specs.declared.convert.Whitespace.TheVariants.{Normal}
 use Rattle.html_spaces.specs.ItemText.{items_text}
 use Rattle.html_spaces.specs.PlainFlow.{is_plain_flow}
 

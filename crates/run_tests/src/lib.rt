@@ -20,6 +20,8 @@ mod names;
 #[cfg(test)]
 mod no_items;
 #[cfg(test)]
+mod no_memory;
+#[cfg(test)]
 mod pretty;
 #[cfg(test)]
 mod refused;
@@ -27,5 +29,7 @@ mod refused;
 mod rows;
 #[cfg(test)]
 mod runs;
+#[cfg(test)]
+mod spelled;
 #[cfg(test)]
 mod wrong;

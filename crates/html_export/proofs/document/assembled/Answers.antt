@@ -1,7 +1,7 @@
 use Rattle.std.proofs.Common.{◌≡◌, ◌∙◌, sym, ap}
 use Rattle.html_dom.specs.Views.{nodes_view}
 use Rattle.html_document.specs.Views.{info_view}
-use Rattle.html_flow.specs.Views.{items_view}
+use Rattle.html_convert.specs.Views.{items_view}
 use Rattle.html_export.specs.Assembled.{own_html, own_body, document_outline, document_nodes, output_by, outline_faults}
 use Rattle.html_export.specs.Outlines.{outline_view}
 use Rattle.html_export.proofs.Assembling.{no_notes_clean}

@@ -2,7 +2,7 @@ use Rattle.std.proofs.Common.{◌≡◌, [], ◌∙◌, ap, subst}
 use Rattle.html_dom.specs.Views.{nodes_view}
 use Rattle.html_document.specs.Documents.{new_document}
 use Rattle.html_document.specs.Views.{info_view, output_view}
-use Rattle.html_flow.specs.Views.{items_view}
+use Rattle.html_convert.specs.Views.{items_view}
 use Rattle.html_export.specs.Assembled.{document_nodes, assembled_output, document_output, assembly_faults}
 use Rattle.html_export.specs.Roots.{root_styled}
 use Rattle.html_export.proofs.Assembling.{assembled_styled}

@@ -1,6 +1,6 @@
 use Rattle.std.proofs.Common.{◌≡◌, ◌++◌, drop}
 use Rattle.html_encode.specs.FaultViews.{spans_view}
-use Rattle.html_flow.specs.Views.{items_view}
+use Rattle.html_convert.specs.Views.{items_view}
 use Rattle.html_export.specs.Assembled.{item_spans}
 use Rattle.html_export.proofs.document.item_spans.Given as goal
 

@@ -1,7 +1,7 @@
 use Rattle.std.proofs.lemmas.Result.{err_from_is_err_and}
 use Rattle.html_document.specs.Documents.{document_root}
 use Rattle.html_document.specs.Views.{document_view, info_view}
-use Rattle.html_flow.specs.Views.{items_view}
+use Rattle.html_convert.specs.Views.{items_view}
 use Rattle.html_export.specs.Assembled.{document_faults}
 use Rattle.html_export.specs.Exported.{linked_root, root_faults}
 use Rattle.html_export.proofs.CleanRoots.{clean_exports}

@@ -1,10 +1,10 @@
 use Rattle.std.proofs.lemmas.Result.{err_from_is_err_and}
 use Rattle.serde_json.specs.View.{view}
-use Rattle.html_flow.specs.Views.{items_view}
+use Rattle.html_convert.specs.Views.{items_view}
 use Rattle.html_run.proofs.Answering.{text_answered, other_said, name_said}
 use Rattle.html_run.specs.Answers.{doc_answer, doc_refusals, doc_text}
-use Rattle.html_run.specs.Names.{items_refusals}
-use Rattle.html_run.specs.SpelledItems.{items_spelled}
+use Rattle.html_spell.specs.Names.{items_refusals}
+use Rattle.html_spell.specs.SpelledItems.{items_spelled}
 use Rattle.html_run.proofs.program.spelled_doc.Goals as goal
 
 pub returns-in_err-items : goal.returns-in_err-items

@@ -3,8 +3,8 @@ use Rattle.serde_json.specs.View.{view}
 use Rattle.html_dom.specs.Views.{element_view}
 use Rattle.html_run.proofs.Answering.{text_answered, other_said, name_said}
 use Rattle.html_run.specs.Answers.{tree_answer, tree_refusals, tree_text}
-use Rattle.html_run.specs.Names.{element_refusals}
-use Rattle.html_run.specs.Spelled.{element_spelled}
+use Rattle.html_spell.specs.Names.{element_refusals}
+use Rattle.html_spell.specs.Spelled.{element_spelled}
 use Rattle.html_run.proofs.program.spelled_tree.Goals as goal
 
 pub returns-in_err-element : goal.returns-in_err-element

@@ -1,0 +1,7 @@
+pub mod Converted
+pub mod Converts
+pub mod Depth
+pub mod Items
+pub mod LoneNode
+pub mod Rows
+pub mod Views

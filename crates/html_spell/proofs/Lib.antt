@@ -1,0 +1,7 @@
+pub mod Forms
+pub mod ItemForms
+pub mod ItemRoots
+pub mod Presence
+pub mod Roots
+pub mod Rows
+pub mod Wrong

@@ -1,0 +1,6 @@
+pub mod Fields
+pub mod Names
+pub mod Refusals
+pub mod Spelled
+pub mod SpelledItems
+pub mod Spelling

@@ -1,0 +1,33 @@
+ghost use Rattle.std.specs.Prelude.{◌≡◌};
+
+use html_dom::Span;
+use std::alloc::{AllocError, AllocFailed};
+
+/// Why what is spelled has no text.
+#[derive(Clone, Copy, Debug, PartialEq, Eq)]
+pub enum Refusal {
+    /// An allocation failed.
+    OutOfMemory,
+    /// The number of a fault, and its span.
+    At(u8, Span),
+}
+
+impl From<AllocError> for Refusal {
+    ghost use Rattle.html_spell.specs.declared.refusal.Refusal.TheVariants.{OutOfMemory};
+
+    ghost from_gives = { λ _ e. e ≡ OutOfMemory };
+
+    fn from(_error: AllocError) -> Refusal {
+        Refusal::OutOfMemory
+    }
+}
+
+impl<T: Drop> From<AllocFailed<T>> for Refusal {
+    ghost use Rattle.html_spell.specs.declared.refusal.Refusal.TheVariants.{OutOfMemory};
+
+    ghost from_gives = { λ _ e. e ≡ OutOfMemory };
+
+    fn from(_failed: AllocFailed<T>) -> Refusal {
+        Refusal::OutOfMemory
+    }
+}
