@@ -1,4 +1,5 @@
-//! Tests of items that arguments make, and that become nodes and documents, each over public calls.
+//! Tests over public calls: of items that arguments make, and that become nodes and documents, and of
+//! calls whose growths of memory are refused.
 #![tactic(auto)]
 
 #[cfg(test)]
@@ -19,6 +20,8 @@ mod depth;
 mod documents;
 #[cfg(test)]
 mod given;
+#[cfg(test)]
+mod growths;
 #[cfg(test)]
 mod judged;
 #[cfg(test)]

@@ -4,7 +4,6 @@ use Rattle.std.proofs.Math.Seq.{take-length}
 use Rattle.std.specs.List.{list_all}
 use Rattle.std.proofs.lemmas.List.Folds.{list_all-map}
 use Rattle.std.proofs.lemmas.List.{at_drop_all}
-use lib.Utf8.{encodes}
 use Rattle.html_names.specs.Names.{is_ascii}
 use Rattle.html_names.specs.Texts.{TextPair}
 use Rattle.html_names.proofs.Lists.{chars_ascii, bytes_eq-chars}

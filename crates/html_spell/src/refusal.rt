@@ -3,7 +3,7 @@ ghost use Rattle.std.specs.Prelude.{◌≡◌};
 use html_dom::Span;
 use std::alloc::{AllocError, AllocFailed};
 
-/// Why what is spelled has no text.
+/// Why what a JSON value spells is not written.
 #[derive(Clone, Copy, Debug, PartialEq, Eq)]
 pub enum Refusal {
     /// An allocation failed.

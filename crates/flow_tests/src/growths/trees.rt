@@ -1,6 +1,7 @@
 //! Attributes, and styles that are written into a tree.
 
-use crate::given::{assert_growths, attrs_of, element_of, inner_of, list_of, text_of};
+use crate::asserts::text_of;
+use crate::growths::given::{assert_growths, attrs_of, element_of, inner_of, list_of};
 use growth::{Answer, Growth, made, refused};
 use html_dom::{HtmlAttrs, HtmlElement, resolve_inline_styles};
 use html_names::{Refused, attr};

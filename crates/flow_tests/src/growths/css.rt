@@ -1,6 +1,7 @@
 //! Css texts, where their warnings go, and maps of properties.
 
-use crate::given::{add, assert_growths, list_of, properties_of, text_of};
+use crate::asserts::text_of;
+use crate::growths::given::{add, assert_growths, list_of, properties_of};
 use growth::{Answer, Growth, refused};
 use html_css::{
     Abs, Angle, CssWriter, Em, Length, Paint, Properties, PropertiesBuilder, Property, Ratio, Rel,

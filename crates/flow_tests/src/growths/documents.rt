@@ -1,8 +1,8 @@
 //! Documents: what they are made of, and anchors of links.
 
-use crate::given::documents::{document_of, info_of, output_of};
-use crate::given::{add, assert_growths, list_of};
-use crate::shown::{is_shown, shown_of};
+use crate::growths::given::documents::{document_of, info_of, output_of};
+use crate::growths::given::{add, assert_growths, list_of};
+use crate::growths::shown::{is_shown, shown_of};
 use growth::{Answer, Growth, made, refused};
 use html_document::{DocumentInfo, HtmlDocument, HtmlOutput};
 use html_dom::Location;

@@ -1,7 +1,8 @@
 //! Documents that calls are made on.
 
 use super::items::{block_of, elem_of, element_item_of, pair_of};
-use super::{element_of, list_of, text_of};
+use super::{element_of, list_of};
+use crate::asserts::text_of;
 use html_document::{DocumentInfo, HtmlDocument, HtmlOutput, Locale};
 use html_dom::{HtmlElement, HtmlNode, Span};
 use html_flow::{HtmlElem, Item, Pair};

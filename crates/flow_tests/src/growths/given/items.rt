@@ -1,6 +1,7 @@
 //! Items that calls are made on.
 
-use super::{attrs_of, css_of, frame_of, list_of, tag_of, text_of};
+use super::{attrs_of, css_of, frame_of, list_of, tag_of};
+use crate::asserts::text_of;
 use html_css::Abs;
 use html_dom::Span;
 use html_flow::{FrameElem, HtmlElem, Item, Pair, Role};

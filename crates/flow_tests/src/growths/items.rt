@@ -1,8 +1,9 @@
 //! Items: the nodes that they become, and elements that arguments make.
 
-use crate::given::items::{elem_of, items_of, pair_of, text_item_of};
-use crate::given::{add, assert_growths, list_of, text_of};
-use crate::shown::{is_shown, shown_of};
+use crate::asserts::text_of;
+use crate::growths::given::items::{elem_of, items_of, pair_of, text_item_of};
+use crate::growths::given::{add, assert_growths, list_of};
+use crate::growths::shown::{is_shown, shown_of};
 use growth::{Answer, Growth, made, refused};
 use html_dom::{HtmlNode, Span};
 use html_flow::{

@@ -3,6 +3,7 @@
 pub(crate) mod documents;
 pub(crate) mod items;
 
+use crate::asserts::text_of;
 use growth::{Growth, wrong_call};
 use html_css::{Abs, Properties};
 use html_dom::{
@@ -35,11 +36,6 @@ pub(crate) fn add<T: Drop>(rt: &impl Abort, list: &mut Vec<T>, item: T) {
     if list.push(item).is_err() {
         panic!(rt; "no memory for an item");
     }
-}
-
-/// A text.
-pub(crate) fn text_of(rt: &impl Abort, alloc: Global, text: &str) -> String {
-    String::from_str(alloc, text).expect(rt, "memory for a text")
 }
 
 /// A list of one pair, with room for no more.

@@ -1,7 +1,7 @@
 //! Flat trees, positions of located elements, and spaces that are bare.
 
-use crate::given::{assert_growths, element_of, list_of, tag_of, text_node_of};
-use crate::shown::{is_shown, shown_of};
+use crate::growths::given::{assert_growths, element_of, list_of, tag_of, text_node_of};
+use crate::growths::shown::{is_shown, shown_of};
 use growth::{Answer, Growth, made, refused};
 use html_dom::{HtmlElement, HtmlNode, Location};
 use html_flat::FlatTree;

@@ -1,6 +1,7 @@
 //! Calls that consume what they are called on, and do not give it back: each attempt takes another.
 
-use crate::given::{add, assert_growths, element_of, list_of, tag_of, text_of};
+use crate::asserts::text_of;
+use crate::growths::given::{add, assert_growths, element_of, list_of, tag_of};
 use growth::{Answer, Growth, made};
 use html_dom::{HtmlElement, Span, with_inline_styles};
 use html_names::{attr, tag};

@@ -1,6 +1,7 @@
 //! Names, numbers for them, and the text that is being written.
 
-use crate::given::{add, assert_growths, list_of, text_of};
+use crate::asserts::text_of;
+use crate::growths::given::{add, assert_growths, list_of};
 use growth::{Answer, Growth, refused};
 use html_names::{HtmlAttr, HtmlTag, NameFault, NameTable, Output, attr, laws, tag};
 use std::alloc::{AllocError, Global};

@@ -1,11 +1,11 @@
 //! Copies of trees, items and documents.
 
-use crate::given::documents::{document_of, info_of, locale_of, output_of};
-use crate::given::items::{block_of, elem_of, frame_elem_of, noted_frame_of, role_of};
-use crate::given::{
+use crate::growths::given::documents::{document_of, info_of, locale_of, output_of};
+use crate::growths::given::items::{block_of, elem_of, frame_elem_of, noted_frame_of, role_of};
+use crate::growths::given::{
     add, assert_growths, attrs_of, element_of, frame_of, group_of, html_frame_of, inner_of, tag_of,
 };
-use crate::shown::{is_shown, shown_of};
+use crate::growths::shown::{is_shown, shown_of};
 use growth::{Answer, Growth, made, refused};
 use html_document::{DocumentInfo, HtmlDocument, HtmlOutput, Locale};
 use html_dom::{Frame, FrameItem, HtmlAttrs, HtmlElement, HtmlFrame, HtmlNode, Tag};

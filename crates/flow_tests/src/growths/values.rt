@@ -1,6 +1,7 @@
 //! Values of attributes: their texts, and what values are cast to.
 
-use crate::given::{assert_growths, list_of, text_of};
+use crate::asserts::text_of;
+use crate::growths::given::{assert_growths, list_of};
 use growth::{Answer, Growth, made, refused};
 use html_names::Refused;
 use html_values::civil::date;

@@ -1,37 +1,18 @@
 //! Documents of items, and texts of trees and documents, plain and pretty.
 
-ghost use Rattle.std.specs.Prelude.{Some};
-ghost use Rattle.html_dom.specs.Views.{text_view};
-
-use crate::given::documents::{content_of, document_of, info_of};
-use crate::given::items::line_of;
-use crate::given::{assert_growths, element_of, list_of, text_of};
-use crate::shown::{is_shown, shown_of};
+use crate::growths::given::documents::{content_of, document_of, info_of};
+use crate::growths::given::items::line_of;
+use crate::growths::given::{assert_growths, element_of, list_of};
+use crate::growths::shown::{is_shown, shown_of};
+use crate::shown::{OneText, frame_writer};
 use growth::{Answer, Growth, made, refused};
 use html_document::{DocumentInfo, HtmlDocument};
-use html_dom::{HtmlElement, HtmlFrame};
-use html_encode::{ExportFault, FrameFault, FrameWriter, HtmlOptions, html_in_bundle};
+use html_dom::HtmlElement;
+use html_encode::{ExportFault, HtmlOptions, html_in_bundle};
 use html_export::{export, html, html_document, html_document_for_bundle};
 use html_flow::Pair;
-use std::alloc::{AllocError, Global};
+use std::alloc::Global;
 use std::process::Abort;
-
-/// Writes one text for each frame.
-#[derive(Drop)]
-struct OneText {
-    text: String,
-}
-
-impl FrameWriter for OneText {
-    ghost drawing = { λ writer _ _. Some (text_view writer.text) };
-
-    fn write(&self, _frame: &HtmlFrame, _pretty: bool) -> Result<String, FrameFault> {
-        match self.text.clone() {
-            Ok(text) => Ok(text),
-            Err(AllocError) => Err(FrameFault::OutOfMemory),
-        }
-    }
-}
 
 /// What a document is made of.
 #[derive(Debug, Drop)]
@@ -143,11 +124,10 @@ fn sources_of(rt: &impl Abort, alloc: Global) -> Content {
 /// A call on the source, plain or pretty.
 fn call(rt: &impl Abort, alloc: Global, source: Source, pretty: bool) -> TextCall {
     let shown = shown_of(rt, alloc, &source);
-    let text = text_of(rt, alloc, "[frame]");
     TextCall {
         source,
         options: HtmlOptions { pretty },
-        frames: OneText { text },
+        frames: frame_writer(rt, alloc),
         shown,
     }
 }
