@@ -3,7 +3,7 @@
 use crate::growths::given::documents::{document_of, info_of, locale_of, output_of};
 use crate::growths::given::items::{block_of, elem_of, frame_elem_of, noted_frame_of, role_of};
 use crate::growths::given::{
-    add, assert_growths, attrs_of, element_of, frame_of, group_of, html_frame_of, inner_of, tag_of,
+    add, assert_growths, element_of, frame_of, group_of, html_frame_of, id_of, inner_of, start_of,
 };
 use crate::growths::shown::{is_shown, shown_of};
 use growth::{Answer, Growth, made, refused};
@@ -144,8 +144,8 @@ fn assert_copied<T: Copied>(rt: &impl Abort, alloc: Global, value: T) {
 #[test]
 fn copied_trees(rt: HostRuntime) {
     let alloc = rt.alloc();
-    assert_copied(&rt, alloc, attrs_of(&rt, alloc, "inner"));
-    assert_copied(&rt, alloc, tag_of(&rt, alloc));
+    assert_copied(&rt, alloc, id_of(&rt, alloc, "inner"));
+    assert_copied(&rt, alloc, start_of(&rt, alloc));
     assert_copied(&rt, alloc, HtmlNode::from(inner_of(&rt, alloc)));
     assert_copied(&rt, alloc, element_of(&rt, alloc));
 }

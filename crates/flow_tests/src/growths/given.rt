@@ -39,7 +39,7 @@ pub(crate) fn add<T: Drop>(rt: &impl Abort, list: &mut Vec<T>, item: T) {
 }
 
 /// A list of one pair, with room for no more.
-pub(crate) fn attrs_of(rt: &impl Abort, alloc: Global, text: &str) -> HtmlAttrs {
+pub(crate) fn id_of(rt: &impl Abort, alloc: Global, text: &str) -> HtmlAttrs {
     HtmlAttrs(list_of(rt, alloc, [(attr::id, text_of(rt, alloc, text))]))
 }
 
@@ -63,7 +63,7 @@ pub(crate) fn css_of(rt: &impl Abort, alloc: Global) -> Properties {
 }
 
 /// The start of an element with a label, which links to another.
-pub(crate) fn tag_of(rt: &impl Abort, alloc: Global) -> Tag {
+pub(crate) fn start_of(rt: &impl Abort, alloc: Global) -> Tag {
     Tag::Start {
         location: Location(1),
         label: Some(text_of(rt, alloc, "here")),
@@ -81,7 +81,7 @@ pub(crate) fn place() -> Point {
 
 /// A frame with a tag and a link.
 pub(crate) fn group_of(rt: &impl Abort, alloc: Global) -> Frame {
-    let tag = FrameItem::Tag(tag_of(rt, alloc));
+    let tag = FrameItem::Tag(start_of(rt, alloc));
     let link = FrameItem::Link(Some(Location(3)));
     let items = list_of(rt, alloc, [(place(), tag), (place(), link)]);
     Frame { picture: 1, items }
@@ -118,7 +118,7 @@ fn styled_of(
     nodes: Vec<HtmlNode>,
 ) -> HtmlElement {
     HtmlElement {
-        attrs: attrs_of(rt, alloc, id),
+        attrs: id_of(rt, alloc, id),
         css: css_of(rt, alloc),
         ..HtmlElement::new(alloc, tag).with_children(nodes)
     }
@@ -126,7 +126,7 @@ fn styled_of(
 
 /// A `p` with css, an attribute, a tag, a text and a frame.
 pub(crate) fn inner_of(rt: &impl Abort, alloc: Global) -> HtmlElement {
-    let tag = HtmlNode::from(tag_of(rt, alloc));
+    let tag = HtmlNode::from(start_of(rt, alloc));
     let frame = HtmlNode::from(html_frame_of(rt, alloc));
     let nodes = list_of(
         rt,

@@ -1,7 +1,7 @@
 //! Items: the nodes that they become, and elements that arguments make.
 
 use crate::asserts::text_of;
-use crate::growths::given::items::{elem_of, items_of, pair_of, text_item_of};
+use crate::growths::given::items::{blocks_of, elem_of, inheriting, text_item_of};
 use crate::growths::given::{add, assert_growths, list_of};
 use crate::growths::shown::{is_shown, shown_of};
 use growth::{Answer, Growth, made, refused};
@@ -124,7 +124,7 @@ fn constructed(
 
 /// The items become nodes in that way.
 fn conversion(rt: &impl Abort, alloc: Global, form: Form) -> ItemCall {
-    let items = items_of(rt, alloc);
+    let items = blocks_of(rt, alloc);
     let shown = shown_of(rt, alloc, &items);
     ItemCall::Convert(form, items, shown)
 }
@@ -140,7 +140,7 @@ fn arg_of(rt: &impl Abort, alloc: Global, name: &str, value: Value) -> Arg {
 
 /// A body.
 fn body_arg_of(rt: &impl Abort, alloc: Global) -> Arg {
-    let items = list_of(rt, alloc, [pair_of(text_item_of(rt, alloc))]);
+    let items = list_of(rt, alloc, [inheriting(text_item_of(rt, alloc))]);
     Arg {
         name: None,
         span: Span(7),

@@ -1,6 +1,6 @@
 //! Names, numbers for them, and the text that is being written.
 
-use crate::asserts::text_of;
+use crate::asserts::{tag_of, text_of};
 use crate::growths::given::{add, assert_growths, list_of};
 use growth::{Answer, Growth, refused};
 use html_names::{HtmlAttr, HtmlTag, NameFault, NameTable, Output, attr, laws, tag};
@@ -152,11 +152,6 @@ fn write(piece: Piece, mut out: Output, held: String) -> Answer<NameCall> {
             refused(kept, NameCall::Write(piece, out, held))
         }
     }
-}
-
-/// A tag that is not known.
-fn tag_of(rt: &impl Abort, alloc: Global, name: &str) -> HtmlTag {
-    HtmlTag::intern(alloc, name).expect(rt, "the name of a tag")
 }
 
 /// An attribute that is not known.

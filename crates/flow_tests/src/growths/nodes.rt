@@ -1,6 +1,6 @@
 //! Flat trees, positions of located elements, and spaces that are bare.
 
-use crate::growths::given::{assert_growths, element_of, list_of, tag_of, text_node_of};
+use crate::growths::given::{assert_growths, element_of, list_of, start_of, text_node_of};
 use crate::growths::shown::{is_shown, shown_of};
 use growth::{Answer, Growth, made, refused};
 use html_dom::{HtmlElement, HtmlNode, Location};
@@ -117,7 +117,7 @@ fn spaces_of(rt: &impl Abort, alloc: Global) -> FlatTree {
     let nodes = [
         text_node_of(rt, alloc, " ", 1),
         text_node_of(rt, alloc, "one", 2),
-        HtmlNode::from(tag_of(rt, alloc)),
+        HtmlNode::from(start_of(rt, alloc)),
         text_node_of(rt, alloc, " ", 3),
         text_node_of(rt, alloc, "two", 4),
     ];

@@ -1,7 +1,7 @@
 //! Calls that consume what they are called on, and do not give it back: each attempt takes another.
 
 use crate::asserts::text_of;
-use crate::growths::given::{add, assert_growths, element_of, list_of, tag_of};
+use crate::growths::given::{add, assert_growths, element_of, list_of, start_of};
 use growth::{Answer, Growth, made};
 use html_dom::{HtmlElement, Span, with_inline_styles};
 use html_names::{attr, tag};
@@ -111,7 +111,7 @@ fn open_draft_of(rt: &impl Abort, alloc: Global) -> Draft {
 fn drafts_of(rt: &impl Abort, alloc: Global) -> Vec<Draft> {
     let drafts = [
         text_draft_of(rt, alloc, " ", 1),
-        Draft::Tag(tag_of(rt, alloc)),
+        Draft::Tag(start_of(rt, alloc)),
         text_draft_of(rt, alloc, "one", 2),
         text_draft_of(rt, alloc, "\t", 3),
         open_draft_of(rt, alloc),

@@ -1,7 +1,7 @@
 //! Attributes, and styles that are written into a tree.
 
 use crate::asserts::text_of;
-use crate::growths::given::{assert_growths, attrs_of, element_of, inner_of, list_of};
+use crate::growths::given::{assert_growths, element_of, id_of, inner_of, list_of};
 use growth::{Answer, Growth, made, refused};
 use html_dom::{HtmlAttrs, HtmlElement, resolve_inline_styles};
 use html_names::{Refused, attr};
@@ -29,7 +29,7 @@ impl Growth for TreeCall {
     }
 }
 
-/// Whether the list is that of `attrs_of`.
+/// Whether the list is that of `id_of`.
 fn is_attrs(list: &HtmlAttrs, text: &str) -> bool {
     let [(name, value)] = list.0.as_slice() else {
         return false;
@@ -109,11 +109,11 @@ fn resolve(alloc: Global, mut element: HtmlElement, copy: HtmlElement) -> Answer
 #[test]
 fn changed_attributes(rt: HostRuntime) {
     let alloc = rt.alloc();
-    let (list, value) = (attrs_of(&rt, alloc, "inner"), text_of(&rt, alloc, "held"));
+    let (list, value) = (id_of(&rt, alloc, "inner"), text_of(&rt, alloc, "held"));
     let push = TreeCall::Push(list, value);
-    let (list, value) = (attrs_of(&rt, alloc, "inner"), text_of(&rt, alloc, "held"));
+    let (list, value) = (id_of(&rt, alloc, "inner"), text_of(&rt, alloc, "held"));
     let push_front = TreeCall::PushFront(list, value);
-    let fold = TreeCall::Fold(attrs_of(&rt, alloc, "inner"), attrs_of(&rt, alloc, "outer"));
+    let fold = TreeCall::Fold(id_of(&rt, alloc, "inner"), id_of(&rt, alloc, "outer"));
     assert_growths(&rt, alloc, list_of(&rt, alloc, [push, push_front, fold]));
 }
 

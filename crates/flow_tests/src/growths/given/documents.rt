@@ -1,6 +1,6 @@
 //! Documents that calls are made on.
 
-use super::items::{block_of, elem_of, element_item_of, pair_of};
+use super::items::{block_of, elem_of, element_item_of, inheriting};
 use super::{element_of, list_of};
 use crate::asserts::text_of;
 use html_document::{DocumentInfo, HtmlDocument, HtmlOutput, Locale};
@@ -67,6 +67,6 @@ fn link_of(rt: &impl Abort, alloc: Global) -> HtmlElem {
 /// Items of a document.
 pub(crate) fn content_of(rt: &impl Abort, alloc: Global) -> Vec<Pair> {
     let paragraph = element_item_of(rt, alloc, tag::p);
-    let link = pair_of(Item::Element(link_of(rt, alloc)));
+    let link = inheriting(Item::Element(link_of(rt, alloc)));
     list_of(rt, alloc, [paragraph, block_of(rt, alloc), link])
 }

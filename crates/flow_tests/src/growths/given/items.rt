@@ -1,6 +1,6 @@
 //! Items that calls are made on.
 
-use super::{attrs_of, css_of, frame_of, list_of, tag_of};
+use super::{css_of, frame_of, id_of, list_of, start_of};
 use crate::asserts::text_of;
 use html_css::Abs;
 use html_dom::Span;
@@ -10,7 +10,7 @@ use std::alloc::Global;
 use std::process::Abort;
 
 /// An item with the role of what it stands in.
-pub(crate) fn pair_of(item: Item) -> Pair {
+pub(crate) fn inheriting(item: Item) -> Pair {
     Pair {
         item,
         role: Role::Inherit,
@@ -33,8 +33,8 @@ pub(crate) fn text_item_of(rt: &impl Abort, alloc: Global) -> Item {
 
 /// A box with a text in it.
 fn box_of(rt: &impl Abort, alloc: Global) -> Pair {
-    let items = list_of(rt, alloc, [pair_of(text_item_of(rt, alloc))]);
-    pair_of(Item::Box(Some(items), Span(4)))
+    let items = list_of(rt, alloc, [inheriting(text_item_of(rt, alloc))]);
+    inheriting(Item::Box(Some(items), Span(4)))
 }
 
 /// A role of its own.
@@ -53,13 +53,13 @@ pub(crate) fn noted_frame_of(rt: &impl Abort, alloc: Global) -> Pair {
 /// Items of a line.
 pub(crate) fn line_of(rt: &impl Abort, alloc: Global) -> Vec<Pair> {
     let items = [
-        pair_of(Item::Tag(tag_of(rt, alloc))),
-        pair_of(Item::Space(Span(1))),
-        pair_of(text_item_of(rt, alloc)),
-        pair_of(Item::LineBreak(Span(3))),
+        inheriting(Item::Tag(start_of(rt, alloc))),
+        inheriting(Item::Space(Span(1))),
+        inheriting(text_item_of(rt, alloc)),
+        inheriting(Item::LineBreak(Span(3))),
         box_of(rt, alloc),
         noted_frame_of(rt, alloc),
-        pair_of(Item::Hole),
+        inheriting(Item::Hole),
     ];
     list_of(rt, alloc, items)
 }
@@ -67,7 +67,7 @@ pub(crate) fn line_of(rt: &impl Abort, alloc: Global) -> Vec<Pair> {
 /// An element with css, an attribute and items of a line.
 pub(crate) fn elem_of(rt: &impl Abort, alloc: Global, tag: HtmlTag) -> HtmlElem {
     HtmlElem {
-        attrs: attrs_of(rt, alloc, "inner"),
+        attrs: id_of(rt, alloc, "inner"),
         css: css_of(rt, alloc),
         body: Some(line_of(rt, alloc)),
         ..HtmlElem::new(alloc, tag)
@@ -76,12 +76,12 @@ pub(crate) fn elem_of(rt: &impl Abort, alloc: Global, tag: HtmlTag) -> HtmlElem 
 
 /// A block with items of a line in it.
 pub(crate) fn block_of(rt: &impl Abort, alloc: Global) -> Pair {
-    pair_of(Item::Block(Some(line_of(rt, alloc)), Span(5)))
+    inheriting(Item::Block(Some(line_of(rt, alloc)), Span(5)))
 }
 
 /// An element with css, an attribute and items of a line, as an item.
 pub(crate) fn element_item_of(rt: &impl Abort, alloc: Global, tag: HtmlTag) -> Pair {
-    pair_of(Item::Element(elem_of(rt, alloc, tag)))
+    inheriting(Item::Element(elem_of(rt, alloc, tag)))
 }
 
 /// A row of a table whose cell holds a line.
@@ -91,11 +91,11 @@ fn row_of(rt: &impl Abort, alloc: Global) -> Pair {
         body: Some(cells),
         ..HtmlElem::new(alloc, tag::tr)
     };
-    pair_of(Item::Element(row))
+    inheriting(Item::Element(row))
 }
 
 /// A `p`, a block with items of a line in it, and a row of a table whose cell holds a line.
-pub(crate) fn items_of(rt: &impl Abort, alloc: Global) -> Vec<Pair> {
+pub(crate) fn blocks_of(rt: &impl Abort, alloc: Global) -> Vec<Pair> {
     let paragraph = element_item_of(rt, alloc, tag::p);
     list_of(
         rt,
