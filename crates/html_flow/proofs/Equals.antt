@@ -4,8 +4,8 @@ use denote.Enum.Bare.{same_true, true_same}
 use Rattle.std.specs.Bool.{Decides}
 use Rattle.std.proofs.lemmas.Bool.{and_parts, and_from}
 use Rattle.std.proofs.lemmas.Bool.Decides.{Decides-eqb}
-use Rattle.html_css.proofs.Equals.{lists_decide}
-use Rattle.html_dom.specs.declared.span.Span.{Span}
+use Rattle.html_values_css.proofs.Equals.{lists_decide}
+use Rattle.html_dom_tree.specs.declared.span.Span.{Span}
 use Rattle.html_values.specs.declared.cast_fault.CastFault.{CastFault}
 use Rattle.html_values.specs.contracts.cast_fault.CastFault.{the_type}
 use Rattle.html_values.specs.contracts.cast_fault.CastFaultPartialEq.TheImpl as casts

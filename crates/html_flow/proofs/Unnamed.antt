@@ -8,7 +8,7 @@ use Rattle.html_flow.specs.declared.fault.ConstructFault.{ConstructFault}
 use Rattle.html_flow.specs.declared.fault.ConstructFault.TheVariants.{OutOfMemory, Casts, BodyKind}
 use Rattle.html_flow.specs.Construct.{ArgView, BodyChoice, arg_view, args_view, arg_body, fails, choice_after, body_choice, choice_from, first_choice, takes}
 use Rattle.html_flow.specs.Pieces.{IsBodyRefusal, IsChoiceRefusal, arg_at, unnamed_at}
-use Rattle.html_convert.specs.Items.{BodyView, absent}
+use Rattle.html_flow_convert.specs.Items.{BodyView, absent}
 use Rattle.html_flow.specs.declared.args.Arg.{Arg}
 
 after-from : (a : ArgView) (body : Option BodyView) (span : ℕ) (left : List ArgView)

@@ -4,16 +4,16 @@ use Rattle.std.specs.Prelude.{ℕ, List, [], ◌∷◌, ◌++◌, map, Bool, fal
 use Rattle.html_names.specs.Kinds.{is_void, is_raw}
 use Rattle.html_names.specs.Texts.{TextPair, text_view}
 use Rattle.html_names.specs.declared.html_attr.HtmlAttr.{HtmlAttr}
-use Rattle.html_dom.specs.declared.span.Span.{Span}
+use Rattle.html_dom_tree.specs.declared.span.Span.{Span}
 use Rattle.html_values.specs.Casts.{CastAnswer, gives, nothing, refuses, cast}
 use Rattle.html_values.specs.Types.{AttrTypeView, attr_type_view}
 use Rattle.html_values.specs.Values.{ValueView, none_value, str_value, value_view}
 use Rattle.html_values.specs.declared.attr_type.AttrType.{AttrType}
 use Rattle.html_values.specs.declared.cast_fault.CastFault.{CastFault}
 use Rattle.html_values.specs.declared.cast_fault.CastFault.TheVariants.{WrongKind}
-use Rattle.html_convert.specs.Items.{ElemView, ItemsView, no_items, item, text_item, inherits, BodyView, absent, present, new_head}
-use Rattle.html_convert.specs.Views.{elem_view, items_view}
-use Rattle.html_convert.specs.declared.item.HtmlElem.{HtmlElem}
+use Rattle.html_flow_convert.specs.Items.{ElemView, ItemsView, no_items, item, text_item, inherits, BodyView, absent, present, new_head}
+use Rattle.html_flow_convert.specs.Views.{elem_view, items_view}
+use Rattle.html_flow_convert.specs.declared.item.HtmlElem.{HtmlElem}
 use Rattle.html_flow.specs.declared.args.ArgValue.{ArgValue}
 use Rattle.html_flow.specs.declared.args.ArgValue.TheVariants.{Plain, Body as Items}
 use Rattle.html_flow.specs.declared.args.Arg.{Arg}

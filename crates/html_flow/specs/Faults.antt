@@ -1,6 +1,6 @@
 -- Numbers of the faults of constructing, and what decides whether two are equal.
 use Rattle.std.specs.Prelude.{ℕ, List, [], ◌∷◌}
-use Rattle.html_dom.specs.declared.span.Span.{Span}
+use Rattle.html_dom_tree.specs.declared.span.Span.{Span}
 use Rattle.html_values.specs.CastFaults as casts
 use Rattle.html_values.specs.declared.cast_fault.CastFault.{CastFault}
 use Rattle.html_flow.specs.Construct.{faults_view}

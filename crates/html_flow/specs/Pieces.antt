@@ -2,13 +2,13 @@
 use Rattle.std.specs.Prelude.{ℕ, suc, List, [], ◌∷◌, if◌then◌else◌, Option, None, Some, option_map, is_some, ◌≡◌, ◌<◌, length, get_or, Result, Ok, Err, Vec}
 use Rattle.std.specs.declared.alloc.Global.{Global}
 use Rattle.html_names.specs.Texts.{TextPair}
-use Rattle.html_dom.specs.Views.{attrs_view}
-use Rattle.html_dom.specs.declared.attrs.HtmlAttrs.{HtmlAttrs}
-use Rattle.html_convert.specs.Views.{body_view, items_view}
-use Rattle.html_convert.specs.declared.item.Pair.{Pair}
+use Rattle.html_dom_tree.specs.Views.{attrs_view}
+use Rattle.html_dom_tree.specs.declared.attrs.HtmlAttrs.{HtmlAttrs}
+use Rattle.html_flow_convert.specs.Views.{body_view, items_view}
+use Rattle.html_flow_convert.specs.declared.item.Pair.{Pair}
 use Rattle.html_values.specs.Values.{none_value}
 use Rattle.html_values.specs.declared.cast_fault.CastFault.{CastFault}
-use Rattle.html_convert.specs.Items.{ItemsView, BodyView, present}
+use Rattle.html_flow_convert.specs.Items.{ItemsView, BodyView, present}
 use Rattle.html_flow.specs.Construct.{ArgValueView, plain, items, ArgView, BodyChoice, takes, fails, faults_view}
 use Rattle.html_flow.specs.declared.fault.ConstructFault.{ConstructFault}
 use Rattle.html_flow.specs.declared.fault.ConstructFault.TheVariants.{OutOfMemory, Casts, BodyKind}

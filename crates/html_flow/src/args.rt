@@ -1,7 +1,7 @@
 ghost use Rattle.std.specs.Prelude.{◌≡◌};
 
-use html_convert::Pair;
-use html_dom::Span;
+use html_dom_tree::Span;
+use html_flow_convert::Pair;
 use html_names::{HtmlAttr, HtmlTag};
 use html_values::{AttrType, Value};
 

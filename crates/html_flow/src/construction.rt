@@ -2,22 +2,22 @@ ghost use Rattle.std.specs.Prelude.{◌≡◌, ◌<◌, [], length, IfSome, not,
 ghost use Rattle.std.specs.List.{remove};
 ghost use Rattle.html_names.specs.Kinds.{is_raw};
 ghost use Rattle.html_names.specs.Texts.{text_view};
-ghost use Rattle.html_dom.specs.Views.{attrs_view};
+ghost use Rattle.html_dom_tree.specs.Views.{attrs_view};
 ghost use Rattle.html_flow.specs.Construct.{Constructs, cast_answer, args_view, arg_body, attrs, construct_outcome, entries_view, entry_for, entry_view, faults, faults_view, arg_value_view, makes, other_args, body_choice, takes, text_items};
 ghost use Rattle.html_flow.specs.Pieces.{CastsArgs, Chooses, MakesBody, arg_at, or_own, unnamed_at};
 ghost use Rattle.html_values.specs.Casts.{Casts, option_answer};
 ghost use Rattle.html_values.specs.Types.{attr_type_view};
 ghost use Rattle.html_flow.specs.declared.fault.ConstructFault.TheVariants.{OutOfMemory};
-ghost use Rattle.html_convert.specs.Items.{present};
-ghost use Rattle.html_convert.specs.Views.{body_view, items_view, elem_view};
+ghost use Rattle.html_flow_convert.specs.Items.{present};
+ghost use Rattle.html_flow_convert.specs.Views.{body_view, items_view, elem_view};
 
 use crate::args::{Arg, ArgValue, Args, ElementInfo};
 use crate::fault::ConstructFault;
-use html_convert::{HtmlElem, Item, Pair, Role};
-use html_css::Properties;
-use html_dom::{HtmlAttrs, Span};
+use html_dom_tree::{HtmlAttrs, Span};
+use html_flow_convert::{HtmlElem, Item, Pair, Role};
 use html_names::{HtmlAttr, HtmlTag, tag};
 use html_values::{AttrType, CastFault, Value};
+use html_values_css::Properties;
 use std::alloc::{AllocError, Global};
 
 /// The element that arguments construct.

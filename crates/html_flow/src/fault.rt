@@ -1,7 +1,7 @@
 ghost use Rattle.std.specs.Prelude.{◌≡◌};
 ghost use Rattle.html_flow.specs.Faults.{number_of};
 
-use html_dom::Span;
+use html_dom_tree::Span;
 use html_names::{HtmlAttr, Refused};
 use html_values::CastFault;
 use std::alloc::{AllocError, AllocFailed};

@@ -1,5 +1,5 @@
 //! What a document flows: items, elements that are constructed of typed arguments, and the nodes
-//! that items become. Items and their conversion are html_convert's.
+//! that items become. Items and their conversion are html_flow_convert's.
 //!
 //! ```
 //! let link = HtmlElem::new(alloc, tag::a).with_attr(attr::href, String::from_str(alloc, "x")?)?;
@@ -16,7 +16,7 @@ pub mod laws;
 pub use args::{Arg, ArgValue, Args, ElementInfo};
 pub use construction::construct;
 pub use fault::ConstructFault;
-pub use html_convert::{
+pub use html_flow_convert::{
     Bareness, ConversionLevel, FlowFault, FrameElem, HtmlElem, Item, Pair, Role, Whitespace,
     bare_spaces, convert_to_nodes, html_block_fragment, html_inline_fragment, html_math_fragment,
 };

@@ -1,7 +1,7 @@
 //! The program: HTML text of a tree or of items that standard input spells in JSON.
 #![tactic(auto)]
 
-use html_run::{Recorded, Status, run, words_of};
+use html_tool_run::{Recorded, Status, run, words_of};
 use std::env;
 use std::io::ErrorKind;
 use std::process::ExitCode;

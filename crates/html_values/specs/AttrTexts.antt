@@ -5,8 +5,8 @@ use Rattle.std.specs.Fmt.{decimal}
 use Rattle.std.specs.Int.NonZero.{non_zero_u64_get}
 use Rattle.html_names.specs.Texts.{text_view, two_digits}
 use Rattle.html_values.specs.declared.image.ImageCandidate.{ImageCandidate}
-use Rattle.html_css.specs.declared.direction.Dir.{Dir}
-use Rattle.html_css.specs.declared.direction.Dir.TheVariants.{LTR, RTL, TTB, BTT}
+use Rattle.html_values_css.specs.declared.direction.Dir.{Dir}
+use Rattle.html_values_css.specs.declared.direction.Dir.TheVariants.{LTR, RTL, TTB, BTT}
 use Rattle.html_values.specs.declared.words.HorizontalDir.{HorizontalDir}
 use Rattle.jiff_core.specs.declared.civil.date.Date.{Date as CivilDate}
 use Rattle.jiff_core.specs.declared.civil.time.Time.{Time as CivilTime}

@@ -7,9 +7,9 @@ use Rattle.std.specs.List.{join_by, list_any}
 use Rattle.std.specs.declared.alloc.Global.{Global}
 use Rattle.html_names.specs.Names.{stands_in}
 use Rattle.html_names.specs.Texts.{text_view}
-use Rattle.html_css.specs.Colors.{color_text}
-use Rattle.html_css.specs.declared.direction.Dir.{Dir}
-use Rattle.html_css.specs.declared.direction.Dir.TheVariants.{LTR, RTL, TTB, BTT}
+use Rattle.html_values_css.specs.Colors.{color_text}
+use Rattle.html_values_css.specs.declared.direction.Dir.{Dir}
+use Rattle.html_values_css.specs.declared.direction.Dir.TheVariants.{LTR, RTL, TTB, BTT}
 use Rattle.html_values.specs.AttrTexts.{word_of, dir_text, has_year, moment_text, duration_text, size_text, candidate_text}
 use Rattle.html_values.specs.Types.{texts_view, AttrTypeView, presence, native, strings, union, list, AttrTypesView, no_attr_types, attr_type}
 use Rattle.html_values.specs.Values.{ValueView, none_value, auto_value, bool_value, int_value, str_value, color_value, datetime_value, duration_value, dir_value, image_value, array_value, ValuesView, no_values, value}

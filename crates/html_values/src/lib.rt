@@ -1,5 +1,5 @@
 //! Typed values of attributes: the texts that they have, and the types of attributes that cast
-//! values of a document to texts. With the css values of `html_css`, and with the civil dates and
+//! values of a document to texts. With the css values of `html_values_css`, and with the civil dates and
 //! times that a [`Moment`] is made of, as [`civil`].
 //!
 //! ```
@@ -27,7 +27,7 @@ mod words;
 pub use attr_type::{AttrType, ListType};
 pub use cast_fault::CastFault;
 pub use duration::Duration;
-pub use html_css::{
+pub use html_values_css::{
     Abs, Angle, Calc, CalcPart, Call, CssWriter, Degrees, Dir, Em, Ems, Inline, Length, Paint,
     Points, Properties, PropertiesBuilder, Property, Quantity, Ratio, Rel, Rgba, Separator, ToCss,
     Unit, Warning, WarningSink, Whole, laws as css_laws,

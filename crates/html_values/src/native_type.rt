@@ -16,7 +16,7 @@ use crate::words::{
     AutoValue, HorizontalDir, NoneEmpty, NoneUndefined, NoneValue, OnOffBool, TrueFalseBool,
     YesNoBool,
 };
-use html_css::Dir;
+use html_values_css::Dir;
 use std::alloc::Global;
 use std::num::NonZeroU64;
 

@@ -1,5 +1,5 @@
 use crate::moment::Moment;
-use html_css::{Dir, Rgba};
+use html_values_css::{Dir, Rgba};
 
 /// A value of a document, which a type of attribute casts to a text.
 #[derive(Debug, Drop)]

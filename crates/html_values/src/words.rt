@@ -5,7 +5,7 @@ ghost use Rattle.html_values.specs.AttrTexts.{word_of, horizontal_dir, horizonta
 
 use crate::into_attr::IntoAttr;
 use crate::text::{ascii, empty};
-use html_css::Dir;
+use html_values_css::Dir;
 use std::alloc::{AllocError, Global};
 
 /// None, written `none`.

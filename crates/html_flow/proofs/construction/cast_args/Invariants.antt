@@ -1,5 +1,5 @@
 use Rattle.std.proofs.Common.{◌≡◌, ◌++◌, drop}
-use Rattle.html_dom.specs.Views.{attrs_view}
+use Rattle.html_dom_tree.specs.Views.{attrs_view}
 use Rattle.html_flow.specs.Construct.{args_view, attrs, entries_view, faults, faults_view}
 use Rattle.html_flow.proofs.construction.cast_args.Given as goal
 

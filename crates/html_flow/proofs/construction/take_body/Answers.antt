@@ -2,8 +2,8 @@ use Rattle.std.proofs.Common.{◌∙◌, ◌≡◌, ap, sym, false, Some}
 use Rattle.html_names.specs.Kinds.{is_void}
 use Rattle.html_flow.specs.Construct.{args_view, takes}
 use Rattle.html_flow.specs.Pieces.{unnamed_at}
-use Rattle.html_convert.specs.Items.{present}
-use Rattle.html_convert.specs.Views.{items_view}
+use Rattle.html_flow_convert.specs.Items.{present}
+use Rattle.html_flow_convert.specs.Views.{items_view}
 use Rattle.html_flow.proofs.Unnamed.{no_body, a_body, a_refusal, removed_view}
 use Rattle.html_flow.proofs.construction.take_body.Goals as goal
 

@@ -1,6 +1,0 @@
-use Rattle.html_names.specs.Equal.{pairs_discrete}
-use Rattle.html_names.proofs.Equals.{same_law}
-use Rattle.html_css.proofs.laws.equal_properties.Goals as goal
-
-pub returns : goal.returns
-returns c = same_law (λ p. p) pairs_discrete c.args.a.now c.args.b.now _ c.eq.ensures

@@ -1,9 +1,0 @@
-use Rattle.std.proofs.Common.{chars}
-use Rattle.html_css.specs.Properties.{list_view}
-use Rattle.html_css.proofs.Names.{out_listed}
-use Rattle.html_css.proofs.properties.Properties.remove.Goals as goal
-
-pub invariant_of-self : goal.invariant_of-self
-invariant_of-self c = out_listed (list_view c.self.inside.list.items)
-    (list_view c.take_out.new.list.items) (chars c.args.name.now) c.self.invariant
-    c.take_out.ensures

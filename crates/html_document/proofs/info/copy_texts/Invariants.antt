@@ -1,6 +1,0 @@
-use Rattle.std.proofs.Common.{◌≡◌, take}
-use Rattle.html_document.specs.Views.{texts_view}
-use Rattle.html_document.proofs.info.copy_texts.Given as goal
-
-abbrev pub invariant-loop-text : goal.invariant-loop-text
-invariant-loop-text l = texts_view l.copies.items ≡ texts_view (take l.text-index l.text-items)

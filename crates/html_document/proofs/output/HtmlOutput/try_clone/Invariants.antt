@@ -1,6 +1,0 @@
-use Rattle.std.proofs.Common.{◌≡◌, map, take}
-use Rattle.html_dom.specs.Views.{node_view}
-use Rattle.html_document.proofs.output.HtmlOutput.try_clone.Given as goal
-
-abbrev pub invariant-loop-node : goal.invariant-loop-node
-invariant-loop-node l = map node_view l.nodes.items ≡ map node_view (take l.node-index l.node-items)

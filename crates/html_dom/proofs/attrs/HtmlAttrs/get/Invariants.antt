@@ -1,9 +1,0 @@
-use Rattle.std.proofs.Common.{◌≡◌, map, drop}
-use Rattle.html_dom.specs.Attributes.{first}
-use Rattle.html_dom.specs.Views.{pair_view}
-use Rattle.html_dom.proofs.attrs.HtmlAttrs.get.Given as goal
-
-abbrev pub invariant-loop-pair : goal.invariant-loop-pair
-invariant-loop-pair l =
-    first (map pair_view (drop l.pair-index l.pair-items)) l.attr
-    ≡ first (map pair_view l.pair-items) l.attr

@@ -1,8 +1,0 @@
-use Rattle.std.specs.Hash.{fed_along}
-use Rattle.html_dom.proofs.Hashed.{hashed}
-use Rattle.html_dom.proofs.attrs.HtmlAttrsHash.hash.Goals as goal
-
-pub returns : goal.returns
-returns g c =
-    let pairs = c.args.self.now.0.items in
-    fed_along g.H.Hasher.write c.args.state.now c.hash.new.state (hashed pairs) c.hash.ensures

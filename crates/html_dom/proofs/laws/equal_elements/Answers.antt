@@ -1,7 +1,0 @@
-use Rattle.html_names.proofs.Equals.{same_law}
-use Rattle.html_dom.specs.Equal.{element_discrete}
-use Rattle.html_dom.specs.Views.{element_view}
-use Rattle.html_dom.proofs.laws.equal_elements.Goals as goal
-
-pub returns : goal.returns
-returns c = same_law element_view element_discrete c.args.a.now c.args.b.now _ c.eq.ensures

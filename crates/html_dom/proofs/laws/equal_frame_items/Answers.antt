@@ -1,7 +1,0 @@
-use Rattle.html_names.proofs.Equals.{same_law}
-use Rattle.html_dom.specs.FrameEqual.{frame_item_discrete}
-use Rattle.html_dom.specs.FrameViews.{frame_item_view}
-use Rattle.html_dom.proofs.laws.equal_frame_items.Goals as goal
-
-pub returns : goal.returns
-returns c = same_law frame_item_view frame_item_discrete c.args.a.now c.args.b.now _ c.eq.ensures

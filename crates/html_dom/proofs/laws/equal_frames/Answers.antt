@@ -1,7 +1,0 @@
-use Rattle.html_names.proofs.Equals.{same_law}
-use Rattle.html_dom.specs.FrameEqual.{frame_discrete}
-use Rattle.html_dom.specs.FrameViews.{frame_view}
-use Rattle.html_dom.proofs.laws.equal_frames.Goals as goal
-
-pub returns : goal.returns
-returns c = same_law frame_view frame_discrete c.args.a.now c.args.b.now _ c.eq.ensures

@@ -1,7 +1,0 @@
-use Rattle.html_names.proofs.Equals.{same_law}
-use Rattle.html_dom.specs.Equal.{html_frame_discrete}
-use Rattle.html_dom.specs.FrameViews.{html_frame_view}
-use Rattle.html_dom.proofs.laws.equal_html_frames.Goals as goal
-
-pub returns : goal.returns
-returns c = same_law html_frame_view html_frame_discrete c.args.a.now c.args.b.now _ c.eq.ensures

@@ -1,7 +1,0 @@
-use Rattle.html_names.proofs.Equals.{same_law}
-use Rattle.html_dom.specs.Equal.{tag_discrete}
-use Rattle.html_dom.specs.FrameViews.{tag_view}
-use Rattle.html_dom.proofs.laws.equal_tags.Goals as goal
-
-pub returns : goal.returns
-returns c = same_law tag_view tag_discrete c.args.a.now c.args.b.now _ c.eq.ensures

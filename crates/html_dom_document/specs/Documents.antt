@@ -1,0 +1,91 @@
+-- Documents as pure values: nodes with a root element among them, what is known of the whole, and
+-- what is known of its locations.
+use Rattle.std.specs.Prelude.{ℕ, zero, suc, List, [], Bool, Option, Some, None, is_some}
+use Rattle.html_dom_tree.specs.Tree.{NodeView, tag_node, text_node, element_node, frame_node, NodesView, none, node, ElementView, new_element}
+use Rattle.html_dom_introspect.specs.Introspectors.{IntrospectorView, recorded_view}
+
+-- a language, and perhaps the region in which it is spoken
+pub record LocaleView : Type 0 where
+  pub lang : List ℕ
+  pub region : Option (List ℕ)
+
+-- what is known of a document
+pub record InfoView : Type 0 where
+  pub title : Option (List ℕ)
+  pub description : Option (List ℕ)
+  pub author : List (List ℕ)
+  pub keywords : List (List ℕ)
+  pub locale : Option LocaleView
+
+-- nodes, and the place of the root among them
+pub record OutputView : Type 0 where
+  pub nodes : NodesView
+  pub root : ℕ
+
+pub record DocumentView : Type 0 where
+  pub output : OutputView
+  pub info : InfoView
+  pub introspector : IntrospectorView
+
+-- of an output and information, with the positions and the links of its nodes as recorded
+abbrev pub new_document : OutputView → InfoView → DocumentView
+new_document output info =
+    record { output = output; info = info; introspector = recorded_view output.nodes }
+
+-- where nothing is known
+abbrev pub no_info : InfoView
+no_info = record { title = None; description = None; author = []; keywords = []; locale = None }
+
+-- the node at a place of a list
+abbrev pub node_at : NodesView → ℕ → Option NodeView
+node_at none i = None
+node_at (node n ns) zero = Some n
+node_at (node n ns) (suc i) = node_at ns i
+
+-- the nodes before a place of a list
+abbrev pub nodes_before : NodesView → ℕ → NodesView
+nodes_before none i = none
+nodes_before (node n ns) zero = none
+nodes_before (node n ns) (suc i) = node n (nodes_before ns i)
+
+-- the node of an element
+abbrev pub node_of : ElementView → NodeView
+node_of e = element_node e.0 e.1
+
+-- the element that a node is, if there is a node and it is one
+abbrev pub as_element : Option NodeView → Option ElementView
+as_element None = None
+as_element (Some (tag_node t)) = None
+as_element (Some (text_node s span)) = None
+as_element (Some (element_node h ns)) = Some (h, ns)
+as_element (Some (frame_node f)) = None
+
+-- the element at a place of a list, if one stands there
+abbrev pub element_at : NodesView → ℕ → Option ElementView
+element_at ns i = as_element (node_at ns i)
+
+-- whether an element stands at a place of a list
+abbrev pub is_element_at : NodesView → ℕ → Bool
+is_element_at ns i = is_some (element_at ns i)
+
+-- the list with that element at a place
+abbrev pub with_element : NodesView → ℕ → ElementView → NodesView
+with_element none i e = none
+with_element (node n ns) zero e = node (node_of e) ns
+with_element (node n ns) (suc i) e = node n (with_element ns i e)
+
+-- the root of an output; `HtmlOutput` always has one
+abbrev pub root_of : OutputView → Option ElementView
+root_of o = element_at o.nodes o.root
+
+-- the output with that root in place of its own
+abbrev pub with_root : OutputView → ElementView → OutputView
+with_root o e = record o { nodes = with_element o.nodes o.root e }
+
+-- an output has a root, so the other case does not come
+abbrev pub given_root : Option ElementView → ElementView
+given_root None = new_element []
+given_root (Some root) = root
+
+abbrev pub document_root : DocumentView → ElementView
+document_root document = given_root (root_of document.output)

@@ -1,0 +1,21 @@
+-- What an output ends as, where a `&mut` to its root is returned.
+use Rattle.std.specs.Borrow.{Lends, MutBor, Fml}
+use Rattle.std.specs.Vec.{with_item}
+use Rattle.html_dom_tree.specs.declared.node.HtmlElement.{HtmlElement}
+use Rattle.html_dom_tree.specs.declared.node.HtmlNode.TheVariants.{Element}
+use Rattle.html_dom_tree.specs.contracts.node.HtmlElement as element
+use Rattle.html_dom_document.specs.Places.{put_stands}
+use Rattle.html_dom_document.specs.declared.output.HtmlOutput.{HtmlOutput}
+use Rattle.html_dom_document.specs.contracts.output.HtmlOutput.{the_row}
+
+-- the output with that element as its root
+abbrev pub with_root_element : HtmlOutput → HtmlElement → HtmlOutput
+with_root_element o e = record {
+  nodes = with_item o.nodes o.root_index (Element e);
+  root_index = o.root_index;
+  root_is_element = put_stands o.nodes.items o.root_index e o.root_is_element;
+}
+
+-- the output ends with the last element behind the reference as its root
+abbrev pub LendsRoot : MutBor HtmlOutput → MutBor HtmlElement → Fml
+LendsRoot output root = Lends the_row element.the_row output root (with_root_element output.now)

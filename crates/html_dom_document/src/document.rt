@@ -1,0 +1,131 @@
+use crate::info::DocumentInfo;
+use crate::output::HtmlOutput;
+use html_dom_introspect::HtmlIntrospector;
+use html_dom_tree::{HtmlElement, HtmlNode};
+use html_names::Refused;
+use std::alloc::{AllocError, Global};
+
+/// A document: its nodes with the root among them, what is known of it, and where its located
+/// elements stood when it was made.
+#[derive(Debug, Drop)]
+pub struct HtmlDocument {
+    output: HtmlOutput,
+    info: DocumentInfo,
+    introspector: HtmlIntrospector,
+}
+
+impl HtmlDocument {
+    ghost use Rattle.std.specs.Prelude.{◌≡◌, Some, IfOk, IfErr};
+    ghost use Rattle.html_dom_tree.specs.declared.node.HtmlElement.{HtmlElement};
+    ghost use Rattle.html_dom_tree.specs.Views.{node_view, nodes_view, element_view};
+    ghost use Rattle.html_dom_introspect.specs.Introspectors.{introspector_view};
+    ghost use Rattle.html_dom_document.specs.Documents.{node_at, root_of, with_root, new_document};
+    ghost use Rattle.html_dom_document.specs.Positions.{PositionsLead};
+    ghost use Rattle.html_dom_document.specs.Views.{output_view, info_view, document_view};
+    ghost use Rattle.html_dom_document.specs.DocumentLending.{LendsInfo, LendsIntrospector, with_document_root, LendsDocumentRoot};
+    ghost use Rattle.std.specs.Borrow.{sem};
+
+    /// A document of that output, with that information. It records where the start tags of all
+    /// nodes stand, and where links lead; there are no anchors yet. Where an allocation fails, both
+    /// come back.
+    ///
+    /// Where the root is an `html` element with no frame, empty text or further `html` element below
+    /// it, the positions of the tags below it lead to the elements that hold them.
+    pub fn new(
+        alloc: Global,
+        output: HtmlOutput,
+        info: DocumentInfo,
+    ) -> Result<HtmlDocument, Refused<(HtmlOutput, DocumentInfo)>>
+        ensures ok { IfOk result (λ document.
+            document_view document ≡ new_document (output_view output) (info_view info)) }
+        ensures leads { IfOk result (λ document. PositionsLead (document_view document)) }
+        ensures back { IfErr result (λ refused.
+            (refused.back.0 ≡ output) × (refused.back.1 ≡ info)) }
+    {
+        match HtmlIntrospector::new(alloc, output.nodes()) {
+            Ok(introspector) => Ok(HtmlDocument {
+                output,
+                info,
+                introspector,
+            }),
+            Err(_) => Err(Refused {
+                back: (output, info),
+            }),
+        }
+    }
+
+    /// All nodes, in order.
+    pub fn nodes(&self) -> &[HtmlNode]
+        ensures { nodes_view result.now ≡ (document_view self.now).output.nodes }
+    {
+        self.output.nodes()
+    }
+
+    /// The root.
+    pub fn root(&self) -> &HtmlElement
+        ensures { root_of (document_view self.now).output ≡ Some (element_view result.now) }
+    {
+        self.output.root()
+    }
+
+    /// The root, to be changed. All else stays, also what is recorded: positions and links are
+    /// those of the nodes that the document was made of.
+    pub fn root_mut(&mut self) -> &mut HtmlElement
+        ensures* writes_back { sem 𝓛 (LendsDocumentRoot self.entry result) }
+        ensures value { root_of (document_view self.old).output ≡ Some (element_view result.now) }
+        ensures written { let old = document_view self.old in (last : HtmlElement) →
+            document_view (with_document_root self.old last)
+            ≡ record old { output = with_root old.output (element_view last) } }
+    {
+        self.output.root_mut()
+    }
+
+    /// The root, as a node.
+    pub fn root_node(&self) -> &HtmlNode
+        ensures { let output = (document_view self.now).output in
+            node_at output.nodes output.root ≡ Some (node_view result.now) }
+    {
+        self.output.root_node()
+    }
+
+    /// What is known of the document.
+    pub fn info(&self) -> &DocumentInfo
+        ensures { info_view result.now ≡ (document_view self.now).info }
+    {
+        &self.info
+    }
+
+    /// What is known of the document, to be changed. All else stays.
+    pub fn info_mut(&mut self) -> &mut DocumentInfo
+        ensures* writes_back { sem 𝓛 (LendsInfo self.entry result) }
+        ensures value { info_view result.now ≡ (document_view self.old).info }
+    {
+        &mut self.info
+    }
+
+    /// Where the located elements stand, where links lead, and the anchors of locations.
+    pub fn introspector(&self) -> &HtmlIntrospector
+        ensures { introspector_view result.now ≡ (document_view self.now).introspector }
+    {
+        &self.introspector
+    }
+
+    /// What is known of locations, to be changed. All else stays.
+    pub fn introspector_mut(&mut self) -> &mut HtmlIntrospector
+        ensures* writes_back { sem 𝓛 (LendsIntrospector self.entry result) }
+        ensures value { introspector_view result.now ≡ (document_view self.old).introspector }
+    {
+        &mut self.introspector
+    }
+
+    /// A copy of the document. It fails only where an allocation does.
+    pub fn try_clone(&self) -> Result<HtmlDocument, AllocError>
+        ensures { IfOk result (λ copy. document_view copy ≡ document_view self.now) }
+    {
+        Ok(HtmlDocument {
+            output: self.output.try_clone()?,
+            info: self.info.try_clone()?,
+            introspector: self.introspector.try_clone()?,
+        })
+    }
+}

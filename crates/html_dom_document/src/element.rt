@@ -1,0 +1,33 @@
+ghost use Rattle.std.specs.Prelude.{◌≡◌, true, Some, is_some};
+ghost use Rattle.std.specs.Borrow.{Lends, sem};
+ghost use Rattle.html_dom_tree.specs.Views.{node_view, element_view};
+ghost use Rattle.html_dom_tree.specs.declared.node.HtmlNode.TheVariants.{Element};
+ghost use Rattle.html_dom_tree.specs.contracts.node.HtmlNode as node_type;
+ghost use Rattle.html_dom_tree.specs.contracts.node.HtmlElement as element_type;
+ghost use Rattle.html_dom_document.specs.Documents.{as_element};
+
+use html_dom_tree::{HtmlElement, HtmlNode};
+
+/// The element that a node is.
+pub(crate) fn element(node: &HtmlNode) -> &HtmlElement
+    requires { is_some (as_element (Some (node_view node.now))) ≡ true }
+    ensures { as_element (Some (node_view node.now)) ≡ Some (element_view result.now) }
+{
+    match node {
+        HtmlNode::Element(element) => element,
+        _ => unreachable!(),
+    }
+}
+
+/// The element that a node is, to be changed.
+pub(crate) fn element_mut(node: &mut HtmlNode) -> &mut HtmlElement
+    requires { is_some (as_element (Some (node_view node.old))) ≡ true }
+    ensures* writes_back { sem 𝓛
+        (Lends node_type.the_row element_type.the_row node.entry result Element) }
+    ensures value { node.old ≡ Element result.now }
+{
+    match node {
+        HtmlNode::Element(element) => element,
+        _ => unreachable!(),
+    }
+}

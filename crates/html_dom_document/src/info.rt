@@ -1,0 +1,94 @@
+ghost use Rattle.std.specs.Prelude.{◌≡◌, IfOk};
+ghost use Rattle.html_dom_tree.specs.Views.{optional_text_view};
+ghost use Rattle.html_dom_document.specs.Documents.{no_info};
+ghost use Rattle.html_dom_document.specs.Views.{texts_view, locale_view, info_view};
+
+use std::alloc::{AllocError, Global};
+
+/// A language and perhaps the region in which it is spoken, as `en` and `GB`. The texts are not
+/// checked. Two are equal where both fields are.
+#[derive(Debug, Drop, PartialEq, Eq)]
+pub struct Locale {
+    /// The language.
+    pub lang: String,
+    /// The region.
+    pub region: Option<String>,
+}
+
+/// What is known of a document, for its head. Two are equal where all fields are.
+#[derive(Debug, Drop, PartialEq, Eq)]
+pub struct DocumentInfo {
+    /// The title.
+    pub title: Option<String>,
+    /// What the document is about.
+    pub description: Option<String>,
+    /// Who wrote it.
+    pub author: Vec<String>,
+    /// What one may look for to find it.
+    pub keywords: Vec<String>,
+    /// The language in which it is written.
+    pub locale: Option<Locale>,
+}
+
+impl Locale {
+    /// A copy. It fails only where an allocation does.
+    pub fn try_clone(&self) -> Result<Locale, AllocError>
+        ensures { IfOk result (λ copy. locale_view copy ≡ locale_view self.now) }
+    {
+        Ok(Locale {
+            lang: self.lang.clone()?,
+            region: copy_optional_text(&self.region)?,
+        })
+    }
+}
+
+impl DocumentInfo {
+    /// Nothing is known: no text and no locale.
+    pub fn new(alloc: Global) -> DocumentInfo
+        ensures { info_view result ≡ no_info }
+    {
+        DocumentInfo {
+            title: None,
+            description: None,
+            author: Vec::new(alloc),
+            keywords: Vec::new(alloc),
+            locale: None,
+        }
+    }
+
+    /// A copy. It fails only where an allocation does.
+    pub fn try_clone(&self) -> Result<DocumentInfo, AllocError>
+        ensures { IfOk result (λ copy. info_view copy ≡ info_view self.now) }
+    {
+        let locale = match &self.locale {
+            Some(locale) => Some(locale.try_clone()?),
+            None => None,
+        };
+        Ok(DocumentInfo {
+            title: copy_optional_text(&self.title)?,
+            description: copy_optional_text(&self.description)?,
+            author: copy_texts(&self.author)?,
+            keywords: copy_texts(&self.keywords)?,
+            locale,
+        })
+    }
+}
+
+fn copy_optional_text(text: &Option<String>) -> Result<Option<String>, AllocError>
+    ensures { IfOk result (λ copy. optional_text_view copy ≡ optional_text_view text.now) }
+{
+    match text {
+        Some(text) => Ok(Some(text.clone()?)),
+        None => Ok(None),
+    }
+}
+
+fn copy_texts(texts: &Vec<String>) -> Result<Vec<String>, AllocError>
+    ensures { IfOk result (λ copies. texts_view copies.items ≡ texts_view texts.now.items) }
+{
+    let mut copies = Vec::new(*texts.allocator());
+    for text in texts {
+        copies.push(text.clone()?)?;
+    }
+    Ok(copies)
+}

@@ -1,0 +1,82 @@
+ghost use Rattle.std.specs.Prelude.{◌≡◌, true};
+ghost use Rattle.html_dom_tree.specs.Views.{nodes_view};
+ghost use Rattle.html_dom_document.specs.Documents.{is_element_at};
+
+use crate::element::{element, element_mut};
+use html_dom_tree::{HtmlElement, HtmlNode};
+use std::alloc::AllocError;
+
+/// The nodes of a document with the root among them, which is always an element.
+#[derive(Debug, Drop)]
+pub struct HtmlOutput {
+    nodes: Vec<HtmlNode>,
+    root_index: usize,
+    ghost root_is_element: { is_element_at (nodes_view nodes.items) root_index ≡ true },
+}
+
+impl HtmlOutput {
+    ghost use Rattle.std.specs.Prelude.{◌<◌, Some, IfOk, length, slice_index_or};
+    ghost use Rattle.html_dom_tree.specs.Views.{node_view, element_view};
+    ghost use Rattle.html_dom_tree.specs.declared.node.HtmlElement.{HtmlElement};
+    ghost use Rattle.html_dom_document.specs.Documents.{node_at, root_of, with_root};
+    ghost use Rattle.html_dom_document.specs.Views.{output_view};
+    ghost use Rattle.html_dom_document.specs.Lending.{with_root_element, LendsRoot};
+    ghost use Rattle.std.specs.Borrow.{sem};
+
+    /// These nodes, with the root at that place, where an element stands.
+    pub fn new(nodes: Vec<HtmlNode>, root_index: usize) -> HtmlOutput
+        requires { is_element_at (nodes_view nodes.items) root_index ≡ true }
+        ensures { output_view result
+            ≡ record { nodes = nodes_view nodes.items; root = root_index } }
+    {
+        HtmlOutput { nodes, root_index }
+    }
+
+    /// All nodes, in order.
+    pub fn nodes(&self) -> &[HtmlNode]
+        ensures { nodes_view result.now ≡ (output_view self.now).nodes }
+    {
+        &self.nodes
+    }
+
+    /// The root.
+    pub fn root(&self) -> &HtmlElement
+        ensures { root_of (output_view self.now) ≡ Some (element_view result.now) }
+    {
+        element(self.root_node())
+    }
+
+    /// The root, to be changed. The other nodes stay, and the root stays at its place.
+    pub fn root_mut(&mut self) -> &mut HtmlElement
+        ensures* writes_back { sem 𝓛 (LendsRoot self.entry result) }
+        ensures value { root_of (output_view self.old) ≡ Some (element_view result.now) }
+        ensures written { (last : HtmlElement) → output_view (with_root_element self.old last)
+            ≡ with_root (output_view self.old) (element_view last) }
+    {
+        let root_index = self.root_index;
+        let root = &mut self.nodes[root_index];
+        element_mut(root)
+    }
+
+    /// The root, as a node.
+    pub fn root_node(&self) -> &HtmlNode
+        ensures { let output = output_view self.now in
+            node_at output.nodes output.root ≡ Some (node_view result.now) }
+    {
+        &self.nodes[self.root_index]
+    }
+
+    /// A copy of all nodes. It fails only where an allocation does.
+    pub fn try_clone(&self) -> Result<HtmlOutput, AllocError>
+        ensures { IfOk result (λ copy. output_view copy ≡ output_view self.now) }
+    {
+        let mut nodes = Vec::new(*self.nodes.allocator());
+        for node in &self.nodes {
+            nodes.push(node.try_clone()?)?;
+        }
+        Ok(HtmlOutput {
+            nodes,
+            root_index: self.root_index,
+        })
+    }
+}

@@ -1,0 +1,42 @@
+-- Elements in the list of a tree.
+use Rattle.std.proofs.Common.{◌≡◌, ℕ, ◌<◌, true, List, length, get_or, drop, take}
+use Rattle.std.proofs.lemmas.Bool.{ltb-true, and_parts}
+use Rattle.std.proofs.lemmas.List.Elements.{All-drop, All-take}
+use Rattle.std.proofs.lemmas.List.Sums.{AllPass-from_list_all, list_all-from_AllPass}
+use Rattle.std.specs.List.{list_all, AllPass}
+use Rattle.html_names.specs.NameTables.{NamesView}
+use Rattle.html_dom_flat.specs.FlatViews.{FlatPair, is_pair_given, is_given, is_node_given, are_given}
+use Rattle.html_dom_flat.specs.declared.flat_node.FlatElement.{FlatElement}
+use Rattle.html_dom_flat.specs.declared.flat_node.FlatNode.{FlatNode}
+
+module _ (names : NamesView) (nodes : List FlatNode) (i : ℕ)
+    (given : are_given names nodes ≡ true) where
+  all_given : AllPass (is_node_given names) nodes
+  all_given = AllPass-from_list_all (is_node_given names) nodes given
+
+  -- the numbers of a node of a given list are given
+  pub node_given_at : (d : FlatNode) → i < length nodes →
+      is_node_given names (get_or nodes i d) ≡ true
+  node_given_at d below = all_given i d below
+
+  -- so are those of a part of the list
+  pub given_drop : are_given names (drop i nodes) ≡ true
+  given_drop =
+      list_all-from_AllPass (is_node_given names) (drop i nodes)
+      (All-drop (λ n. is_node_given names n ≡ true) i nodes all_given)
+
+  pub given_take : are_given names (take i nodes) ≡ true
+  given_take =
+      list_all-from_AllPass (is_node_given names) (take i nodes)
+      (All-take (λ n. is_node_given names n ≡ true) i nodes all_given)
+
+-- the numbers of a given element's attributes are given
+pub given_pairs : (names : NamesView) (e : FlatElement) → is_given names e ≡ true →
+    list_all (is_pair_given names) e.attrs.items ≡ true
+given_pairs names e given = (and_parts _ _ given).1
+
+pub given_pair : (names : NamesView) (pairs : List FlatPair) (i : ℕ) (d : FlatPair) →
+    list_all (is_pair_given names) pairs ≡ true → i < length pairs →
+    (get_or pairs i d).0 < length names.attrs
+given_pair names pairs i d given below =
+    ltb-true _ _ (AllPass-from_list_all (is_pair_given names) pairs given i d below)

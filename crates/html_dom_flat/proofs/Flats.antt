@@ -1,0 +1,103 @@
+-- A list spells the nodes that it was made of.
+use Rattle.std.proofs.Common.{◌≡◌, ℕ, zero, suc, ◌+◌, ◌-◌, ◌<◌, List, [], ◌++◌, refl, ap, sym, ◌∙◌, arith, append_assoc, append-nil, add-zero, add_assoc, length}
+use Rattle.std.proofs.lemmas.List.{length-append}
+use Rattle.html_dom_tree.specs.Tree.{NodeView, tag_node, text_node, element_node, frame_node, NodesView, none, node, ElementView}
+use Rattle.html_dom_flat.specs.Flat.{FlatNodeView, node_count, nodes_count, node_flat, nodes_flat, element_flat, front, back, spelled_nodes}
+
+-- nodes one after another
+abbrev pub joined : NodesView → NodesView → NodesView
+joined none ms = ms
+joined (node n ns) ms = node n (joined ns ms)
+
+pub count_some : (n : NodeView) → 0 < node_count n
+unfolding node_count
+count_some (tag_node t) = omega arith
+count_some (text_node s span) = omega arith
+count_some (element_node h ns) = omega arith
+count_some (frame_node f) = omega arith
+
+pub joined_none : (ns : NodesView) → joined ns none ≡ ns
+joined_none none = refl
+joined_none (node n ns) = ap (node n) (joined_none ns)
+
+pub front_joined : (ns ms : NodesView) (count : ℕ) → count ≡ nodes_count ns →
+    front count (joined ns ms) ≡ ns
+unfolding front node_count
+front_joined none ms count e = rw e refl
+front_joined (node n ns) ms zero e = absurd (omega (arith, count_some n))
+front_joined (node n ns) ms (suc count) e =
+    ap (node n) (front_joined ns ms (suc count - node_count n) (omega (arith, count_some n)))
+
+pub back_joined : (ns ms : NodesView) (count : ℕ) → count ≡ nodes_count ns →
+    back count (joined ns ms) ≡ ms
+unfolding back node_count
+back_joined none ms count e = rw e refl
+back_joined (node n ns) ms zero e = absurd (omega (arith, count_some n))
+back_joined (node n ns) ms (suc count) e =
+    back_joined ns ms (suc count - node_count n) (omega (arith, count_some n))
+
+mutual
+  unfolding node_flat spelled_nodes node_count
+
+  pub spelled_one : (place : ℕ) (n : NodeView) (fs : List FlatNodeView) →
+      spelled_nodes place (node_flat place n ++ fs)
+      ≡ node n (spelled_nodes (place + node_count n) fs)
+  spelled_one place (tag_node t) fs = refl
+  spelled_one place (text_node s span) fs = refl
+  spelled_one place (element_node h ns) fs =
+      let after = spelled_nodes (place + 1 + nodes_count ns) fs in
+      let inside : spelled_nodes (place + 1) (nodes_flat (place + 1) ns ++ fs) ≡ joined ns after
+      = spelled_more (place + 1) ns fs in
+      let count : (place + 1 + nodes_count ns) - (place + 1) ≡ nodes_count ns = omega arith in
+      let same : place + 1 + nodes_count ns ≡ place + (1 + nodes_count ns) = omega arith in
+      rw (inside, front_joined ns after _ count, back_joined ns after _ count, same) refl
+  spelled_one place (frame_node f) fs = refl
+
+  pub spelled_more : (place : ℕ) (ns : NodesView) (fs : List FlatNodeView) →
+      spelled_nodes place (nodes_flat place ns ++ fs)
+      ≡ joined ns (spelled_nodes (place + nodes_count ns) fs)
+  spelled_more place none fs = rw add-zero refl
+  spelled_more place (node n ns) fs =
+      rw (
+        append_assoc,
+        spelled_one place n (nodes_flat (place + node_count n) ns ++ fs),
+        spelled_more (place + node_count n) ns fs,
+        add_assoc,
+      ) refl
+
+pub spelled_flat : (place : ℕ) (ns : NodesView) → spelled_nodes place (nodes_flat place ns) ≡ ns
+unfolding node_flat spelled_nodes
+spelled_flat place ns =
+    rw (← append-nil (nodes_flat place ns)) (spelled_more place ns [] ∙ joined_none ns)
+
+-- a list that was made of nodes is that of the nodes that it spells
+pub list_spelled : (list : List FlatNodeView) (ns : NodesView) → list ≡ nodes_flat 0 ns →
+    spelled_nodes 0 list ≡ ns
+list_spelled list ns made = ap (spelled_nodes 0) made ∙ spelled_flat 0 ns
+
+pub list_spells : (list : List FlatNodeView) (ns : NodesView) → list ≡ nodes_flat 0 ns →
+    nodes_flat 0 (spelled_nodes 0 list) ≡ list
+list_spells list ns made = ap (nodes_flat 0) (list_spelled list ns made) ∙ sym made
+
+pub element_list : (place : ℕ) (e : ElementView) →
+    nodes_flat place (node (element_node e.0 e.1) none) ≡ element_flat place e
+unfolding node_flat
+element_list place e = append-nil (element_flat place e)
+
+mutual
+  unfolding node_flat node_count
+
+  pub length_one : (place : ℕ) (n : NodeView) → length (node_flat place n) ≡ node_count n
+  length_one place (tag_node t) = refl
+  length_one place (text_node s span) = refl
+  length_one place (element_node h ns) =
+      let inside = length_all (place + 1) ns in omega (arith, inside)
+  length_one place (frame_node f) = refl
+
+  pub length_all : (place : ℕ) (ns : NodesView) → length (nodes_flat place ns) ≡ nodes_count ns
+  length_all place none = refl
+  length_all place (node n ns) =
+      let one = length_one place n in
+      let others = length_all (place + node_count n) ns in
+      length-append (node_flat place n) (nodes_flat (place + node_count n) ns)
+      ∙ omega (arith, one, others)

@@ -1,0 +1,27 @@
+use Rattle.std.proofs.Common.{rules, ◌≡◌, ◌<◌, ap, ◌∙◌, vec_len, length, get_or}
+use Rattle.html_dom_flat.specs.Numbering.{ended}
+use Rattle.html_dom_flat.proofs.Closings.{given_closed, closed}
+use Rattle.html_dom_flat.proofs.builder.Builder.close_element.Goals as goal
+
+pub invariant_of-self : goal.invariant_of-self
+invariant_of-self c =
+    let old = c.args.self.now in
+    let node = c.index_mut.result.now in
+    let place = c.args.place in
+    let set : c.set_past.new.node ≡ ended c.len-past.result (get_or old.nodes.items place node)
+    = c.set_past.ensures ∙ ap (ended c.len-past.result) c.index_mut.ensures.value in
+    record {
+      given = given_closed old.names old.nodes.items place c.len-past.result
+          c.set_past.new.node node set old.given;
+    }
+
+pub returns-clause-list : goal.returns-clause-list
+returns-clause-list c =
+    let old = c.args.self.now in
+    let node = c.index_mut.result.now in
+    let place = c.args.place in
+    let past : c.len-past.result ≡ vec_len old.nodes = search rules in
+    let set : c.set_past.new.node ≡ ended (vec_len old.nodes) (get_or old.nodes.items place node)
+    = c.set_past.ensures ∙ rw past (ap (ended (vec_len old.nodes)) c.index_mut.ensures.value) in
+    let below : place < length old.nodes.items = rw (← old.nodes.ok.0) c.requires in
+    closed old.names old.nodes.items place (vec_len old.nodes) c.set_past.new.node node set below

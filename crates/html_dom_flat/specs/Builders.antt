@@ -1,0 +1,8 @@
+-- A tree's list while it is made.
+use Rattle.std.specs.Prelude.{List}
+use Rattle.html_dom_flat.specs.Flat.{FlatNodeView}
+use Rattle.html_dom_flat.specs.FlatViews.{flat_nodes_view}
+use Rattle.html_dom_flat.specs.declared.builder.Builder.{Builder}
+
+abbrev pub builder_view : Builder → List FlatNodeView
+builder_view builder = flat_nodes_view builder.names builder.nodes.items

@@ -1,0 +1,38 @@
+-- What is kept when a table gives more numbers, and elements made with its numbers.
+use Rattle.std.specs.Prelude.{◌≡◌, ℕ, true, ◌<◌, List, map, length}
+use Rattle.std.specs.List.{list_all}
+use Rattle.html_names.specs.NameTables.{NamesView, name_at}
+use Rattle.html_dom_tree.specs.Tree.{TextPair, Head}
+use Rattle.html_dom_flat.specs.FlatViews.{FlatPair, flat_pair, flat_head, is_pair_given, is_given}
+use Rattle.html_dom_flat.specs.declared.flat_node.FlatElement.{FlatElement}
+use Rattle.html_dom_flat.specs.declared.flat_node.FlatNode.{FlatNode}
+use Rattle.html_dom_flat.specs.declared.flat_node.FlatNode.TheVariants.{Tag, Text, Frame, Element}
+
+-- each number keeps its name
+abbrev pub AreKept : (old new : List (List ℕ)) → Type 0
+AreKept old new = (number : ℕ) → number < length old →
+    (number < length new) × (name_at new number ≡ name_at old number)
+
+-- each number of a tag, and of an attribute, keeps its name
+pub record Grows (old new : NamesView) : Type 0 where
+  pub tags : AreKept old.tags new.tags
+  pub attrs : AreKept old.attrs new.attrs
+
+-- the pairs, with numbers that the table has given
+pub record ArePairsOf (names : NamesView) (pairs : List FlatPair) (attrs : List TextPair) : Type 0
+  where
+    pub same : map (flat_pair names) pairs ≡ attrs
+    pub given : list_all (is_pair_given names) pairs ≡ true
+
+-- the element of that head, with numbers that the table has given; its end is not known yet
+pub record IsOpened (names : NamesView) (element : FlatElement) (head : Head) : Type 0 where
+  pub same : flat_head names element ≡ head
+  pub past : element.past ≡ 0
+  pub given : is_given names element ≡ true
+
+-- with that end, if it is an element
+abbrev pub ended : (past : ℕ) → FlatNode → FlatNode
+ended past (Tag t) = Tag t
+ended past (Text s span) = Text s span
+ended past (Frame f) = Frame f
+ended past (Element e) = Element (record e { past = past })

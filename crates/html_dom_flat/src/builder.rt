@@ -1,0 +1,122 @@
+//! Making a tree's list.
+
+ghost use Rattle.std.specs.Prelude.{◌≡◌, true};
+ghost use Rattle.html_dom_flat.specs.FlatViews.{are_given};
+
+use crate::flat_node::FlatNode;
+use crate::numbering::{opened, set_past};
+use html_dom_tree::{HtmlElement, HtmlNode};
+use html_names::NameTable;
+use std::alloc::{AllocError, Global};
+
+/// A tree's list while it is made: each element that is not closed yet ends at the place 0.
+#[derive(Drop)]
+pub(crate) struct Builder {
+    pub(crate) nodes: Vec<FlatNode>,
+    pub(crate) names: NameTable,
+    ghost given: { are_given names nodes.items ≡ true },
+}
+
+impl Builder {
+    ghost use Rattle.std.specs.Prelude.{◌+◌, ◌<◌, [], ◌∷◌, ◌++◌, OnOk, vec_len};
+    ghost use Rattle.html_dom_tree.specs.Views.{node_view, element_view, nodes_view};
+    ghost use Rattle.html_dom_flat.specs.Flat.{flat_element, node_count, nodes_count, node_flat, nodes_flat, element_flat};
+    ghost use Rattle.html_dom_flat.specs.FlatViews.{flat_node_view, is_node_given};
+    ghost use Rattle.html_dom_flat.specs.Builders.{builder_view};
+    ghost use Rattle.html_dom_flat.specs.Closing.{closed_at};
+
+    /// The empty list.
+    pub(crate) fn new(alloc: Global) -> Builder
+        ensures list { builder_view result ≡ [] }
+        ensures count { vec_len result.nodes ≡ 0 }
+    {
+        Builder {
+            nodes: Vec::new(alloc),
+            names: NameTable::new(alloc),
+        }
+    }
+
+    /// Adds a node.
+    fn push(&mut self, node: FlatNode) -> Result<(), AllocError>
+        requires { is_node_given self.old.names node ≡ true }
+        ensures list { OnOk result (builder_view self.new
+            ≡ builder_view self.old ++ flat_node_view self.old.names node ∷ []) }
+        ensures count { OnOk result (vec_len self.new.nodes ≡ vec_len self.old.nodes + 1) }
+    {
+        self.nodes.push(node)?;
+        Ok(())
+    }
+
+    /// Adds an element without its children.
+    fn open_element(&mut self, alloc: Global, element: &HtmlElement) -> Result<(), AllocError>
+        ensures list { OnOk result (builder_view self.new
+            ≡ builder_view self.old ++ flat_element (element_view element.now).0 0 ∷ []) }
+        ensures count { OnOk result (vec_len self.new.nodes ≡ vec_len self.old.nodes + 1) }
+    {
+        let element = opened(alloc, &mut self.names, element)?;
+        self.push(FlatNode::Element(element))?;
+        Ok(())
+    }
+
+    /// Sets the end of the element at a place to where the list ends now.
+    fn close_element(&mut self, place: usize)
+        requires { place < vec_len self.old.nodes }
+        ensures list { builder_view self.new
+            ≡ closed_at place (vec_len self.old.nodes) (builder_view self.old) }
+        ensures count { vec_len self.new.nodes ≡ vec_len self.old.nodes }
+    {
+        let past = self.nodes.len();
+        set_past(&mut self.nodes[place], past);
+    }
+
+    /// Adds a node and all below it.
+    #[cycle(flatten)]
+    #[tactic(auto, unfolding(crate::specs::Flat::node_flat, crate::specs::Flat::node_count))]
+    fn push_node(&mut self, alloc: Global, node: &HtmlNode) -> Result<(), AllocError>
+        ensures list { OnOk result (builder_view self.new
+            ≡ builder_view self.old ++ node_flat (vec_len self.old.nodes) (node_view node.now)) }
+        ensures count { OnOk result (vec_len self.new.nodes
+            ≡ vec_len self.old.nodes + node_count (node_view node.now)) }
+    {
+        match node {
+            HtmlNode::Tag(tag) => self.push(FlatNode::Tag(tag.try_clone()?)),
+            HtmlNode::Text(text, span) => self.push(FlatNode::Text(text.clone()?, *span)),
+            HtmlNode::Frame(frame) => self.push(FlatNode::Frame(frame.try_clone()?)),
+            HtmlNode::Element(element) => self.push_element(alloc, element),
+        }
+    }
+
+    /// Adds an element and all below it.
+    #[cycle(flatten)]
+    pub(crate) fn push_element(
+        &mut self,
+        alloc: Global,
+        element: &HtmlElement,
+    ) -> Result<(), AllocError>
+        ensures list { OnOk result (builder_view self.new ≡ builder_view self.old
+            ++ element_flat (vec_len self.old.nodes) (element_view element.now)) }
+        ensures count { OnOk result (vec_len self.new.nodes
+            ≡ vec_len self.old.nodes + 1 + nodes_count (element_view element.now).1) }
+    {
+        let place = self.nodes.len();
+        self.open_element(alloc, element)?;
+        self.push_nodes(alloc, &element.children)?;
+        self.close_element(place);
+        Ok(())
+    }
+
+    /// Adds nodes and all below them.
+    #[cycle(flatten)]
+    #[tactic(auto, unfolding(crate::specs::Flat::nodes_flat, crate::specs::Flat::nodes_count))]
+    pub(crate) fn push_nodes(&mut self, alloc: Global, nodes: &[HtmlNode]) -> Result<(), AllocError>
+        ensures list { OnOk result (builder_view self.new
+            ≡ builder_view self.old ++ nodes_flat (vec_len self.old.nodes) (nodes_view nodes.now)) }
+        ensures count { OnOk result (vec_len self.new.nodes
+            ≡ vec_len self.old.nodes + nodes_count (nodes_view nodes.now)) }
+    {
+        for node in nodes {
+            self.push_node(alloc, node)?;
+        }
+        Ok(())
+    }
+}

@@ -1,0 +1,106 @@
+ghost use Rattle.std.specs.Prelude.{◌≡◌, true};
+ghost use Rattle.std.proofs.Props.{props};
+ghost use Rattle.html_dom_flat.specs.Flat.{nodes_flat, spelled_nodes};
+ghost use Rattle.html_dom_flat.specs.FlatViews.{flat_nodes_view, are_given};
+ghost use Rattle.html_dom_flat.specs.Sets.{flat_node_is_set};
+
+use crate::builder::Builder;
+use crate::flat_node::FlatNode;
+use crate::spelling::spelled_nodes;
+use html_dom_tree::{HtmlElement, HtmlNode};
+use html_names::NameTable;
+use std::alloc::{AllocError, Global};
+use std::fmt;
+
+/// A tree as one list: its nodes, at all depths, in the order in which they are written. An element
+/// says up to which place the nodes in it stand.
+///
+/// ```
+/// use html_dom_tree::{HtmlElement, HtmlNode, Span};
+/// use html_dom_flat::{FlatNode, FlatTree};
+/// use html_names::tag;
+///
+/// let mut children = Vec::new(alloc);
+/// children.push(HtmlNode::text(String::from_str(alloc, "Hello")?, Span(1)))?;
+/// let paragraph = HtmlElement::new(alloc, tag::p).with_children(children);
+/// let tree = FlatTree::from_element(alloc, &paragraph)?;
+/// assert_eq!(rt; tree.nodes().len(), 2);
+/// if let FlatNode::Element(element) = &tree.nodes()[0] {
+///     assert_eq!(rt; element.past, 2);
+///     assert!(rt; *tree.names().tag_at(element.tag) == tag::p);
+/// }
+/// ```
+#[derive(Drop)]
+pub struct FlatTree {
+    nodes: Vec<FlatNode>,
+    names: NameTable,
+    ghost given: { are_given names nodes.items ≡ true },
+    ghost spells: { let list = flat_nodes_view names nodes.items in
+        nodes_flat 0 (spelled_nodes 0 list) ≡ list } by { Prim.hlevel (props, flat_node_is_set) },
+}
+
+impl FlatTree {
+    ghost use Rattle.std.specs.Prelude.{IfOk};
+    ghost use Rattle.html_dom_tree.specs.Tree.{node, none, element_node};
+    ghost use Rattle.html_dom_tree.specs.Views.{element_view, nodes_view};
+    ghost use Rattle.html_dom_flat.specs.FlatTrees.{tree_nodes, IsListOf};
+
+    /// The list of these nodes and of all below them. It fails only where an allocation does.
+    ///
+    /// Cost: grows with the number of nodes and the length of their texts.
+    pub fn from_nodes(alloc: Global, nodes: &[HtmlNode]) -> Result<FlatTree, AllocError>
+        ensures { IfOk result (λ tree. tree_nodes tree ≡ nodes_view nodes.now) }
+    {
+        let mut builder = Builder::new(alloc);
+        builder.push_nodes(alloc, nodes)?;
+        let Builder { nodes, names } = builder;
+        Ok(FlatTree { nodes, names })
+    }
+
+    /// The list of this element and of all nodes below it. It fails only where an allocation does.
+    ///
+    /// Cost: grows with the number of nodes and the length of their texts.
+    pub fn from_element(alloc: Global, element: &HtmlElement) -> Result<FlatTree, AllocError>
+        ensures { let e = element_view element.now in
+            IfOk result (λ tree. tree_nodes tree ≡ node (element_node e.0 e.1) none) }
+    {
+        let mut builder = Builder::new(alloc);
+        builder.push_element(alloc, element)?;
+        let Builder { nodes, names } = builder;
+        Ok(FlatTree { nodes, names })
+    }
+
+    /// The nodes at all depths, in the order in which they are written.
+    pub fn nodes(&self) -> &[FlatNode]
+        ensures { IsListOf self.now result.now }
+    {
+        &self.nodes
+    }
+
+    /// The table that the numbers of the nodes are of.
+    pub fn names(&self) -> &NameTable
+        ensures { result.now ≡ self.now.names }
+    {
+        &self.names
+    }
+
+    /// The nodes that the list was made of. It fails only where an allocation does.
+    ///
+    /// Cost: grows with the number of nodes and the length of their texts.
+    pub fn to_nodes(&self) -> Result<Vec<HtmlNode>, AllocError>
+        ensures { IfOk result (λ nodes. nodes_view nodes.items ≡ tree_nodes self.now) }
+    {
+        spelled_nodes(*self.nodes.allocator(), &self.names, &self.nodes)
+    }
+}
+
+/// `FlatTree`
+impl fmt::Debug for FlatTree {
+    ghost use Rattle.std.specs.Prelude.{codes, Some};
+
+    ghost debug_output = { λ _. Some (codes "FlatTree") };
+
+    fn fmt<W: fmt::Write>(&self, f: &mut fmt::Formatter<W>) -> fmt::Result {
+        write!(f, "FlatTree")
+    }
+}

@@ -1,0 +1,123 @@
+-- The cuts and namings of events, with the state of groups between two events.
+use Rattle.std.proofs.Common.{◌≡◌, ℕ, suc, Bool, true, false, ◌||◌, ◌==◌, List, [], ◌∷◌, ◌++◌, length, drop, Option, Some, None, refl, ap, sym, ◌∙◌, subst, length-append}
+use Rattle.std.specs.Prelude.{if◌then◌else◌}
+use Rattle.html_dom_tree.specs.Attributes.{or_else}
+use Rattle.html_dom_tree.specs.Tree.{starts, ends, tag_node, text_node, element_node, frame_node, NodesView, none, node}
+use Rattle.html_dom_link.specs.NewNames.{Name}
+use Rattle.html_dom_link.specs.Events.{Start, Event, Targets, events}
+use Rattle.html_dom_link.specs.Groups.{holds, waiting_after, cut_at, cuts}
+use Rattle.html_dom_link.specs.Namings.{Naming, answered, naming, used_after, namings, all_answers, last_name}
+use Rattle.html_dom_link.specs.Anchors.{nodes_size}
+
+-- the group that waits, the names in use, and the last name of each location
+pub record Groups : Type 0 where
+  pub queue : List Start
+  pub used : Name → Bool
+  pub answers : ℕ → Option Name
+
+abbrev pub naming_at : Groups → Event → Naming
+naming_at g e = naming g.used (cut_at g.queue e)
+
+-- the state after an event
+abbrev pub step : Groups → Event → Groups
+step g e = record {
+  queue = waiting_after g.queue e;
+  used = used_after g.used (cut_at g.queue e);
+  answers = λ l. or_else (last_name (naming_at g e).answers l) (g.answers l);
+}
+
+abbrev pub finished : Groups → List Event → Groups
+finished g [] = g
+finished g (e ∷ es) = finished (step g e) es
+
+abbrev pub makes : Groups → List Event → List Naming
+makes g [] = []
+makes g (e ∷ es) = naming_at g e ∷ makes (step g e) es
+
+pub makes_is : (es : List Event) (g : Groups) → makes g es ≡ namings g.used (cuts g.queue es)
+makes_is [] g = refl
+makes_is (e ∷ es) g = ap (λ ns. naming_at g e ∷ ns) (makes_is es (step g e))
+
+pub makes-append : (es fs : List Event) (g : Groups) →
+    makes g (es ++ fs) ≡ makes g es ++ makes (finished g es) fs
+makes-append [] fs g = refl
+makes-append (e ∷ es) fs g = ap (λ ns. naming_at g e ∷ ns) (makes-append es fs (step g e))
+
+pub finished-append : (es fs : List Event) (g : Groups) →
+    finished g (es ++ fs) ≡ finished (finished g es) fs
+finished-append [] fs g = refl
+finished-append (e ∷ es) fs g = finished-append es fs (step g e)
+
+length-makes : (es : List Event) (g : Groups) → length (makes g es) ≡ length es
+length-makes [] g = refl
+length-makes (e ∷ es) g = ap suc (length-makes es (step g e))
+
+pub length-events : (x : Targets) (ns : NodesView) → length (events x ns) ≡ nodes_size ns
+unfolding events nodes_size
+length-events x none = refl
+length-events x (node (tag_node (starts l label dest)) ns) = ap suc (length-events x ns)
+length-events x (node (tag_node (ends l)) ns) = ap suc (length-events x ns)
+length-events x (node (text_node s span) ns) = ap suc (length-events x ns)
+length-events x (node (element_node h kids) ns) =
+    ap suc (length-append (events x kids) (events x ns)
+    ∙ (rw (length-events x kids, length-events x ns) refl))
+length-events x (node (frame_node f) ns) = ap suc (length-events x ns)
+
+drop-all : {A : Type 0} (xs ys : List A) → drop (length xs) (xs ++ ys) ≡ ys
+drop-all [] ys = refl
+drop-all (a ∷ xs) ys = drop-all xs ys
+
+pub drop-sized : {A : Type 0} (n : ℕ) (xs ys : List A) → length xs ≡ n → drop n (xs ++ ys) ≡ ys
+drop-sized n xs ys e = subst (λ k. drop k (xs ++ ys) ≡ ys) e (drop-all xs ys)
+
+-- the namings of an element's children, dropped
+pub drop-events : (x : Targets) (ns : NodesView) (g : Groups) (more : List Naming) →
+    drop (nodes_size ns) (makes g (events x ns) ++ more) ≡ more
+drop-events x ns g more =
+    let es = events x ns in
+    drop-sized (nodes_size ns) (makes g es) more (length-makes es g ∙ length-events x ns)
+
+pub or_else-assoc : {A : Type 0} (a b c : Option A) →
+    or_else a (or_else b c) ≡ or_else (or_else a b) c
+or_else-assoc (Some n) b c = refl
+or_else-assoc None b c = refl
+
+pub or_else-none : {A : Type 0} (a : Option A) → or_else a None ≡ a
+or_else-none (Some n) = refl
+or_else-none None = refl
+
+pub last_name-append : (as' bs : List (ℕ × Name)) (l : ℕ) →
+    last_name (as' ++ bs) l ≡ or_else (last_name bs l) (last_name as' l)
+last_name-append [] bs l = sym (or_else-none (last_name bs l))
+last_name-append (a ∷ as') bs l =
+    rw (last_name-append as' bs l)
+    (sym (or_else-assoc (last_name bs l) (last_name as' l) (if a.0 == l then Some a.1 else None)))
+
+pub finished_answers : (es : List Event) (g : Groups) (l : ℕ) →
+    (finished g es).answers l ≡ or_else (last_name (all_answers (makes g es)) l) (g.answers l)
+finished_answers [] g l = refl
+finished_answers (e ∷ es) g l =
+    let later = all_answers (makes (step g e) es) in
+    let now = (naming_at g e).answers in
+    finished_answers es (step g e) l
+    ∙ (or_else-assoc (last_name later l) (last_name now l) (g.answers l)
+    ∙ ap (λ a. or_else a (g.answers l)) (sym (last_name-append now later l)))
+
+abbrev pub named_if : Bool → Name → Option Name → Option Name
+named_if waits n old = if waits then Some n else old
+
+-- a location that waits gets the name
+pub answered_is : (n : Name) (ss : List Start) (old : Option Name) (l : ℕ) →
+    or_else (last_name (answered (Some n) ss) l) old ≡ named_if (holds l ss) n old
+answered_is n [] old l = refl
+answered_is n (s ∷ ss) old l =
+    let here = if s.location == l then Some n else None in
+    sym (or_else-assoc (last_name (answered (Some n) ss) l) here old)
+    ∙ (answered_is n ss (or_else here old) l ∙ by_first (holds l ss) (s.location == l))
+  where
+    by_first : (a b : Bool) →
+        named_if a n (or_else (if b then Some n else None) old) ≡ named_if (b || a) n old
+    by_first true true = refl
+    by_first true false = refl
+    by_first false true = refl
+    by_first false false = refl

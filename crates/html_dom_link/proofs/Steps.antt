@@ -1,0 +1,152 @@
+-- The walk goes on where it stopped, as a loop over nodes does.
+use Rattle.std.proofs.Common.{◌≡◌, ℕ, Bool, List, [], ◌∷◌, ◌++◌, Option, Some, None, String, Global, Bor, refl, ap, ◌∙◌, rules}
+use Rattle.std.specs.Option.{option_or, option_copied}
+use Rattle.std.specs.Prelude.{option_map}
+use Rattle.html_dom_tree.specs.Attributes.{or_else}
+use Rattle.html_dom_tree.specs.Frames.{PointView, HtmlFrameView}
+use Rattle.html_dom_tree.specs.FrameViews.{optional_text_view, tag_view, html_frame_view}
+use Rattle.html_dom_tree.specs.Tree.{starts, ends, tag_node, text_node, element_node, frame_node, NodeView, NodesView, none, node}
+use Rattle.html_dom_tree.specs.Views.{text_view, node_view, nodes_view, element_view}
+use Rattle.html_dom_tree.specs.declared.frame.HtmlFrame.{HtmlFrame}
+use Rattle.html_dom_tree.specs.declared.introspection.Tag.{Tag}
+use Rattle.html_dom_tree.specs.declared.node.HtmlElement.{HtmlElement}
+use Rattle.html_dom_tree.specs.declared.node.HtmlNode.{HtmlNode, the_lemmas}
+use Rattle.html_dom_tree.specs.declared.node.HtmlNode as HtmlNode
+use Rattle.html_dom_link.specs.NewNames.{Name, with_name, new_name}
+use Rattle.html_dom_link.specs.Events.{Targets, FrameStart, frame_starts}
+use Rattle.html_dom_link.specs.Namings.{start_pairs, used_after_starts}
+use Rattle.html_dom_link.specs.Anchors.{span_before, text_in}
+use Rattle.html_dom_link.specs.Walk.{WalkState, started, first_waiting, Serves, made_now, after_server, after_start, after_starts, Walked, walk}
+use Rattle.html_dom_link.specs.Joined.{◌then◌, nodes_before, with_starts}
+
+pub then-none : (ns : NodesView) → (ns then none) ≡ ns
+then-none none = refl
+then-none (node n ns) = ap (node n) (then-none ns)
+
+pub then-assoc : (as' bs cs : NodesView) → ((as' then bs) then cs) ≡ (as' then (bs then cs))
+then-assoc none bs cs = refl
+then-assoc (node n ns) bs cs = ap (node n) (then-assoc ns bs cs)
+
+span_before-then : (made : Option Name) (as' bs : NodesView) →
+    span_before made (as' then bs) ≡ (span_before made as' then bs)
+span_before-then None as' bs = refl
+span_before-then (Some n) as' bs = refl
+
+pub walks_on : (x : Targets) (as' bs : NodesView) (st : WalkState) → let first = walk x as' st in
+    walk x (as' then bs) st ≡ nodes_before first.0 (walk x bs first.1)
+unfolding walk
+walks_on x none bs st = refl
+walks_on x (node (tag_node (starts l label dest)) ns) bs st = rw (walks_on x ns bs _) refl
+walks_on x (node (tag_node (ends l)) ns) bs st =
+    let made = made_now (st.labels l) None st.used in
+    let after = after_server (st.labels l) None st in
+    let r = walk x ns after in
+    let rest = walk x bs r.1 in
+    rw (walks_on x ns bs after)
+    (ap (λ ms. (node (tag_node (ends l)) ms, rest.1)) (span_before-then made r.0 rest.0))
+walks_on x (node (text_node s span) ns) bs st = rw (walks_on x ns bs _) refl
+walks_on x (node (element_node h kids) ns) bs st = rw (walks_on x ns bs _) refl
+walks_on x (node (frame_node f) ns) bs st = rw (walks_on x ns bs _) refl
+
+-- start tags of a frame and then others
+pub after_starts-append : (ss ts : List FrameStart) (st : WalkState) →
+    after_starts (ss ++ ts) st ≡ after_starts ts (after_starts ss st)
+after_starts-append [] ts st = refl
+after_starts-append (s ∷ ss) ts st = after_starts-append ss ts (after_start s st)
+
+pub start_pairs-append : (ss ts : List FrameStart) (used : Name → Bool) →
+    start_pairs used (ss ++ ts)
+    ≡ start_pairs used ss ++ start_pairs (used_after_starts used ss) ts
+start_pairs-append [] ts used = refl
+start_pairs-append (s ∷ ss) ts used =
+    let n = new_name s.label used in
+    ap (λ ps. (s.point, n) ∷ ps) (start_pairs-append ss ts (with_name n used))
+
+-- one node more at the end of a list
+pub nodes_view-push : (ns : List HtmlNode) (n : HtmlNode) →
+    nodes_view (ns ++ n ∷ []) ≡ (nodes_view ns then node (node_view n) none)
+nodes_view-push [] n = refl
+nodes_view-push (m ∷ ns) n = ap (node (node_view m)) (nodes_view-push ns n)
+
+-- a text, which serves all that wait
+pub text_pushed : (x : Targets) (s : List ℕ) (span : ℕ) (old new : NodesView) (n : NodeView)
+    (st after : WalkState) (made : Option Name) → Serves st after (first_waiting st) None made →
+    n ≡ text_in made s span → new ≡ (old then node n none) →
+    (new, after) ≡ nodes_before old (walk x (node (text_node s span) none) st)
+unfolding walk
+text_pushed x s span old new n st after made serves is pushed =
+    rw (pushed, is, serves.name, serves.state) refl
+
+-- the views of nodes, case by case
+pub node_view-Tag : (t : Tag) → node_view (HtmlNode.Tag t) ≡ tag_node (tag_view t)
+node_view-Tag t = search (rules, the_lemmas)
+
+pub node_view-Element : (e : HtmlElement) →
+    node_view (HtmlNode.Element e) ≡ element_node (element_view e).0 (element_view e).1
+node_view-Element e = search (rules, the_lemmas)
+
+pub node_view-Frame : (f : HtmlFrame) →
+    node_view (HtmlNode.Frame f) ≡ frame_node (html_frame_view f)
+node_view-Frame f = search (rules, the_lemmas)
+
+-- a start tag, which waits where its location is a target
+pub start_pushed : (x : Targets) (l : ℕ) (label : Option Name) (dest : Option ℕ)
+    (old new : NodesView) (n : NodeView) (st after : WalkState) →
+    after ≡ started (x.is_target l) l label st → n ≡ tag_node (starts l label dest) →
+    new ≡ (old then node n none) →
+    (new, after) ≡ nodes_before old (walk x (node (tag_node (starts l label dest)) none) st)
+unfolding walk
+start_pushed x l label dest old new n st after waits is pushed = rw (pushed, is, waits) refl
+
+-- what stands after an end tag, and the state then
+abbrev pub after_end : ℕ → WalkState → Walked
+after_end l st =
+    let waiting = st.labels l in
+    (span_before (made_now waiting None st.used) none, after_server waiting None st)
+
+-- an end tag, and then the `span` that it makes
+pub end_pushed : (x : Targets) (l : ℕ) (old mid new : NodesView) (n : NodeView)
+    (st after : WalkState) → n ≡ tag_node (ends l) → mid ≡ (old then node n none) →
+    (new, after) ≡ nodes_before mid (after_end l st) →
+    (new, after) ≡ nodes_before old (walk x (node (tag_node (ends l)) none) st)
+unfolding walk
+end_pushed x l old mid new n st after is pushed more =
+    let e = after_end l st in
+    more ∙ (rw (pushed, is)
+    (ap (λ ms. (ms, e.1)) (then-assoc old (node (tag_node (ends l)) none) e.0)))
+
+-- the `span` that an end tag makes
+pub span_pushed : (l : ℕ) (old new : NodesView) (st after : WalkState) (made : Option Name) →
+    Serves st after (st.labels l) None made → new ≡ (old then span_before made none) →
+    (new, after) ≡ nodes_before old (after_end l st)
+span_pushed l old new st after made serves pushed =
+    rw (pushed, serves.name, serves.state) refl
+
+-- the name that a frame has of its own
+pub own_is : (own : Option (Bor (String Global))) →
+    option_map (λ n. text_view n.now) own ≡ optional_text_view (option_copied own)
+own_is None = refl
+own_is (Some n) = refl
+
+-- a frame's own `id`, else the new one
+pub id_is : (own made : Option (String Global)) →
+    optional_text_view (option_or own made)
+    ≡ or_else (optional_text_view own) (optional_text_view made)
+id_is None made = refl
+id_is (Some n) made = refl
+
+-- a frame, which serves all that wait
+pub frame_pushed : (x : Targets) (f : HtmlFrameView) (id : Option Name)
+    (pairs : List (PointView × Name)) (old new : NodesView) (n : NodeView)
+    (st served after : WalkState) (own made : Option Name) →
+    Serves st served (first_waiting st) own made → own ≡ f.id → id ≡ or_else f.id made →
+    (after, pairs) ≡ with_starts (frame_starts x f.inner) (served, f.anchors) →
+    n ≡ frame_node (record f { id = id; anchors = pairs }) → new ≡ (old then node n none) →
+    (new, after) ≡ nodes_before old (walk x (node (frame_node f) none) st)
+unfolding walk
+frame_pushed x f id pairs old new n st served after own made serves own_id is named node_is
+    pushed =
+    let ss = frame_starts x f.inner in
+    let state : after ≡ after_starts ss served = ap (λ w. w.0) named in
+    let anchors : pairs ≡ f.anchors ++ start_pairs served.used ss = ap (λ w. w.1) named in
+    rw (pushed, node_is, is, anchors, state, serves.name, serves.state, own_id) refl

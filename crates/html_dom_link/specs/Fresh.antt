@@ -1,0 +1,35 @@
+-- New names are new.
+use Rattle.std.specs.Prelude.{◌≡◌, ℕ, ◌+◌, ◌≤◌, ◌<◌, ◌^◌, Bool, true, false, List, [], ◌∷◌, ◌++◌, length, option_to_list}
+use Rattle.html_dom_tree.specs.Tree.{ElementView}
+use Rattle.html_names.specs.Names.{stands_in}
+use Rattle.html_dom_link.specs.NewNames.{Name, with_name, anchor_names, element_names, numbered, stem_of, first_number, first_free}
+use Rattle.html_dom_link.specs.Events.{Targets}
+use Rattle.html_dom_link.specs.Namings.{Naming}
+use Rattle.html_dom_link.specs.Anchors.{element_namings}
+
+-- each name is none of those in use, nor of those made before it
+abbrev pub AreNew : (used : Name → Bool) → List Name → Type 0
+AreNew used [] = Unit {0}
+AreNew used (n ∷ ns) = (used n ≡ false) × AreNew (with_name n used) ns
+
+abbrev pub names_made : Naming → List Name
+names_made c = option_to_list c.made ++ anchor_names c.pairs
+
+abbrev pub all_made : List Naming → List Name
+all_made [] = []
+all_made (c ∷ cs) = names_made c ++ all_made cs
+
+-- where there are no more than 2 ^ 63 of them: no memory holds so many
+abbrev pub NamesAreNew : Type 0
+NamesAreNew = (x : Targets) (e : ElementView) →
+    length (element_names e) + length (all_made (element_namings x e)) ≤ 2 ^ 63 →
+    AreNew (stands_in (element_names e)) (all_made (element_namings x e))
+
+-- the number in a new name is the first one that is free
+abbrev pub IsFirstFree : Type 0
+IsFirstFree = (label : Name) (names : List Name) → length names ≤ 2 ^ 63 →
+    let stem = stem_of label in
+    let used = stands_in names in
+    let n = first_free stem used (2 ^ 63) (first_number label) in
+    (used (numbered stem n) ≡ false)
+    × ((m : ℕ) → first_number label ≤ m → m < n → used (numbered stem m) ≡ true)

@@ -1,0 +1,29 @@
+-- Parts of the walk: one list of nodes and then another, one start tag of a frame, and several.
+use Rattle.html_dom_tree.specs.Frames.{PointView}
+use Rattle.html_dom_tree.specs.Tree.{NodesView, none, node}
+use Rattle.std.specs.Prelude.{ℕ, List, ◌++◌}
+use Rattle.html_dom_link.specs.Events.{FrameStart}
+use Rattle.html_dom_link.specs.Namings.{start_pairs}
+use Rattle.html_dom_link.specs.NewNames.{Name, with_name}
+use Rattle.html_dom_link.specs.Walk.{put, WalkState, after_starts, Walked}
+
+infixl 20 ◌then◌
+abbrev pub ◌then◌ : NodesView → NodesView → NodesView
+none then ms = ms
+(node n ns) then ms = node n (ns then ms)
+
+-- nodes that are made already, before those of a walk
+abbrev pub nodes_before : NodesView → Walked → Walked
+nodes_before made w = (made then w.0, w.1)
+
+-- a name is made for one location
+abbrev pub named_at : ℕ → Name → WalkState → WalkState
+named_at l n st = record st { used = with_name n st.used; answers = put l n st.answers }
+
+-- the state, and the anchors of a frame
+abbrev pub InFrame : Type 0
+InFrame = WalkState × List (PointView × Name)
+
+-- start tags of the frame get their names
+abbrev pub with_starts : List FrameStart → InFrame → InFrame
+with_starts ss w = (after_starts ss w.0, w.1 ++ start_pairs w.0.used ss)

@@ -1,0 +1,33 @@
+-- The anchors of a document: those of its root, for the locations that are asked for, by the points
+-- that are recorded.
+use Rattle.std.specs.Prelude.{ℕ, List, Bool, Option, Some, None}
+use Rattle.html_dom_tree.specs.Frames.{PointView}
+use Rattle.html_dom_introspect.specs.Places.{PositionView}
+use Rattle.html_dom_introspect.specs.Introspectors.{IntrospectorView}
+use Rattle.html_dom_document.specs.Documents.{DocumentView, document_root, with_root}
+use Rattle.html_dom_link.specs.Anchors.{element_anchored, anchor_of}
+use Rattle.html_dom_link.specs.Events.{Targets}
+
+-- the point at which a location was recorded, if that was in a frame
+abbrev pub recorded_point : Option PositionView → Option PointView
+recorded_point None = None
+recorded_point (Some position) = position.point
+
+abbrev pub targets_in : IntrospectorView → (is_target : ℕ → Bool) → Targets
+targets_in known is_target = record {
+  is_target = is_target;
+  points = λ location. recorded_point (known.position location);
+}
+
+abbrev pub document_targets : (is_target : ℕ → Bool) → DocumentView → Targets
+document_targets is_target d = targets_in d.introspector is_target
+
+-- the document whose root has anchors for these locations
+abbrev pub document_anchored : (is_target : ℕ → Bool) → DocumentView → DocumentView
+document_anchored is_target d = record d {
+  output = with_root d.output (element_anchored (document_targets is_target d) (document_root d));
+}
+
+-- the anchor that a location gets, if it gets one
+abbrev pub document_anchor : (is_target : ℕ → Bool) → DocumentView → ℕ → Option (List ℕ)
+document_anchor is_target d = anchor_of (document_targets is_target d) (document_root d)

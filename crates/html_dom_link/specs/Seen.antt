@@ -1,0 +1,43 @@
+-- What is seen of a tree stays, whoever looks who sees neither an `id` nor a `span` as such.
+use Rattle.std.specs.Prelude.{◌≡◌, ℕ, Bool, false, ◌||◌, List, [], ◌∷◌, ◌++◌, codes}
+use Rattle.html_dom_tree.specs.PlainTree.{words, branch, Plains, no_plains, plain, nodes_normal}
+use Rattle.html_dom_tree.specs.Tree.{TextPair, ElementView}
+use Rattle.html_dom_link.specs.NewNames.{Name}
+use Rattle.html_dom_link.specs.Events.{Targets}
+use Rattle.html_dom_link.specs.Anchors.{element_anchored}
+
+-- a way to see plain trees as lists: characters one by one, by whether blanks are preserved there;
+-- which elements preserve the blanks in them; elements, by what is seen of their children
+pub record Sight (A : Type 0) : Type 0 where
+  pub char : (preserved : Bool) → ℕ → A
+  pub preserves : (name : List ℕ) (attrs : List TextPair) → Bool
+  pub branch_seen : (name : List ℕ) (attrs : List TextPair) (inner : List A) → List A
+
+module _ {A : Type 0} where
+  abbrev pub text_seen : Sight A → (preserved : Bool) → List ℕ → List A
+  text_seen s k [] = []
+  text_seen s k (c ∷ cs) = s.char k c ∷ text_seen s k cs
+
+  unfoldable pub plains_seen : Sight A → (preserved : Bool) → Plains → List A
+  plains_seen s k no_plains = []
+  plains_seen s k (plain (words t) ps) = text_seen s k t ++ plains_seen s k ps
+  plains_seen s k (plain (branch name attrs kids) ps) =
+      s.branch_seen name attrs (plains_seen s (k || s.preserves name attrs) kids)
+      ++ plains_seen s k ps
+
+  -- an `id` in front of other attributes isn't seen, and of a `span` with nothing but an `id` only
+  -- the children are
+  pub record SeesNoAnchors (s : Sight A) : Type 0 where
+    pub id_preserves : (n : Name) (name : List ℕ) (attrs : List TextPair) →
+        s.preserves name ((codes "id", n) ∷ attrs) ≡ s.preserves name attrs
+    pub id_seen : (n : Name) (name : List ℕ) (attrs : List TextPair) (inner : List A) →
+        s.branch_seen name ((codes "id", n) ∷ attrs) inner ≡ s.branch_seen name attrs inner
+    pub span_preserves : s.preserves (codes "span") [] ≡ false
+    pub span_seen : (inner : List A) → s.branch_seen (codes "span") [] inner ≡ inner
+
+-- the normal form of the new tree is seen as that of the old one
+abbrev pub StaysSeen : (A : Type 0) → Type 0
+StaysSeen A = (s : Sight A) → SeesNoAnchors s →
+    (x : Targets) (e : ElementView) (preserved : Bool) →
+    plains_seen s preserved (nodes_normal (element_anchored x e).1)
+    ≡ plains_seen s preserved (nodes_normal e.1)

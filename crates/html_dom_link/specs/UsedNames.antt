@@ -1,0 +1,31 @@
+-- The names in use as they are held: a set of texts, and for each label the next number to try.
+use Rattle.std.specs.Prelude.{◌≡◌, ℕ, ◌+◌, ◌≤◌, ◌<◌, ◌^◌, Bool, true, false, ◌||◌, List, [], ◌∷◌, map, chars, String, Some}
+use Rattle.std.specs.declared.alloc.Global.{Global}
+use Rattle.std.specs.BTreeMap.{BTreeMap, get_by_text}
+use Rattle.std.specs.BTreeSet.{BTreeSet}
+use Rattle.html_names.specs.Names.{stands_in}
+use Rattle.html_names.specs.Texts.{text_view}
+use Rattle.html_dom_link.specs.NewNames.{Name, numbered, stem_of, first_number}
+
+abbrev pub used_in : BTreeSet (String Global) → Name → Bool
+used_in used = stands_in (map text_view used.keys)
+
+abbrev pub is_nothing : Name → Bool
+is_nothing [] = true
+is_nothing (c ∷ cs) = false
+
+-- all names with that label's numbers below `n` are in use
+pub record AreUsedBelow (used : Name → Bool) (label : Name) (n : ℕ) : Type 0 where
+  pub from_first : first_number label ≤ n
+  pub within : n ≤ first_number label + 2 ^ 63
+  pub below : (m : ℕ) → first_number label ≤ m → m < n →
+      used (numbered (stem_of label) m) ≡ true
+
+-- below the next number to try for a label, all are in use
+abbrev pub IsCounted : (used : Name → Bool) → BTreeMap (String Global) ℕ → Type 0
+IsCounted used next =
+    (bs : List ℕ) (n : ℕ) → get_by_text next bs ≡ Some n → AreUsedBelow used (chars bs) n
+
+-- these names are in use too
+abbrev pub with_names : List Name → (used : Name → Bool) → Name → Bool
+with_names names used n = stands_in names n || used n

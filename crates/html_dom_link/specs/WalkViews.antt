@@ -1,0 +1,20 @@
+-- The state of the walk, the targets and the points, as they are held.
+use Rattle.html_dom_introspect.specs.Introspectors.{has, introspector_view}
+use Rattle.html_dom_link.specs.Events.{Targets}
+use Rattle.html_dom_link.specs.LinkAnchors.{targets_in}
+use Rattle.html_dom_link.specs.UsedNames.{used_in}
+use Rattle.html_dom_link.specs.Walk.{WalkState}
+use Rattle.html_dom_link.specs.LocationMaps.{labels_in, names_in, locations_in}
+use Rattle.html_dom_link.specs.declared.sought.Sought.{Sought}
+use Rattle.html_dom_link.specs.declared.state.Walk.{Walk}
+
+abbrev pub walk_view : Walk → WalkState
+walk_view w = record {
+  waiting = locations_in w.waiting.items;
+  labels = labels_in w.labels;
+  used = used_in w.names.used;
+  answers = names_in w.answers;
+}
+
+abbrev pub targets_view : Sought → Targets
+targets_view s = targets_in (introspector_view s.known.now) (has s.targets.now)

@@ -1,0 +1,91 @@
+ghost use Rattle.std.specs.Prelude.{◌≡◌, IfOk, OnOk, OnErr};
+ghost use Rattle.html_dom_tree.specs.Views.{nodes_view};
+ghost use Rattle.html_dom_document.specs.Views.{document_view};
+ghost use Rattle.html_dom_introspect.specs.Introspectors.{has, text_in};
+ghost use Rattle.html_dom_link.specs.LinkAnchors.{document_anchor, document_anchored};
+ghost use Rattle.html_dom_link.specs.UsedNames.{used_in};
+ghost use Rattle.html_dom_link.specs.Walk.{at_first, walk};
+ghost use Rattle.html_dom_link.specs.WalkViews.{walk_view, targets_view};
+
+use crate::elements::anchored_nodes;
+use crate::names::AnchorNames;
+use crate::names_in_tree::element_names;
+use crate::sought::Sought;
+use crate::state::Walk;
+use html_dom_document::HtmlDocument;
+use html_dom_tree::{HtmlElement, HtmlNode, Location};
+use std::alloc::{AllocError, Global};
+use std::collections::{BTreeMap, BTreeSet};
+use std::mem;
+
+/// Gives the tree of a document anchors for these locations, and answers the anchor of each.
+///
+/// A start tag of one of them waits for the next element, text or frame, which serves all that wait:
+/// with its `id`, or with a new one, made of the first label that waits. A text is put in a new
+/// `span`; at an end tag of a location that waits a new empty `span` stands. A start tag in a frame
+/// gets an anchor of its own at its point. New names differ from each other and from all that the
+/// tree has. It fails only where an allocation does, and then the document is as it was.
+///
+/// The new tree is made beside the old one. [`with_link_anchors`] takes a document, and copies
+/// nothing.
+pub fn create_link_anchors(
+    alloc: Global,
+    document: &mut HtmlDocument,
+    targets: &BTreeSet<Location>,
+) -> Result<BTreeMap<Location, String>, AllocError>
+    ensures tree { OnOk result (document_view document.new
+        ≡ document_anchored (has targets.now) (document_view document.old)) }
+    ensures anchors { IfOk result (λ anchors.
+        text_in anchors ≡ document_anchor (has targets.now) (document_view document.old)) }
+    ensures kept { OnErr result (document.new ≡ document.old) }
+{
+    let names = element_names(alloc, document.root())?;
+    let HtmlElement { children, .. } = document.root().try_clone()?;
+    let sought = Sought {
+        targets,
+        known: document.introspector(),
+    };
+    let (children, state) = walk_over(alloc, names, sought, children)?;
+    document.root_mut().children = children;
+    Ok(state.answers)
+}
+
+/// The document with anchors in its tree for these locations, as [`create_link_anchors`] makes
+/// them, and the anchor of each. No node is copied. It fails only where an allocation does, and then
+/// the document is gone.
+pub fn with_link_anchors(
+    alloc: Global,
+    mut document: HtmlDocument,
+    targets: &BTreeSet<Location>,
+) -> Result<(HtmlDocument, BTreeMap<Location, String>), AllocError>
+    ensures tree { IfOk result (λ made. document_view made.0
+        ≡ document_anchored (has targets.now) (document_view document)) }
+    ensures anchors { IfOk result (λ made.
+        text_in made.1 ≡ document_anchor (has targets.now) (document_view document)) }
+{
+    let names = element_names(alloc, document.root())?;
+    let children = mem::replace(&mut document.root_mut().children, Vec::new(alloc));
+    let sought = Sought {
+        targets,
+        known: document.introspector(),
+    };
+    let (children, state) = walk_over(alloc, names, sought, children)?;
+    document.root_mut().children = children;
+    Ok((document, state.answers))
+}
+
+/// Nodes with anchors, in one walk over a tree whose names are in use, and what it ends with.
+fn walk_over(
+    alloc: Global,
+    names: AnchorNames,
+    sought: Sought<'_>,
+    nodes: Vec<HtmlNode>,
+) -> Result<(Vec<HtmlNode>, Walk), AllocError>
+    ensures { IfOk result (λ made. (nodes_view made.0.items, walk_view made.1)
+        ≡ walk (targets_view sought.entry) (nodes_view nodes.items)
+        (at_first (used_in names.used))) }
+{
+    let mut state = Walk::new(alloc, names);
+    let made = anchored_nodes(&mut state, alloc, sought, nodes)?;
+    Ok((made, state))
+}

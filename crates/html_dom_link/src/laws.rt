@@ -1,0 +1,55 @@
+//! Laws of anchors. Each function has a law as its contract, and does nothing.
+
+ghost use Rattle.html_dom_link.specs.Answered.{AnswersAreShown, AnswersAreFirstIds, StaysFrameFree, NoTargetNoChange};
+ghost use Rattle.html_dom_link.specs.Fresh.{NamesAreNew, IsFirstFree};
+ghost use Rattle.html_dom_link.specs.Seen.{StaysSeen};
+ghost use Rattle.html_dom_link.specs.Undone.{ComesBack};
+ghost use Rattle.html_dom_link.specs.Walk.{OneWalkServes};
+
+/// One walk over the tree gives the tree and the names that the groups of start tags give.
+#[tactic(auto, using(crate::proofs::Walks::one_walk_serves))]
+pub fn one_walk_serves()
+    ensures { OneWalkServes }
+{}
+
+/// Names that are made differ from each other and from all in use.
+#[tactic(auto, using(crate::proofs::Freshes::names_are_new))]
+pub fn names_are_new()
+    ensures { NamesAreNew }
+{}
+
+/// The number in a new name is the first one that is free.
+pub fn number_is_first_free()
+    ensures { IsFirstFree }
+{}
+
+/// Each name that a location gets stands in the new tree.
+#[tactic(auto, using(crate::proofs::Showing::answers_are_shown))]
+pub fn answers_are_shown()
+    ensures { AnswersAreShown }
+{}
+
+/// In a tree without frames each name that a location gets is the first `id` of an element, and the
+/// new tree has no frame either.
+#[tactic(auto, using(crate::proofs::Consequences::answers_are_first_ids, crate::proofs::Consequences::stays_frame_free))]
+pub fn answers_are_first_ids()
+    ensures first { AnswersAreFirstIds }
+    ensures free { StaysFrameFree }
+{}
+
+/// What was added, taken off again, gives the old tree.
+#[tactic(auto, using(crate::proofs::Back::comes_back))]
+pub fn comes_back()
+    ensures { ComesBack }
+{}
+
+/// Whoever sees neither an `id` nor a `span` as such sees the old tree in the new one.
+#[tactic(auto, using(crate::proofs::Seeing::stays_seen))]
+pub fn stays_seen<T>()
+    ensures { StaysSeen T }
+{}
+
+/// Without a target nothing changes, and no location gets a name.
+pub fn no_target_no_change()
+    ensures { NoTargetNoChange }
+{}

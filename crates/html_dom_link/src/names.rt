@@ -1,0 +1,186 @@
+//! The names in use, and new ones.
+
+ghost use Rattle.std.specs.Prelude.{Bool, true, [], ◌≡◌, ◌-◌, ◌≤◌, ◌<◌, ◌^◌, ◌+◌, chars, IfOk, OnOk};
+ghost use Rattle.html_dom_tree.specs.Views.{text_view, optional_text_view};
+ghost use Rattle.html_dom_link.specs.NewNames.{Name, numbered, stem_of, first_number, first_free, free_name, text_of_label, name_for, new_name, with_name};
+ghost use Rattle.html_dom_link.specs.UsedNames.{used_in, is_nothing, AreUsedBelow, IsCounted};
+
+use std::alloc::{AllocError, Global};
+use std::collections::{BTreeMap, BTreeSet};
+
+/// How many numbers are tried for a label: more than any memory holds names.
+const TRIES: u64 = 1 << 63;
+
+/// The names in use. For each label that was numbered the next number to try is kept, below which
+/// all are in use, so that numbers are not tried again for each name.
+#[derive(Drop)]
+pub(crate) struct AnchorNames {
+    used: BTreeSet<String>,
+    next: BTreeMap<String, u64>,
+    ghost counted: { IsCounted (used_in used) next },
+}
+
+/// A stem, `-` and a number.
+fn numbered(alloc: Global, stem: &str, number: u64) -> Result<String, AllocError>
+    ensures { IfOk result (λ name. text_view name ≡ numbered (chars stem.now) number) }
+{
+    format!(in alloc; "{stem}-{number}")
+}
+
+/// The first number from one on whose name is free, or the limit.
+fn first_free(
+    alloc: Global,
+    used: &BTreeSet<String>,
+    stem: &str,
+    from: u64,
+    limit: u64,
+) -> Result<u64, AllocError>
+    requires { from ≤ limit }
+    ensures { IfOk result (λ number.
+        number ≡ first_free (chars stem.now) (used_in used.now) (limit - from) from) }
+{
+    for number in from..limit {
+        if !is_used(used, &numbered(alloc, stem, number)?) {
+            return Ok(number);
+        }
+    }
+    Ok(limit)
+}
+
+/// Whether a name is in use.
+fn is_used(used: &BTreeSet<String>, name: &String) -> bool
+    ensures { result ≡ used_in used.now (text_view name.now) }
+{
+    used.contains(name.as_str())
+}
+
+/// Puts a name in use.
+fn put_in_use(used: &mut BTreeSet<String>, name: String) -> Result<(), AllocError>
+    ensures ok { OnOk result (used_in used.new ≡ with_name (text_view name) (used_in used.old)) }
+    ensures grows { (n : Name) → used_in used.old n ≡ true → used_in used.new n ≡ true }
+{
+    used.insert(name)?;
+    Ok(())
+}
+
+/// Keeps the next number to try for a label's text.
+fn put_number(
+    next: &mut BTreeMap<String, u64>,
+    label: String,
+    number: u64,
+) -> Result<(), AllocError>
+    ensures { (used : Name → Bool) → IsCounted used next.old →
+        AreUsedBelow used (text_view label) number → IsCounted used next.new }
+{
+    next.insert(label, number)?;
+    Ok(())
+}
+
+/// The label's text, empty without a label.
+fn label_text(alloc: Global, label: &Option<String>) -> Result<String, AllocError>
+    ensures { IfOk result (λ text.
+        text_view text ≡ text_of_label (optional_text_view label.now)) }
+{
+    match label {
+        Some(text) => text.clone(),
+        None => Ok(String::new(alloc)),
+    }
+}
+
+impl AnchorNames {
+    /// No name is in use.
+    pub(crate) fn new(alloc: Global) -> AnchorNames
+        ensures { result.used.keys ≡ [] }
+    {
+        AnchorNames {
+            used: BTreeSet::new(alloc),
+            next: BTreeMap::new(alloc),
+        }
+    }
+
+    /// Puts a name in use.
+    pub(crate) fn put(&mut self, name: &String) -> Result<(), AllocError>
+        ensures { OnOk result (used_in self.new.used
+            ≡ with_name (text_view name.now) (used_in self.old.used)) }
+    {
+        put_in_use(&mut self.used, name.clone()?)
+    }
+
+    /// A new name for a label, which is in use then.
+    pub(crate) fn make(
+        &mut self,
+        alloc: Global,
+        label: &Option<String>,
+    ) -> Result<String, AllocError>
+        ensures name { IfOk result (λ name. text_view name
+            ≡ new_name (optional_text_view label.now) (used_in self.old.used)) }
+        ensures used { IfOk result (λ name. used_in self.new.used
+            ≡ with_name (text_view name) (used_in self.old.used)) }
+    {
+        let name = self.new_name(alloc, label_text(alloc, label)?)?;
+        self.put(&name)?;
+        Ok(name)
+    }
+
+    /// A new name for a label's text.
+    fn new_name(&mut self, alloc: Global, label: String) -> Result<String, AllocError>
+        ensures name { IfOk result (λ name. text_view name
+            ≡ name_for (text_view label) (used_in self.old.used)) }
+        ensures same { self.new.used ≡ self.old.used }
+    {
+        if is_nothing(&label) || is_used(&self.used, &label) {
+            self.free_name(alloc, label)
+        } else {
+            Ok(label)
+        }
+    }
+
+    /// The stem of a label's text with the first number whose name is free.
+    fn free_name(&mut self, alloc: Global, label: String) -> Result<String, AllocError>
+        ensures name { IfOk result (λ name. text_view name
+            ≡ free_name (text_view label) (used_in self.old.used)) }
+        ensures same { self.new.used ≡ self.old.used }
+    {
+        let limit = first_number(&label) + TRIES;
+        let from = self.next_number(&label);
+        let number = first_free(alloc, &self.used, stem_of(&label), from, limit)?;
+        let name = numbered(alloc, stem_of(&label), number)?;
+        put_number(&mut self.next, label, number)?;
+        Ok(name)
+    }
+
+    /// The next number to try for a label's text.
+    fn next_number(&self, label: &String) -> u64
+        ensures { AreUsedBelow (used_in self.now.used) (text_view label.now) result }
+    {
+        match self.next.get(label.as_str()) {
+            Some(number) => *number,
+            None => first_number(label),
+        }
+    }
+}
+
+/// Whether a text is empty.
+fn is_nothing(text: &String) -> bool
+    ensures { result ≡ is_nothing (text_view text.now) }
+{
+    text.is_empty()
+}
+
+/// What stands before the number of a name.
+fn stem_of(label: &String) -> &str
+    ensures { chars result.now ≡ stem_of (text_view label.now) }
+{
+    if is_nothing(label) {
+        "loc"
+    } else {
+        label.as_str()
+    }
+}
+
+/// The first number of a name.
+fn first_number(label: &String) -> u64
+    ensures { result ≡ first_number (text_view label.now) }
+{
+    if is_nothing(label) { 1 } else { 2 }
+}

@@ -1,0 +1,30 @@
+//! Which locations get anchors.
+
+use html_dom_introspect::HtmlIntrospector;
+use html_dom_tree::{Location, Point};
+use std::collections::BTreeSet;
+
+/// The locations that links lead to, and what is known of locations.
+#[derive(Clone, Copy)]
+pub(crate) struct Sought<'a> {
+    /// The locations that links lead to.
+    pub(crate) targets: &'a BTreeSet<Location>,
+    /// Where locations were recorded.
+    pub(crate) known: &'a HtmlIntrospector,
+}
+
+impl Sought<'_> {
+    ghost use Rattle.std.specs.Prelude.{◌≡◌, option_map};
+    ghost use Rattle.html_dom_tree.specs.FrameViews.{point_view};
+    ghost use Rattle.html_dom_link.specs.WalkViews.{targets_view};
+
+    /// The point at which a location was recorded, if that was in a frame.
+    pub(crate) fn point(self, location: Location) -> Option<Point>
+        ensures { option_map point_view result ≡ (targets_view self.entry).points location.0 }
+    {
+        match self.known.position(location) {
+            Some(position) => position.point(),
+            None => None,
+        }
+    }
+}

@@ -1,0 +1,172 @@
+//! What the walk over a tree carries.
+
+use crate::location_maps::{label_of, put_each, put_first_label, put_name};
+use crate::names::AnchorNames;
+use html_dom_tree::Location;
+use std::alloc::{AllocError, Global};
+use std::collections::{BTreeMap, BTreeSet};
+
+/// What waits for a server, the names in use, and the names that locations have.
+#[derive(Drop)]
+pub(crate) struct Walk {
+    /// The locations of the start tags that wait, in order.
+    pub(crate) waiting: Vec<Location>,
+    /// For each location that waits the label of its first start tag.
+    pub(crate) labels: BTreeMap<Location, Option<String>>,
+    /// The names in use.
+    pub(crate) names: AnchorNames,
+    /// The last name of each location.
+    pub(crate) answers: BTreeMap<Location, String>,
+}
+
+impl Walk {
+    ghost use Rattle.std.specs.Prelude.{◌≡◌, Some, None, IfOk, OnOk, option_map};
+    ghost use Rattle.html_dom_tree.specs.Views.{text_view, optional_text_view};
+    ghost use Rattle.std.specs.BTreeSet.{contains};
+    ghost use Rattle.html_dom_link.specs.LocationMaps.{location_cmp};
+    ghost use Rattle.html_dom_link.specs.Walk.{queued, started, served, first_waiting, at_first, Serves};
+    ghost use Rattle.html_dom_link.specs.Joined.{named_at};
+    ghost use Rattle.html_dom_link.specs.NewNames.{new_name};
+    ghost use Rattle.html_dom_link.specs.UsedNames.{used_in};
+    ghost use Rattle.html_dom_link.specs.WalkViews.{walk_view};
+
+    /// A start tag of a target waits for a server.
+    pub(crate) fn queue(
+        &mut self,
+        location: Location,
+        label: &Option<String>,
+    ) -> Result<(), AllocError>
+        ensures { OnOk result (walk_view self.new
+            ≡ queued location.0 (optional_text_view label.now) (walk_view self.old)) }
+    {
+        self.waiting.push(location)?;
+        put_first_label(&mut self.labels, location, label)
+    }
+
+    /// A start tag waits for a server where its location is a target.
+    pub(crate) fn start(
+        &mut self,
+        targets: &BTreeSet<Location>,
+        location: Location,
+        label: &Option<String>,
+    ) -> Result<(), AllocError>
+        ensures { OnOk result (walk_view self.new
+            ≡ started (contains location_cmp targets.now location) location.0
+            (optional_text_view label.now) (walk_view self.old)) }
+    {
+        if targets.contains(&location) {
+            self.queue(location, label)?;
+        }
+        Ok(())
+    }
+
+    /// The label of the first start tag that waits, where one does.
+    fn first_waiting(&self) -> Result<Option<Option<String>>, AllocError>
+        ensures { IfOk result (λ label.
+            option_map optional_text_view label ≡ first_waiting (walk_view self.now)) }
+    {
+        match self.waiting.first() {
+            Some(location) => label_of(&self.labels, *location),
+            None => Ok(None),
+        }
+    }
+
+    /// The walk before the first node, over a tree whose names are in use.
+    pub(crate) fn new(alloc: Global, names: AnchorNames) -> Walk
+        ensures { walk_view result ≡ at_first (used_in names.used) }
+    {
+        Walk {
+            waiting: Vec::new(alloc),
+            labels: BTreeMap::new(alloc),
+            names,
+            answers: BTreeMap::new(alloc),
+        }
+    }
+
+    /// A start tag in a frame gets a new name of its own, which is answered.
+    pub(crate) fn name_start(
+        &mut self,
+        alloc: Global,
+        location: Location,
+        label: &Option<String>,
+    ) -> Result<String, AllocError>
+        ensures name { IfOk result (λ name. text_view name
+            ≡ new_name (optional_text_view label.now) (walk_view self.old).used) }
+        ensures state { IfOk result (λ name.
+            walk_view self.new ≡ named_at location.0 (text_view name) (walk_view self.old)) }
+    {
+        let name = self.names.make(alloc, label)?;
+        put_name(&mut self.answers, location, &name)?;
+        Ok(name)
+    }
+
+    /// All that wait get the name.
+    fn answer_all(&mut self, alloc: Global, name: &String) -> Result<(), AllocError>
+        ensures { OnOk result (walk_view self.new
+            ≡ served (text_view name.now) (walk_view self.old)) }
+    {
+        put_each(&mut self.answers, &self.waiting, name)?;
+        self.waiting = Vec::new(alloc);
+        self.labels = BTreeMap::new(alloc);
+        Ok(())
+    }
+
+    /// A server with a name of its own serves all that wait.
+    fn serve_with(&mut self, alloc: Global, own: &String) -> Result<Option<String>, AllocError>
+        ensures { IfOk result (λ made. Serves (walk_view self.old) (walk_view self.new)
+            (Some None) (Some (text_view own.now)) (optional_text_view made)) }
+    {
+        self.answer_all(alloc, own)?;
+        Ok(None)
+    }
+
+    /// A new name, made from a label, serves all that wait.
+    fn serve_new(
+        &mut self,
+        alloc: Global,
+        label: &Option<String>,
+    ) -> Result<Option<String>, AllocError>
+        ensures { IfOk result (λ made. Serves (walk_view self.old) (walk_view self.new)
+            (Some (optional_text_view label.now)) None (optional_text_view made)) }
+    {
+        let name = self.names.make(alloc, label)?;
+        self.answer_all(alloc, &name)?;
+        Ok(Some(name))
+    }
+
+    /// A server, which may have a name of its own, serves all that wait. The name that is made for
+    /// it is answered.
+    pub(crate) fn serve(
+        &mut self,
+        alloc: Global,
+        own: Option<&String>,
+    ) -> Result<Option<String>, AllocError>
+        ensures { IfOk result (λ made. Serves (walk_view self.old) (walk_view self.new)
+            (first_waiting (walk_view self.old)) (option_map (λ n. text_view n.now) own.entry)
+            (optional_text_view made)) }
+    {
+        let Some(label) = self.first_waiting()? else {
+            return Ok(None);
+        };
+        match own {
+            Some(name) => self.serve_with(alloc, name),
+            None => self.serve_new(alloc, &label),
+        }
+    }
+
+    /// An end tag serves all that wait, where its location waits. The name that is made is
+    /// answered.
+    pub(crate) fn end(
+        &mut self,
+        alloc: Global,
+        location: Location,
+    ) -> Result<Option<String>, AllocError>
+        ensures { IfOk result (λ made. Serves (walk_view self.old) (walk_view self.new)
+            ((walk_view self.old).labels location.0) None (optional_text_view made)) }
+    {
+        match label_of(&self.labels, location)? {
+            Some(label) => self.serve_new(alloc, &label),
+            None => Ok(None),
+        }
+    }
+}

@@ -1,0 +1,11 @@
+use Rattle.html_dom_tree.specs.Equal.{tag_discrete}
+use Rattle.html_dom_tree.specs.Views.{tag_view}
+use Rattle.html_names.proofs.Equals.{same_result}
+use Rattle.html_dom_tree.proofs.introspection.TagPartialEq.eq.Goals as goal
+
+pub returns : goal.returns
+returns c =
+    let a = c.args.self.now in
+    let b = c.args.other.now in
+    let answer = c.same_tag in
+    same_result tag_view tag_discrete a b answer.result answer.ensures

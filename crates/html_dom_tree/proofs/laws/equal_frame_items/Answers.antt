@@ -1,0 +1,7 @@
+use Rattle.html_names.proofs.Equals.{same_law}
+use Rattle.html_dom_tree.specs.FrameEqual.{frame_item_discrete}
+use Rattle.html_dom_tree.specs.FrameViews.{frame_item_view}
+use Rattle.html_dom_tree.proofs.laws.equal_frame_items.Goals as goal
+
+pub returns : goal.returns
+returns c = same_law frame_item_view frame_item_discrete c.args.a.now c.args.b.now _ c.eq.ensures

@@ -1,0 +1,7 @@
+use Rattle.html_names.proofs.Equals.{same_law}
+use Rattle.html_dom_tree.specs.Equal.{tag_discrete}
+use Rattle.html_dom_tree.specs.FrameViews.{tag_view}
+use Rattle.html_dom_tree.proofs.laws.equal_tags.Goals as goal
+
+pub returns : goal.returns
+returns c = same_law tag_view tag_discrete c.args.a.now c.args.b.now _ c.eq.ensures

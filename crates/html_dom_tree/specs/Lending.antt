@@ -1,0 +1,19 @@
+-- What an attribute list ends as, where a `&mut` to a value is returned.
+use denote.RattleType.{RattleType}
+use Rattle.std.specs.Prelude.{ℕ, String, slice_index_or, []}
+use Rattle.std.specs.Vec.{with_item}
+use Rattle.std.specs.declared.alloc.Global.{Global}
+use Rattle.std.specs.contracts.alloc.Global as global
+use Rattle.std.specs.contracts.string.String as text
+use Rattle.std.specs.contracts.impls.GlobalAllocator.TheImpl.{ghosts}
+use Rattle.html_dom_tree.specs.declared.attrs.HtmlAttrs.{HtmlAttrs}
+
+-- the type of a text, as the logic names it
+abbrev pub text_row : RattleType
+text_row = text.the_row global.the_row ghosts
+
+-- with that text as the value of the pair at a place
+abbrev pub with_text : HtmlAttrs → ℕ → String Global → HtmlAttrs
+with_text attrs place value =
+    let name = (slice_index_or attrs.0.items place ([], value)).0 in
+    record attrs { 0 = with_item attrs.0 place (name, value) }

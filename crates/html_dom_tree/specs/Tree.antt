@@ -1,0 +1,48 @@
+-- The tree of a document as a pure value, in which texts are lists of characters.
+use Rattle.std.specs.Prelude.{ℕ, List, [], ◌∷◌, ◌++◌, Bool, false, Option, None}
+-- an attribute is a pair: its name and its value
+pub use Rattle.html_names.specs.Texts.{TextPair}
+pub use Rattle.html_dom_tree.specs.Tags.{TagView, TagView-discrete, starts, ends}
+use Rattle.html_dom_tree.specs.Frames.{HtmlFrameView}
+
+-- an element apart from its children
+pub record Head : Type 0 where
+  pub name : List ℕ
+  pub attrs : List TextPair
+  pub css : List TextPair
+  pub parent : Option ℕ
+  pub span : ℕ
+  pub pre_span : Bool
+
+mutual
+  pub data NodeView : Type 0 where
+    tag_node : TagView → NodeView
+    text_node : (content : List ℕ) (span : ℕ) → NodeView
+    element_node : (head : Head) (children : NodesView) → NodeView
+    frame_node : HtmlFrameView → NodeView
+    deriving Discrete as NodeView-discrete
+
+  pub data NodesView : Type 0 where
+    none : NodesView
+    node : NodeView → NodesView → NodesView
+    deriving Discrete as NodesView-discrete
+
+-- an element, and its children
+abbrev pub ElementView : Type 0
+ElementView = Head × NodesView
+
+-- an element of that name, with no attribute, css, child or parent
+abbrev pub new_element : List ℕ → ElementView
+new_element name =
+    (record { name = name; attrs = []; css = []; parent = None; span = 0; pre_span = false }, none)
+
+-- an element with a pair added as its last attribute
+abbrev pub with_pair : TextPair → ElementView → ElementView
+with_pair pair e = (record e.0 { attrs = e.0.attrs ++ pair ∷ [] }, e.1)
+
+-- the span of a node, 0 for a tag
+abbrev pub node_span : NodeView → ℕ
+node_span (tag_node t) = 0
+node_span (text_node s span) = span
+node_span (element_node h ns) = h.span
+node_span (frame_node f) = f.span

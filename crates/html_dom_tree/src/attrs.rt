@@ -1,0 +1,214 @@
+ghost use Rattle.std.specs.Prelude.{◌≡◌, ◌↔◌, ◌++◌, ◌∷◌, [], IsTrue, OnOk, OnErr, IfErr, IfOk, map, option_map, is_some};
+ghost use Rattle.html_dom_tree.specs.Views.{text_view, pair_view, attrs_view};
+ghost use Rattle.html_dom_tree.specs.Attributes.{first, has, place, union};
+
+use crate::text::same_text;
+use html_names::{HtmlAttr, Refused};
+use std::alloc::{AllocError, AllocFailed, Global};
+use std::hash::{Hash, Hasher};
+
+/// The attributes of an element, in the order in which they are written. A name may come more than
+/// once. Two lists are equal where their names and values are, in order.
+///
+/// A contract sees the list of names and values.
+#[derive(Debug, Drop)]
+pub struct HtmlAttrs(pub Vec<(HtmlAttr, String)>);
+
+impl HtmlAttrs {
+    ghost use Rattle.std.specs.Prelude.{OnSome, ◌<◌, vec_len, slice_index_or};
+    ghost use Rattle.std.specs.Borrow.{Lends, LendsSo, sem};
+    ghost use Rattle.html_dom_tree.specs.Attributes.{with_value};
+    ghost use Rattle.html_dom_tree.specs.Lending.{text_row, with_text};
+    ghost use Rattle.html_dom_tree.specs.contracts.attrs.HtmlAttrs.{the_row};
+
+    /// The empty list.
+    pub fn new(alloc: Global) -> HtmlAttrs
+        ensures { attrs_view result ≡ [] }
+    {
+        HtmlAttrs(Vec::new(alloc))
+    }
+
+    /// Adds a pair at the end. Where an allocation fails, the list stays and the pair comes back.
+    pub fn push(&mut self, attr: HtmlAttr, value: String) -> Result<(), Refused<(HtmlAttr, String)>>
+        ensures ok { OnOk result
+            (attrs_view self.new ≡ attrs_view self.old ++ (attr, text_view value) ∷ []) }
+        ensures err { OnErr result (attrs_view self.new ≡ attrs_view self.old) }
+        ensures back { IfErr result (λ refused. refused.back ≡ (attr, value)) }
+    {
+        match self.0.push((attr, value)) {
+            Ok(()) => Ok(()),
+            Err(AllocFailed { value }) => Err(Refused { back: value }),
+        }
+    }
+
+    /// Adds a pair at the front. Where an allocation fails, the list stays and the pair comes back.
+    pub fn push_front(
+        &mut self,
+        attr: HtmlAttr,
+        value: String,
+    ) -> Result<(), Refused<(HtmlAttr, String)>>
+        ensures ok { OnOk result
+            (attrs_view self.new ≡ (attr, text_view value) ∷ attrs_view self.old) }
+        ensures err { OnErr result (attrs_view self.new ≡ attrs_view self.old) }
+        ensures back { IfErr result (λ refused. refused.back ≡ (attr, value)) }
+    {
+        match self.0.insert(0, (attr, value)) {
+            Ok(()) => Ok(()),
+            Err(AllocFailed { value }) => Err(Refused { back: value }),
+        }
+    }
+
+    /// The value of the first pair of that name.
+    pub fn get(&self, attr: &HtmlAttr) -> Option<&String>
+        ensures { option_map (λ value. text_view value.now) result
+            ≡ first (attrs_view self.now) attr.now }
+    {
+        for pair in &self.0 {
+            if pair.0 == *attr {
+                return Some(&pair.1);
+            }
+        }
+        None
+    }
+
+    /// The value of the first pair of that name, to be changed. The pair keeps its name, and the
+    /// others stay.
+    pub fn get_mut(&mut self, attr: &HtmlAttr) -> Option<&mut String>
+        ensures* writes_back { sem 𝓛 (LendsSo the_row text_row self.entry result
+            (λ attrs value. OnSome result
+            (attrs_view attrs ≡ with_value (attrs_view self.old) attr.now (text_view value)))
+            (λ attrs. attrs_view attrs ≡ attrs_view self.old)) }
+        ensures value { option_map (λ value. text_view value.now) result
+            ≡ first (attrs_view self.old) attr.now }
+    {
+        let place = self.place(attr);
+        if place < self.0.len() {
+            return Some(self.value_mut(place));
+        }
+        None
+    }
+
+    /// The value of the pair at that place, to be changed.
+    fn value_mut(&mut self, place: usize) -> &mut String
+        requires { place < vec_len self.old.0 }
+        ensures* writes_back { sem 𝓛 (Lends the_row text_row self.entry result
+            (with_text self.old place)) }
+        ensures value { result.now ≡ (slice_index_or self.old.0.items place ([], result.now)).1 }
+    {
+        &mut self.0[place].1
+    }
+
+    /// How many pairs stand before the first of that name.
+    fn place(&self, attr: &HtmlAttr) -> usize
+        ensures { result ≡ place (attrs_view self.now) attr.now }
+    {
+        let mut place = 0;
+        for pair in &self.0 {
+            if pair.0 == *attr {
+                break;
+            }
+            place += 1;
+        }
+        place
+    }
+
+    /// Whether a pair of that name is there.
+    fn contains(&self, attr: &HtmlAttr) -> bool
+        ensures { result ≡ has (attrs_view self.now) attr.now }
+    {
+        self.get(attr).is_some()
+    }
+
+    /// These pairs, and then the first pair of each name of `outer` that is not among them. Where
+    /// an allocation fails, both lists come back. The time grows with the product of both lengths.
+    pub fn fold(mut self, outer: HtmlAttrs) -> Result<HtmlAttrs, Refused<(HtmlAttrs, HtmlAttrs)>>
+        ensures union { IfOk result (λ attrs.
+            attrs_view attrs ≡ union (attrs_view self) (attrs_view outer)) }
+        ensures back { IfErr result (λ refused. (attrs_view refused.back.0 ≡ attrs_view self)
+            × (attrs_view refused.back.1 ≡ attrs_view outer)) }
+    {
+        if self.0.reserve(outer.0.len()).is_err() {
+            return Err(Refused {
+                back: (self, outer),
+            });
+        }
+        for (attr, value) in outer.0 {
+            if self.contains(&attr) {
+                continue;
+            }
+            if self.0.push((attr, value)).is_err() {
+                unreachable!();
+            }
+        }
+        Ok(self)
+    }
+
+    /// A copy. It fails only where an allocation does.
+    pub fn try_clone(&self) -> Result<HtmlAttrs, AllocError>
+        ensures { IfOk result (λ copy. attrs_view copy ≡ attrs_view self.now) }
+    {
+        let mut pairs = Vec::new(*self.0.allocator());
+        for (attr, value) in &self.0 {
+            pairs.push((attr.try_clone()?, value.clone()?))?;
+        }
+        Ok(HtmlAttrs(pairs))
+    }
+}
+
+fn same_pair(a: &(HtmlAttr, String), b: &(HtmlAttr, String)) -> bool
+    ensures { IsTrue result ↔ (pair_view a.now ≡ pair_view b.now) }
+{
+    a.0 == b.0 && same_text(&a.1, &b.1)
+}
+
+#[tactic(auto, using(html_names::proofs::Equals::same_count))]
+fn same_pairs(a: &[(HtmlAttr, String)], b: &[(HtmlAttr, String)]) -> bool
+    ensures { IsTrue result ↔ (map pair_view a.now ≡ map pair_view b.now) }
+{
+    if a.len() != b.len() {
+        return false;
+    }
+    for (i, pair) in a.iter().enumerate() {
+        if !same_pair(pair, &b[i]) {
+            return false;
+        }
+    }
+    true
+}
+
+pub(crate) fn same_attrs(a: &HtmlAttrs, b: &HtmlAttrs) -> bool
+    ensures { IsTrue result ↔ (attrs_view a.now ≡ attrs_view b.now) }
+{
+    same_pairs(&a.0, &b.0)
+}
+
+impl PartialEq for HtmlAttrs {
+    ghost use Rattle.std.specs.Cmp.{partial_equiv_from_equiv};
+    ghost use Rattle.html_dom_tree.specs.Equal.{same, same_equiv, pairs_discrete};
+
+    ghost eq = { same attrs_view pairs_discrete };
+
+    ghost laws = { partial_equiv_from_equiv (same_equiv attrs_view pairs_discrete) };
+
+    fn eq(&self, other: &HtmlAttrs) -> bool {
+        same_attrs(self, other)
+    }
+}
+
+impl Eq for HtmlAttrs {
+    ghost use Rattle.html_dom_tree.specs.Equal.{same_equiv, pairs_discrete};
+
+    ghost laws = { same_equiv attrs_view pairs_discrete };
+}
+
+impl Hash for HtmlAttrs {
+    ghost use Rattle.html_dom_tree.specs.Hashes.{pairs_fed, equal_fed};
+
+    ghost hash_input = { λ attrs. pairs_fed (attrs_view attrs) };
+
+    ghost respects_eq = { equal_fed };
+
+    fn hash<H: Hasher>(&self, state: &mut H) {
+        self.0.hash(state);
+    }
+}

@@ -1,5 +1,0 @@
-use Rattle.html_encode.proofs.ReadingBack.{reads_back}
-use Rattle.html_encode.proofs.laws.text_reads_back.Goals as goal
-
-pub returns : goal.returns
-returns c = reads_back

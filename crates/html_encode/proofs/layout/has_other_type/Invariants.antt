@@ -1,9 +1,0 @@
-use Rattle.std.proofs.Common.{◌≡◌, map, drop}
-use Rattle.html_flat.specs.FlatViews.{flat_pair}
-use Rattle.html_encode.specs.Layout.{has_other_type}
-use Rattle.html_encode.proofs.layout.has_other_type.Given as goal
-
-abbrev pub invariant-loop-number : goal.invariant-loop-number
-invariant-loop-number l =
-    has_other_type (map (flat_pair l.head.names.now) (drop l.number-index l.number-items))
-    ≡ has_other_type (map (flat_pair l.head.names.now) l.number-items)

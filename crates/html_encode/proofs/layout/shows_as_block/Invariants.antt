@@ -1,9 +1,0 @@
-use Rattle.std.proofs.Common.{◌≡◌, map, drop, codes}
-use Rattle.html_dom.specs.Attributes.{first}
-use Rattle.html_flat.specs.FlatViews.{flat_pair}
-use Rattle.html_encode.proofs.layout.shows_as_block.Given as goal
-
-abbrev pub invariant-loop-number : goal.invariant-loop-number
-invariant-loop-number l =
-    first (map (flat_pair l.head.names.now) (drop l.number-index l.number-items)) (codes "display")
-    ≡ first (map (flat_pair l.head.names.now) l.number-items) (codes "display")

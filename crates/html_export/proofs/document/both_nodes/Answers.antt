@@ -1,9 +1,0 @@
-use Rattle.std.proofs.Common.{◌∙◌, ap}
-use Rattle.html_dom.specs.Views.{nodes_view}
-use Rattle.html_export.proofs.Nodes.{both_view}
-use Rattle.html_export.proofs.document.both_nodes.Goals as goal
-
-pub returns : goal.returns
-returns c =
-    ap nodes_view c.in_ok-append.ensures.items
-    ∙ both_view c.args.content.items c.args.notes.items

@@ -1,0 +1,124 @@
+-- The lone node of a list by its place, texts in bytes, and lists of css.
+use Rattle.std.proofs.Common.{◌≡◌, ℕ, suc, ◌+◌, ◌-◌, ◌<◌, ◌≤◌, List, [], ◌∷◌, length, get_or, take, drop, map, Bool, true, false, ◌&&◌, if◌then◌else◌, Option, Some, None, Bor, codes, chars, bytes_eq, IsUtf8, refl, sym, ap, ◌∙◌, add-one, drop-cons, length-drop}
+use Rattle.std.proofs.Math.Seq.{take-length}
+use Rattle.std.specs.List.{list_all}
+use Rattle.std.proofs.lemmas.List.Folds.{list_all-map}
+use Rattle.std.proofs.lemmas.List.{at_drop_all}
+use Rattle.html_names.specs.Names.{is_ascii}
+use Rattle.html_names.specs.Texts.{TextPair}
+use Rattle.html_names.proofs.Lists.{chars_ascii, bytes_eq-chars}
+use Rattle.html_values_css.specs.Properties.{with_value, without}
+use Rattle.html_dom_tree.specs.Tree.{Head, NodeView, NodesView, element_node, node}
+use Rattle.html_dom_tree.specs.Views.{nodes_of}
+use Rattle.html_flow_whitespace.specs.DraftViews.{draft_shown}
+use Rattle.html_flow_whitespace.specs.declared.draft.Draft.{Draft}
+use Rattle.html_flow_whitespace.specs.Nodes.{is_tag}
+use Rattle.html_flow_convert.specs.declared.lone.DisplayChange.{DisplayChange}
+use Rattle.html_flow_convert.specs.declared.lone.DisplayChange.TheVariants.{Removed, SetTo}
+use Rattle.html_flow_convert.specs.LoneNode.{DisplayChangeView, change_view, css_displayed, node_displayed, node_list, are_tags, lone_alone, lone_node, changed_or_in}
+
+-- the nodes that drafts stand for, as a list is told
+abbrev pub shown_of : List Draft → NodesView
+shown_of ds = nodes_of (map draft_shown ds)
+
+pub node_list_of : (ns : List NodeView) → node_list (nodes_of ns) ≡ ns
+unfolding node_list
+node_list_of [] = refl
+node_list_of (n ∷ ns) = ap (λ l. n ∷ l) (node_list_of ns)
+
+are_tags_of : (ns : List NodeView) → are_tags (nodes_of ns) ≡ list_all is_tag ns
+are_tags_of [] = refl
+are_tags_of (n ∷ ns) = ap (λ b. is_tag n && b) (are_tags_of ns)
+
+drop_whole : {A : Type 0} (k : ℕ) (xs : List A) → take (length xs - k) (drop k xs) ≡ drop k xs
+drop_whole k xs = ap (λ m. take m (drop k xs)) (sym (length-drop k xs)) ∙ take-length (drop k xs)
+
+-- the nodes from a place on, with the node at it
+module _ (nodes : List Draft) (k : ℕ) (n : Draft) (below : k < length nodes)
+    (is : n ≡ get_or nodes k n) where
+  from_place : drop k nodes ≡ n ∷ drop (k + 1) nodes
+  from_place =
+      drop-cons nodes k n below ∙ (ap (λ m. m ∷ drop (suc k) nodes) (sym is)
+      ∙ ap (λ j. n ∷ drop j nodes) (sym (add-one k)))
+
+  -- a tag is passed
+  pub tag_passed : is_tag (draft_shown n) ≡ true
+      → lone_node (shown_of (drop k nodes)) ≡ lone_node (shown_of nodes)
+      → lone_node (shown_of (drop (k + 1) nodes)) ≡ lone_node (shown_of nodes)
+  unfolding lone_node
+  tag_passed tag same =
+      let on : lone_node (node (draft_shown n) (shown_of (drop (k + 1) nodes)))
+      ≡ lone_node (shown_of (drop (k + 1) nodes)) = rw tag refl in
+      sym on ∙ (ap (λ ns. lone_node (shown_of ns)) (sym from_place) ∙ same)
+
+  -- the first other node decides, with what stands behind it
+  pub decided : (tags : Bool) → is_tag (draft_shown n) ≡ false
+      → list_all (λ m. is_tag (draft_shown m))
+      (take (length nodes - (k + 1)) (drop (k + 1) nodes)) ≡ tags
+      → lone_node (shown_of (drop k nodes)) ≡ lone_node (shown_of nodes)
+      → lone_node (shown_of nodes) ≡ (if tags then lone_alone (draft_shown n) else None)
+  unfolding lone_node
+  decided tags other behind same =
+      let rest = drop (k + 1) nodes in
+      let all : are_tags (shown_of rest) ≡ tags =
+      are_tags_of (map draft_shown rest) ∙ (list_all-map is_tag draft_shown rest
+      ∙ (ap (list_all (λ m. is_tag (draft_shown m))) (sym (drop_whole (k + 1) nodes)) ∙ behind)) in
+      let here : lone_node (node (draft_shown n) (shown_of rest))
+      ≡ (if tags then lone_alone (draft_shown n) else None) = rw (other, all) refl in
+      sym same ∙ (ap (λ ns. lone_node (shown_of ns)) from_place ∙ here)
+
+-- tags alone are passed to the end
+pub none_left : (nodes : List Draft) (k : ℕ) → length nodes ≤ k
+    → lone_node (shown_of (drop k nodes)) ≡ lone_node (shown_of nodes)
+    → lone_node (shown_of nodes) ≡ None
+unfolding lone_node
+none_left nodes k past same =
+    sym same ∙ at_drop_all (λ ns. lone_node (shown_of ns)) nodes k past
+
+pub display_name : chars (codes "display") ≡ codes "display"
+display_name = chars_ascii (codes "display") refl
+
+pub block_text : IsUtf8 (codes "block")
+unfolding lib.Utf8.encode
+block_text = (codes "block", (refl, refl))
+
+-- the text is that word of ASCII
+pub bytes_eq-word : (text word : List ℕ) → is_ascii word ≡ true → IsUtf8 text → IsUtf8 word
+    → bytes_eq (chars text) word ≡ bytes_eq text word
+bytes_eq-word text word ascii utf8 own =
+    ap (λ w. bytes_eq (chars text) w) (sym (chars_ascii word ascii))
+    ∙ bytes_eq-chars text word utf8 own
+
+-- these words are their own characters
+pub block_word : chars (codes "block") ≡ codes "block"
+block_word = chars_ascii (codes "block") refl
+
+pub block_math_word : chars (codes "block math") ≡ codes "block math"
+block_math_word = chars_ascii (codes "block math") refl
+
+pub inline_math_word : chars (codes "inline math") ≡ codes "inline math"
+inline_math_word = chars_ascii (codes "inline math") refl
+
+-- what the program's change does to css
+module _ (change : DisplayChange) (css : List TextPair) where
+  pub display_removed : change ≡ Removed
+      → without css (chars (codes "display")) ≡ css_displayed (change_view change) css
+  display_removed is = rw is (ap (without css) display_name)
+
+  pub display_set : (value : Bor (List ℕ)) (text : List ℕ) → change ≡ SetTo value
+      → text ≡ value.now
+      → with_value css (chars (codes "display")) (chars text)
+      ≡ css_displayed (change_view change) css
+  display_set value text is same =
+      rw is (ap (λ name. with_value css name (chars text)) display_name
+      ∙ ap (λ t. with_value css (codes "display") (chars t)) same)
+
+-- the nodes by the change of the lone one
+module _ (h : Head) (o : Option DisplayChangeView) (body : List NodeView) where
+  pub changed_is : (change : DisplayChangeView) → Some change ≡ o
+      → map (node_displayed change) body ≡ changed_or_in h o (nodes_of body)
+  changed_is change is = rw (← is) (ap (map (node_displayed change)) (sym (node_list_of body)))
+
+  pub wrapped_is : None ≡ o
+      → element_node h (nodes_of body) ∷ [] ≡ changed_or_in h o (nodes_of body)
+  wrapped_is is = rw (← is) refl

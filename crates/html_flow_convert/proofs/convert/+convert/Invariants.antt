@@ -1,0 +1,31 @@
+use Rattle.std.proofs.Common.{◌≡◌, ◌+◌, ◌*◌, ◌++◌, drop}
+use Rattle.html_flow_convert.specs.Converted.{items_nodes, role_text}
+use Rattle.html_flow_convert.specs.Depth.{items_too_deep}
+use Rattle.html_flow_convert.specs.Rows.{row_shown}
+use Rattle.html_flow_convert.specs.Views.{items_view}
+use Rattle.html_flow_convert.proofs.convert.+convert.Given as goal
+
+abbrev pub invariant-convert_list-loop-pair : goal.invariant-convert_list-loop-pair
+invariant-convert_list-loop-pair l =
+    let role = role_text l.setting.role in
+    let left = items_view (drop l.pair-index l.items) in
+    let all = items_view l.items in
+    record {
+      told : row_shown l.nodes ++ items_nodes l.setting.whitespace role left
+          ≡ items_nodes l.setting.whitespace role all;
+      shallow : items_too_deep l.setting.depth l.setting.limit left
+          ≡ items_too_deep l.setting.depth l.setting.limit all;
+    }
+
+-- a body is as deep as its list, so it counts one more
+abbrev pub decreases-convert_list : goal.decreases-convert_list
+decreases-convert_list l = goal.size-convert_list l * 2
+
+abbrev pub decreases-convert_body : goal.decreases-convert_body
+decreases-convert_body l = goal.size-convert_body l * 2 + 1
+
+abbrev pub decreases-push_item : goal.decreases-push_item
+decreases-push_item l = goal.size-push_item l * 2
+
+abbrev pub decreases-push_element : goal.decreases-push_element
+decreases-push_element l = goal.size-push_element l * 2

@@ -1,0 +1,74 @@
+-- What a document flows: items as pure values, in which texts are lists of characters.
+use Rattle.std.specs.Prelude.{ℕ, ℤ, List, [], ◌∷◌, ◌++◌, Option, None, Some}
+use Rattle.html_names.specs.Texts.{TextPair}
+use Rattle.html_dom_tree.specs.Tags.{TagView}
+use Rattle.html_dom_tree.specs.Frames.{FrameView}
+
+-- the role of an item: that of its list, its own, or none
+pub data RoleView : Type 0 where
+  inherits : RoleView
+  sets : List ℕ → RoleView
+  unsets : RoleView
+
+-- an element apart from its body
+pub record ElemHead : Type 0 where
+  pub name : List ℕ
+  pub attrs : List TextPair
+  pub css : List TextPair
+  pub parent : Option ℕ
+  pub span : ℕ
+
+-- a drawing, the size of the text around it in millionths of a point, and its span
+pub record FrameElemView : Type 0 where
+  pub inner : FrameView
+  pub text_size : ℤ
+  pub span : ℕ
+
+mutual
+  pub data ItemView : Type 0 where
+    tag_item : TagView → ItemView
+    element_item : ElemHead → BodyView → ItemView
+    space_item : (span : ℕ) → ItemView
+    text_item : (text : List ℕ) (span : ℕ) → ItemView
+    hole_item : ItemView
+    break_item : (span : ℕ) → ItemView
+    box_item : BodyView → (span : ℕ) → ItemView
+    block_item : BodyView → (span : ℕ) → ItemView
+    frame_item : FrameElemView → ItemView
+
+  -- items in a row, each with its role
+  pub data ItemsView : Type 0 where
+    no_items : ItemsView
+    item : ItemView → RoleView → ItemsView → ItemsView
+
+  pub data BodyView : Type 0 where
+    absent : BodyView
+    present : ItemsView → BodyView
+
+-- an element with its body
+abbrev pub ElemView : Type 0
+ElemView = ElemHead × BodyView
+
+-- an element of that name and nothing else
+abbrev pub new_head : List ℕ → ElemHead
+new_head name = record { name = name; attrs = []; css = []; parent = None; span = 0 }
+
+-- with a pair as its last, or as it was
+abbrev pub with_pair : TextPair → ElemView → ElemView
+with_pair pair e = (record e.0 { attrs = e.0.attrs ++ pair ∷ [] }, e.1)
+
+abbrev pub with_optional_pair : List ℕ → Option (List ℕ) → ElemView → ElemView
+with_optional_pair name None e = e
+with_optional_pair name (Some value) e = with_pair (name, value) e
+
+-- the span that an item comes from, 0 for a tag and a hole
+abbrev pub item_span : ItemView → ℕ
+item_span (tag_item t) = 0
+item_span (element_item h b) = h.span
+item_span (space_item span) = span
+item_span (text_item s span) = span
+item_span hole_item = 0
+item_span (break_item span) = span
+item_span (box_item b span) = span
+item_span (block_item b span) = span
+item_span (frame_item f) = f.span

@@ -1,0 +1,421 @@
+//! From items to nodes.
+#![tactic(auto, unfolding(crate::specs::Converted::item_nodes, crate::specs::Depth::item_too_deep))]
+
+ghost use Rattle.std.specs.Prelude.{◌≡◌, ◌≤◌, ◌++◌, ◌∷◌, [], IfOk, IsTrue, OnOk, codes, map};
+ghost use Rattle.html_names.specs.Names.{is_ascii};
+ghost use Rattle.html_names.specs.Texts.{text_view};
+ghost use Rattle.html_dom_tree.specs.Tree.{tag_node, text_node, element_node};
+ghost use Rattle.html_dom_tree.specs.Views.{attrs_view, head_of, tag_view};
+ghost use Rattle.html_flow_whitespace.specs.DraftViews.{draft_shown};
+ghost use Rattle.html_flow_convert.specs.Converted.{body_nodes, break_item_node, converted_nodes, element_head, frame_item_node, item_nodes, list_nodes, role_pairs, role_text, text_item_nodes};
+ghost use Rattle.html_flow_convert.specs.Converts.{Adds, Converts, Rows};
+ghost use Rattle.html_flow_convert.specs.Depth.{body_too_deep, item_too_deep, items_too_deep};
+ghost use Rattle.html_flow_convert.specs.Items.{element_item};
+ghost use Rattle.html_flow_convert.specs.Rows.{is_lone, row_nodes, row_shown};
+ghost use Rattle.html_flow_convert.specs.declared.convert.Whitespace.TheVariants.{Normal};
+ghost use Rattle.html_flow_convert.specs.Views.{body_view, elem_view, frame_elem_view, item_view, items_view};
+
+use crate::fault::FlowFault;
+use crate::item::{FrameElem, HtmlElem, Item, Pair};
+use crate::lone::{lone_node, push_block, push_box};
+use crate::row::Row;
+use crate::setting::{Setting, body_level, passes_role};
+use html_dom_tree::{HtmlAttrs, HtmlElement, HtmlFrame, HtmlNode, Span, Tag};
+use html_flow_whitespace::{Draft, break_element, keep_runs, nodes_of, protect_spaces};
+use html_names::attr;
+use html_values_css::Properties;
+use std::alloc::{AllocError, Global};
+
+/// Where a list of items stands.
+#[derive(Clone, Copy, Debug, PartialEq, Eq, Hash)]
+pub enum ConversionLevel {
+    /// On lines of its own. Spaces that would collapse at the ends of lines are protected.
+    Block,
+    /// In a line, which is looked at as a whole.
+    Inline,
+}
+
+/// What becomes of white space.
+#[derive(Clone, Copy, Debug, PartialEq, Eq, Hash)]
+pub enum Whitespace {
+    /// It collapses (CSS Text 3, 4.1), so what has to stay is protected.
+    Normal,
+    /// It stays, as in `pre`.
+    Pre,
+}
+
+/// The nodes that items become, in order.
+///
+/// An element item becomes an element of that tag, with these attributes, css and parent, and with
+/// the nodes of its body as children; a tag its node; a space the text of one space; a hole nothing;
+/// a line break a `br`, or a line feed where white space stays; a frame a frame with the css
+/// `display: block`; a box or block the one element or frame in it, whose css then says how it is
+/// displayed, or else a `span` or `div` around its nodes. Each node that is made has its item's span.
+///
+/// Where white space collapses, a text is cut at line breaks and around blanks, runs of blanks stand
+/// in a `span` that keeps them, and at block level so does each lone space that would collapse (see
+/// [`html_flow_whitespace::bare_spaces`]). The role is that of the list: an element item other than `p`
+/// takes it as its last attribute `role`.
+///
+/// `depth` is that of the list, a body in it is one deeper. It fails where an allocation does, and
+/// with the span of the first item, in document order, that has a body, even an empty one, deeper
+/// than `limit`.
+///
+/// Cost: grows with the number of items at all depths and the length of their texts.
+///
+/// ```
+/// use html_dom_tree::Span;
+/// use html_flow_convert::{ConversionLevel, Item, Pair, Role, Whitespace, convert_to_nodes};
+///
+/// let mut items = Vec::new(alloc);
+/// for text in ["a ", " b"] {
+///     let item = Item::Text(String::from_str(alloc, text)?, Span(1));
+///     items.push(Pair { item, role: Role::Inherit })?;
+/// }
+/// let (level, whitespace) = (ConversionLevel::Block, Whitespace::Normal);
+/// let nodes = convert_to_nodes(alloc, &items, level, whitespace, None, 0, 50)?;
+/// assert_eq!(rt; nodes.len(), 3); // a text, a `span` that keeps both spaces, a text
+/// ```
+pub fn convert_to_nodes(
+    alloc: Global,
+    items: &[Pair],
+    level: ConversionLevel,
+    whitespace: Whitespace,
+    role: Option<&str>,
+    depth: usize,
+    limit: usize,
+) -> Result<Vec<HtmlNode>, FlowFault>
+    requires within { depth ≤ limit }
+    requires some_limit { 1 ≤ limit }
+    requires low_limit { limit ≤ 10000 }
+    ensures { Converts result
+        (converted_nodes level whitespace (role_text role.entry) (items_view items.now))
+        (items_too_deep depth limit (items_view items.now)) }
+{
+    let setting = Setting {
+        whitespace,
+        role,
+        depth,
+        limit,
+    };
+    let row = convert_list(alloc, items, level, setting)?;
+    Ok(nodes_of(alloc, row.into_drafts(alloc)?)?)
+}
+
+/// The nodes of a list.
+#[cycle(convert)]
+fn convert_list(
+    alloc: Global,
+    items: &[Pair],
+    level: ConversionLevel,
+    setting: Setting<'_>,
+) -> Result<Row, FlowFault>
+    requires within { setting.depth ≤ setting.limit }
+    requires low_limit { setting.limit ≤ 10000 }
+    ensures { Rows result
+        (converted_nodes level setting.entry.whitespace (role_text setting.entry.role)
+        (items_view items.now))
+        (items_too_deep setting.entry.depth setting.entry.limit (items_view items.now)) }
+{
+    let mut nodes = Row::new(alloc);
+    for pair in items {
+        push_item(alloc, &pair.item, setting.with_role(&pair.role), &mut nodes)?;
+    }
+    Ok(finish(alloc, nodes, level, setting.whitespace)?)
+}
+
+/// The nodes of a body, where there is one, in a list that stands like that one but deeper.
+#[cycle(convert)]
+fn convert_body(
+    alloc: Global,
+    body: &Option<Vec<Pair>>,
+    span: Span,
+    level: ConversionLevel,
+    setting: Setting<'_>,
+) -> Result<Row, FlowFault>
+    requires within { setting.depth ≤ setting.limit }
+    requires low_limit { setting.limit ≤ 10000 }
+    ensures { Rows result
+        (body_nodes level setting.entry.whitespace (role_text setting.entry.role)
+        (body_view body.now))
+        (body_too_deep setting.entry.depth setting.entry.limit span.0 (body_view body.now)) }
+{
+    let Some(items) = body else {
+        return Ok(Row::new(alloc));
+    };
+    if setting.is_deepest() {
+        return Err(FlowFault::TooDeep { span });
+    }
+    convert_list(alloc, items, level, setting.deeper())
+}
+
+/// Adds the nodes of an item whose list, apart from the item's own role, stands so.
+#[cycle(convert)]
+fn push_item(
+    alloc: Global,
+    item: &Item,
+    setting: Setting<'_>,
+    nodes: &mut Row,
+) -> Result<(), FlowFault>
+    requires within { setting.depth ≤ setting.limit }
+    requires low_limit { setting.limit ≤ 10000 }
+    ensures { Adds result (row_shown nodes.old) (row_shown nodes.new)
+        (item_nodes setting.entry.whitespace (role_text setting.entry.role) (item_view item.now))
+        (item_too_deep setting.entry.depth setting.entry.limit (item_view item.now)) }
+{
+    match item {
+        Item::Tag(tag) => Ok(push_tag(nodes, tag)?),
+        Item::Element(element) => push_element(alloc, element, setting, nodes),
+        Item::Space(span) => Ok(push_literal(alloc, nodes, " ", *span)?),
+        Item::Text(text, span) => Ok(push_text(alloc, nodes, text, *span, setting.whitespace)?),
+        Item::Hole => Ok(()),
+        Item::LineBreak(span) => Ok(push_break(alloc, nodes, *span, setting.whitespace)?),
+        Item::Box(body, span) => {
+            let inside = convert_body(alloc, body, *span, ConversionLevel::Inline, setting)?;
+            Ok(push_box(alloc, nodes, inside, setting.whitespace, *span)?)
+        }
+        Item::Block(body, span) => {
+            let inside = convert_body(alloc, body, *span, ConversionLevel::Block, setting)?;
+            Ok(push_block(alloc, nodes, inside, setting.whitespace, *span)?)
+        }
+        Item::Frame(frame) => Ok(push_frame(alloc, nodes, frame)?),
+    }
+}
+
+/// Adds the node of an element item.
+#[cycle(convert)]
+fn push_element(
+    alloc: Global,
+    element: &HtmlElem,
+    setting: Setting<'_>,
+    nodes: &mut Row,
+) -> Result<(), FlowFault>
+    requires within { setting.depth ≤ setting.limit }
+    requires low_limit { setting.limit ≤ 10000 }
+    ensures { let view = elem_view element.now in let item = element_item view.0 view.1 in
+        Adds result (row_shown nodes.old) (row_shown nodes.new)
+        (item_nodes setting.entry.whitespace (role_text setting.entry.role) item)
+        (item_too_deep setting.entry.depth setting.entry.limit item) }
+{
+    let children = convert_body(
+        alloc,
+        &element.body,
+        element.span,
+        body_level(element),
+        setting.inside(element),
+    )?;
+    Ok(push_around(alloc, nodes, element, setting.role, children)?)
+}
+
+/// Adds an element with the role of its item and with these children.
+fn push_around(
+    alloc: Global,
+    nodes: &mut Row,
+    element: &HtmlElem,
+    role: Option<&str>,
+    children: Row,
+) -> Result<(), AllocError>
+    ensures { OnOk result (row_shown nodes.new ≡ row_shown nodes.old
+        ++ element_node (element_head (role_text role.entry) (elem_view element.now).0)
+        (row_nodes children) ∷ []) }
+{
+    let made = element_with_role(alloc, element, role)?;
+    nodes.push_around(alloc, made, children)
+}
+
+/// The element with the role of its item, without children.
+fn element_with_role(
+    alloc: Global,
+    element: &HtmlElem,
+    role: Option<&str>,
+) -> Result<HtmlElement, AllocError>
+    ensures { IfOk result (λ made.
+        head_of made ≡ element_head (role_text role.entry) (elem_view element.now).0) }
+{
+    Ok(HtmlElement {
+        tag: element.tag.try_clone()?,
+        attrs: attrs_with_role(alloc, element, role)?,
+        css: element.css.try_clone()?,
+        children: Vec::new(alloc),
+        parent: element.parent,
+        span: element.span,
+        pre_span: false,
+    })
+}
+
+/// The attributes of an element item with its role.
+fn attrs_with_role(
+    alloc: Global,
+    element: &HtmlElem,
+    role: Option<&str>,
+) -> Result<HtmlAttrs, AllocError>
+    ensures { IfOk result (λ attrs. attrs_view attrs
+        ≡ (element_head (role_text role.entry) (elem_view element.now).0).attrs) }
+{
+    let mut attrs = element.attrs.try_clone()?;
+    if !passes_role(&element.tag) {
+        push_role(alloc, &mut attrs, role)?;
+    }
+    Ok(attrs)
+}
+
+/// Adds a role, where there is one.
+#[tactic(auto, unfolding(html_names::specs::Tables::known_attrs))]
+fn push_role(alloc: Global, attrs: &mut HtmlAttrs, role: Option<&str>) -> Result<(), AllocError>
+    ensures { OnOk result (attrs_view attrs.new
+        ≡ attrs_view attrs.old ++ role_pairs (role_text role.entry)) }
+{
+    let Some(role) = role else {
+        return Ok(());
+    };
+    Ok(attrs.push(attr::role, String::from_str(alloc, role)?)?)
+}
+
+/// Adds the node of a tag.
+fn push_tag(nodes: &mut Row, tag: &Tag) -> Result<(), AllocError>
+    ensures { OnOk result
+        (row_shown nodes.new ≡ row_shown nodes.old ++ tag_node (tag_view tag.now) ∷ []) }
+{
+    nodes.push_tag(tag.try_clone()?)
+}
+
+/// Adds a text.
+fn push_string(alloc: Global, nodes: &mut Row, text: String, span: Span) -> Result<(), AllocError>
+    ensures { OnOk result (row_shown nodes.new ≡ row_shown nodes.old
+        ++ text_node (text_view text) span.0 ∷ []) }
+{
+    nodes.push(alloc, Draft::text(text, span))
+}
+
+/// Adds a text of ASCII.
+fn push_literal(alloc: Global, nodes: &mut Row, text: &str, span: Span) -> Result<(), AllocError>
+    requires { IsTrue (is_ascii text.now) }
+    ensures { OnOk result (row_shown nodes.new ≡ row_shown nodes.old
+        ++ text_node text.now span.0 ∷ []) }
+{
+    push_string(alloc, nodes, String::from_str(alloc, text)?, span)
+}
+
+/// Adds the nodes of a text item.
+fn push_text(
+    alloc: Global,
+    nodes: &mut Row,
+    text: &String,
+    span: Span,
+    whitespace: Whitespace,
+) -> Result<(), AllocError>
+    ensures { OnOk result (row_shown nodes.new ≡ row_shown nodes.old
+        ++ text_item_nodes whitespace (text_view text.now) span.0) }
+{
+    match whitespace {
+        Whitespace::Normal => nodes.push_text(alloc, text.as_str(), span),
+        Whitespace::Pre => push_string(alloc, nodes, text.clone()?, span),
+    }
+}
+
+/// Adds the node of a line break.
+fn push_break(
+    alloc: Global,
+    nodes: &mut Row,
+    span: Span,
+    whitespace: Whitespace,
+) -> Result<(), AllocError>
+    ensures { OnOk result (row_shown nodes.new ≡ row_shown nodes.old
+        ++ break_item_node whitespace span.0 ∷ []) }
+{
+    match whitespace {
+        Whitespace::Normal => {
+            nodes.push(
+                alloc,
+                Draft::open(break_element(alloc, span), Vec::new(alloc)),
+            )
+        }
+        Whitespace::Pre => push_literal(alloc, nodes, "\n", span),
+    }
+}
+
+/// Adds the node of a frame item.
+fn push_frame(alloc: Global, nodes: &mut Row, frame: &FrameElem) -> Result<(), AllocError>
+    ensures { OnOk result (row_shown nodes.new ≡ row_shown nodes.old
+        ++ frame_item_node (frame_elem_view frame.now) ∷ []) }
+{
+    let mut made = HtmlFrame::new(alloc, frame.frame.try_clone()?, frame.text_size, frame.span);
+    made.css = block_css(alloc)?;
+    nodes.push(alloc, Draft::Frame(made))
+}
+
+/// The css of what is laid out as a block.
+fn block_css(alloc: Global) -> Result<Properties, AllocError>
+    ensures { IfOk result (λ css. css ≡ (codes "display", codes "block") ∷ []) }
+{
+    let value = String::from_str(alloc, "block")?;
+    Ok(Properties::new(alloc).with("display", value)?)
+}
+
+/// What becomes of the nodes of a list once they are made: where white space collapses, what has to
+/// stay is protected.
+fn finish(
+    alloc: Global,
+    nodes: Row,
+    level: ConversionLevel,
+    whitespace: Whitespace,
+) -> Result<Row, AllocError>
+    ensures { IfOk result (λ made.
+        row_nodes made ≡ list_nodes level whitespace (row_shown nodes)) }
+{
+    match whitespace {
+        Whitespace::Pre => Ok(nodes),
+        Whitespace::Normal => {
+            if nodes.is_lone() {
+                finish_lone(alloc, nodes, level)
+            } else {
+                finish_list(alloc, nodes, level)
+            }
+        }
+    }
+}
+
+/// The same of one element or frame between tags, where white space collapses: no run of blanks
+/// stands there, and no lone space but in the one.
+fn finish_lone(alloc: Global, nodes: Row, level: ConversionLevel) -> Result<Row, AllocError>
+    requires { IsTrue (is_lone (map draft_shown nodes.middle.items)) }
+    ensures { IfOk result (λ made. row_nodes made ≡ list_nodes level Normal (row_shown nodes)) }
+{
+    match level {
+        ConversionLevel::Inline => Ok(nodes),
+        ConversionLevel::Block => {
+            let Row {
+                before,
+                middle,
+                after,
+            } = nodes;
+            let middle = protect_spaces(alloc, middle)?;
+            Ok(Row {
+                before,
+                middle,
+                after,
+            })
+        }
+    }
+}
+
+/// The same of any nodes.
+fn finish_list(alloc: Global, nodes: Row, level: ConversionLevel) -> Result<Row, AllocError>
+    ensures { IfOk result (λ made. row_nodes made ≡ list_nodes level Normal (row_shown nodes)) }
+{
+    let nodes = keep_runs(alloc, nodes.into_drafts(alloc)?)?;
+    match level {
+        ConversionLevel::Inline => row_of(alloc, nodes),
+        ConversionLevel::Block => row_of(alloc, protect_spaces(alloc, nodes)?),
+    }
+}
+
+/// The nodes as a row. Only if one may stand for a box or block do tags stand apart.
+fn row_of(alloc: Global, nodes: Vec<Draft>) -> Result<Row, AllocError>
+    ensures { IfOk result (λ row. row_shown row ≡ map draft_shown nodes.items) }
+{
+    if lone_node(&nodes).is_none() {
+        return Ok(Row::between(alloc, nodes));
+    }
+    Row::of(alloc, nodes)
+}

@@ -1,0 +1,42 @@
+ghost use Rattle.std.specs.Prelude.{◌≡◌};
+ghost use Rattle.html_flow_convert.specs.Converts.{flow_number_of};
+
+use html_dom_tree::Span;
+use std::alloc::AllocError;
+use thiserror::Error;
+
+/// Why items did not become nodes.
+#[derive(Clone, Copy, Debug, PartialEq, Eq, Error)]
+pub enum FlowFault {
+    /// An allocation failed.
+    #[error("out of memory")]
+    OutOfMemory,
+    /// A body stands deeper than the limit.
+    #[error("items are nested too deeply")]
+    TooDeep {
+        /// The span of the item that has the body.
+        span: Span,
+    },
+}
+
+impl FlowFault {
+    /// The fault's number: 0 for out of memory, 8 for a body that stands too deep.
+    pub fn number(&self) -> u8
+        ensures { result ≡ flow_number_of self.now }
+    {
+        match self {
+            FlowFault::OutOfMemory => 0,
+            FlowFault::TooDeep { .. } => 8,
+        }
+    }
+}
+
+impl From<AllocError> for FlowFault {
+    ghost use Rattle.html_flow_convert.specs.declared.fault.FlowFault.TheVariants.{OutOfMemory};
+
+    ghost from_gives = { λ _ e. e ≡ OutOfMemory };
+
+    fn from(_refused: AllocError) -> FlowFault {
+        FlowFault::OutOfMemory
+    }
+}

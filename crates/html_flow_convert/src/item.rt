@@ -1,0 +1,253 @@
+ghost use Rattle.std.specs.Prelude.{◌≡◌, IfOk, IfErr, option_map};
+ghost use Rattle.html_names.specs.Texts.{text_view};
+ghost use Rattle.html_flow_convert.specs.Items.{absent, item_span, new_head, with_optional_pair, with_pair};
+ghost use Rattle.html_flow_convert.specs.Views.{body_view, elem_view, item_view, pair_view, frame_elem_view, role_view};
+
+use html_dom_tree::{Frame, HtmlAttrs, Location, Span, Tag};
+use html_names::{HtmlAttr, HtmlTag, Refused};
+use html_values_css::{Abs, Properties};
+use std::alloc::{AllocError, Global};
+
+/// An item and its role.
+#[derive(Debug, Drop)]
+#[cycle(items)]
+pub struct Pair {
+    /// The item.
+    pub item: Item,
+    /// Its role.
+    pub role: Role,
+}
+
+/// The value of the attribute `role` that an item is given.
+#[derive(Debug, Drop)]
+pub enum Role {
+    /// That of the list in which the item stands.
+    Inherit,
+    /// Its own.
+    Set(String),
+    /// None.
+    Unset,
+}
+
+/// A part of a document that flows.
+#[derive(Debug, Drop)]
+#[cycle(items)]
+pub enum Item {
+    /// A tag, for which nothing is written.
+    Tag(Tag),
+    /// An element of HTML.
+    Element(HtmlElem),
+    /// White space between other items.
+    Space(Span),
+    /// A text.
+    Text(String, Span),
+    /// Something of which nothing is shown.
+    Hole,
+    /// A forced line break.
+    LineBreak(Span),
+    /// A part of a line with its body.
+    Box(Option<Vec<Pair>>, Span),
+    /// A part on lines of its own with its body.
+    Block(Option<Vec<Pair>>, Span),
+    /// A drawing.
+    Frame(FrameElem),
+}
+
+/// An element of HTML with a body of items.
+#[derive(Debug, Drop)]
+#[cycle(items)]
+pub struct HtmlElem {
+    /// The name.
+    pub tag: HtmlTag,
+    /// The attributes, in the order in which they are written.
+    pub attrs: HtmlAttrs,
+    /// The css properties.
+    pub css: Properties,
+    /// The items inside, where there is a body.
+    pub body: Option<Vec<Pair>>,
+    /// The location of the element's parent in the source, where it stands elsewhere in the tree.
+    pub parent: Option<Location>,
+    /// Where the element comes from.
+    pub span: Span,
+}
+
+/// A drawing among items.
+#[derive(Debug, Drop)]
+pub struct FrameElem {
+    /// The drawing.
+    pub frame: Frame,
+    /// The size of the text around it.
+    pub text_size: Abs,
+    /// Where it comes from.
+    pub span: Span,
+}
+
+impl Pair {
+    /// A copy of the item with its role, and all inside.
+    #[cycle(copy)]
+    pub fn try_clone(&self) -> Result<Pair, AllocError>
+        ensures { IfOk result (λ copy. pair_view copy ≡ pair_view self.now) }
+    {
+        Ok(Pair {
+            item: self.item.try_clone()?,
+            role: self.role.try_clone()?,
+        })
+    }
+}
+
+impl Role {
+    /// A copy.
+    pub fn try_clone(&self) -> Result<Role, AllocError>
+        ensures { IfOk result (λ copy. role_view copy ≡ role_view self.now) }
+    {
+        match self {
+            Role::Inherit => Ok(Role::Inherit),
+            Role::Set(text) => Ok(Role::Set(text.clone()?)),
+            Role::Unset => Ok(Role::Unset),
+        }
+    }
+}
+
+impl FrameElem {
+    /// A copy.
+    pub fn try_clone(&self) -> Result<FrameElem, AllocError>
+        ensures { IfOk result (λ copy. frame_elem_view copy ≡ frame_elem_view self.now) }
+    {
+        Ok(FrameElem {
+            frame: self.frame.try_clone()?,
+            text_size: self.text_size,
+            span: self.span,
+        })
+    }
+}
+
+impl Item {
+    /// A copy of the item and all inside.
+    #[cycle(copy)]
+    pub fn try_clone(&self) -> Result<Item, AllocError>
+        ensures { IfOk result (λ copy. item_view copy ≡ item_view self.now) }
+    {
+        match self {
+            Item::Tag(tag) => Ok(Item::Tag(tag.try_clone()?)),
+            Item::Element(element) => Ok(Item::Element(element.try_clone()?)),
+            Item::Space(span) => Ok(Item::Space(*span)),
+            Item::Text(text, span) => Ok(Item::Text(text.clone()?, *span)),
+            Item::Hole => Ok(Item::Hole),
+            Item::LineBreak(span) => Ok(Item::LineBreak(*span)),
+            Item::Box(body, span) => Ok(Item::Box(copy_body(body)?, *span)),
+            Item::Block(body, span) => Ok(Item::Block(copy_body(body)?, *span)),
+            Item::Frame(frame) => Ok(Item::Frame(frame.try_clone()?)),
+        }
+    }
+
+    /// Where the item comes from: 0 for a tag and a hole.
+    pub fn span(&self) -> Span
+        ensures { result.0 ≡ item_span (item_view self.now) }
+    {
+        match self {
+            Item::Tag(_) | Item::Hole => Span(0),
+            Item::Element(element) => element.span,
+            Item::Space(span)
+            | Item::Text(_, span)
+            | Item::LineBreak(span)
+            | Item::Box(_, span)
+            | Item::Block(_, span) => *span,
+            Item::Frame(frame) => frame.span,
+        }
+    }
+}
+
+impl HtmlElem {
+    /// A copy of the element and all inside.
+    #[cycle(copy)]
+    pub fn try_clone(&self) -> Result<HtmlElem, AllocError>
+        ensures { IfOk result (λ copy. elem_view copy ≡ elem_view self.now) }
+    {
+        Ok(HtmlElem {
+            tag: self.tag.try_clone()?,
+            attrs: self.attrs.try_clone()?,
+            css: self.css.try_clone()?,
+            body: copy_body(&self.body)?,
+            parent: self.parent,
+            span: self.span,
+        })
+    }
+
+    /// An element of that name, with nothing else: no attribute, css, body or parent, and span 0.
+    pub fn new(alloc: Global, tag: HtmlTag) -> HtmlElem
+        ensures { elem_view result ≡ (new_head tag, absent) }
+    {
+        HtmlElem {
+            tag,
+            attrs: HtmlAttrs::new(alloc),
+            css: Properties::new(alloc),
+            body: None,
+            parent: None,
+            span: Span(0),
+        }
+    }
+
+    /// The element with a pair added as its last attribute. Where an allocation fails, all comes
+    /// back.
+    pub fn with_attr(
+        mut self,
+        attr: HtmlAttr,
+        value: String,
+    ) -> Result<HtmlElem, Refused<(HtmlElem, HtmlAttr, String)>>
+        ensures ok { IfOk result
+            (λ element. elem_view element ≡ with_pair (attr, text_view value) (elem_view self)) }
+        ensures err { IfErr result (λ refused. (elem_view refused.back.0 ≡ elem_view self)
+            × (refused.back.1 ≡ attr) × (refused.back.2 ≡ value)) }
+    {
+        match self.attrs.push(attr, value) {
+            Ok(()) => Ok(self),
+            Err(refused) => {
+                let (attr, value) = refused.back;
+                Err(Refused {
+                    back: (self, attr, value),
+                })
+            }
+        }
+    }
+
+    /// The element with a pair added as its last attribute where there is a value, else as it was.
+    /// Where an allocation fails, all comes back.
+    pub fn with_optional_attr(
+        self,
+        attr: HtmlAttr,
+        value: Option<String>,
+    ) -> Result<HtmlElem, Refused<(HtmlElem, HtmlAttr, Option<String>)>>
+        ensures ok { IfOk result (λ element. elem_view element
+            ≡ with_optional_pair attr (option_map text_view value) (elem_view self)) }
+        ensures err { IfErr result (λ refused. (elem_view refused.back.0 ≡ elem_view self)
+            × (refused.back.1 ≡ attr) × (refused.back.2 ≡ value)) }
+    {
+        let Some(value) = value else {
+            return Ok(self);
+        };
+        match self.with_attr(attr, value) {
+            Ok(element) => Ok(element),
+            Err(refused) => {
+                let (element, attr, value) = refused.back;
+                Err(Refused {
+                    back: (element, attr, Some(value)),
+                })
+            }
+        }
+    }
+}
+
+/// A copy of a body and all inside.
+#[cycle(copy)]
+fn copy_body(body: &Option<Vec<Pair>>) -> Result<Option<Vec<Pair>>, AllocError>
+    ensures { IfOk result (λ copy. body_view copy ≡ body_view body.now) }
+{
+    let Some(pairs) = body else {
+        return Ok(None);
+    };
+    let mut copies = Vec::new(*pairs.allocator());
+    for pair in pairs {
+        copies.push(pair.try_clone()?)?;
+    }
+    Ok(Some(copies))
+}

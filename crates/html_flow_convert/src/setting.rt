@@ -1,0 +1,133 @@
+//! How a list of items stands.
+
+ghost use Rattle.std.specs.Prelude.{◌≡◌, ◌+◌, ◌<◌, bytes_eq, codes, nat_lt};
+ghost use Rattle.html_names.specs.Displays.{default_display};
+ghost use Rattle.html_names.specs.Kinds.{shows_border};
+ghost use Rattle.html_flow_convert.specs.Converted.{body_level, body_role, body_whitespace, is_preformatted, item_role, passes_role, role_text};
+ghost use Rattle.html_flow_convert.specs.Views.{elem_view, role_view};
+
+use crate::convert::{ConversionLevel, Whitespace};
+use crate::item::{HtmlElem, Role};
+use html_flow_whitespace::makes_block;
+use html_names::{HtmlTag, tag};
+
+/// How a list of items stands.
+#[derive(Clone, Copy)]
+pub(crate) struct Setting<'a> {
+    /// What becomes of white space.
+    pub(crate) whitespace: Whitespace,
+    /// The role of its items.
+    pub(crate) role: Option<&'a str>,
+    /// How deep it stands.
+    pub(crate) depth: usize,
+    /// How deep a list may stand.
+    pub(crate) limit: usize,
+}
+
+impl<'a> Setting<'a> {
+    /// That of an item with that role of its own.
+    pub(crate) fn with_role(self, own: &'a Role) -> Setting<'a>
+        ensures whitespace { result.whitespace ≡ self.entry.whitespace }
+        ensures role { role_text result.role
+            ≡ item_role (role_text self.entry.role) (role_view own.now) }
+        ensures depth { result.depth ≡ self.entry.depth }
+        ensures limit { result.limit ≡ self.entry.limit }
+    {
+        let role = match own {
+            Role::Inherit => self.role,
+            Role::Set(text) => Some(text.as_str()),
+            Role::Unset => None,
+        };
+        Setting { role, ..self }
+    }
+
+    /// That of the body of such an element in it, apart from its depth.
+    pub(crate) fn inside(self, element: &HtmlElem) -> Setting<'a>
+        ensures whitespace { result.whitespace
+            ≡ body_whitespace self.entry.whitespace (elem_view element.now).0 }
+        ensures role { role_text result.role
+            ≡ body_role (role_text self.entry.role) (elem_view element.now).0 }
+        ensures depth { result.depth ≡ self.entry.depth }
+        ensures limit { result.limit ≡ self.entry.limit }
+    {
+        let whitespace = if is_preformatted(&element.tag) {
+            Whitespace::Pre
+        } else {
+            self.whitespace
+        };
+        let role = if passes_role(&element.tag) {
+            self.role
+        } else {
+            None
+        };
+        Setting {
+            whitespace,
+            role,
+            ..self
+        }
+    }
+
+    /// Whether a list one deeper stands too deep.
+    pub(crate) fn is_deepest(self) -> bool
+        ensures { result ≡ nat_lt self.entry.limit (self.entry.depth + 1) }
+    {
+        self.depth >= self.limit
+    }
+
+    /// That of a list one deeper.
+    pub(crate) fn deeper(self) -> Setting<'a>
+        requires { self.depth < 10000 }
+        ensures whitespace { result.whitespace ≡ self.entry.whitespace }
+        ensures role { role_text result.role ≡ role_text self.entry.role }
+        ensures depth { result.depth ≡ self.entry.depth + 1 }
+        ensures limit { result.limit ≡ self.entry.limit }
+    {
+        Setting {
+            depth: self.depth + 1,
+            ..self
+        }
+    }
+}
+
+/// Whether what stands in the element has the role that the element has.
+#[tactic(auto, unfolding(html_names::specs::Tables::known_tags))]
+pub(crate) fn passes_role(tag: &HtmlTag) -> bool
+    ensures { result ≡ passes_role tag.now }
+{
+    *tag == tag::p
+}
+
+/// Whether white space stays in the element.
+#[tactic(auto, unfolding(html_names::specs::Tables::known_tags))]
+fn is_preformatted(tag: &HtmlTag) -> bool
+    ensures { result ≡ is_preformatted tag.now }
+{
+    *tag == tag::pre || tag::is_raw(tag) || tag::is_escapable_raw(tag)
+}
+
+/// The level of the element's body.
+pub(crate) fn body_level(element: &HtmlElem) -> ConversionLevel
+    ensures { result ≡ body_level (elem_view element.now).0 }
+{
+    if has_lines(&element.tag) || makes_block(&element.css) {
+        ConversionLevel::Block
+    } else {
+        ConversionLevel::Inline
+    }
+}
+
+/// Whether the element has lines of its own by default.
+#[tactic(auto, using(crate::proofs::Levels::line_display))]
+fn has_lines(tag: &HtmlTag) -> bool
+    ensures { result ≡ shows_border (default_display tag.now) }
+{
+    tag::is_whitespace_collapsing(tag) && !is_line_break(tag)
+}
+
+/// Whether the element is `br`.
+#[tactic(auto, unfolding(html_names::specs::Tables::known_tags))]
+fn is_line_break(tag: &HtmlTag) -> bool
+    ensures { result ≡ bytes_eq tag.now (codes "br") }
+{
+    *tag == tag::br
+}

@@ -1,0 +1,96 @@
+-- Runs of blanks, as they are found.
+use Rattle.std.proofs.Common.{◌≡◌, Bool, true, false, ◌||◌, List, [], ◌∷◌, ◌++◌, refl, append_assoc, append-nil}
+use Rattle.std.proofs.lemmas.Bool.{false≢true, or_from}
+use Rattle.html_dom_tree.specs.Tree.{NodeView, tag_node, text_node, element_node, frame_node}
+use Rattle.std.specs.List.{filter}
+use Rattle.html_dom_tree.specs.Views.{nodes_of}
+use Rattle.html_flow_whitespace.specs.Nodes.{is_tag, pre_wrap_head}
+use Rattle.html_flow_whitespace.specs.OpenRuns.{goes_on}
+use Rattle.html_flow_whitespace.specs.Runs.{is_blank_node, are_kept, first_span, run_nodes, front_nodes, front, after_front}
+
+-- whether blanks are kept, after a space or at the start
+abbrev pub kept_after : (space : Bool) (blanks : List NodeView) → Bool
+kept_after true [] = false
+kept_after true (n ∷ ns) = true
+kept_after false ns = are_kept ns
+
+-- no run begins with a tag
+abbrev pub begins_with_tag : List NodeView → Bool
+begins_with_tag [] = false
+begins_with_tag (n ∷ ns) = is_tag n
+
+pub run_is : (run : List NodeView) → begins_with_tag run ≡ false →
+    front_nodes run ≡ run_nodes run
+run_is [] h = refl
+run_is (n ∷ ns) h = rw h refl
+
+-- nodes that are made, an open run, and what is left
+abbrev pub runs_of : (made run left : List NodeView) → List NodeView
+runs_of made run left = made ++ (front_nodes (run ++ front left) ++ after_front left)
+
+-- a blank or a tag goes on with the run
+pub run_goes_on : (made run left : List NodeView) (n : NodeView) →
+    (is_blank_node n || is_tag n) ≡ true →
+    runs_of made run (n ∷ left) ≡ runs_of made (run ++ n ∷ []) left
+unfolding front after_front
+run_goes_on made run left n h = rw (h, append_assoc) refl
+
+pub goes_on_node : (run : List NodeView) (n : NodeView) → goes_on run n ≡ true →
+    (is_blank_node n || is_tag n) ≡ true
+goes_on_node [] n h = rw h refl
+goes_on_node (m ∷ run) n h = h
+
+blank_is_no_tag : (n : NodeView) → is_blank_node n ≡ true → is_tag n ≡ false
+blank_is_no_tag (tag_node t) h = absurd (false≢true h)
+blank_is_no_tag (text_node s span) h = refl
+blank_is_no_tag (element_node e ns) h = refl
+blank_is_no_tag (frame_node f) h = refl
+
+pub begins_on : (run : List NodeView) (n : NodeView) → begins_with_tag run ≡ false →
+    goes_on run n ≡ true → begins_with_tag (run ++ n ∷ []) ≡ false
+begins_on [] n h on = blank_is_no_tag n on
+begins_on (m ∷ run) n h on = h
+
+ends_at_other : (made run left : List NodeView) (n : NodeView) → begins_with_tag run ≡ false →
+    (is_blank_node n || is_tag n) ≡ false →
+    runs_of made run (n ∷ left) ≡ runs_of ((made ++ run_nodes run) ++ n ∷ []) [] left
+unfolding front after_front
+ends_at_other made run left n h other = rw (
+  other,
+  append-nil run,
+  run_is run h,
+  append_assoc (made ++ run_nodes run) (n ∷ []),
+  append_assoc made (run_nodes run),
+) refl
+
+passes_tag : (made left : List NodeView) (n : NodeView) → is_tag n ≡ true →
+    is_blank_node n ≡ false →
+    runs_of made [] (n ∷ left) ≡ runs_of ((made ++ run_nodes []) ++ n ∷ []) [] left
+unfolding front after_front
+passes_tag made left n tag other =
+    rw (other, tag, tag, append-nil made, append_assoc made (n ∷ [])) refl
+
+ends_by : (tag : Bool) (made left : List NodeView) (n : NodeView) → is_tag n ≡ tag →
+    is_blank_node n ≡ false →
+    runs_of made [] (n ∷ left) ≡ runs_of ((made ++ run_nodes []) ++ n ∷ []) [] left
+ends_by true made left n e h = passes_tag made left n e h
+ends_by false made left n e h =
+    ends_at_other made [] left n refl (or_from (is_blank_node n) (is_tag n) h e)
+
+-- a node that doesn't belong to the run ends it
+pub run_ends : (made run left : List NodeView) (n : NodeView) → begins_with_tag run ≡ false →
+    goes_on run n ≡ false →
+    runs_of made run (n ∷ left) ≡ runs_of ((made ++ run_nodes run) ++ n ∷ []) [] left
+run_ends made [] left n h other = ends_by (is_tag n) made left n refl other
+run_ends made (m ∷ run) left n h other = ends_at_other made (m ∷ run) left n h other
+
+-- at the end
+pub runs_end : (made run : List NodeView) → begins_with_tag run ≡ false →
+    runs_of made run [] ≡ made ++ run_nodes run
+unfolding front after_front
+runs_end made run h = rw (append-nil run, run_is run h, append-nil) refl
+
+-- blanks that are kept
+pub kept_run : (ns : List NodeView) → are_kept (filter is_blank_node ns) ≡ true →
+    run_nodes ns ≡ element_node (pre_wrap_head (first_span ns)) (nodes_of ns) ∷ []
+kept_run ns e = rw e refl

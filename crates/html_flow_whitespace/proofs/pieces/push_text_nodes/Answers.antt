@@ -1,0 +1,82 @@
+use Rattle.std.proofs.Common.{◌≡◌, ◌-◌, ◌++◌, [], chars, length, map, take, sym, ap, subst, ◌∙◌}
+use Rattle.std.specs.Prelude.{OnOk}
+use Rattle.std.specs.Str.{IsCharBoundary}
+use Rattle.std.proofs.lemmas.Str.{IsCharBoundary-at_seam}
+use Rattle.html_flow_whitespace.specs.DraftViews.{draft_shown}
+use Rattle.html_flow_whitespace.specs.Pieces.{outside_stretch, piece_node}
+use Rattle.html_flow_whitespace.specs.Stretches.{with_stretch}
+use Rattle.html_flow_whitespace.proofs.Stretching.{front_length, nothing_passed, char_inside, char_outside, text_ended}
+use Rattle.html_flow_whitespace.proofs.pieces.push_text_nodes.Goals as goal
+use native.Mathlib.Numerals.{unary_clauses}
+use lib.Utf8.{encode}
+
+pub loop-c-init : goal.loop-c-init
+loop-c-init c = record {
+  pending_is_text = c.utf8.text;
+  rest_is_text = c.utf8.text;
+  at = c.chars-left.ensures.rest;
+  held = nothing_passed c.args.span.0 c.args.text.now (map draft_shown c.args.nodes.now.items) c.utf8.text;
+}
+
+pub range-requires-clause-end_boundary : goal.range-requires-clause-end_boundary
+range-requires-clause-end_boundary c =
+    let held = c.loop-c.invariant.held in
+    let text = c.loop-c.pending.now in
+    let rest = c.loop-c.rest.now in
+    subst (IsCharBoundary text) (front_length text held.front rest held.split)
+    (IsCharBoundary-at_seam text held.front rest held.split held.rest_utf8)
+
+pub loop-c-preserved-in_ok-push_outside : goal.loop-c-preserved-in_ok-push_outside
+loop-c-preserved-in_ok-push_outside c =
+    let at = c.loop-c in
+    let char = c.in-Some.c in
+    let text = at.pending.now in
+    let rest = at.rest.now in
+    let after = c.as_str-after.result.now in
+    let f = piece_node c.args.span.0 in
+    let made = map draft_shown at.nodes.items in
+    let between = map f (outside_stretch at.before char []) in
+    let parts : rest ≡ encode char ++ after =
+    sym at.invariant.at ∙ (c.in-Some.ensures.steps.0
+    ∙ ap (λ l. encode char ++ l) (sym c.as_str-after.ensures)) in
+    let range : c.range.result.now ≡ take (length text - length rest) text =
+    simp unary_clauses at c.range.ensures.value in
+    let pushed = c.in_ok-push_outside.ensures
+    ∙ ap (λ l. l ++ between) (c.in_ok-push_stretch.ensures
+    ∙ ap (λ t. made ++ map f (with_stretch (chars t) [])) range) in
+    record {
+      pending_is_text = c.as_str-after.utf8;
+      rest_is_text = c.as_str-after.utf8;
+      at = sym c.as_str-after.ensures;
+      held = char_outside c.args.span.0 at.before text rest after made _ _ char at.invariant.held parts
+          c.as_str-after.utf8 (sym c.is_in_stretch.ensures ∙ c.if-not-is_in_stretch.true) pushed;
+    }
+
+pub loop-c-preserved : goal.loop-c-preserved
+loop-c-preserved c =
+    let at = c.loop-c in
+    let char = c.in-Some.c in
+    let rest = at.rest.now in
+    let after = c.as_str-after.result.now in
+    let parts : rest ≡ encode char ++ after =
+    sym at.invariant.at ∙ (c.in-Some.ensures.steps.0
+    ∙ ap (λ l. encode char ++ l) (sym c.as_str-after.ensures)) in
+    record {
+      pending_is_text = at.invariant.pending_is_text;
+      rest_is_text = c.as_str-after.utf8;
+      at = sym c.as_str-after.ensures;
+      held = char_inside c.args.span.0 at.before at.pending.now rest after
+          (map draft_shown at.nodes.items) _ char at.invariant.held parts c.as_str-after.utf8
+          (sym c.is_in_stretch.ensures ∙ c.if-not-is_in_stretch.false);
+    }
+
+pub returns : goal.returns
+returns c =
+    let at = c.loop-c in
+    let made = map draft_shown at.nodes.items in
+    let none : length at.rest.now ≡ 0 =
+    ap length (sym at.invariant.at) ∙ c.in_default.ensures.steps.0.0 in
+    let new = map draft_shown c.push_stretch-2.new.nodes.items in
+    subst (λ all. OnOk c.push_stretch-2.result (new ≡ all))
+    (text_ended c.args.span.0 at.before at.pending.now at.rest.now made _ at.invariant.held none)
+    c.push_stretch-2.ensures

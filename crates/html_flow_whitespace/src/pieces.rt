@@ -1,0 +1,128 @@
+//! Texts where white space collapses.
+
+ghost use Rattle.std.specs.Prelude.{◌≡◌, ◌++◌, [], ◌∷◌, OnOk, IfOk, chars, map};
+ghost use Rattle.html_dom_tree.specs.Views.{text_view};
+ghost use Rattle.html_flow_whitespace.specs.DraftViews.{draft_shown};
+ghost use Rattle.html_flow_whitespace.specs.Pieces.{first_char, is_in_stretch, is_normal, is_normal_there, outside_stretch, piece_node, text_nodes};
+ghost use Rattle.html_flow_whitespace.specs.Stretches.{with_stretch};
+
+use crate::draft::Draft;
+use crate::made::break_element;
+use html_dom_tree::Span;
+use html_names::charsets::is_default_ignorable;
+use std::alloc::{AllocError, Global};
+
+/// Whether the character is neither a blank nor hidden by default.
+#[tactic(auto, using(crate::proofs::Stretching::ascii_shown))]
+fn is_normal(c: char) -> bool
+    ensures { result ≡ is_normal c }
+{
+    if c.is_ascii() {
+        !matches!(c, '\t' | '\n' | '\r' | ' ')
+    } else {
+        !is_default_ignorable(c)
+    }
+}
+
+/// Whether there is a character, and it is normal.
+fn is_normal_there(c: Option<char>) -> bool
+    ensures { result ≡ is_normal_there c }
+{
+    match c {
+        Some(c) => is_normal(c),
+        None => false,
+    }
+}
+
+/// Whether the text begins with a normal character.
+fn begins_normal(text: &str) -> bool
+    ensures { result ≡ is_normal_there (first_char (chars text.now)) }
+{
+    is_normal_there(text.chars().next())
+}
+
+/// Whether the character stands in a stretch, where it stands between `before` and `after`.
+fn is_in_stretch(before: Option<char>, c: char, after: &str) -> bool
+    ensures { result ≡ is_in_stretch before c (chars after.now) }
+{
+    is_normal(c) || (c == ' ' && is_normal_there(before) && begins_normal(after))
+}
+
+/// Adds the text of a stretch, if it has any character.
+fn push_stretch(
+    alloc: Global,
+    nodes: &mut Vec<Draft>,
+    text: &str,
+    span: Span,
+) -> Result<(), AllocError>
+    ensures { OnOk result (map draft_shown nodes.new.items ≡ map draft_shown nodes.old.items
+        ++ map (piece_node span.0) (with_stretch (chars text.now) [])) }
+{
+    if !text.is_empty() {
+        nodes.push(Draft::text(String::from_str(alloc, text)?, span))?;
+    }
+    Ok(())
+}
+
+/// A text of one character.
+fn one_char(alloc: Global, c: char) -> Result<String, AllocError>
+    ensures { IfOk result (λ text. text_view text ≡ c ∷ []) }
+{
+    let mut text = String::new(alloc);
+    text.push(c)?;
+    Ok(text)
+}
+
+/// Adds the node of a character that stands outside of stretches. The line feed after a carriage
+/// return has none.
+fn push_outside(
+    alloc: Global,
+    nodes: &mut Vec<Draft>,
+    before: Option<char>,
+    c: char,
+    span: Span,
+) -> Result<(), AllocError>
+    ensures { OnOk result (map draft_shown nodes.new.items ≡ map draft_shown nodes.old.items
+        ++ map (piece_node span.0) (outside_stretch before c [])) }
+{
+    let node = match c {
+        '\n' if before == Some('\r') => return Ok(()),
+        '\r' | '\n' => Draft::open(break_element(alloc, span), Vec::new(alloc)),
+        _ => Draft::text(one_char(alloc, c)?, span),
+    };
+    nodes.push(node)?;
+    Ok(())
+}
+
+/// Adds the nodes of a text where white space collapses, each with that span. A space between two
+/// characters that are neither blanks nor hidden by default stays in its text; any other space, each
+/// tab and each character that is hidden by default is a text of its own; a carriage return with a
+/// line feed, and each of them alone, is a `br`. The stretches between are texts. It fails only
+/// where an allocation does; the list may then have any of the nodes.
+///
+/// Cost: grows with the length of the text.
+pub fn push_text_nodes(
+    alloc: Global,
+    nodes: &mut Vec<Draft>,
+    text: &str,
+    span: Span,
+) -> Result<(), AllocError>
+    ensures { OnOk result (map draft_shown nodes.new.items
+        ≡ map draft_shown nodes.old.items ++ text_nodes span.0 (chars text.now)) }
+{
+    let mut pending = text;
+    let mut rest = text;
+    let mut before = None;
+    let mut left = text.chars();
+    while let Some(c) = left.next() {
+        let after = left.as_str();
+        if !is_in_stretch(before, c, after) {
+            push_stretch(alloc, nodes, &pending[..pending.len() - rest.len()], span)?;
+            push_outside(alloc, nodes, before, c, span)?;
+            pending = after;
+        }
+        before = Some(c);
+        rest = after;
+    }
+    push_stretch(alloc, nodes, pending, span)
+}

@@ -1,0 +1,137 @@
+-- What a run answers, and what it does to its reader and its writer.
+use Rattle.std.specs.Prelude.{◌≡◌, ℕ, List, [], ◌∷◌, ◌++◌, map, Option, Some, None, IfSome, ◌⊎◌, codes, Bool}
+use Rattle.std.specs.Io.KnownBytes.{Appends, Keeps}
+use Rattle.std.specs.Fmt.{decimal}
+use lib.Utf8.{encodes}
+use Rattle.serde_json.specs.Data.{Data}
+use Rattle.html_dom_tree.specs.Tree.{ElementView}
+use Rattle.html_dom_document.specs.Documents.{no_info}
+use Rattle.typst_html_encode.specs.FaultViews.{ExportFaultView, out_of_memory, too_deep, not_alone, footnotes, unencodable, void_children, raw_child, raw_closing, frame_refused}
+use Rattle.typst_html_encode.specs.Frames.{no_frames}
+use Rattle.typst_html_encode.specs.Text.{document_text}
+use Rattle.typst_html_encode.specs.declared.options.HtmlOptions.{HtmlOptions}
+use Rattle.html_flow_convert.specs.Items.{ItemsView, no_items}
+use Rattle.typst_html_export.specs.Exported.{root_faults, export_faults, export_text}
+use Rattle.html_tool_run.specs.Json.{json_of}
+use Rattle.html_tool_spell.specs.Names.{Refusal, element_refusals, items_refusals}
+use Rattle.html_tool_spell.specs.Spelled.{element_spelled}
+use Rattle.html_tool_spell.specs.SpelledItems.{items_spelled}
+use Rattle.html_tool_run.specs.Words.{wanted_task}
+use Rattle.html_tool_run.specs.Writing.{AppendsBeginning}
+use Rattle.html_tool_run.specs.declared.recorded.LastCall.{LastCall}
+use Rattle.html_tool_run.specs.declared.recorded.LastCall.TheVariants as last_call
+use Rattle.html_tool_run.specs.declared.status.Status.{Status}
+use Rattle.html_tool_run.specs.declared.status.Status.TheVariants.{Done, Refused, BadInput, Failed}
+use Rattle.html_tool_run.specs.declared.words.Task.{Task}
+use Rattle.html_tool_run.specs.declared.words.Task.TheVariants.{Tree, Doc}
+
+abbrev pub code_of : Status → ℕ
+code_of Done = 0
+code_of Refused = 1
+code_of BadInput = 2
+code_of Failed = 3
+
+-- a status, and the bytes that are written
+pub record Answer : Type 0 where
+  pub status : Status
+  pub line : List ℕ
+
+abbrev pub bad_input : Answer
+bad_input = record { status = BadInput; line = codes "bad input\n" }
+
+-- the first of several spans, 0 if there is none
+abbrev pub first_span : List ℕ → ℕ
+first_span [] = 0
+first_span (span ∷ spans) = span
+
+-- a fault of a tree or of items: its number and its span
+abbrev pub fault_refusal : ExportFaultView → Refusal
+fault_refusal out_of_memory = (0, 0)
+fault_refusal (too_deep span) = (8, span)
+fault_refusal (not_alone name span) = (9, span)
+fault_refusal (footnotes spans) = (10, first_span spans)
+fault_refusal (unencodable c span) = (11, span)
+fault_refusal (void_children span) = (12, span)
+fault_refusal (raw_child span) = (13, span)
+fault_refusal (raw_closing span) = (14, span)
+fault_refusal (frame_refused span) = (15, span)
+
+abbrev pub refusal_line : Refusal → List ℕ
+refusal_line r = codes "refused: " ++ (decimal r.0 ++ (codes " at " ++ (decimal r.1 ++ codes "\n")))
+
+abbrev pub refused_answer : Refusal → Answer
+refused_answer r = record { status = Refused; line = refusal_line r }
+
+-- the first refusal, if there is one, and else the text
+abbrev pub first_refusal_or_text : List Refusal → (text : List ℕ) → Answer
+first_refusal_or_text [] text = record { status = Done; line = encodes text }
+first_refusal_or_text (r ∷ rs) text = refused_answer r
+
+abbrev pub options_of : (pretty : Bool) → HtmlOptions
+options_of pretty = record { pretty = pretty }
+
+-- the text of a tree, and what is wrong with the tree
+abbrev pub tree_text : (pretty : Bool) → ElementView → List ℕ
+tree_text pretty e = document_text no_frames (options_of pretty) e
+
+abbrev pub tree_refusals : (pretty : Bool) → ElementView → List Refusal
+tree_refusals pretty e = map fault_refusal (root_faults no_frames (options_of pretty) e)
+
+-- how deep the bodies of items may stand
+abbrev pub depth_limit : ℕ
+depth_limit = 50
+
+-- the text of items, of whose document nothing is known and which have no footnotes, and what is
+-- wrong with them
+abbrev pub doc_text : (pretty : Bool) → ItemsView → List ℕ
+doc_text pretty items = export_text no_frames (options_of pretty) no_info items no_items
+
+abbrev pub doc_refusals : (pretty : Bool) → ItemsView → List Refusal
+doc_refusals pretty items = map fault_refusal
+    (export_faults depth_limit no_frames (options_of pretty) no_info items no_items)
+
+-- names are refused before what is wrong with a tree or with items
+unfoldable pub tree_answer : (pretty : Bool) → ElementView → Answer
+tree_answer pretty e =
+    first_refusal_or_text (element_refusals e ++ tree_refusals pretty e) (tree_text pretty e)
+
+unfoldable pub doc_answer : (pretty : Bool) → ItemsView → Answer
+doc_answer pretty items =
+    first_refusal_or_text (items_refusals items ++ doc_refusals pretty items) (doc_text pretty items)
+
+-- the answer to something, or bad input where there is nothing
+abbrev pub answer_if : {A : Type 0} → (answer : A → Answer) → Option A → Answer
+answer_if answer None = bad_input
+answer_if answer (Some a) = answer a
+
+abbrev pub value_answer : Task → (pretty : Bool) → Data → Answer
+value_answer Tree pretty d = answer_if (tree_answer pretty) (element_spelled d)
+value_answer Doc pretty d = answer_if (doc_answer pretty) (items_spelled d)
+
+unfoldable pub input_answer : Task → (pretty : Bool) (input : List ℕ) → Answer
+input_answer task pretty input = answer_if (value_answer task pretty) (json_of input)
+
+abbrev pub task_answer : (input : List ℕ) → Task × Bool → Answer
+task_answer input wanted = input_answer wanted.0 wanted.1 input
+
+abbrev pub words_answer : (words : List (List ℕ)) (input : List ℕ) → Answer
+words_answer words input = answer_if (task_answer input) (wanted_task words)
+
+-- how a run ends that owes this answer: with the answer's status, and then all of its bytes were
+-- written and flushed; or with a failure, and then nothing was written, unless the last call on the
+-- writer failed, after a beginning of the bytes
+abbrev pub EndsAs : Answer → Status → (old new : Option (List ℕ)) → LastCall → Type 0
+EndsAs answer status old new last =
+    ((status ≡ answer.status) × Appends old new answer.line × (last ≡ last_call.Flushed))
+    ⊎ ((status ≡ Failed) × (Keeps old new ⊎
+    ((last ≡ last_call.Failed) × AppendsBeginning old new answer.line)))
+
+-- all that a reader has left, where that is known
+abbrev pub IsAll : (input : List ℕ) (remaining : Option (List ℕ)) → Type 0
+IsAll input remaining = IfSome remaining (λ bytes. input ≡ bytes)
+
+-- the run ends as one that owes the answer to some input, which is all that the reader has
+abbrev pub EndsOn : (words : List (List ℕ)) (remaining : Option (List ℕ)) → Status
+    → (old new : Option (List ℕ)) → LastCall → Type 0
+EndsOn words remaining status old new last =
+    (input : List ℕ) × IsAll input remaining × EndsAs (words_answer words input) status old new last

@@ -1,0 +1,243 @@
+//! A run of the program on any reader and writer.
+
+ghost use Rattle.std.specs.Prelude.{◌≡◌, None, IfSome, IfOk};
+ghost use Rattle.html_dom_tree.specs.Views.{text_view, element_view};
+ghost use Rattle.html_flow_convert.specs.Views.{items_view};
+ghost use Rattle.serde_json.specs.View.{view};
+ghost use Rattle.html_tool_run.specs.Answers.{EndsAs, EndsOn, answer_if, bad_input, input_answer};
+ghost use Rattle.html_tool_run.specs.Answers.{doc_answer, doc_refusals, doc_text, refused_answer};
+ghost use Rattle.html_tool_run.specs.Answers.{tree_answer, tree_refusals, tree_text, value_answer};
+ghost use Rattle.html_tool_spell.specs.Refusals.{Makes};
+ghost use Rattle.html_tool_run.specs.Refusals.{export_refusal};
+ghost use Rattle.html_tool_run.specs.Replies.{Answers, IsReply, RepliesOn, shown};
+ghost use Rattle.html_tool_spell.specs.Spelled.{element_spelled};
+ghost use Rattle.html_tool_spell.specs.SpelledItems.{items_spelled};
+ghost use Rattle.html_tool_run.specs.Words.{texts_of, wanted_task};
+
+use crate::frames::NoFrames;
+use crate::json::parse;
+use crate::recorded::{Recorded, WriteFailed};
+use crate::status::Status;
+use crate::words::{Task, wanted_task};
+use html_dom_document::DocumentInfo;
+use html_dom_tree::{HtmlElement, Span};
+use html_flow_convert::Pair;
+use html_tool_spell::{Refusal, SpellFault, element_in, items_in};
+use serde_json::Value;
+use std::alloc::{AllocError, Global};
+use std::io::{Read, Write};
+use typst_html_encode::{ExportFault, HtmlOptions, html_in_bundle};
+use typst_html_export::export;
+
+/// The most bytes that one read asks for.
+const PIECE: usize = 4096;
+
+/// A reader that has not ended after so many reads counts as one that failed.
+const MOST_READS: u32 = 1_048_576;
+
+/// How deep the bodies of items may stand.
+const DEPTH_LIMIT: usize = 50;
+
+/// All that the reader has left, unless a read fails, the reader does not end, or memory runs out.
+fn read_all<R: Read>(alloc: Global, reader: &mut R) -> Option<Vec<u8>>
+    ensures { IfSome result (λ input.
+        IfSome (R.remaining reader.old) (λ bytes. input.items ≡ bytes)) }
+{
+    let mut input = Vec::new(alloc);
+    let mut piece = [0u8; PIECE];
+    for _ in 0..MOST_READS {
+        match reader.read(&mut piece) {
+            Ok(0) => return Some(input),
+            Ok(n) => {
+                if input.extend_from_slice(&piece[..n]).is_err() {
+                    return None;
+                }
+            }
+            Err(_) => return None,
+        }
+    }
+    None
+}
+
+/// A status, and the bytes that go with it.
+#[derive(Drop)]
+pub(crate) struct Reply {
+    status: Status,
+    text: Vec<u8>,
+}
+
+fn make_reply(alloc: Global, status: Status, text: &[u8]) -> Result<Reply, AllocError>
+    ensures { IfOk result (λ reply. (reply.status ≡ status) × (reply.text.items ≡ text.now)) }
+{
+    let text = Vec::from_slice(alloc, text)?;
+    Ok(Reply { status, text })
+}
+
+fn bad_input(alloc: Global) -> Result<Reply, AllocError>
+    ensures { IfOk result (λ reply. IsReply reply bad_input) }
+{
+    make_reply(alloc, Status::BadInput, b"bad input\n")
+}
+
+fn refused(alloc: Global, number: u8, span: Span) -> Result<Reply, AllocError>
+    ensures { IfOk result (λ reply. IsReply reply (refused_answer (number, span.0))) }
+{
+    let Span(span) = span;
+    let line = format!(in alloc; "refused: {number} at {span}\n")?;
+    make_reply(alloc, Status::Refused, line.as_bytes())
+}
+
+/// A fault of a tree or of items as a refusal.
+fn refusal_of(fault: &ExportFault) -> Refusal
+    ensures { result ≡ export_refusal fault.now }
+{
+    match fault {
+        ExportFault::OutOfMemory => Refusal::OutOfMemory,
+        ExportFault::TooDeep { .. }
+        | ExportFault::NotAlone { .. }
+        | ExportFault::Footnotes { .. }
+        | ExportFault::Unencodable { .. }
+        | ExportFault::VoidChildren { .. }
+        | ExportFault::RawChild { .. }
+        | ExportFault::RawClosing { .. }
+        | ExportFault::FrameRefused { .. } => Refusal::At(fault.number(), fault.span()),
+    }
+}
+
+/// The text of an element.
+#[tactic(auto, using(crate::proofs::FirstFaults::first_faults))]
+fn element_text(alloc: Global, element: &HtmlElement, pretty: bool) -> Result<String, Refusal>
+    ensures { Makes text_view result (tree_text pretty (element_view element.now))
+        (tree_refusals pretty (element_view element.now)) }
+{
+    let options = HtmlOptions { pretty };
+    match html_in_bundle(alloc, element, &options, &NoFrames) {
+        Ok(text) => Ok(text),
+        Err(fault) => Err(refusal_of(&fault)),
+    }
+}
+
+/// The text of items.
+#[tactic(auto, using(crate::proofs::FirstFaults::first_faults))]
+fn items_text(alloc: Global, items: &[Pair], pretty: bool) -> Result<String, Refusal>
+    ensures { Makes text_view result (doc_text pretty (items_view items.now))
+        (doc_refusals pretty (items_view items.now)) }
+{
+    let info = DocumentInfo::new(alloc);
+    let settings = HtmlOptions { pretty };
+    match export(alloc, items, &info, &[], DEPTH_LIMIT, &settings, &NoFrames) {
+        Ok(text) => Ok(text),
+        Err(fault) => Err(refusal_of(&fault)),
+    }
+}
+
+/// The text of the tree that a value spells.
+fn spelled_tree(alloc: Global, value: &Value, pretty: bool) -> Result<String, SpellFault>
+    ensures { Answers result
+        (answer_if (tree_answer pretty) (element_spelled (view value.now))) }
+{
+    let element = element_in(alloc, value)?;
+    Ok(element_text(alloc, &element, pretty)?)
+}
+
+/// The text of the items that a value spells.
+fn spelled_doc(alloc: Global, value: &Value, pretty: bool) -> Result<String, SpellFault>
+    ensures { Answers result (answer_if (doc_answer pretty) (items_spelled (view value.now))) }
+{
+    let items = items_in(alloc, value)?;
+    Ok(items_text(alloc, &items, pretty)?)
+}
+
+/// The text of what a value spells.
+fn text_of(alloc: Global, value: &Value, task: Task, pretty: bool) -> Result<String, SpellFault>
+    ensures { Answers result (value_answer task pretty (view value.now)) }
+{
+    match task {
+        Task::Tree => spelled_tree(alloc, value, pretty),
+        Task::Doc => spelled_doc(alloc, value, pretty),
+    }
+}
+
+/// The answer to an input that is this JSON value.
+fn answer_value(alloc: Global, value: &Value, task: Task, pretty: bool) -> Result<Reply, AllocError>
+    ensures { IfOk result (λ reply. IsReply reply (value_answer task pretty (view value.now))) }
+{
+    match text_of(alloc, value, task, pretty) {
+        Ok(text) => Ok(Reply {
+            status: Status::Done,
+            text: text.into_bytes(),
+        }),
+        Err(SpellFault::Refused(number, span)) => refused(alloc, number, span),
+        Err(SpellFault::BadInput) => bad_input(alloc),
+        Err(SpellFault::OutOfMemory) => Err(AllocError),
+    }
+}
+
+/// The answer to an input.
+#[tactic(auto, unfolding(crate::specs::Answers::input_answer))]
+fn answer(alloc: Global, input: &[u8], task: Task, pretty: bool) -> Result<Reply, AllocError>
+    ensures { IfOk result (λ reply. IsReply reply (input_answer task pretty input.now)) }
+{
+    match parse(alloc, input)? {
+        Some(value) => answer_value(alloc, &value, task, pretty),
+        None => bad_input(alloc),
+    }
+}
+
+/// What is to be answered.
+fn wanted<R: Read>(alloc: Global, reader: &mut R, words: &[String]) -> Result<Reply, AllocError>
+    ensures answers { IfOk result (λ reply.
+        RepliesOn (texts_of words.now) (R.remaining reader.old) reply) }
+    ensures wrong_words { wanted_task (texts_of words.now) ≡ None
+        → IfOk result (λ reply. IsReply reply bad_input) }
+    ensures unread { wanted_task (texts_of words.now) ≡ None → reader.new ≡ reader.old }
+{
+    let Some((task, pretty)) = wanted_task(words) else {
+        return bad_input(alloc);
+    };
+    match read_all(alloc, reader) {
+        Some(input) => answer(alloc, &input, task, pretty),
+        None => Err(AllocError),
+    }
+}
+
+/// Writes the reply, and says how that ended.
+fn tell<W: Write>(writer: &mut Recorded<W>, reply: &Reply) -> Status
+    ensures { EndsAs (shown reply.now) result (W.contents writer.old.writer)
+        (W.contents writer.new.writer) writer.new.last }
+{
+    match writer.write_all(&reply.text) {
+        Ok(()) => reply.status,
+        Err(WriteFailed) => Status::Failed,
+    }
+}
+
+/// Reads all that the reader has, as one JSON value, and writes the HTML text of what it spells, or
+/// one line that says why there is none.
+///
+/// `words` are those after the program's name: `tree` for a tree or `doc` for the document of a list
+/// of items, and then `--pretty` where pretty text is wanted. Others are told before anything is
+/// read. A document is made without footnotes, and nothing is known of it; bodies of its items may
+/// stand 50 deep. Nothing is written where memory runs out or a read fails; where a write or the
+/// flush after the last one fails, a beginning of the answer was. The reader is read in pieces of at
+/// most 4,096 bytes, at most 1,048,576 times.
+pub fn run<R: Read, W: Write>(
+    alloc: Global,
+    reader: &mut R,
+    writer: &mut Recorded<W>,
+    words: &[String],
+) -> Status
+    ensures answers { EndsOn (texts_of words.now) (R.remaining reader.old) result
+        (W.contents writer.old.writer) (W.contents writer.new.writer) writer.new.last }
+
+    // Wrong words.
+    ensures wrong_words { wanted_task (texts_of words.now) ≡ None
+        → EndsAs bad_input result (W.contents writer.old.writer) (W.contents writer.new.writer)
+        writer.new.last }
+    ensures unread { wanted_task (texts_of words.now) ≡ None → reader.new ≡ reader.old }
+{
+    match wanted(alloc, reader, words) {
+        Ok(reply) => tell(writer, &reply),
+        Err(AllocError) => Status::Failed,
+    }
+}

@@ -1,0 +1,97 @@
+//! A writer that remembers how its last call ended.
+
+ghost use Rattle.std.specs.Prelude.{◌≡◌, ◌<◌, ◌≤◌, length, take, IfOk, OnErr};
+ghost use Rattle.std.specs.Io.KnownBytes.{Appends, Keeps};
+ghost use Rattle.html_tool_run.specs.Writing.{WritesAll};
+
+use std::io::Write;
+
+/// How the last call on a writer ended.
+#[derive(Clone, Copy, Debug, PartialEq, Eq)]
+pub enum LastCall {
+    /// There was no call yet.
+    NoCall,
+    /// A write took one byte or more.
+    Wrote,
+    /// A flush succeeded.
+    Flushed,
+    /// A write or a flush failed. A write that takes no byte has failed.
+    Failed,
+}
+
+/// A write or a flush failed.
+#[derive(Clone, Copy, Debug, PartialEq, Eq)]
+pub struct WriteFailed;
+
+/// A writer, and how the last call on it ended.
+///
+/// Contracts tell by this record whether a write failed, which no writer says of itself.
+#[derive(Drop)]
+pub struct Recorded<W> {
+    writer: W,
+    last: LastCall,
+}
+
+impl<W: Write> Recorded<W> {
+    /// The writer before any call.
+    pub fn new(writer: W) -> Recorded<W>
+        ensures writer { result.writer ≡ writer }
+        ensures last { result.last ≡ LastCall.NoCall }
+    {
+        Recorded {
+            writer,
+            last: LastCall::NoCall,
+        }
+    }
+
+    /// Writes some of the bytes, at least one, and answers how many.
+    pub fn write(&mut self, bytes: &[u8]) -> Result<usize, WriteFailed>
+        requires { 0 < length bytes.now }
+        ensures count { IfOk result (λ n. (0 < n) × (n ≤ length bytes.now)) }
+        ensures taken { IfOk result (λ n. (self.new.last ≡ LastCall.Wrote) × Appends
+            (W.contents self.old.writer) (W.contents self.new.writer) (take n bytes.now)) }
+        ensures failed { OnErr result ((self.new.last ≡ LastCall.Failed)
+            × Keeps (W.contents self.old.writer) (W.contents self.new.writer)) }
+    {
+        match self.writer.write(bytes) {
+            Ok(n) if n > 0 => {
+                self.last = LastCall::Wrote;
+                Ok(n)
+            }
+            _ => {
+                self.last = LastCall::Failed;
+                Err(WriteFailed)
+            }
+        }
+    }
+
+    /// Flushes the writer.
+    pub fn flush(&mut self) -> Result<(), WriteFailed>
+        ensures flushed { IfOk result (λ _. self.new.last ≡ LastCall.Flushed) }
+        ensures failed { OnErr result (self.new.last ≡ LastCall.Failed) }
+        ensures kept { Keeps (W.contents self.old.writer) (W.contents self.new.writer) }
+    {
+        match self.writer.flush() {
+            Ok(()) => {
+                self.last = LastCall::Flushed;
+                Ok(())
+            }
+            Err(_) => {
+                self.last = LastCall::Failed;
+                Err(WriteFailed)
+            }
+        }
+    }
+
+    /// Writes all of the bytes, and flushes after the last of them. Nothing is tried again.
+    pub fn write_all(&mut self, bytes: &[u8]) -> Result<(), WriteFailed>
+        ensures { WritesAll result bytes.now
+            (W.contents self.old.writer) (W.contents self.new.writer) self.new.last }
+    {
+        let mut at = 0;
+        while at < bytes.len() {
+            at += self.write(&bytes[at..])?;
+        }
+        self.flush()
+    }
+}

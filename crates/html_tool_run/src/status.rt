@@ -1,0 +1,29 @@
+ghost use Rattle.std.specs.Prelude.{◌≡◌};
+ghost use Rattle.html_tool_run.specs.Answers.{code_of};
+
+/// How a run of the program ended.
+#[derive(Clone, Copy, Debug, PartialEq, Eq)]
+pub enum Status {
+    /// The HTML text was written.
+    Done,
+    /// The tree was refused, and a line says why and where.
+    Refused,
+    /// The words or the input are not what the program takes.
+    BadInput,
+    /// Memory, the reader or the writer failed.
+    Failed,
+}
+
+impl Status {
+    /// The exit code of the process, from 0 to 3 in the order of the variants.
+    pub fn code(self) -> u8
+        ensures { result ≡ code_of self }
+    {
+        match self {
+            Status::Done => 0,
+            Status::Refused => 1,
+            Status::BadInput => 2,
+            Status::Failed => 3,
+        }
+    }
+}

@@ -1,0 +1,38 @@
+-- The byte order of names.
+use Rattle.std.proofs.Common.{◌≡◌, ℕ, List, [], ap, ◌∙◌, chars, IsUtf8, String, Global, Result, Ok, Err}
+use Rattle.std.specs.Result.{OnOk, OnErr}
+use Rattle.std.specs.List.Sorted.{IsStrictlySortedBy}
+use Rattle.html_names.specs.Texts.{TextPair}
+use Rattle.html_names.specs.declared.refused.Refused.{Refused}
+use Rattle.html_values_css.proofs.Listing.{listed_with, listed_without}
+use Rattle.std.specs.Cmp.{IsTotalOrder}
+use Rattle.std.specs.Cmp.Lexicographic.{slice_cmp, lists_total}
+use Rattle.std.specs.Ordering.{nat_cmp}
+use Rattle.std.proofs.lemmas.Cmp.{on_total, nat_cmp_total}
+use Rattle.std.proofs.lemmas.Str.{encodes-chars}
+use lib.Utf8.{encodes}
+use Rattle.html_values_css.specs.Properties.{by_name, IsListed, with_value, without}
+
+pub by_name_total : IsTotalOrder by_name
+by_name_total = on_total encodes (lists_total nat_cmp_total)
+
+-- of texts in bytes
+pub by_name_bytes : (a b : List ℕ) → IsUtf8 a → IsUtf8 b → by_name (chars a) (chars b)
+    ≡ slice_cmp nat_cmp a b
+by_name_bytes a b u v = ap (λ x. slice_cmp nat_cmp x (encodes (chars b))) (encodes-chars a u)
+    ∙ ap (slice_cmp nat_cmp a) (encodes-chars b v)
+
+pub listed_none : IsListed []
+unfolding IsStrictlySortedBy
+listed_none = tt
+
+-- an edit keeps the order
+pub put_listed : (r : Result (Unit {0}) (Refused (String Global))) (old new : List TextPair)
+    (name value : List ℕ) → IsListed old
+    → OnOk r (new ≡ with_value old name value) → OnErr r (new ≡ old) → IsListed new
+put_listed (Ok u) old new name value s p q = rw p (listed_with by_name_total name value old s)
+put_listed (Err e) old new name value s p q = rw q s
+
+pub out_listed : (old new : List TextPair) (name : List ℕ) → IsListed old → new ≡ without old name
+    → IsListed new
+out_listed old new name s p = rw p (listed_without by_name name old s)

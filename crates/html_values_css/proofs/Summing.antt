@@ -1,0 +1,158 @@
+-- What a sum writes part by part is its text.
+use Rattle.std.proofs.Common.{◌≡◌, ℕ, ℤ, List, [], ◌∷◌, ◌++◌, Bool, true, false, not, Result, Ok, Err, refl, sym, ap, subst, ◌∙◌, append_assoc, append-nil, codes, if◌then◌else◌}
+use Rattle.std.specs.List.{filter, flat_map}
+use Rattle.std.specs.declared.alloc.AllocError.{AllocError}
+use Rattle.html_values_css.specs.Quantities.{is_zero, is_negative}
+use Rattle.html_values_css.specs.Sums.{Part, Parts, Zero, One, More, following, enclosed, sum_text, written_sum, next, next_parts, next_text, next_warnings, with_part, closed, quantity_part}
+use Rattle.html_values_css.specs.Writer.{State, Emits, Adds}
+use Rattle.html_values_css.specs.Sink.{StartsWith, Answers}
+use Rattle.html_values_css.specs.declared.sink.Warning.{Warning}
+use Rattle.html_values_css.proofs.Giving.{handed_none}
+
+abbrev shown : List Part → List Part
+shown ps = filter (λ p. not (is_zero p.number)) ps
+
+-- a part that is dropped, and one that is not
+abbrev stepped : Bool → Parts → List ℕ → Part → List Part → List ℕ
+stepped z parts own p ps = written_sum (if z then parts else next parts)
+    (if z then own else with_part parts own p) ps
+
+abbrev kept : Bool → Part → List Part → List Part
+kept z p ps = if not z then p ∷ shown ps else shown ps
+
+more_step : (z : Bool) (own : List ℕ) (p : Part) (ps : List Part)
+    → ((own : List ℕ) → written_sum More own ps ≡ own
+    ++ (flat_map following (shown ps) ++ codes ")"))
+    → stepped z More own p ps ≡ own ++ (flat_map following (kept z p ps) ++ codes ")")
+more_step true own p ps h = h own
+more_step false own p ps h = h (own ++ following p) ∙ append_assoc own (following p) _
+    ∙ ap (λ l. own ++ l) (sym (append_assoc (following p) (flat_map following (shown ps))
+    (codes ")")))
+
+-- the parts after a second one
+after_more : (ps : List Part) (own : List ℕ) → written_sum More own ps ≡ own
+    ++ (flat_map following (shown ps) ++ codes ")")
+after_more [] own = refl
+after_more (p ∷ ps) own = more_step (is_zero p.number) own p ps (after_more ps)
+
+-- one part, and then these
+abbrev with_first : List ℕ → List Part → List ℕ
+with_first own [] = own
+with_first own (q ∷ qs) = codes "calc(" ++ own ++ flat_map following (q ∷ qs) ++ codes ")"
+
+one_step : (z : Bool) (own : List ℕ) (p : Part) (ps : List Part) → written_sum One own ps
+    ≡ with_first own (shown ps) → stepped z One own p ps ≡ with_first own (kept z p ps)
+one_step true own p ps h = h
+one_step false own p ps h =
+    after_more ps (codes "calc(" ++ own ++ following p)
+    ∙ append_assoc (codes "calc(" ++ own) (following p) _
+    ∙ ap (λ l. codes "calc(" ++ own ++ l) (sym (append_assoc (following p)
+    (flat_map following (shown ps)) (codes ")")))
+    ∙ sym (append_assoc (codes "calc(" ++ own) (following p ++ flat_map following (shown ps))
+    (codes ")"))
+
+after_one : (ps : List Part) (own : List ℕ) → written_sum One own ps ≡ with_first own (shown ps)
+after_one [] own = append-nil own
+after_one (p ∷ ps) own = one_step (is_zero p.number) own p ps (after_one ps own)
+
+first_is : (p : Part) (ps : List Part) → with_first p.text ps ≡ enclosed (p ∷ ps)
+first_is p [] = refl
+first_is p (q ∷ qs) = refl
+
+zero_step : (z : Bool) (p : Part) (ps : List Part) → written_sum Zero [] ps ≡ enclosed (shown ps)
+    → stepped z Zero [] p ps ≡ enclosed (kept z p ps)
+zero_step true p ps h = h
+zero_step false p ps h = after_one ps p.text ∙ first_is p (shown ps)
+
+-- written part by part, a sum has its text
+pub sums : (ps : List Part) → written_sum Zero [] ps ≡ sum_text ps
+sums [] = refl
+sums (p ∷ ps) = zero_step (is_zero p.number) p ps (sums ps)
+
+either : (b : Bool) (warnings : List Warning) → warnings ≡ [] → (if b then [] else warnings) ≡ []
+either true warnings none = refl
+either false warnings none = none
+
+-- a quantity never warns
+pub never_warns : (parts : Parts) (text : ℤ → List ℕ) (z : ℤ)
+    → next_warnings parts (quantity_part text z) ≡ []
+never_warns Zero text z = either (is_zero z) [] refl
+never_warns One text z = either (is_zero z) _ (either (is_negative z) [] refl)
+never_warns More text z = either (is_zero z) _ (either (is_negative z) [] refl)
+
+-- A sum of `all` that still lacks `left`, which began at a writer in `start`: what stood before it,
+-- how many parts it has, and what it has written.
+pub record Going {S : Type 0} (start : State S) (all left : List Part) (before : List ℕ)
+    (parts : Parts) (own : State S) : Type 0 where
+  pub at : before ≡ start.text
+  pub told : written_sum parts own.text left ≡ sum_text all
+  pub failed : own.failed ≡ start.failed
+  pub sink : own.sink ≡ start.sink
+
+pub begun : {S : Type 0} (start : State S) (all : List Part) (before : List ℕ) (parts : Parts)
+    (own : State S)
+    → before ≡ start.text → own ≡ record start { text = [] } → parts ≡ Zero
+    → Going start all all before parts own
+begun {S} start all before parts own b o p = record {
+  at = b;
+  told = rw (p, o) (sums all);
+  failed = ap (λ (s : State S). s.failed) o;
+  sink = ap (λ (s : State S). s.sink) o;
+}
+
+added_text : {S : Type 0} (takes : Answers S) (q : Result (Unit {0}) AllocError) (u : Unit {0})
+    (a b : State S) (t : List ℕ) (ws : List Warning)
+    → q ≡ Ok u → Adds takes q a b t ws → b.text ≡ t
+added_text takes q u a b t ws ok added =
+    let done : Adds takes (Ok u) a b t ws
+    = subst (λ (r : Result (Unit {0}) AllocError). Adds takes r a b t ws) ok added in
+    done.written
+
+pub going : {S : Type 0} {takes : Answers S} {q : Result (Unit {0}) AllocError} {u : Unit {0}}
+    {start : State S} {all qs : List Part}
+    {before before' : List ℕ} {parts parts' : Parts} {own own' : State S} (p : Part)
+    → Going start all (p ∷ qs) before parts own → q ≡ Ok u → before' ≡ before → parts'
+    ≡ next_parts parts p
+    → Adds takes q own own' (next_text parts own.text p) (next_warnings parts p)
+    → next_warnings parts p ≡ [] → Going start all qs before' parts' own'
+going {S} {takes} {q} {u} {start} {all} {qs} {before} {before'} {parts} {parts'} {own} {own'} p
+    held ok stays counted added none = record {
+      at = stays ∙ held.at;
+      told = rw (counted, added_text takes q u own own' _ _ ok added) held.told;
+      failed = added.steady none ∙ held.failed;
+      sink = handed_none takes q own.sink own'.sink _ none added.given ∙ held.sink;
+    }
+
+pub done : {S : Type 0} {takes : Answers S} {r : Result (Unit {0}) AllocError} {start : State S}
+    {all : List Part}
+    {before : List ℕ} {parts : Parts} {own final : State S}
+    → Going start all [] before parts own → Emits takes r (record own { text = before }) final
+    (own.text ++ closed parts) []
+    → Emits takes r start final (sum_text all) []
+done {S} {takes} {r} {start} {all} {before} {parts} {own} {final} held closes =
+    let same : record own { text = before } ≡ start = as_state held.at held.failed held.sink in
+    subst (λ (t : List ℕ). Emits takes r start final t []) held.told
+    (subst (λ (s : State S). Emits takes r s final (own.text ++ closed parts) []) same closes)
+  where
+    as_state : before ≡ start.text → own.failed ≡ start.failed → own.sink ≡ start.sink
+        → record own { text = before } ≡ start
+    as_state a b c = rw (a, b, c) refl
+
+-- at a refusal of a part
+pub broken : {S : Type 0} {takes : Answers S} {q r : Result (Unit {0}) AllocError}
+    {e e' : AllocError} {start : State S} {all qs : List Part}
+    {before before' : List ℕ} {parts : Parts} {own own' : State S} (p : Part) (text final : List ℕ)
+    → Going start all (p ∷ qs) before parts own → q ≡ Err e → r ≡ Err e' → before' ≡ before
+    → StartsWith final before'
+    → Adds takes q own own' (next_text parts own.text p) (next_warnings parts p)
+    → next_warnings parts p ≡ []
+    → Emits takes r start (record own' { text = final }) text []
+broken {S} {takes} {q} {r} {e} {e'} {start} {all} {qs} {before} {before'} {parts} {own} {own'} p
+    text final held was is stays begins added none =
+    rw is record {
+      appended = tt;
+      kept = rw (← held.at, ← stays) begins;
+      failed = tt;
+      steady = λ _. added.steady none ∙ held.failed;
+      given = handed_none takes q own.sink own'.sink _ none added.given ∙ held.sink;
+    }

@@ -1,0 +1,45 @@
+-- What a sum has written, and what stood before it.
+use Rattle.std.specs.Prelude.{◌≡◌, ◌≤◌, ℕ, ℤ, List, ◌++◌, codes, take, drop, length, chars, string_bytes}
+use Rattle.html_values_css.specs.Sums.{Part, Parts, Zero, One, More, following}
+use Rattle.html_values_css.specs.Writer.{State}
+use Rattle.html_values_css.specs.declared.sink.Warning.{Warning}
+use Rattle.html_values_css.specs.declared.writer.CssWriter.{CssWriter}
+
+-- what stood in the writer before a sum, and what the sum has written, as a writer of its own
+abbrev pub text_before : {S : Type 0} → ℕ → CssWriter S → List ℕ
+text_before start w = chars (take start (string_bytes w.text))
+
+abbrev pub written_from : {S : Type 0} → ℕ → CssWriter S → State S
+written_from start w = record {
+  text = chars (drop start (string_bytes w.text));
+  failed =
+      w.failed;
+  sink = w.sink;
+}
+
+-- nothing before the start of the sum is changed
+pub record Keeps {S : Type 0} (start : ℕ) (old new : CssWriter S) : Type 0 where
+  pub within : start ≤ length (string_bytes new.text)
+  pub front : take start (string_bytes new.text) ≡ take start (string_bytes old.text)
+
+-- the part of a value, whose type says what its number, its text and its negation are
+abbrev pub part_of : {T : Type 0} → (T → ℤ) → (T → List ℕ) → (T → List Warning) → (T → T) → T → Part
+part_of number text warnings opposite x = record {
+  number = number x;
+  text = text x;
+  warnings = warnings x;
+  opposite_text = text (opposite x);
+  opposite_warnings = warnings (opposite x);
+}
+
+-- what one more part appends
+abbrev pub appended : Parts → Part → List ℕ
+appended Zero p = p.text
+appended One p = following p
+appended More p = following p
+
+-- the opening comes with the second part
+abbrev pub opened : Parts → List ℕ → List ℕ
+opened Zero text = text
+opened One text = codes "calc(" ++ text
+opened More text = text

@@ -1,0 +1,125 @@
+-- What the css text of a length is worth (CSS Values 4: dimensions, percentages and `calc()`), in
+-- whole millionths.
+use Rattle.std.specs.Prelude.{◌≡◌, ℕ, suc, ◌≤◌, ◌<◌, ◌+◌, ◌*◌, ◌/◌, nat_lt, ◌==◌, ℤ, pos, negsuc, neg_ℤ, ◌+ℤ◌, List, [], ◌∷◌, codes, take, drop, bytes_eq, Bool, if◌then◌else◌, Option, Some, None, option_map}
+use Rattle.std.specs.List.{take_while, prefix_len}
+use Rattle.std.specs.Char.{digit_value}
+use Rattle.std.specs.Str.Parse.{digits_value}
+use Rattle.html_names.specs.Names.{listed}
+use Rattle.html_values_css.specs.Quantities.{IsQuantity}
+use Rattle.html_values_css.specs.Sums.{length_text, rel_text}
+
+-- unit by unit: millionths of one, of an em, of a point
+pub record Amounts : Type 0 where
+  pub ratio : ℤ
+  pub em : ℤ
+  pub abs : ℤ
+
+abbrev pub nothing : Amounts
+nothing = record { ratio = pos 0; em = pos 0; abs = pos 0 }
+
+abbrev pub negated : Amounts → Amounts
+negated a = record { ratio = neg_ℤ a.ratio; em = neg_ℤ a.em; abs = neg_ℤ a.abs }
+
+abbrev pub added : Amounts → Amounts → Amounts
+added a b = record { ratio = a.ratio +ℤ b.ratio; em = a.em +ℤ b.em; abs = a.abs +ℤ b.abs }
+
+abbrev pub both : Option Amounts → Option Amounts → Option Amounts
+both (Some a) (Some b) = Some (added a b)
+both (Some a) None = None
+both None b = None
+
+abbrev pub is_digit : ℕ → Bool
+is_digit c = nat_lt (digit_value c) 10
+
+-- the digits that a text begins with, and what follows them
+abbrev pub digits_of : List ℕ → List ℕ
+digits_of text = take_while is_digit text
+
+abbrev pub after_digits : List ℕ → List ℕ
+after_digits text = drop (prefix_len is_digit text) text
+
+-- behind the point each digit is worth a tenth of the one before
+abbrev pub decimals : ℕ → List ℕ → ℕ
+decimals worth [] = 0
+decimals worth (d ∷ ds) = digit_value d * worth + decimals (worth / 10) ds
+
+-- n millionths of a unit
+abbrev pub in_unit : List ℕ → ℕ → Option Amounts
+in_unit unit n =
+    if bytes_eq unit (codes "em") then Some (record nothing { em = pos n })
+    else (if bytes_eq unit (codes "pt") then Some (record nothing { abs = pos n })
+    else (if bytes_eq unit (codes "%") then Some (record nothing { ratio = pos (n / 100) })
+    else None))
+
+-- whole units, and the text behind their digits
+abbrev pub behind : ℕ → List ℕ → Option Amounts
+behind n [] = None
+behind n (c ∷ cs) = if c == 46 then in_unit (after_digits cs) (n + decimals 100000 (digits_of cs))
+    else in_unit (c ∷ cs) n
+
+abbrev pub unsigned : List ℕ → List ℕ → Option Amounts
+unsigned [] rest = None
+unsigned (d ∷ ds) rest = behind (digits_value 10 (d ∷ ds) * 1000000) rest
+
+-- an optional minus, a decimal, a unit
+abbrev pub part_value : List ℕ → Option Amounts
+part_value [] = None
+part_value (c ∷ cs) =
+    if c == 45 then option_map negated (unsigned (digits_of cs) (after_digits cs))
+    else unsigned (digits_of (c ∷ cs)) (after_digits (c ∷ cs))
+
+-- the words of a sum: a part, and then signs and parts
+abbrev pub signed : List ℕ → Option Amounts → Option Amounts
+signed sign value = if bytes_eq sign (codes "+") then value
+    else (if bytes_eq sign (codes "-") then option_map negated value else None)
+
+abbrev pub terms : List (List ℕ) → Option Amounts
+terms [] = Some nothing
+terms (sign ∷ []) = None
+terms (sign ∷ part ∷ words) = both (signed sign (part_value part)) (terms words)
+
+abbrev pub sum_value : List (List ℕ) → Option Amounts
+sum_value [] = None
+sum_value (part ∷ words) = both (part_value part) (terms words)
+
+-- a text without the `)` at its end
+abbrev pub unclosed : List ℕ → Option (List ℕ)
+unclosed [] = None
+unclosed (c ∷ []) = if c == 41 then Some [] else None
+unclosed (c ∷ d ∷ cs) = option_map (λ body. c ∷ body) (unclosed (d ∷ cs))
+
+-- what stands in `calc(..)`
+abbrev pub calc_body : List ℕ → Option (List ℕ)
+calc_body text = if bytes_eq (take 5 text) (codes "calc(") then unclosed (drop 5 text) else None
+
+abbrev pub of_body : List ℕ → Option (List ℕ) → Option Amounts
+of_body text (Some body) = sum_value (listed body)
+of_body text None = part_value text
+
+-- `0` is zero; a part has its own value; `calc(..)` is the signed sum of its parts, which spaces
+-- separate
+abbrev pub css_value : List ℕ → Option Amounts
+css_value text = if bytes_eq text (codes "0") then Some nothing else of_body text (calc_body text)
+
+-- the nearest multiple of 100, halves away from zero
+abbrev pub nearest_hundred : ℕ → ℕ
+nearest_hundred n = (n + 50) / 100 * 100
+
+abbrev pub round : ℤ → ℤ
+round (pos n) = pos (nearest_hundred n)
+round (negsuc n) = neg_ℤ (pos (nearest_hundred (suc n)))
+
+-- the text of a length is worth the sum of its parts, each rounded to the decimals that it is
+-- written with
+abbrev pub LengthValue : Type 0
+LengthValue = (em abs : ℤ) → IsQuantity em → IsQuantity abs → css_value (length_text em abs)
+    ≡ Some (record { ratio = pos 0; em = round em; abs = round abs })
+
+abbrev pub RelValue : Type 0
+RelValue = (ratio em abs : ℤ) → IsQuantity ratio → IsQuantity em → IsQuantity abs
+    → css_value (rel_text ratio em abs) ≡ Some (record
+    { ratio = round ratio; em = round em; abs = round abs })
+
+-- no multiple of 100 is nearer, and a half goes up
+abbrev pub Nearest : Type 0
+Nearest = (n : ℕ) → (nearest_hundred n ≤ n + 50) × (n < nearest_hundred n + 50)

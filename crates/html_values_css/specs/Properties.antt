@@ -1,0 +1,55 @@
+-- Css properties: a finite map from names to texts, listed by name, and the text of a `style`
+-- attribute (CSS Style
+-- Attributes, section 3).
+use Rattle.std.specs.Prelude.{ℕ, List, [], ◌∷◌, ◌++◌, codes, map, Option}
+use Rattle.std.specs.List.{flat_map}
+use Rattle.std.specs.List.Sorted.{IsStrictlySortedBy}
+use Rattle.std.specs.Map.{lookup, remove_entry, keys_of}
+use Rattle.std.specs.BTreeMap.{insert_entry, is_at}
+use Rattle.std.specs.declared.cmp.Ordering.{Ordering}
+use Rattle.std.specs.Ordering.{nat_cmp}
+use Rattle.std.specs.Cmp.Lexicographic.{slice_cmp}
+use lib.Utf8.{encodes}
+use Rattle.html_names.specs.Texts.{text_view, TextPair}
+use Rattle.html_values_css.specs.declared.property.Property.{Property}
+
+abbrev pub property_view : Property → TextPair
+property_view p = (text_view p.name, text_view p.value)
+
+abbrev pub name_of : Property → List ℕ
+name_of p = text_view p.name
+
+abbrev pub list_view : List Property → List TextPair
+list_view = map property_view
+
+-- the byte order of names
+abbrev pub by_name : List ℕ → List ℕ → Ordering
+by_name a b = slice_cmp nat_cmp (encodes a) (encodes b)
+
+-- each name stands before the names after it, so no name stands twice
+abbrev pub IsListed : List TextPair → Type 0
+IsListed pairs = IsStrictlySortedBy by_name (keys_of pairs)
+
+-- the value of a name
+abbrev pub value_of : List TextPair → List ℕ → Option (List ℕ)
+value_of pairs name = lookup (is_at (by_name name)) pairs
+
+-- with the value of a name, where its order puts it, or instead of the value that the name had
+abbrev pub with_value : List TextPair → List ℕ → List ℕ → List TextPair
+with_value pairs name value = insert_entry by_name pairs name value
+
+-- without a name
+abbrev pub without : List TextPair → List ℕ → List TextPair
+without pairs name = remove_entry (is_at (by_name name)) pairs
+
+abbrev pub declaration : TextPair → List ℕ
+declaration p = p.0 ++ codes ": " ++ p.1
+
+-- declarations after a first one
+abbrev pub following : List TextPair → List ℕ
+following = flat_map (λ p. codes "; " ++ declaration p)
+
+-- `name: value` joined by `; `
+abbrev pub inline_text : List TextPair → List ℕ
+inline_text [] = []
+inline_text (p ∷ ps) = declaration p ++ following ps

@@ -1,0 +1,36 @@
+-- What holds of every property map.
+use Rattle.std.specs.Prelude.{◌≡◌, ℕ, List, [], ◌∷◌, bytes_eq, Some, None, if◌then◌else◌}
+use Rattle.std.specs.List.{IsDistinct}
+use Rattle.std.specs.List.Sorted.{IsPermutation}
+use Rattle.std.specs.Map.{keys_of}
+use Rattle.html_names.specs.Texts.{TextPair}
+use Rattle.html_values_css.specs.Properties.{IsListed, value_of, with_value, without, inline_text}
+
+-- the properties after these are pushed, one after another
+abbrev pub pushed : List TextPair → List TextPair → List TextPair
+pushed old [] = old
+pushed old (p ∷ ps) = pushed (with_value old p.0 p.1) ps
+
+-- pushed in any order, distinct names give the same properties, and so the same text
+abbrev pub AnyOrder : Type 0
+AnyOrder = (old first second : List TextPair) → IsListed old → IsDistinct bytes_eq (keys_of first)
+    → IsPermutation first second
+    → (pushed old first ≡ pushed old second) × (inline_text (pushed old first)
+    ≡ inline_text (pushed old second))
+
+-- a push gives that name its value, and no other name another
+abbrev pub PushSets : Type 0
+PushSets = (pairs : List TextPair) (name value other : List ℕ)
+    → value_of (with_value pairs name value) other
+    ≡ (if bytes_eq other name then Some value else value_of pairs other)
+
+-- after a remove that name has no value, and the others have theirs
+abbrev pub RemoveClears : Type 0
+RemoveClears = (pairs : List TextPair) (name other : List ℕ) → IsListed pairs
+    → value_of (without pairs name) other ≡ (if bytes_eq other name then None
+    else value_of pairs other)
+
+-- the values of the names decide the list
+abbrev pub ValuesDecide : Type 0
+ValuesDecide = (a b : List TextPair) → IsListed a → IsListed b
+    → ((name : List ℕ) → value_of a name ≡ value_of b name) → a ≡ b

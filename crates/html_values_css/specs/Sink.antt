@@ -1,0 +1,67 @@
+-- What a sink does with a warning, and with several.
+use Rattle.std.specs.Prelude.{◌≡◌, ◌⊎◌, List, [], ◌∷◌, ◌++◌, length, take, Option, Result, Ok, Err, Vec}
+use Rattle.std.specs.declared.alloc.Global.{Global}
+use base.Fml.{GName}
+use Rattle.std.specs.declared.alloc.AllocError.{AllocError}
+use Rattle.html_values_css.specs.declared.sink.Warning.{Warning}
+
+abbrev pub StartsWith : {A : Type 0} → List A → List A → Type 0
+StartsWith xs front = take (length front) xs ≡ front
+
+-- the list has the warning at its end, unless an allocation failed
+abbrev pub Keeps : List Warning → Warning → Result (Unit {0}) AllocError → List Warning → Type 0
+Keeps old warning (Ok u) new = new ≡ old ++ warning ∷ []
+Keeps old warning (Err e) new = new ≡ old
+
+-- the list stays, or has the warning at its end
+abbrev pub AddsAtMost : List Warning → List Warning → Warning → Type 0
+AddsAtMost old new warning = (new ≡ old) ⊎ (new ≡ old ++ warning ∷ [])
+
+-- what `emit` makes of a sink: the sink before, the warning, the outcome, the sink after
+abbrev pub Answers : Type 0 → Type 1
+Answers S = S → Warning → Result (Unit {0}) AllocError → S → Type 0
+
+-- a sink that was handed a warning: what it made of it, its list, and which borrow it is
+pub record Takes {S : Type 0} (warnings : S → List Warning) (borrow : S → Option GName)
+    (emit_gives : Answers S) (old : S) (warning : Warning) (r : Result (Unit {0}) AllocError)
+    (new : S) : Type 0 where
+  pub gives : emit_gives old warning r new
+  pub adds : AddsAtMost (warnings old) (warnings new) warning
+  pub same_borrow : borrow new ≡ borrow old
+
+module _ {S : Type 0} (takes : Answers S) where
+  -- the sink took these in order, and refused none
+  abbrev pub Given : S → List Warning → S → Type 0
+  Given old [] new = new ≡ old
+  Given old (w ∷ ws) new = (middle : S) × takes old w (Ok tt) middle × Given middle ws new
+
+  -- the sink refused that warning
+  abbrev pub Refuses : S → Warning → S → Type 0
+  Refuses old w new = (e : AllocError) × takes old w (Err e) new
+
+  -- the sink took a beginning of these in order, and then refused one or was handed no more
+  abbrev pub Interrupted : S → List Warning → S → Type 0
+  Interrupted old [] new = new ≡ old
+  Interrupted old (w ∷ ws) new =
+      (new ≡ old) ⊎ (Refuses old w new
+      ⊎ ((middle : S) × takes old w (Ok tt) middle × Interrupted middle ws new))
+
+  -- a call that hands these to the sink: all of them where it succeeds
+  abbrev pub Hands : {A E : Type 0} → Result A E → S → List Warning → S → Type 0
+  Hands (Ok a) old ws new = Given old ws new
+  Hands (Err e) old ws new = Interrupted old ws new
+
+-- a vector that is given warnings has them at its end, in order
+abbrev pub GivenVector : Type 0
+GivenVector = (borrow : Vec Warning Global → Option GName) (old new : Vec Warning Global)
+    (ws : List Warning)
+    → Given (Takes (λ v. v.items) borrow (λ v w r u. Keeps v.items w r u.items)) old ws new
+    → new.items ≡ old.items ++ ws
+
+-- after a call that hands warnings to a sink, the sink's list begins as before, and it is the same
+-- borrow
+abbrev pub HandsBegin : {S : Type 0} → (S → List Warning) → (S → Option GName) → Answers S → Type 0
+HandsBegin {S} warnings borrow emit_gives = (r : Result (Unit {0}) AllocError) (old new : S)
+    (ws : List Warning)
+    → Hands (Takes warnings borrow emit_gives) r old ws new
+    → StartsWith (warnings new) (warnings old) × (borrow new ≡ borrow old)

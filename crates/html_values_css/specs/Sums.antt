@@ -1,0 +1,88 @@
+-- The css text of a sum (CSS Values 4, section 10.1, `calc()`).
+use Rattle.std.specs.Prelude.{◌≡◌, ℕ, ℤ, neg_ℤ, List, [], ◌∷◌, ◌++◌, codes, not, if◌then◌else◌}
+use Rattle.std.specs.List.{filter, flat_map}
+use Rattle.html_values_css.specs.Quantities.{is_zero, is_negative, abs_text, em_text, ratio_text}
+use Rattle.html_values_css.specs.declared.sink.Warning.{Warning}
+pub use Rattle.html_values_css.specs.declared.calc.Parts.{Parts}
+pub use Rattle.html_values_css.specs.declared.calc.Parts.TheVariants.{Zero, One, More}
+
+-- a part: its number, its text, its warnings, and the last two of the part negated
+pub record Part : Type 0 where
+  pub number : ℤ
+  pub text : List ℕ
+  pub warnings : List Warning
+  pub opposite_text : List ℕ
+  pub opposite_warnings : List Warning
+
+-- a part as one that follows others
+abbrev pub following : Part → List ℕ
+following p = if is_negative p.number then codes " - " ++ p.opposite_text else codes " + " ++ p.text
+
+-- none is `0`, one stands alone, and more stand in `calc`
+abbrev pub enclosed : List Part → List ℕ
+enclosed [] = codes "0"
+enclosed (p ∷ []) = p.text
+enclosed (p ∷ q ∷ ps) = codes "calc(" ++ p.text ++ flat_map following (q ∷ ps) ++ codes ")"
+
+-- parts of exactly zero are dropped
+abbrev pub sum_text : List Part → List ℕ
+sum_text parts = enclosed (filter (λ p. not (is_zero p.number)) parts)
+
+-- a quantity as a part
+abbrev pub quantity_part : (ℤ → List ℕ) → ℤ → Part
+quantity_part text z = record {
+  number = z;
+  text = text z;
+  warnings = [];
+  opposite_text = text (neg_ℤ z);
+  opposite_warnings = [];
+}
+
+abbrev pub length_text : (em abs : ℤ) → List ℕ
+length_text em abs = sum_text (quantity_part em_text em ∷ quantity_part abs_text abs ∷ [])
+
+abbrev pub rel_text : (ratio em abs : ℤ) → List ℕ
+rel_text ratio em abs = sum_text (quantity_part ratio_text ratio ∷ quantity_part em_text em ∷
+    quantity_part abs_text abs ∷ [])
+
+-- What a sum has written so far, step by step. How many parts it has after one more:
+abbrev pub next : Parts → Parts
+next Zero = One
+next One = More
+next More = More
+
+abbrev pub next_parts : Parts → Part → Parts
+next_parts parts p = if is_zero p.number then parts else next parts
+
+-- the second part puts the opening before the first
+abbrev pub with_part : Parts → List ℕ → Part → List ℕ
+with_part Zero own p = own ++ p.text
+with_part One own p = codes "calc(" ++ own ++ following p
+with_part More own p = own ++ following p
+
+abbrev pub next_text : Parts → List ℕ → Part → List ℕ
+next_text parts own p = if is_zero p.number then own else with_part parts own p
+
+-- what that part warns of
+abbrev pub part_warnings : Parts → Part → List Warning
+part_warnings Zero p = p.warnings
+part_warnings One p = if is_negative p.number then p.opposite_warnings else p.warnings
+part_warnings More p = if is_negative p.number then p.opposite_warnings else p.warnings
+
+abbrev pub next_warnings : Parts → Part → List Warning
+next_warnings parts p = if is_zero p.number then [] else part_warnings parts p
+
+-- what closes the sum
+abbrev pub closed : Parts → List ℕ
+closed Zero = codes "0"
+closed One = []
+closed More = codes ")"
+
+-- what a sum with these parts writes, step by step, from what it has written so far
+abbrev pub written_sum : Parts → List ℕ → List Part → List ℕ
+written_sum parts own [] = own ++ closed parts
+written_sum parts own (p ∷ ps) = written_sum (next_parts parts p) (next_text parts own p) ps
+
+-- part by part, a sum writes its text
+abbrev pub SumWritten : Type 0
+SumWritten = (parts : List Part) → written_sum Zero [] parts ≡ sum_text parts

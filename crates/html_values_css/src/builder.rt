@@ -1,0 +1,97 @@
+ghost use Rattle.std.specs.Prelude.{◌≡◌, [], chars, if◌then◌else◌, OnOk, OnErr, IfOk, IfErr};
+ghost use Rattle.html_values_css.specs.Properties.{with_value};
+ghost use Rattle.html_values_css.specs.Sink.{Takes, Hands, Given, Interrupted};
+ghost use Rattle.html_values_css.specs.Writer.{fails};
+
+use crate::properties::Properties;
+use crate::sink::{WarningSink, pass_on};
+use crate::to_css::ToCss;
+use crate::writer::CssWriter;
+use html_names::Refused;
+use std::alloc::{AllocError, Global};
+
+/// Properties that are being made of values. What a value warns of goes to the sink.
+///
+/// A value that fails changes only the warnings: an earlier value of that name stays.
+#[derive(Drop)]
+pub struct PropertiesBuilder<S> {
+    pub(crate) properties: Properties,
+    pub(crate) sink: S,
+}
+
+impl Properties {
+    /// Begins with no properties.
+    pub fn build<S: WarningSink>(alloc: Global, sink: S) -> PropertiesBuilder<S>
+        ensures { result ≡ record { properties = []; sink = sink } }
+    {
+        PropertiesBuilder::new(alloc, sink)
+    }
+}
+
+impl<S: WarningSink> PropertiesBuilder<S> {
+    /// Begins with no properties.
+    pub fn new(alloc: Global, sink: S) -> PropertiesBuilder<S>
+        ensures { result ≡ record { properties = []; sink = sink } }
+    {
+        PropertiesBuilder {
+            properties: Properties::new(alloc),
+            sink,
+        }
+    }
+
+    /// Gives a name the css text of a value, unless the value fails. The value's warnings go to the
+    /// sink, in order. Where the sink refuses one, or an allocation fails, the properties stay, and
+    /// the sink was handed a beginning of the warnings.
+    pub fn push<T: ToCss>(&mut self, name: &str, value: &T) -> Result<(), AllocError>
+        ensures ok { OnOk result (self.new.properties ≡ (if fails (T.warnings value.now)
+            then self.old.properties else with_value self.old.properties (chars name.now)
+            (T.text value.now))) }
+        ensures err { OnErr result (self.new.properties ≡ self.old.properties) }
+        ensures given { Hands (Takes S.warnings S.borrow S.emit_gives) result self.old.sink
+            (T.warnings value.now) self.new.sink }
+    {
+        let alloc = self.properties.allocator();
+        let mut out = CssWriter::new(alloc, Vec::new(alloc));
+        value.emit(&mut out)?;
+        pass_on(&out.sink, &mut self.sink)?;
+        if out.failed {
+            return Ok(());
+        }
+        match self.properties.push(name, out.text) {
+            Ok(()) => Ok(()),
+            Err(_) => Err(AllocError),
+        }
+    }
+
+    /// The same builder after `push`. Where `push` is refused, it comes back with the properties
+    /// that it had.
+    pub fn with<T: ToCss>(
+        mut self,
+        name: &str,
+        value: &T,
+    ) -> Result<PropertiesBuilder<S>, Refused<PropertiesBuilder<S>>>
+        ensures ok { IfOk result (λ made. made.properties ≡ (if fails (T.warnings value.now)
+            then self.properties else with_value self.properties (chars name.now)
+            (T.text value.now))) }
+        ensures back { IfErr result (λ refused. refused.back.properties ≡ self.properties) }
+        ensures given { IfOk result (λ made. Given (Takes S.warnings S.borrow S.emit_gives)
+            self.sink (T.warnings value.now) made.sink) }
+        ensures given_back { IfErr result (λ refused.
+            Interrupted (Takes S.warnings S.borrow S.emit_gives) self.sink
+            (T.warnings value.now) refused.back.sink) }
+    {
+        match self.push(name, value) {
+            Ok(()) => Ok(self),
+            Err(_) => Err(Refused { back: self }),
+        }
+    }
+
+    /// The properties. The sink is let go.
+    pub fn finish(self) -> Properties
+    where
+        S: Drop,
+        ensures { result ≡ self.properties }
+    {
+        self.properties
+    }
+}

@@ -1,0 +1,134 @@
+//! What holds of every css value, as contracts of functions that do nothing.
+
+ghost use Rattle.html_values_css.specs.Lengths.{LengthValue, Nearest, RelValue};
+ghost use Rattle.html_values_css.specs.Properties.{property_view};
+ghost use Rattle.html_values_css.specs.PropertyLaws.{AnyOrder, PushSets, RemoveClears, ValuesDecide};
+ghost use Rattle.html_values_css.specs.Sink.{GivenVector, HandsBegin};
+ghost use Rattle.html_values_css.specs.Sums.{SumWritten};
+ghost use Rattle.std.specs.Prelude.{◌≡◌, ◌↔◌, IsTrue};
+
+use crate::{
+    Dir, Length, Paint, Properties, Property, Quantity, Rel, Rgba, Separator, Warning, WarningSink,
+};
+
+/// A push gives its name that value, and no other name another.
+pub fn push_sets()
+    ensures { PushSets }
+{}
+
+/// The values of the names decide the list of properties.
+pub fn values_decide()
+    ensures { ValuesDecide }
+{}
+
+/// After a remove its name has no value, and the others have theirs.
+pub fn remove_clears()
+    ensures { RemoveClears }
+{}
+
+/// Pushed in any order, distinct names give the same properties and the same text.
+pub fn any_order()
+    ensures { AnyOrder }
+{}
+
+/// The css text of a length is worth, unit by unit, its parts, each rounded to four decimals.
+pub fn length_value()
+    ensures { LengthValue }
+{}
+
+/// The css text of a relative length is worth, unit by unit, its parts, each rounded: the ratio to
+/// two decimals of a percent, the others to four decimals.
+pub fn rel_value()
+    ensures { RelValue }
+{}
+
+/// A quantity is rounded to the nearest hundred of its millionths, a half away from zero.
+pub fn rounds_to_nearest()
+    ensures { Nearest }
+{}
+
+/// What a sum writes part by part is its text.
+pub fn sum_is_written()
+    ensures { SumWritten }
+{}
+
+/// A vector that is given warnings has them at its end, in order.
+pub fn given_vector()
+    ensures { GivenVector }
+{}
+
+/// After a call that hands warnings to a sink, the sink's list begins as before, and a sink that is
+/// a borrow is the same borrow.
+pub fn hands_begin<S: WarningSink>(_sink: &S)
+    ensures { HandsBegin S.warnings S.borrow S.emit_gives }
+{}
+
+/// Quantities of one unit are equal where their numbers are.
+pub fn equal_quantities<U: Copy + PartialEq>(a: Quantity<U>, b: Quantity<U>) -> bool
+    ensures { IsTrue result ↔ (a ≡ b) }
+{
+    a == b
+}
+
+/// Lengths are equal where all their fields are.
+pub fn equal_lengths(a: Length, b: Length) -> bool
+    ensures { IsTrue result ↔ (a ≡ b) }
+{
+    a == b
+}
+
+/// Relative lengths are equal where all their fields are.
+pub fn equal_rels(a: Rel, b: Rel) -> bool
+    ensures { IsTrue result ↔ (a ≡ b) }
+{
+    a == b
+}
+
+/// Colours are equal where all their fields are.
+pub fn equal_colours(a: Rgba, b: Rgba) -> bool
+    ensures { IsTrue result ↔ (a ≡ b) }
+{
+    a == b
+}
+
+/// Paints are equal where all their fields are.
+pub fn equal_paints(a: Paint, b: Paint) -> bool
+    ensures { IsTrue result ↔ (a ≡ b) }
+{
+    a == b
+}
+
+/// Directions are equal where all their fields are.
+pub fn equal_directions(a: Dir, b: Dir) -> bool
+    ensures { IsTrue result ↔ (a ≡ b) }
+{
+    a == b
+}
+
+/// Warnings are equal where all their fields are.
+pub fn equal_warnings(a: Warning, b: Warning) -> bool
+    ensures { IsTrue result ↔ (a ≡ b) }
+{
+    a == b
+}
+
+/// Separators are equal where all their fields are.
+pub fn equal_separators(a: Separator, b: Separator) -> bool
+    ensures { IsTrue result ↔ (a ≡ b) }
+{
+    a == b
+}
+
+/// Properties of one name and one value are equal where both texts are.
+pub fn equal_property(a: &Property, b: &Property) -> bool
+    ensures { IsTrue result ↔ (property_view a.now ≡ property_view b.now) }
+{
+    a == b
+}
+
+/// Property maps are equal where their lists of names and values are.
+pub fn equal_properties(a: &Properties, b: &Properties) -> bool
+    ensures { IsTrue result ↔ (a.now ≡ b.now) }
+{
+    a == b
+}

@@ -1,0 +1,90 @@
+ghost use Rattle.std.specs.Prelude.{◌≡◌, List, [], ◌∷◌, Ok, Option, Result, Some, None};
+ghost use base.Fml.{GName};
+ghost use Rattle.html_values_css.specs.declared.sink.Warning.{Warning};
+ghost use Rattle.std.specs.declared.alloc.AllocError.{AllocError};
+ghost use Rattle.html_values_css.specs.Sink.{AddsAtMost, Keeps, Takes, Hands};
+
+use std::alloc::AllocError;
+use thiserror::Error;
+
+/// What was ignored during the export.
+#[derive(Clone, Copy, Debug, PartialEq, Eq, Error)]
+pub enum Warning {
+    /// A gradient as a colour.
+    #[error("gradient was ignored during HTML export")]
+    Gradient,
+    /// A tiling as a colour.
+    #[error("tiling was ignored during HTML export")]
+    Tiling,
+}
+
+/// Where warnings go.
+///
+/// Its law: after `emit` the list of warnings is the one before, with at most that warning at its
+/// end. What else a sink does, `emit_gives` says.
+pub trait WarningSink {
+    /// The warnings so far, where the sink keeps them.
+    ghost warnings: { Self → List Warning };
+
+    /// What `emit` makes of a sink: the sink before, the warning, the outcome, the sink after.
+    ghost emit_gives: { Self → Warning → Result (Unit {0}) AllocError → Self → Type 0 };
+
+    /// Which borrow it is, where the sink is one.
+    ghost borrow: { Self → Option GName };
+
+    /// Takes a warning.
+    fn emit(&mut self, warning: Warning) -> Result<(), AllocError>
+        ensures adds { AddsAtMost (warnings self.old) (warnings self.new) warning }
+        ensures gives { emit_gives self.old warning result self.new }
+        ensures same_borrow { borrow self.new ≡ borrow self.old };
+}
+
+/// The warning is added, unless an allocation fails.
+impl WarningSink for Vec<Warning> {
+    ghost warnings = { λ v. v.items };
+
+    ghost emit_gives = { λ v warning result w. Keeps v.items warning result w.items };
+
+    ghost borrow = { λ _. None };
+
+    fn emit(&mut self, warning: Warning) -> Result<(), AllocError> {
+        self.push(warning)?;
+        Ok(())
+    }
+}
+
+/// Nothing is kept.
+impl WarningSink for () {
+    ghost warnings = { λ _. [] };
+
+    ghost emit_gives = { λ _ _ result _. result ≡ Ok tt };
+
+    ghost borrow = { λ _. None };
+
+    fn emit(&mut self, _warning: Warning) -> Result<(), AllocError> {
+        Ok(())
+    }
+}
+
+/// Does what the sink behind the reference does.
+impl<S: WarningSink> WarningSink for &mut S {
+    ghost warnings = { λ s. S.warnings s.now };
+
+    ghost emit_gives = { λ s warning result t. S.emit_gives s.now warning result t.now };
+
+    ghost borrow = { λ s. Some s.ghost_name };
+
+    fn emit(&mut self, warning: Warning) -> Result<(), AllocError> {
+        (**self).emit(warning)
+    }
+}
+
+/// Hands each warning to the sink.
+pub(crate) fn pass_on<S: WarningSink>(warnings: &[Warning], sink: &mut S) -> Result<(), AllocError>
+    ensures { Hands (Takes S.warnings S.borrow S.emit_gives) result sink.old warnings.now sink.new }
+{
+    for warning in warnings {
+        sink.emit(*warning)?;
+    }
+    Ok(())
+}

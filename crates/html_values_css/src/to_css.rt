@@ -1,0 +1,62 @@
+ghost use Rattle.std.specs.Prelude.{◌≡◌, ℕ, List, [], IfOk, chars, codes, ◌++◌};
+ghost use Rattle.html_names.specs.Texts.{text_view};
+ghost use Rattle.html_names.specs.Displays.{text_of};
+ghost use Rattle.html_values_css.specs.Sink.{Takes, Hands};
+ghost use Rattle.html_values_css.specs.Writer.{state, Emits};
+ghost use Rattle.html_values_css.specs.declared.sink.Warning.{Warning};
+
+use crate::sink::{Warning, WarningSink, pass_on};
+use crate::writer::CssWriter;
+use html_names::property::Display;
+use std::alloc::{AllocError, Global};
+
+/// A value that has a text in css.
+///
+/// Its law: the text and the warnings are decided by the value alone; `emit` appends that text and
+/// nothing else, and hands those warnings to the writer's sink and no others. A value that warns
+/// fails: it has no proper text.
+pub trait ToCss {
+    /// The value's text.
+    ghost text: { Self → List ℕ };
+
+    /// What the value warns of, in order. It is empty where the value has a proper text.
+    ghost warnings: { Self → List Warning };
+
+    /// Appends the value's text, and hands its warnings to the writer's sink.
+    fn emit<S: WarningSink>(&self, out: &mut CssWriter<S>) -> Result<(), AllocError>
+        ensures { Emits (Takes S.warnings S.borrow S.emit_gives) result
+            (state out.old) (state out.new) (text self.now) (warnings self.now) };
+
+    /// The value's text. Its warnings go to the sink, in order. Where the sink refuses one, or an
+    /// allocation fails, the sink was handed a beginning of them.
+    fn to_css<S: WarningSink>(&self, alloc: Global, sink: &mut S) -> Result<String, AllocError>
+        ensures text { IfOk result (λ css. text_view css ≡ text self.now) }
+        ensures given { Hands (Takes S.warnings S.borrow S.emit_gives) result
+            sink.old (warnings self.now) sink.new }
+    {
+        let mut out = CssWriter::new(alloc, Vec::new(alloc));
+        self.emit(&mut out)?;
+        pass_on(&out.sink, sink)?;
+        Ok(out.text)
+    }
+}
+
+impl ToCss for &str {
+    ghost text = { λ s. chars s.now };
+
+    ghost warnings = { λ _. [] };
+
+    fn emit<S: WarningSink>(&self, out: &mut CssWriter<S>) -> Result<(), AllocError> {
+        out.write(self)
+    }
+}
+
+impl ToCss for Display {
+    ghost text = { text_of };
+
+    ghost warnings = { λ _. [] };
+
+    fn emit<S: WarningSink>(&self, out: &mut CssWriter<S>) -> Result<(), AllocError> {
+        out.write_ascii(self.as_str())
+    }
+}

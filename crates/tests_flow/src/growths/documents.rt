@@ -1,0 +1,139 @@
+//! Documents: what they are made of, and anchors of links.
+
+use crate::growths::given::documents::{document_of, info_of, output_of};
+use crate::growths::given::{add, assert_growths, list_of};
+use crate::growths::shown::{is_shown, shown_of};
+use html_dom_document::{DocumentInfo, HtmlDocument, HtmlOutput};
+use html_dom_link::{create_link_anchors, with_link_anchors};
+use html_dom_tree::Location;
+use html_names::Refused;
+use std::alloc::{AllocError, Global};
+use std::collections::BTreeSet;
+use std::process::Abort;
+use tests_growth::{Answer, Growth, made, refused};
+
+/// The calls on documents, each with the text by which what it is called on is shown. The last one
+/// consumes a document at each attempt.
+#[derive(Drop)]
+enum DocumentCall {
+    New(HtmlOutput, DocumentInfo, (String, String)),
+    Anchors(HtmlDocument, BTreeSet<Location>, String),
+    WithAnchors(Vec<HtmlDocument>, BTreeSet<Location>),
+}
+
+impl Growth for DocumentCall {
+    fn attempt(self, alloc: Global) -> Answer<DocumentCall> {
+        match self {
+            DocumentCall::New(output, info, shown) => new(alloc, output, info, shown),
+            DocumentCall::Anchors(document, targets, shown) => {
+                anchors(alloc, document, targets, shown)
+            }
+            DocumentCall::WithAnchors(spares, targets) => with_anchors(alloc, spares, targets),
+        }
+    }
+}
+
+fn new(
+    alloc: Global,
+    output: HtmlOutput,
+    info: DocumentInfo,
+    shown: (String, String),
+) -> Answer<DocumentCall> {
+    match HtmlDocument::new(alloc, output, info) {
+        Ok(document) => made(is_shown(document.info(), &shown.1)),
+        Err(
+            Refused {
+                back: (output, info),
+            },
+        ) => {
+            let is_back = is_shown(&output, &shown.0) && is_shown(&info, &shown.1);
+            refused(is_back, DocumentCall::New(output, info, shown))
+        }
+    }
+}
+
+/// Whether the document is shown by that text, and knows where its element starts.
+fn is_kept(document: &HtmlDocument, shown: &str) -> bool {
+    is_shown(document, shown) && document.introspector().position(Location(1)).is_some()
+}
+
+fn anchors(
+    alloc: Global,
+    mut document: HtmlDocument,
+    targets: BTreeSet<Location>,
+    shown: String,
+) -> Answer<DocumentCall> {
+    match create_link_anchors(alloc, &mut document, &targets) {
+        Ok(anchors) => made(anchors.contains_key(&Location(1))),
+        Err(AllocError) => {
+            let is_kept = is_kept(&document, &shown);
+            refused(is_kept, DocumentCall::Anchors(document, targets, shown))
+        }
+    }
+}
+
+fn with_anchors(
+    alloc: Global,
+    mut spares: Vec<HtmlDocument>,
+    targets: BTreeSet<Location>,
+) -> Answer<DocumentCall> {
+    let Some(document) = spares.pop() else {
+        return Answer::Wrong;
+    };
+    match with_link_anchors(alloc, document, &targets) {
+        Ok((_, anchors)) => made(anchors.contains_key(&Location(1))),
+        Err(AllocError) => Answer::Refused(DocumentCall::WithAnchors(spares, targets)),
+    }
+}
+
+/// A document is made.
+fn new_call(rt: &impl Abort, alloc: Global) -> DocumentCall {
+    let (output, info) = (output_of(rt, alloc), info_of(rt, alloc));
+    let shown = (shown_of(rt, alloc, &output), shown_of(rt, alloc, &info));
+    DocumentCall::New(output, info, shown)
+}
+
+/// The element that starts in a document, and the one after it.
+fn targets_of(rt: &impl Abort, alloc: Global) -> BTreeSet<Location> {
+    let mut targets = BTreeSet::new(alloc);
+    targets
+        .insert(Location(1))
+        .expect(rt, "memory for a target");
+    targets
+        .insert(Location(2))
+        .expect(rt, "memory for a target");
+    targets
+}
+
+/// Anchors of these are made in a document.
+fn anchors_call(rt: &impl Abort, alloc: Global) -> DocumentCall {
+    let document = document_of(rt, alloc);
+    let shown = shown_of(rt, alloc, &document);
+    DocumentCall::Anchors(document, targets_of(rt, alloc), shown)
+}
+
+/// How many attempts there are at most of the call that consumes documents: what a refused one
+/// frees is there for the next.
+const SPARES: usize = 40;
+
+/// Anchors of these are made in a document that is consumed.
+fn with_anchors_call(rt: &impl Abort, alloc: Global) -> DocumentCall {
+    let mut spares = Vec::new(alloc);
+    for _ in 0..SPARES {
+        add(rt, &mut spares, document_of(rt, alloc));
+    }
+    DocumentCall::WithAnchors(spares, targets_of(rt, alloc))
+}
+
+#[test]
+fn made_documents(rt: HostRuntime) {
+    let call = new_call(&rt, rt.alloc());
+    assert_growths(&rt, rt.alloc(), list_of(&rt, rt.alloc(), [call]));
+}
+
+#[test]
+fn linked_documents(rt: HostRuntime) {
+    let alloc = rt.alloc();
+    let calls = [anchors_call(&rt, alloc), with_anchors_call(&rt, alloc)];
+    assert_growths(&rt, alloc, list_of(&rt, alloc, calls));
+}

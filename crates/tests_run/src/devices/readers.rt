@@ -1,0 +1,171 @@
+use super::{INPUT, OUTPUT, cases};
+use crate::runs::{Group, PLAIN, answer, assert_run};
+use html_tool_run::Status;
+use std::alloc::Global;
+use std::io;
+use std::io::{Error, ErrorKind, Read};
+use std::process::Abort;
+
+/// Gives one byte a read. The read numbered `fails_at`, and that one alone, fails.
+#[derive(Drop)]
+struct Drip<'a> {
+    rest: &'a [u8],
+    reads: usize,
+    fails_at: usize,
+    kind: ErrorKind,
+}
+
+impl<'a> Drip<'a> {
+    fn new(bytes: &'a [u8], fails_at: usize, kind: ErrorKind) -> Drip<'a> {
+        Drip {
+            rest: bytes,
+            reads: 0,
+            fails_at,
+            kind,
+        }
+    }
+}
+
+impl Read for Drip<'_> {
+    fn read(&mut self, buf: &mut [u8]) -> io::Result<usize> {
+        let number = self.reads;
+        self.reads = number.saturating_add(1);
+        if number == self.fails_at {
+            return Err(Error::from(self.kind));
+        }
+        match (self.rest, buf) {
+            ([first, others @ ..], [byte, ..]) => {
+                *byte = *first;
+                self.rest = others;
+                Ok(1)
+            }
+            _ => Ok(0),
+        }
+    }
+}
+
+/// Never ends.
+#[derive(Drop)]
+struct Endless;
+
+impl Read for Endless {
+    fn read(&mut self, buf: &mut [u8]) -> io::Result<usize> {
+        if buf.is_empty() { Ok(0) } else { Ok(1) }
+    }
+}
+
+/// Gives all that is asked for, and records for how many bytes it was asked.
+#[derive(Drop)]
+struct Asked<'a> {
+    rest: &'a [u8],
+    lengths: Vec<usize>,
+}
+
+impl Read for Asked<'_> {
+    fn read(&mut self, buf: &mut [u8]) -> io::Result<usize> {
+        self.lengths.push(buf.len())?;
+        self.rest.read(buf)
+    }
+}
+
+/// The input whose only text is that many letters.
+fn long_input(rt: &impl Abort, alloc: Global, letters: usize) -> String {
+    let mut input = String::new(alloc);
+    input
+        .push_str(r#"["el","p",[],[["text",""#)
+        .expect(rt, "memory for the input");
+    for _ in 0..letters {
+        input.push('x').expect(rt, "memory for the input");
+    }
+    input.push_str(r#""]]]"#).expect(rt, "memory for the input");
+    input
+}
+
+/// Asserts that a read that fails ends the run: nothing is written, and nothing is read after that.
+fn assert_failed(
+    rt: &impl Abort,
+    alloc: Global,
+    group: &Group,
+    input: &str,
+    fails_at: usize,
+    kind: ErrorKind,
+) {
+    let mut reader = Drip::new(input.as_bytes(), fails_at, kind);
+    let (status, out) = answer(rt, alloc, group.words, &mut reader);
+    assert!(rt; status == Status::Failed, "{input}");
+    assert!(rt; out.is_empty(), "{input}");
+    assert!(rt; reader.reads == fails_at.saturating_add(1), "{input}");
+}
+
+/// Asserts the same of each read.
+fn assert_each_failed(rt: &impl Abort, alloc: Global, group: &Group, input: &str) {
+    for fails_at in 0..=input.len() {
+        assert_failed(rt, alloc, group, input, fails_at, ErrorKind::Other);
+    }
+}
+
+/// What the input spells, and whether it spells anything, makes no difference.
+#[test]
+fn each_read_fails(rt: HostRuntime) {
+    for (group, input, _) in &cases() {
+        assert_each_failed(&rt, rt.alloc(), group, input);
+    }
+}
+
+/// A read that was interrupted is not tried again.
+#[test]
+fn interrupted_read(rt: HostRuntime) {
+    assert_failed(&rt, rt.alloc(), &PLAIN, INPUT, 5, ErrorKind::Interrupted);
+}
+
+#[test]
+fn one_byte_a_read(rt: HostRuntime) {
+    let mut reader = Drip::new(INPUT.as_bytes(), usize::MAX, ErrorKind::Other);
+    assert_run(&rt, rt.alloc(), &mut reader, Status::Done, OUTPUT);
+}
+
+/// Asserts that a run on the reader of 9,000 letters writes them all.
+fn assert_long<R: Read>(rt: &impl Abort, alloc: Global, reader: &mut R) {
+    let (status, out) = answer(rt, alloc, &["tree"], reader);
+    assert!(rt; status == Status::Done);
+    assert!(rt; out.len() == 9022);
+}
+
+#[test]
+fn thousands_of_reads(rt: HostRuntime) {
+    let input = long_input(&rt, rt.alloc(), 9000);
+    let mut reader = Drip::new(input.as_bytes(), usize::MAX, ErrorKind::Other);
+    assert_long(&rt, rt.alloc(), &mut reader);
+    assert!(rt; reader.reads == input.len().saturating_add(1));
+}
+
+/// The read that tells the end may be the 1,048,576th, and no later one.
+#[test]
+fn as_many_reads_as_there_may_be(rt: HostRuntime) {
+    let input = long_input(&rt, rt.alloc(), 1_048_548);
+    let mut reader = Drip::new(input.as_bytes(), usize::MAX, ErrorKind::Other);
+    let (status, out) = answer(&rt, rt.alloc(), &["tree"], &mut reader);
+    assert!(rt; status == Status::Done);
+    assert!(rt; out.len() == 1_048_570);
+    assert!(rt; reader.reads == 1_048_576);
+    let input = long_input(&rt, rt.alloc(), 1_048_549);
+    let mut reader = Drip::new(input.as_bytes(), usize::MAX, ErrorKind::Other);
+    assert_run(&rt, rt.alloc(), &mut reader, Status::Failed, "");
+}
+
+/// Each read asks for 4,096 bytes.
+#[test]
+fn lengths_of_reads(rt: HostRuntime) {
+    let input = long_input(&rt, rt.alloc(), 9000);
+    let mut reader = Asked {
+        rest: input.as_bytes(),
+        lengths: Vec::new(rt.alloc()),
+    };
+    assert_long(&rt, rt.alloc(), &mut reader);
+    assert!(rt; reader.lengths.as_slice() == [4096usize, 4096, 4096, 4096].as_slice());
+}
+
+#[test]
+fn endless_input(rt: HostRuntime) {
+    assert_run(&rt, rt.alloc(), &mut Endless, Status::Failed, "");
+}

@@ -1,0 +1,22 @@
+//! What JSON values spell, apart from a run.
+
+use html_tool_spell::{element_in, items_in};
+use serde_json::Value;
+use std::alloc::Global;
+use std::process::Abort;
+
+fn value_of(rt: &impl Abort, alloc: Global, text: &str) -> Value {
+    Value::from_str(alloc, text).expect(rt, "a value")
+}
+
+/// The example of `html_tool_spell`.
+#[test]
+fn elements_and_items_are_spelled(rt: HostRuntime) {
+    let alloc = rt.alloc();
+    let value = value_of(&rt, alloc, r#"["el","p",[],[["text","a"]]]"#);
+    let paragraph = element_in(alloc, &value).expect(&rt, "a paragraph");
+    assert_eq!(rt; paragraph.children.len(), 1);
+    let value = value_of(&rt, alloc, r#"[["text","a"],["space"],["text","b"]]"#);
+    let items = items_in(alloc, &value).expect(&rt, "items");
+    assert_eq!(rt; items.len(), 3);
+}

@@ -1,0 +1,63 @@
+-- Indents in pieces.
+use Rattle.std.proofs.Common.{◌≡◌, ℕ, zero, suc, ◌+◌, ◌-◌, ◌*◌, ◌≤◌, true, List, [], ◌∷◌, ◌++◌, length, refl, ap, ◌∙◌, codes, bytes_eq, append_assoc, arith, ltb-true}
+use Rattle.std.specs.List.{slice_range}
+use Rattle.std.specs.Str.{IsAscii}
+use Rattle.std.proofs.lemmas.Bool.{agree_below_at, and_parts}
+use Rattle.std.proofs.lemmas.Slice.Eq.{bytes_eq-Decides}
+use Rattle.std.proofs.lemmas.Str.Ascii.{IsAscii-nil, IsAscii-cons}
+use Rattle.html_names.specs.Names.{is_ascii}
+use Rattle.typst_html_encode.specs.Layout.{spaces, indent}
+use Rattle.typst_html_encode.specs.declared.indent.TheConstants.{LINE}
+
+pub spaces_add : (m n : ℕ) → spaces m ++ spaces n ≡ spaces (m + n)
+spaces_add zero n = ap spaces (omega arith)
+spaces_add (suc m) n = ap (λ s. codes "  " ++ s) (spaces_add m n)
+    ∙ ap spaces {x = suc (m + n)} (omega arith)
+
+pub spaces_ascii : (n : ℕ) → is_ascii (spaces n) ≡ true
+spaces_ascii zero = refl
+spaces_ascii (suc n) = spaces_ascii n
+
+pub indent_ascii : (n : ℕ) → is_ascii (indent n) ≡ true
+unfolding indent
+indent_ascii n = spaces_ascii n
+
+ascii_from : (s : List ℕ) → is_ascii s ≡ true → IsAscii s
+ascii_from [] h = IsAscii-nil
+ascii_from (c ∷ cs) h =
+    let both = and_parts _ _ h in
+    IsAscii-cons c cs (ltb-true c 128 both.0) (ascii_from cs both.1)
+
+pub line_ascii : IsAscii LINE.now
+line_ascii = ascii_from LINE.now refl
+
+pub line_length : length LINE.now ≡ 65
+line_length = refl
+
+-- the spaces of a few levels, and an indent of so many
+pub few_levels : (n : ℕ) → n ≤ 32 → slice_range LINE.now 1 (1 + 2 * n) ≡ spaces n
+few_levels n h = (bytes_eq-Decides (slice_range LINE.now 1 (1 + 2 * n)) (spaces n)).0
+    (agree_below_at (λ k. bytes_eq (slice_range LINE.now 1 (1 + 2 * k)) (spaces k)) (λ k. true) 33 n
+    refl (omega arith))
+
+pub short_line : (n : ℕ) → n ≤ 32 → slice_range LINE.now 0 (1 + 2 * n) ≡ indent n
+unfolding indent
+short_line n h = (bytes_eq-Decides (slice_range LINE.now 0 (1 + 2 * n)) (indent n)).0
+    (agree_below_at (λ k. bytes_eq (slice_range LINE.now 0 (1 + 2 * k)) (indent k)) (λ k. true) 33 n
+    refl (omega arith))
+
+-- some levels, and those that are left
+pub levels_left : (old new text : List ℕ) (m n : ℕ) → m ≤ n → new ≡ old ++ text → text ≡ spaces m →
+    new ++ spaces (n - m) ≡ old ++ spaces n
+levels_left old new text m n h e t =
+    ap (λ s. s ++ spaces (n - m)) (e ∙ ap (λ s. old ++ s) t)
+    ∙ (append_assoc old (spaces m) (spaces (n - m))
+    ∙ ap (λ s. old ++ s) (spaces_add m (n - m) ∙ ap spaces (omega (arith, h))))
+
+pub indent_left : (old new text out : List ℕ) (m n : ℕ) → m ≤ n → new ≡ old ++ text →
+    text ≡ indent m → out ≡ new ++ spaces (n - m) → out ≡ old ++ indent n
+unfolding indent
+indent_left old new text out m n h e t o =
+    o ∙ (ap (λ s. s ++ spaces (n - m)) (e ∙ ap (λ s. old ++ s) t)
+    ∙ (append_assoc old (10 ∷ spaces m) (spaces (n - m))
+    ∙ ap (λ s. old ++ 10 ∷ s) (spaces_add m (n - m) ∙ ap spaces (omega (arith, h)))))

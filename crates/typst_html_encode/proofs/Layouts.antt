@@ -1,0 +1,32 @@
+-- Indents and lines that grow at their end.
+use Rattle.std.proofs.Common.{◌≡◌, ℕ, zero, suc, ◌+◌, List, [], ◌∷◌, ◌++◌, Bool, true, false, ◌||◌, refl, ap, sym, ◌∙◌, codes, append_assoc, append-nil}
+use Rattle.std.specs.Prelude.{if◌then◌else◌}
+use native.Mathlib.Numerals.{unary_clauses}
+use Rattle.typst_html_encode.specs.Layout.{spaces, by_lines}
+
+pub spaces_more : (n : ℕ) → spaces n ++ codes "  " ≡ spaces (n + 1)
+spaces_more zero = refl
+spaces_more (suc n) = simp unary_clauses (ap (λ s. codes "  " ++ s)
+    (spaces_more n ∙ simp unary_clauses refl))
+
+-- there is a line
+abbrev pub begun : List (List ℕ) → Bool
+begun [] = false
+begun (l ∷ ls) = true
+
+-- one line more
+pub by_lines_more : (b : Bool) (i : List ℕ) (ls : List (List ℕ)) (l : List ℕ) →
+    by_lines b i (ls ++ l ∷ []) ≡ by_lines b i ls ++ ((if b || begun ls then i else []) ++ l)
+by_lines_more true i [] l = ap (λ s. i ++ s) (append-nil l)
+by_lines_more false i [] l = append-nil l
+by_lines_more true i (x ∷ xs) l =
+    ap (λ s. i ++ (x ++ s)) (by_lines_more true i xs l)
+    ∙ sym (append_assoc i (x ++ by_lines true i xs) (i ++ l)
+    ∙ ap (λ s. i ++ s) (append_assoc x (by_lines true i xs) (i ++ l)))
+by_lines_more false i (x ∷ xs) l = ap (λ s. x ++ s) (by_lines_more true i xs l)
+    ∙ sym (append_assoc x (by_lines true i xs) (i ++ l))
+
+pub begun_more : (b : Bool) (ls : List (List ℕ)) (l : List ℕ) → true ≡ (b || begun (ls ++ l ∷ []))
+begun_more true ls l = refl
+begun_more false [] l = refl
+begun_more false (x ∷ xs) l = refl

@@ -1,0 +1,151 @@
+-- Raw text without a closing tag is read back.
+use Rattle.std.proofs.Common.{◌≡◌, ℕ, ◌-◌, ◌<◌, Bool, true, false, ◌&&◌, List, [], ◌∷◌, ◌++◌, codes, length, take, drop, get_or, map, refl, ap, ◌∙◌, sym, append_assoc, arith, length-append}
+use Rattle.std.specs.Prelude.{if◌then◌else◌, ◌==◌}
+use Rattle.std.specs.Char.{to_ascii_lowercase}
+use Rattle.std.proofs.lemmas.Bool.{and_parts, and_from, or_left, or_right, false_from_ne_true, false≢true, eq-eqb}
+use Rattle.std.proofs.lemmas.Bool.Decides.{nat_tests}
+use Rattle.std.proofs.lemmas.List.{append-nil, take-append-drop, take_at, drop_at, drop-append-le, map-append, length-map}
+use Rattle.std.proofs.lemmas.Slice.Eq.{bytes_eq-Decides}
+use Rattle.html_names.specs.Characters.{all, IsOf, is_tag_char}
+use Rattle.typst_html_encode.specs.Closing.{is_tag_end, closing, begins, holds, holds_closing, ends_closing, ends_exact}
+use Rattle.html_dom_tree.specs.Tree.{TextPair}
+use Rattle.html_dom_tree.specs.PlainTree.{no_plains}
+use Rattle.typst_html_encode.specs.Reader.{Raw, Open, with_text, complete, run, step}
+use Rattle.typst_html_encode.proofs.Runs.{read_on, all_of, grows}
+
+holds_at : (k a s : List ℕ) → 0 < length s → begins k s ≡ true → holds k (a ++ s) ≡ true
+holds_at k [] [] l h = absurd (omega arith)
+holds_at k [] (c ∷ cs) l h = or_left (begins k (c ∷ cs)) (holds k cs) h
+holds_at k (x ∷ a) s l h = or_right (begins k (x ∷ (a ++ s))) (holds k (a ++ s))
+    (holds_at k a s l h)
+
+begins_own : (b : List ℕ) (c : ℕ) (rest : List ℕ) →
+    begins (map to_ascii_lowercase b) (b ++ c ∷ rest) ≡ is_tag_end c
+begins_own [] c rest = refl
+begins_own (d ∷ b) c rest = let same = eq-eqb (to_ascii_lowercase d)
+    (to_ascii_lowercase d) refl in rw same (begins_own b c rest)
+
+-- a text whose end is a closing tag, and an ending character after it
+ends_holds : (name text : List ℕ) (c : ℕ) (rest : List ℕ) → is_tag_end c ≡ true →
+    ends_closing name text ≡ true → holds_closing name (text ++ c ∷ rest) ≡ true
+ends_holds name text c rest e h =
+    let n = length text - length (closing name) in
+    let a = take n text in
+    let b = drop n text in
+    let same : map to_ascii_lowercase b ≡ closing name =
+    (bytes_eq-Decides (map to_ascii_lowercase b) (closing name)).0 h in
+    let split : (text ++ c ∷ rest) ≡ a ++ (b ++ c ∷ rest) =
+    ap (λ t. t ++ c ∷ rest) (sym (take-append-drop n text)) ∙ append_assoc a b (c ∷ rest) in
+    let first : begins (closing name) (b ++ c ∷ rest) ≡ true =
+    ap (λ k. begins k (b ++ c ∷ rest)) (sym same) ∙ (begins_own b c rest ∙ e) in
+    ap (holds_closing name) split ∙ holds_at (closing name) a (b ++ c ∷ rest)
+    (omega (arith, length-append b (c ∷ rest))) first
+
+abbrev is_not_less : ℕ → Bool
+is_not_less c = if c == 60 then false else true
+
+lower_not_less : (c : ℕ) → is_tag_char c ≡ true → is_not_less (to_ascii_lowercase c) ≡ true
+lower_not_less c h = grind (arith, nat_tests)
+
+name_no_end : (c : ℕ) → is_tag_char c ≡ true → is_tag_end c ≡ false
+unfolding is_tag_end
+name_no_end c h = grind (arith, nat_tests)
+
+end_47 : is_tag_end 47 ≡ true
+unfolding is_tag_end
+end_47 = refl
+
+end_60 : is_tag_end 60 ≡ false
+unfolding is_tag_end
+end_60 = refl
+
+end_62 : is_tag_end 62 ≡ true
+unfolding is_tag_end
+end_62 = refl
+
+lower_pass : (name : List ℕ) → all is_tag_char name ≡ true →
+    all is_not_less (map to_ascii_lowercase name) ≡ true
+lower_pass [] h = refl
+lower_pass (c ∷ cs) h = let both = and_parts (is_tag_char c) (all is_tag_char cs) h in and_from _ _
+    (lower_not_less c both.0) (lower_pass cs both.1)
+
+last_passes : (p : ℕ → Bool) (xs : List ℕ) (c : ℕ) → all p (xs ++ c ∷ []) ≡ true → p c ≡ true
+last_passes p [] c h = (and_parts (p c) true h).0
+last_passes p (x ∷ xs) c h = last_passes p xs c (and_parts (p x) (all p (xs ++ c ∷ [])) h).1
+
+-- after a `<` no closing tag has ended
+not_closing : (xs ys : List ℕ) → all is_not_less ys ≡ true → xs ++ 60 ∷ [] ≡ 60 ∷ 47 ∷ ys → ⊥
+not_closing [] ys h e = absurd (omega (arith, ap length e))
+not_closing (x ∷ []) ys h e = absurd (omega (arith, ap (λ l. get_or l 1 0) e))
+not_closing (x ∷ y ∷ xs) ys h e =
+    let rest : xs ++ 60 ∷ [] ≡ ys = ap (drop 2) e in
+    false≢true (last_passes is_not_less xs 60 (rw rest h))
+
+no_end_at_less : (name t : List ℕ) → all is_tag_char name ≡ true →
+    ends_closing name (t ++ 60 ∷ []) ≡ false
+no_end_at_less name t h =
+    false_from_ne_true _ (λ e.
+    let n = length (t ++ 60 ∷ []) - length (closing name) in
+    let same : map to_ascii_lowercase (drop n (t ++ 60 ∷ [])) ≡ closing name =
+    (bytes_eq-Decides (map to_ascii_lowercase (drop n (t ++ 60 ∷ []))) (closing name)).0 e in
+    let cut : drop n (t ++ 60 ∷ []) ≡ drop n t ++ 60 ∷ [] =
+    drop-append-le n t (60 ∷ []) (omega (arith, length-append t (60 ∷ []))) in
+    not_closing (map to_ascii_lowercase (drop n t)) (map to_ascii_lowercase name)
+    (lower_pass name h) (sym (map-append to_ascii_lowercase (drop n t) (60 ∷ []))
+    ∙ (ap (map to_ascii_lowercase) (sym cut) ∙ same)))
+
+module _ (name : List ℕ) (attrs : List TextPair) (s : List Open) where
+  raw_more : (x cs : List ℕ) → holds_closing name (x ++ cs) ≡ false →
+      run (Raw name attrs x s) cs ≡ Raw name attrs (x ++ cs) s
+  raw_more x [] h = ap (λ t. Raw name attrs t s) (sym (append-nil x))
+  raw_more x (c ∷ cs) h =
+      let here : (is_tag_end c && ends_closing name x) ≡ false =
+      false_from_ne_true _ (λ e. let both = and_parts (is_tag_end c)
+      (ends_closing name x) e in false≢true (sym h ∙ ends_holds name x c cs both.0 both.1)) in
+      let one : step (Raw name attrs x s) c ≡ Raw name attrs (x ++ c ∷ []) s = rw here refl in
+      ap (λ t. run t cs) one ∙ (raw_more (x ++ c ∷ []) cs (rw append_assoc h)
+      ∙ ap (λ t. Raw name attrs t s) (append_assoc x (c ∷ []) cs))
+
+  raw_one : (x : List ℕ) (c : ℕ) → is_tag_char c ≡ true →
+      step (Raw name attrs x s) c ≡ Raw name attrs (x ++ c ∷ []) s
+  raw_one x c h = let e = name_no_end c h in rw e refl
+
+  -- at the end tag's `>`
+  raw_end : (t : List ℕ) → step (Raw name attrs (t ++ (codes "</" ++ name)) s) 62
+      ≡ complete name attrs (with_text t no_plains) s
+  raw_end t =
+      let k = length (closing name) in
+      let x : List ℕ = t ++ (codes "</" ++ name) in
+      let long : length x - k ≡ length t = omega
+      (arith, length-append t (codes "</" ++ name), length-map name to_ascii_lowercase) in
+      let cut : drop (length x - k) x ≡ codes "</" ++ name = ap (λ n. drop n x) long
+      ∙ drop_at t (codes "</" ++ name) (length t) refl in
+      let front : take (length x - k) x ≡ t = ap (λ n. take n x) long
+      ∙ take_at t (codes "</" ++ name) (length t) refl in
+      let ends : ends_closing name x ≡ true =
+      (bytes_eq-Decides (map to_ascii_lowercase (drop (length x - k) x)) (closing name)).1
+      (ap (map to_ascii_lowercase) cut) in
+      let exact : ends_exact name x ≡ true = (bytes_eq-Decides (drop (length x - k) x)
+      (codes "</" ++ name)).1 cut in
+      rw (end_62, ends, exact, front) refl
+
+  -- nothing is cut at the end tag's own characters
+  pub raw_back : (t : List ℕ) → IsOf is_tag_char name → holds_closing name t ≡ false →
+      run (Raw name attrs [] s) (t ++ (codes "</" ++ (name ++ codes ">")))
+      ≡ complete name attrs (with_text t no_plains) s
+  raw_back t n h =
+      let named : all is_tag_char name ≡ true = all_of is_tag_char name n in
+      let x : List ℕ = (t ++ 60 ∷ []) ++ 47 ∷ [] in
+      let less : step (Raw name attrs t s) 60 ≡ Raw name attrs (t ++ 60 ∷ []) s = rw end_60 refl in
+      let early = no_end_at_less name t named in
+      let slash : step (Raw name attrs (t ++ 60 ∷ []) s) 47 ≡ Raw name attrs x s =
+      rw (end_47, early) refl in
+      read_on (Raw name attrs [] s) (Raw name attrs t s) _ t (codes "</" ++ (name ++ codes ">"))
+      (raw_more [] t h)
+      (ap (λ r. run r (47 ∷ (name ++ codes ">"))) less
+      ∙ (ap (λ r. run r (name ++ codes ">")) slash
+      ∙ read_on (Raw name attrs x s) (Raw name attrs (x ++ name) s) _ name (codes ">")
+      (grows (λ y. Raw name attrs y s) is_tag_char raw_one x name named)
+      (ap (λ y. step (Raw name attrs y s) 62)
+      (append_assoc (t ++ 60 ∷ []) (47 ∷ []) name ∙ append_assoc t (60 ∷ []) (47 ∷ name))
+      ∙ raw_end t)))

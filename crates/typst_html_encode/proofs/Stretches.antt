@@ -1,0 +1,147 @@
+-- Stretches of a text that are written as they are.
+use Rattle.std.proofs.Common.{◌≡◌, ℕ, ◌<◌, ◌-◌, length, take, Bool, true, false, not, ◌&&◌, List, [], ◌∷◌, ◌++◌, arith, refl, ap, ◌∙◌, sym, chars, append-nil, append_assoc}
+use Rattle.std.proofs.lemmas.Bool.{agree_below_at, and_from, and_parts, not-true}
+use Rattle.std.proofs.lemmas.Bool.Decides.{nat_tests}
+use Rattle.std.proofs.lemmas.List.{length-append}
+use Rattle.std.proofs.Math.Seq.{take-append_seam}
+use Rattle.std.proofs.lemmas.Str.{IsUtf8-nil, IsUtf8-append, IsUtf8-encode, IsUtf8-from_ascii, chars-IsAscii, chars-append, chars-nil, chars_past_char, scalars-chars}
+use Rattle.std.proofs.lemmas.Str.Ascii.{IsAscii-nil, IsAscii-cons}
+use Rattle.std.specs.Str.{IsUtf8, IsAscii}
+use Rattle.html_names.specs.Characters.{all}
+use Rattle.typst_html_encode.specs.Faults.{is_bad, is_reference, text_faults}
+use Rattle.typst_html_encode.specs.Stretches.{is_common, is_plain, PassesCommon, PassesPlain}
+use Rattle.typst_html_encode.specs.Text.{stands_as_is, escaped_text}
+use Rattle.typst_html_encode.specs.declared.escape.Escaping.{Escaping}
+use Rattle.typst_html_encode.specs.declared.escape.Escaping.TheVariants as escaping
+use lib.Utf8.{scalar, scalars, encode}
+
+pub common_small : (c : ℕ) → is_common c ≡ true → c < 128
+unfolding is_common
+common_small c h = grind (arith, nat_tests)
+
+-- a common character passes a test that each of them passes
+by_table : (p : ℕ → Bool) (c : ℕ) → is_common c ≡ true →
+    (is_common c && p c) ≡ is_common c → p c ≡ true
+by_table p c h e = (and_parts (is_common c) (p c) (e ∙ h)).1
+
+-- a common character is plain where not each is a reference
+common_plain : (e : Escaping) (c : ℕ) → is_common c ≡ true → is_plain e c ≡ not (is_reference e)
+unfolding is_common
+common_plain escaping.Text c h = by_table (is_plain escaping.Text) c h
+    (agree_below_at (λ d. is_common d && is_plain escaping.Text d) is_common 128 c refl
+    (common_small c h))
+common_plain escaping.Reference c h = refl
+common_plain escaping.Value c h = by_table (is_plain escaping.Value) c h
+    (agree_below_at (λ d. is_common d && is_plain escaping.Value d) is_common 128 c refl
+    (common_small c h))
+common_plain escaping.Raw c h = by_table (is_plain escaping.Raw) c h
+    (agree_below_at (λ d. is_common d && is_plain escaping.Raw d) is_common 128 c refl
+    (common_small c h))
+
+pub other_than_reference : (e : Escaping) → (e ≡ escaping.Reference → ⊥) → is_reference e ≡ false
+other_than_reference escaping.Text h = refl
+other_than_reference escaping.Reference h = absurd (h refl)
+other_than_reference escaping.Value h = refl
+other_than_reference escaping.Raw h = refl
+
+-- the character that a text begins with
+first_scalar : (bs rest : List ℕ) (c : ℕ) → IsUtf8 bs → bs ≡ encode c ++ rest →
+    scalar c ≡ true
+first_scalar bs rest c u e =
+    (and_parts (scalar c) (scalars (chars rest))
+    (ap scalars (sym (chars_past_char bs rest c u e)) ∙ scalars-chars bs u)).0
+
+-- a stretch is written as it is
+pub escaped_plain : (e : Escaping) (cs ds : List ℕ) → all (is_plain e) cs ≡ true →
+    escaped_text e (cs ++ ds) ≡ cs ++ escaped_text e ds
+escaped_plain e [] ds h = refl
+escaped_plain e (c ∷ cs) ds h =
+    let both = and_parts (is_plain e c) (all (is_plain e) cs) h in
+    let as_is : stands_as_is e c ≡ true =
+    (and_parts (stands_as_is e c) (not (is_bad e c)) both.0).0 in
+    rw (as_is, escaped_plain e cs ds both.1) refl
+
+-- and no character of it is wrong
+pub faults_plain : (e : Escaping) (span : ℕ) (cs ds : List ℕ) → all (is_plain e) cs ≡ true →
+    text_faults e span (cs ++ ds) ≡ text_faults e span ds
+faults_plain e span [] ds h = refl
+faults_plain e span (c ∷ cs) ds h =
+    let both = and_parts (is_plain e c) (all (is_plain e) cs) h in
+    let good : is_bad e c ≡ false =
+    not-true (is_bad e c) (and_parts (stands_as_is e c) (not (is_bad e c)) both.0).1 in
+    rw (good, faults_plain e span cs ds both.1) refl
+
+-- how many bytes stand before the rest
+pub front_length : (text front rest : List ℕ) → text ≡ front ++ rest →
+    length front ≡ length text - length rest
+front_length text front rest e = omega (arith, ap length e, length-append front rest)
+
+pub front_taken : (text front rest : List ℕ) → text ≡ front ++ rest →
+    take (length text - length rest) text ≡ front
+front_taken text front rest e =
+    ap (λ n. take n text) (sym (front_length text front rest e))
+    ∙ (ap (take (length front)) e ∙ take-append_seam front rest)
+
+-- common characters are ASCII, a byte each
+common_ascii : (bs : List ℕ) → all is_common bs ≡ true → IsAscii bs
+common_ascii [] h = IsAscii-nil
+common_ascii (b ∷ bs) h =
+    let both = and_parts (is_common b) (all is_common bs) h in
+    IsAscii-cons b bs (common_small b both.0) (common_ascii bs both.1)
+
+common_all : (e : Escaping) → is_reference e ≡ false → (bs : List ℕ) → all is_common bs ≡ true →
+    all (is_plain e) bs ≡ true
+common_all e o [] h = refl
+common_all e o (b ∷ bs) h =
+    let both = and_parts (is_common b) (all is_common bs) h in
+    and_from (is_plain e b) (all (is_plain e) bs) (common_plain e b both.0 ∙ ap not o)
+    (common_all e o bs both.1)
+
+pub all_append : (p : ℕ → Bool) (xs ys : List ℕ) → all p xs ≡ true → all p ys ≡ true →
+    all p (xs ++ ys) ≡ true
+all_append p [] ys h k = k
+all_append p (x ∷ xs) ys h k =
+    let both = and_parts (p x) (all p xs) h in
+    and_from (p x) (all p (xs ++ ys)) both.0 (all_append p xs ys both.1 k)
+
+-- nothing is passed
+pub passes_none : (e : Escaping) (text : List ℕ) → IsUtf8 text → PassesPlain e text text
+passes_none e text u = record {
+  front = [];
+  split = refl;
+  front_utf8 = IsUtf8-nil;
+  rest_utf8 = u;
+  plain = ap (all (is_plain e)) chars-nil;
+}
+
+-- more is passed
+passes_more : (e : Escaping) (text rest front left : List ℕ) → PassesPlain e text rest →
+    rest ≡ front ++ left → IsUtf8 front → IsUtf8 left → all (is_plain e) (chars front) ≡ true →
+    PassesPlain e text left
+passes_more e text rest front left h split u v plain = record {
+  front = h.front ++ front;
+  split = h.split ∙ (ap (λ l. h.front ++ l) split ∙ sym (append_assoc h.front front left));
+  front_utf8 = IsUtf8-append h.front front h.front_utf8 u;
+  rest_utf8 = v;
+  plain = ap (all (is_plain e)) (chars-append h.front front h.front_utf8)
+      ∙ all_append (is_plain e) (chars h.front) (chars front) h.plain plain;
+}
+
+-- one character more
+pub passes_char : (e : Escaping) (text rest left : List ℕ) (c : ℕ) → PassesPlain e text rest →
+    rest ≡ encode c ++ left → is_plain e c ≡ true → IsUtf8 left → PassesPlain e text left
+passes_char e text rest left c h split plain u =
+    let valid = first_scalar rest left c h.rest_utf8 split in
+    let one : chars (encode c) ≡ c ∷ [] =
+    chars_past_char (encode c) [] c (IsUtf8-encode c valid) (sym (append-nil (encode c)))
+    ∙ ap (λ cs. c ∷ cs) chars-nil in
+    passes_more e text rest (encode c) left h split (IsUtf8-encode c valid) u
+    (ap (all (is_plain e)) one ∙ and_from (is_plain e c) true plain refl)
+
+-- common characters more, where not each character is a reference
+pub passes_common : (e : Escaping) (text rest left : List ℕ) → is_reference e ≡ false →
+    PassesPlain e text rest → PassesCommon rest left → IsUtf8 left → PassesPlain e text left
+passes_common e text rest left o h more u =
+    let ascii = common_ascii more.front more.common in
+    passes_more e text rest more.front left h more.split (IsUtf8-from_ascii more.front ascii) u
+    (ap (all (is_plain e)) (chars-IsAscii more.front ascii) ∙ common_all e o more.front more.common)

@@ -1,0 +1,57 @@
+-- Indents are not seen: each touches a border.
+use Rattle.std.specs.Prelude.{◌≡◌, ℕ, true, false, if◌then◌else◌, bytes_eq, codes, Option, Some, None}
+use Rattle.html_names.specs.Kinds.{is_raw}
+use Rattle.html_dom_tree.specs.PlainTree.{words, branch, Plains, no_plains, plain, nodes_normal}
+use Rattle.html_dom_tree.specs.Tree.{Head, tag_node, text_node, element_node, frame_node, NodesView, none, node, ElementView}
+use Rattle.typst_html_encode.specs.Collapsing.{preserves, has_border_display, plains_atoms, collapsed_pieces}
+use Rattle.typst_html_encode.specs.Indented.{content_layout, element_layout}
+use Rattle.typst_html_encode.specs.Layout.{allows_pretty_inside, wants_pretty_around}
+
+-- what has indents around or inside is a border, and inside no blank is preserved
+abbrev pub HeadIsEdged : Head → Type 0
+HeadIsEdged h =
+    (is_raw h.name ≡ false)
+    × (wants_pretty_around h ≡ true → has_border_display h.name ≡ true)
+    × (allows_pretty_inside h.name ≡ true → (has_border_display h.name ≡ true)
+    × (preserves h.name h.attrs ≡ false))
+
+-- each element is, at any depth, and there is no frame
+abbrev pub NodesAreEdged : NodesView → Type 0
+NodesAreEdged none = Unit {0}
+NodesAreEdged (node (tag_node t) ns) = NodesAreEdged ns
+NodesAreEdged (node (text_node s span) ns) = NodesAreEdged ns
+NodesAreEdged (node (element_node h kids) ns) = (HeadIsEdged h × NodesAreEdged kids)
+    × NodesAreEdged ns
+NodesAreEdged (node (frame_node b) ns) = ⊥
+
+-- the children of the first `body`
+abbrev pub body_of : NodesView → Option NodesView
+body_of none = None
+body_of (node (tag_node t) ns) = body_of ns
+body_of (node (text_node s span) ns) = body_of ns
+body_of (node (element_node h kids) ns) = if bytes_eq h.name (codes "body") then Some kids
+    else body_of ns
+body_of (node (frame_node b) ns) = body_of ns
+
+abbrev pub body_in : Plains → Option Plains
+body_in no_plains = None
+body_in (plain (words t) ps) = body_in ps
+body_in (plain (branch name attrs kids) ps) = if bytes_eq name (codes "body") then Some kids
+    else body_in ps
+
+-- the content of an element that is no raw one, on any level
+abbrev pub ContentCollapses : Type 0
+ContentCollapses = (level : ℕ) (h : Head) (ns : NodesView) → is_raw h.name ≡ false →
+    NodesAreEdged ns →
+    collapsed_pieces (plains_atoms false (nodes_normal
+    (content_layout (record { pretty = true; level = level }) h ns)))
+    ≡ collapsed_pieces (plains_atoms false (nodes_normal ns))
+
+-- the body of a root that is no raw element: what is read of the pretty text has one that collapses
+-- to the same
+abbrev pub BodyCollapses : Type 0
+BodyCollapses = (e : ElementView) (below : NodesView) → is_raw e.0.name ≡ false →
+    body_of e.1 ≡ Some below → NodesAreEdged below →
+    (inside : Plains) × (body_in (nodes_normal (element_layout e).1) ≡ Some inside)
+    × (collapsed_pieces (plains_atoms false inside)
+    ≡ collapsed_pieces (plains_atoms false (nodes_normal below)))

@@ -1,0 +1,57 @@
+//! Closing tags in a raw text, which would end it.
+
+ghost use Rattle.std.specs.Prelude.{◌≡◌, ◌∷◌, chars, map};
+ghost use Rattle.std.specs.Char.{to_ascii_lowercase};
+ghost use Rattle.typst_html_encode.specs.Closing as ending;
+
+/// Whether the character ends the name in a closing tag.
+#[tactic(auto, unfolding(crate::specs::Closing::is_tag_end))]
+fn is_tag_end(c: char) -> bool
+    ensures { result ≡ ending.is_tag_end c }
+{
+    matches!(c, '\t' | '\n' | '\u{c}' | '\r' | ' ' | '>' | '/')
+}
+
+/// Whether the text begins with the name, in any ASCII case, and then a character that ends it.
+fn begins_with_name(name: &str, text: &str) -> bool
+    ensures { result ≡ ending.begins (map to_ascii_lowercase (chars name.now)) (chars text.now) }
+{
+    let mut left = text.chars();
+    for expected in name.chars() {
+        let Some(c) = left.next() else {
+            return false;
+        };
+        if c.to_ascii_lowercase() != expected.to_ascii_lowercase() {
+            return false;
+        }
+    }
+    match left.next() {
+        Some(end) => is_tag_end(end),
+        None => false,
+    }
+}
+
+/// Whether a `<` and the text after it begin with the closing tag of an element of that name.
+fn closes(name: &str, text: &str) -> bool
+    ensures { result ≡ ending.begins (ending.closing (chars name.now)) (60 ∷ chars text.now) }
+{
+    let mut left = text.chars();
+    match left.next() {
+        Some(c) => c == '/' && begins_with_name(name, left.as_str()),
+        None => false,
+    }
+}
+
+/// Whether the text holds the closing tag of an element of that name, in any ASCII case.
+pub(crate) fn holds_closing(name: &str, text: &str) -> bool
+    ensures { result ≡ ending.holds_closing (chars name.now) (chars text.now) }
+{
+    let mut left = text;
+    while let Some((_, after)) = left.split_once('<') {
+        if closes(name, after) {
+            return true;
+        }
+        left = after;
+    }
+    false
+}

@@ -1,0 +1,71 @@
+ghost use Rattle.std.specs.Prelude.{◌≡◌, true, false, Some, IfOk};
+ghost use Rattle.html_dom_tree.specs.PlainTree.{element_normal};
+ghost use Rattle.html_dom_tree.specs.Views.{text_view, element_view};
+ghost use Rattle.typst_html_encode.specs.Faults.{document_faults};
+ghost use Rattle.typst_html_encode.specs.Indented.{element_layout, ElementEndsWell};
+ghost use Rattle.typst_html_encode.specs.Reader.{read};
+ghost use Rattle.html_dom_tree.specs.FrameFree.{ElementIsFrameFree};
+ghost use Rattle.typst_html_encode.specs.Text.{document_text};
+ghost use Rattle.typst_html_encode.specs.Writes.{Makes};
+
+use crate::fault::ExportFault;
+use crate::frame::FrameWriter;
+use crate::indent::{push_feed_if, push_indent_if};
+use crate::layout::Margin;
+use crate::options::HtmlOptions;
+use crate::write::write_root;
+use html_dom_tree::HtmlElement;
+use html_names::Output;
+use std::alloc::Global;
+
+/// The HTML text of a tree: the document type and the element, plain or pretty.
+///
+/// It succeeds exactly where nothing is wrong with the tree, and answers the first fault otherwise;
+/// out of memory may come before that. Frames are written by their writer, which is told whether
+/// pretty writing is on where the frame stands.
+///
+/// The plain text of a tree without frames reads back, by HTML Standard 13.1 without a browser's
+/// repairs, as the tree with its tags dropped and neighbouring texts joined. So does the pretty
+/// text, with texts where indents stand, unless a raw text on lines of its own ends in a closing
+/// tag that lacks its last character.
+///
+/// # Example
+///
+/// ```
+/// let content = String::from_str(alloc, "a < b")?;
+/// let mut paragraph = HtmlElement::new(alloc, tag::p);
+/// paragraph.children.push(HtmlNode::text(content, Span(0)))?;
+/// let text = html_in_bundle(alloc, &paragraph, &HtmlOptions::default(), &NoFrames)?;
+/// assert_eq!(rt; text.as_str(), "<!DOCTYPE html><p>a &lt; b</p>");
+/// ```
+pub fn html_in_bundle<F: FrameWriter>(
+    alloc: Global,
+    root: &HtmlElement,
+    options: &HtmlOptions,
+    frames: &F,
+) -> Result<String, ExportFault>
+    // The text, or the first fault.
+    ensures makes { Makes result
+        (document_text (F.drawing frames.now) options.now (element_view root.now))
+        (document_faults (F.drawing frames.now) options.now (element_view root.now)) }
+
+    // What the text of a tree without frames reads as.
+    ensures reads_back { options.now.pretty ≡ false → ElementIsFrameFree (element_view root.now) →
+        IfOk result (λ text.
+        read (text_view text) ≡ Some (element_normal (element_view root.now))) }
+    ensures reads_indented { options.now.pretty ≡ true →
+        ElementIsFrameFree (element_view root.now) → ElementEndsWell true (element_view root.now) →
+        IfOk result (λ text.
+        read (text_view text) ≡ Some (element_normal (element_layout (element_view root.now)))) }
+{
+    let mut out = Output::new(alloc);
+    let margin = Margin {
+        pretty: options.pretty,
+        level: 0,
+    };
+    out.push_ascii("<!DOCTYPE html>")?;
+    push_indent_if(&mut out, options.pretty, 0)?;
+    write_root(alloc, &mut out, root, margin, frames)?;
+    push_feed_if(&mut out, options.pretty)?;
+    Ok(out.into_string())
+}

@@ -1,0 +1,211 @@
+ghost use Rattle.std.specs.Prelude.{◌≡◌, ◌↔◌, IsTrue};
+ghost use Rattle.typst_html_encode.specs.Faults.{first_span};
+ghost use Rattle.typst_html_encode.specs.FaultViews.{export_fault_view, spans_view};
+
+use html_dom_tree::Span;
+use html_names::{HtmlTag, Refused};
+use std::alloc::{AllocError, AllocFailed};
+use thiserror::Error;
+
+/// Why items or a tree have no HTML text. The first three kinds of fault are those of making a
+/// document of items; writing a tree answers none of these.
+#[derive(Debug, Drop, Error)]
+pub enum ExportFault {
+    /// An allocation failed.
+    #[error("out of memory")]
+    OutOfMemory,
+    /// A body of items stands deeper than the limit.
+    #[error("items are nested too deeply")]
+    TooDeep {
+        /// The span of the item that has the body.
+        span: Span,
+    },
+    /// An `html` or `body` stands among other nodes of a document.
+    #[error("this element must be the only element in the document")]
+    NotAlone {
+        /// The element's name.
+        tag: HtmlTag,
+        /// The element's span.
+        span: Span,
+    },
+    /// There are footnotes, but the document has an `html` or `body` of its own.
+    #[error("footnotes are not supported with a custom root element")]
+    Footnotes {
+        /// The spans of the footnotes, in order.
+        spans: Vec<Span>,
+    },
+    /// A character of a text or a value is none that HTML can hold, or a carriage return in a text
+    /// whose characters are all written as references.
+    #[error("a character cannot be encoded in HTML")]
+    Unencodable {
+        /// The character.
+        c: char,
+        /// The text's span, or that of the element with the value.
+        span: Span,
+    },
+    /// A void element, or a foreign one that is written self-closing, has a child.
+    #[error("HTML void elements must not have children")]
+    VoidChildren {
+        /// The element's span.
+        span: Span,
+    },
+    /// A raw or escapable raw element has an element or a frame as its child.
+    #[error("HTML raw text element cannot have non-text children")]
+    RawChild {
+        /// The child's span.
+        span: Span,
+    },
+    /// The text of a raw element would end the element.
+    #[error("HTML raw text element cannot contain its own closing tag")]
+    RawClosing {
+        /// The element's span.
+        span: Span,
+    },
+    /// The writer of frames refused a frame.
+    #[error("a frame was refused by its writer")]
+    FrameRefused {
+        /// The frame's span.
+        span: Span,
+    },
+}
+
+impl ExportFault {
+    ghost use Rattle.typst_html_encode.specs.Faults.{number_of, span_of};
+
+    /// The fault's number: 0 for out of memory, and from 8 on in the order of the variants.
+    pub fn number(&self) -> u8
+        ensures { result ≡ number_of self.now }
+    {
+        match self {
+            ExportFault::OutOfMemory => 0,
+            ExportFault::TooDeep { .. } => 8,
+            ExportFault::NotAlone { .. } => 9,
+            ExportFault::Footnotes { .. } => 10,
+            ExportFault::Unencodable { .. } => 11,
+            ExportFault::VoidChildren { .. } => 12,
+            ExportFault::RawChild { .. } => 13,
+            ExportFault::RawClosing { .. } => 14,
+            ExportFault::FrameRefused { .. } => 15,
+        }
+    }
+
+    /// Where the fault lies: at the first of several footnotes, and 0 for out of memory or where
+    /// there is no footnote.
+    pub fn span(&self) -> Span
+        ensures { result.0 ≡ span_of self.now }
+    {
+        match self {
+            ExportFault::OutOfMemory => Span(0),
+            ExportFault::Footnotes { spans } => first_span(spans),
+            ExportFault::TooDeep { span }
+            | ExportFault::NotAlone { span, .. }
+            | ExportFault::Unencodable { span, .. }
+            | ExportFault::VoidChildren { span }
+            | ExportFault::RawChild { span }
+            | ExportFault::RawClosing { span }
+            | ExportFault::FrameRefused { span } => *span,
+        }
+    }
+}
+
+/// The first of these spans, or 0.
+fn first_span(spans: &[Span]) -> Span
+    ensures { result.0 ≡ first_span spans.now }
+{
+    match spans.first() {
+        Some(span) => *span,
+        None => Span(0),
+    }
+}
+
+/// Whether two faults are of one kind, with the same character, names and spans.
+fn same_fault(a: &ExportFault, b: &ExportFault) -> bool
+    ensures { IsTrue result ↔ (export_fault_view a.now ≡ export_fault_view b.now) }
+{
+    match (a, b) {
+        (ExportFault::OutOfMemory, ExportFault::OutOfMemory) => true,
+        (
+            ExportFault::NotAlone { tag, span },
+            ExportFault::NotAlone {
+                tag: other,
+                span: other_span,
+            },
+        ) => *tag == *other && *span == *other_span,
+        (ExportFault::Footnotes { spans }, ExportFault::Footnotes { spans: others }) => {
+            same_spans(spans, others)
+        }
+        (
+            ExportFault::Unencodable { c, span },
+            ExportFault::Unencodable {
+                c: other,
+                span: other_span,
+            },
+        ) => *c == *other && *span == *other_span,
+        (ExportFault::TooDeep { span }, ExportFault::TooDeep { span: other })
+        | (ExportFault::VoidChildren { span }, ExportFault::VoidChildren { span: other })
+        | (ExportFault::RawChild { span }, ExportFault::RawChild { span: other })
+        | (ExportFault::RawClosing { span }, ExportFault::RawClosing { span: other })
+        | (ExportFault::FrameRefused { span }, ExportFault::FrameRefused { span: other }) => {
+            *span == *other
+        }
+        _ => false,
+    }
+}
+
+/// Whether two lists of spans are equal.
+fn same_spans(a: &[Span], b: &[Span]) -> bool
+    ensures { IsTrue result ↔ (spans_view a.now ≡ spans_view b.now) }
+{
+    a == b
+}
+
+impl PartialEq for ExportFault {
+    ghost use Rattle.std.specs.Cmp.{partial_equiv_from_equiv};
+    ghost use Rattle.html_names.specs.Equal.{same, same_equiv};
+    ghost use Rattle.typst_html_encode.specs.FaultViews.{export_fault_discrete};
+
+    ghost eq = { same export_fault_view export_fault_discrete };
+
+    ghost laws = { partial_equiv_from_equiv (same_equiv export_fault_view export_fault_discrete) };
+
+    fn eq(&self, other: &ExportFault) -> bool {
+        same_fault(self, other)
+    }
+}
+
+impl Eq for ExportFault {
+    ghost use Rattle.html_names.specs.Equal.{same_equiv};
+    ghost use Rattle.typst_html_encode.specs.FaultViews.{export_fault_discrete};
+
+    ghost laws = { same_equiv export_fault_view export_fault_discrete };
+}
+
+impl From<AllocError> for ExportFault {
+    ghost use Rattle.typst_html_encode.specs.declared.fault.ExportFault.TheVariants.{OutOfMemory};
+
+    ghost from_gives = { λ _ e. e ≡ OutOfMemory };
+
+    fn from(_refused: AllocError) -> ExportFault {
+        ExportFault::OutOfMemory
+    }
+}
+
+impl<T: Drop> From<AllocFailed<T>> for ExportFault {
+    ghost use Rattle.typst_html_encode.specs.declared.fault.ExportFault.TheVariants.{OutOfMemory};
+
+    ghost from_gives = { λ _ e. e ≡ OutOfMemory };
+
+    fn from(_refused: AllocFailed<T>) -> ExportFault {
+        ExportFault::OutOfMemory
+    }
+}
+
+impl<T: Drop> From<Refused<T>> for ExportFault {
+    ghost use Rattle.typst_html_encode.specs.declared.fault.ExportFault.TheVariants.{OutOfMemory};
+
+    ghost from_gives = { λ _ e. e ≡ OutOfMemory };
+
+    fn from(_refused: Refused<T>) -> ExportFault {
+        ExportFault::OutOfMemory
+    }
+}

@@ -1,0 +1,102 @@
+//! Indents and lines.
+
+ghost use Rattle.std.specs.Prelude.{◌≡◌, ◌++◌, ◌<◌, ◌≤◌, OnOk, chars};
+ghost use Rattle.std.specs.Str.Lines.{lines};
+ghost use Rattle.typst_html_encode.specs.Layout.{spaces, indent, indent_where, feed_where, by_lines};
+
+use html_names::Output;
+use std::alloc::AllocError;
+
+/// A line feed, and the spaces of `MOST_LEVELS` levels.
+const LINE: &str = "\n                                                                ";
+
+/// How many levels the spaces of `LINE` are for.
+const MOST_LEVELS: usize = 32;
+
+/// The first levels of an indent, as many as `LINE` has.
+fn first_levels(level: usize) -> usize
+    ensures fits { result ≤ 32 }
+    ensures within { result ≤ level }
+    ensures moves { 0 < level → 0 < result }
+{
+    level.min(MOST_LEVELS)
+}
+
+/// The spaces of a few levels.
+fn few_spaces(levels: usize) -> &'static str
+    requires { levels ≤ 32 }
+    ensures { result.now ≡ spaces levels }
+{
+    &LINE[1..1 + 2 * levels]
+}
+
+/// A line feed, and the spaces of a few levels.
+fn short_indent(levels: usize) -> &'static str
+    requires { levels ≤ 32 }
+    ensures { result.now ≡ indent levels }
+{
+    &LINE[..1 + 2 * levels]
+}
+
+/// Adds two spaces a level.
+#[tactic(auto, using(crate::proofs::Indents::spaces_ascii))]
+fn push_spaces(out: &mut Output, level: usize) -> Result<(), AllocError>
+    ensures { OnOk result (out.new ≡ out.old ++ spaces level) }
+{
+    let mut left = level;
+    while left > 0 {
+        let levels = first_levels(left);
+        out.push_ascii(few_spaces(levels))?;
+        left -= levels;
+    }
+    Ok(())
+}
+
+/// Adds a line feed and two spaces a level, in one piece where the level is not deep.
+#[tactic(auto, using(crate::proofs::Indents::indent_ascii))]
+pub(crate) fn push_indent(out: &mut Output, level: usize) -> Result<(), AllocError>
+    ensures { OnOk result (out.new ≡ out.old ++ indent level) }
+{
+    let levels = first_levels(level);
+    out.push_ascii(short_indent(levels))?;
+    push_spaces(out, level - levels)
+}
+
+/// Adds an indent where asked.
+pub(crate) fn push_indent_if(out: &mut Output, asked: bool, level: usize) -> Result<(), AllocError>
+    ensures { OnOk result (out.new ≡ out.old ++ indent_where asked level) }
+{
+    if asked {
+        push_indent(out, level)?;
+    }
+    Ok(())
+}
+
+/// Adds a line feed where asked.
+pub(crate) fn push_feed_if(out: &mut Output, asked: bool) -> Result<(), AllocError>
+    ensures { OnOk result (out.new ≡ out.old ++ feed_where asked) }
+{
+    if asked {
+        out.push('\n')?;
+    }
+    Ok(())
+}
+
+/// Adds the lines of a text, with an indent between them, and before the first where asked.
+pub(crate) fn push_lines(
+    out: &mut Output,
+    text: &str,
+    level: usize,
+    before_first: bool,
+) -> Result<(), AllocError>
+    ensures { let texts = lines (chars text.now) in
+        OnOk result (out.new ≡ out.old ++ by_lines before_first (indent level) texts) }
+{
+    let mut indented = before_first;
+    for line in text.lines() {
+        push_indent_if(out, indented, level)?;
+        out.push_str(line)?;
+        indented = true;
+    }
+    Ok(())
+}

@@ -1,0 +1,220 @@
+//! Where pretty writing puts indents. The rules are this project's; the CSS defaults they go by are
+//! those of HTML Standard 15.3.
+
+ghost use Rattle.std.specs.Prelude.{◌≡◌, ◌==◌, IfOk, IsTrue, true, bytes_eq, chars, codes};
+ghost use Rattle.std.specs.List.{list_any};
+ghost use Rattle.html_names.specs.Names.{is_ascii};
+ghost use Rattle.html_dom_tree.specs.Attributes.{first};
+ghost use Rattle.html_dom_tree.specs.Tree.{none};
+ghost use Rattle.html_dom_tree.specs.Views.{text_view};
+ghost use Rattle.html_dom_flat.specs.FlatViews.{flat_node_view, is_node_given};
+ghost use Rattle.typst_html_encode.specs.Siblings.{head_view, node_view, siblings_view};
+ghost use Rattle.typst_html_encode.specs.Walk.{node_with};
+ghost use Rattle.typst_html_encode.specs.Layout.{deeper, margin_inside, is_of_lines};
+ghost use Rattle.typst_html_encode.specs.Layout.{allows_pretty_inside, wants_pretty_around};
+ghost use Rattle.typst_html_encode.specs.Layout.{node_wants_pretty, nodes_want_pretty, is_pretty_inside};
+ghost use Rattle.typst_html_encode.specs.Layout.{is_text, has_indent, due_after};
+ghost use Rattle.typst_html_encode.specs.Layout.{has_other_type, is_by_lines, keeps_lines};
+
+use crate::siblings::{Element, ElementHead, Node, Siblings};
+use html_dom_flat::FlatNode;
+use html_names::property::Display;
+use html_names::{HtmlTag, NameTable, attr, tag};
+use std::alloc::AllocError;
+
+/// How far in a node stands.
+#[derive(Clone, Copy)]
+pub(crate) struct Margin {
+    /// Whether pretty writing is on.
+    pub(crate) pretty: bool,
+    /// How many levels deep the node stands, the root on level 0.
+    pub(crate) level: usize,
+}
+
+impl Margin {
+    /// The margin of the children. A level that no number counts is refused: so deep a tree would
+    /// not fit into memory.
+    pub(crate) fn deeper(self) -> Result<Margin, AllocError>
+        ensures { IfOk result (λ margin. margin ≡ deeper self) }
+    {
+        match self.level.checked_add(1) {
+            Some(level) => Ok(Margin {
+                pretty: self.pretty,
+                level,
+            }),
+            None => Err(AllocError),
+        }
+    }
+
+    /// The margin of an element with the mode of its children.
+    pub(crate) fn inside(self, element: &Element) -> Margin
+        ensures { result ≡
+            margin_inside self (head_view element.now.head) (siblings_view element.now.children) }
+    {
+        Margin {
+            pretty: self.pretty && is_pretty_inside(element),
+            level: self.level,
+        }
+    }
+}
+
+/// Whether the display is one of lines: a block, a list item, a table or a part of one.
+fn is_of_lines(display: Option<Display>) -> bool
+    ensures { result ≡ is_of_lines display }
+{
+    match display {
+        None => false,
+        Some(Display::Block | Display::ListItem) => true,
+        Some(display) => display.is_tabular(),
+    }
+}
+
+/// Whether pretty writing is allowed inside elements of that name.
+#[tactic(auto, unfolding(html_names::specs::Tables::known_tags, crate::specs::Layout::allows_pretty_inside))]
+fn allows_pretty_inside(head: &ElementHead) -> bool
+    ensures { result ≡ allows_pretty_inside (head_view head.now).name }
+{
+    let tag = head.tag();
+    (tag::mathml::is_mathml(tag) && !tag::mathml::is_token(tag))
+        || (is_of_lines(head.default_display()) && *tag != tag::pre)
+        || *tag == tag::head
+}
+
+/// Whether the text is that one of ASCII.
+fn is_text(text: &String, expected: &'static str) -> bool
+    requires { IsTrue (is_ascii expected.now) }
+    ensures { result ≡ bytes_eq expected.now (text_view text.now) }
+{
+    expected == text.as_str()
+}
+
+/// Whether the first value of `display` is `block`.
+#[tactic(auto, unfolding(html_names::specs::Tables::known_attrs), using(crate::proofs::Given::pair_given))]
+fn shows_as_block(head: &ElementHead) -> bool
+    ensures { result ≡
+        is_text (codes "block") (first (head_view head.now).attrs (codes "display")) }
+{
+    let names = head.names;
+    for (number, value) in &head.flat.attrs {
+        if *names.attr_at(*number) == attr::mathml::display {
+            return is_text(value, "block");
+        }
+    }
+    false
+}
+
+/// Whether the element wants lines of its own.
+#[tactic(auto, unfolding(html_names::specs::Tables::known_tags, crate::specs::Layout::wants_pretty_around))]
+fn wants_pretty_around(head: &ElementHead) -> bool
+    ensures { result ≡ wants_pretty_around (head_view head.now) }
+{
+    let tag = head.tag();
+    if *tag == tag::mathml::math {
+        return shows_as_block(head);
+    }
+    tag::mathml::is_mathml(tag)
+        || *tag == tag::pre
+        || tag::is_metadata_content(tag)
+        || allows_pretty_inside(head)
+}
+
+/// Whether a node wants pretty writing: a frame, or an element that wants lines of its own.
+fn node_wants_pretty(names: &NameTable, flat: &FlatNode) -> bool
+    requires { is_node_given names.now flat.now ≡ true }
+    ensures { result ≡ node_wants_pretty (node_with (flat_node_view names.now flat.now) none) }
+{
+    match flat {
+        FlatNode::Tag(_) | FlatNode::Text(_, _) => false,
+        FlatNode::Element(flat) => wants_pretty_around(&ElementHead { names, flat }),
+        FlatNode::Frame(_) => true,
+    }
+}
+
+/// Whether a node among them wants pretty writing.
+#[tactic(auto, using(crate::proofs::NextSiblings::next_left))]
+fn nodes_want_pretty(siblings: &Siblings) -> bool
+    ensures { result ≡ nodes_want_pretty (siblings_view siblings.now) }
+{
+    let mut index = 0;
+    while index < siblings.nodes.len() {
+        let flat = &siblings.nodes[index];
+        if node_wants_pretty(siblings.names, flat) {
+            return true;
+        }
+        index = match flat {
+            FlatNode::Element(element) => element.past - siblings.first,
+            _ => index + 1,
+        };
+    }
+    false
+}
+
+/// Whether the children are written pretty where pretty writing is on.
+#[tactic(auto, unfolding(crate::specs::Layout::is_pretty_inside))]
+fn is_pretty_inside(element: &Element) -> bool
+    ensures { result ≡ is_pretty_inside (head_view element.now.head)
+        (siblings_view element.now.children) }
+{
+    allows_pretty_inside(&element.head) && nodes_want_pretty(&element.children)
+}
+
+/// Whether an indent stands before the child: one is due, or the child wants it.
+pub(crate) fn has_indent(due: bool, child: &Node) -> bool
+    ensures { result ≡ has_indent due (node_view child.now) }
+{
+    let names = child.children.names;
+    match child.flat {
+        FlatNode::Tag(_) => false,
+        FlatNode::Text(_, _) | FlatNode::Frame(_) => due,
+        FlatNode::Element(flat) => due || wants_pretty_around(&ElementHead { names, flat }),
+    }
+}
+
+/// Whether an indent is due before the next child.
+pub(crate) fn due_after(due: bool, child: &Node) -> bool
+    ensures { result ≡ due_after due (node_view child.now) }
+{
+    let names = child.children.names;
+    match child.flat {
+        FlatNode::Tag(_) => due,
+        FlatNode::Text(_, _) | FlatNode::Frame(_) => false,
+        FlatNode::Element(flat) => wants_pretty_around(&ElementHead { names, flat }),
+    }
+}
+
+/// Whether a script is of another type than JavaScript.
+#[tactic(auto, unfolding(html_names::specs::Tables::known_attrs), using(crate::proofs::Given::pair_given))]
+fn has_other_type(head: &ElementHead) -> bool
+    ensures { result ≡ has_other_type (head_view head.now).attrs }
+{
+    let names = head.names;
+    for (number, value) in &head.flat.attrs {
+        if *names.attr_at(*number) == attr::type_ && !is_text(value, "text/javascript") {
+            return true;
+        }
+    }
+    false
+}
+
+/// Whether pretty writing puts the text of a raw element on lines of its own.
+#[tactic(auto, unfolding(html_names::specs::Tables::known_tags, crate::specs::Layout::is_by_lines))]
+pub(crate) fn is_by_lines(head: &ElementHead) -> bool
+    ensures { result ≡ is_by_lines (head_view head.now) }
+{
+    *head.tag() == tag::style || !has_other_type(head)
+}
+
+/// Whether the text holds a backquote.
+fn holds_backquote(text: &str) -> bool
+    ensures { result ≡ list_any (λ c. c == 96) (chars text.now) }
+{
+    text.chars().any(|c| c == '`')
+}
+
+/// Whether a raw text keeps its lines as they are: that of a script with a template literal.
+#[tactic(auto, unfolding(html_names::specs::Tables::known_tags, crate::specs::Layout::keeps_lines))]
+pub(crate) fn keeps_lines(tag: &HtmlTag, text: &str) -> bool
+    ensures { result ≡ keeps_lines tag.now (chars text.now) }
+{
+    *tag == tag::script && holds_backquote(text)
+}

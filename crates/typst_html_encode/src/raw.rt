@@ -1,0 +1,131 @@
+//! Raw text, which ends where its element's closing tag stands.
+
+ghost use Rattle.std.specs.Prelude.{◌≡◌, ◌++◌, OnOk, chars};
+ghost use Rattle.html_names.specs.NameTables.{NamesView};
+ghost use Rattle.html_dom_tree.specs.Tree.{none};
+ghost use Rattle.html_dom_flat.specs.FlatViews.{flat_node_view};
+ghost use Rattle.typst_html_encode.specs.Faults.{node_raw_faults, nodes_raw_faults, raw_content_faults};
+ghost use Rattle.typst_html_encode.specs.Layout.{lines_text, raw_text};
+ghost use Rattle.typst_html_encode.specs.Siblings.{head_view, siblings_view};
+ghost use Rattle.typst_html_encode.specs.Text.{escaped_text, node_raw_text, nodes_raw_text};
+ghost use Rattle.typst_html_encode.specs.Walk.{node_with};
+ghost use Rattle.typst_html_encode.specs.Writes.{Writes, Makes};
+
+use crate::closing::holds_closing;
+use crate::escape::{Escaping, write_text};
+use crate::fault::ExportFault;
+use crate::indent::{push_indent, push_lines};
+use crate::layout::{Margin, is_by_lines, keeps_lines};
+use crate::siblings::{Element, Siblings};
+use html_dom_flat::FlatNode;
+use html_names::{HtmlTag, Output};
+use std::alloc::{AllocError, Global};
+
+/// Writes the content of a raw element.
+pub(crate) fn write_raw(
+    out: &mut Output,
+    element: &Element,
+    margin: Margin,
+) -> Result<(), ExportFault>
+    ensures { let children = siblings_view element.now.children in
+        Writes result out.old out.new
+        (raw_text margin (head_view element.now.head) (nodes_raw_text children))
+        (raw_content_faults (head_view element.now.head) children) }
+{
+    let text = checked_text(element)?;
+    write_joined(out, element, text.as_str(), margin)?;
+    Ok(())
+}
+
+/// The text of a raw element, which holds no closing tag of it.
+fn checked_text(element: &Element) -> Result<String, ExportFault>
+    ensures { let children = siblings_view element.now.children in
+        Makes result (nodes_raw_text children)
+        (raw_content_faults (head_view element.now.head) children) }
+{
+    let alloc = *element.head.flat.attrs.allocator();
+    let text = joined(alloc, &element.children)?;
+    if holds_closing(element.head.tag().resolve(), text.as_str()) {
+        return Err(ExportFault::RawClosing {
+            span: element.head.flat.span,
+        });
+    }
+    Ok(text)
+}
+
+/// The text of a raw element: that of its children, joined.
+fn joined(alloc: Global, children: &Siblings) -> Result<String, ExportFault>
+    ensures { Makes result
+        (nodes_raw_text (siblings_view children.now))
+        (nodes_raw_faults Escaping.Raw (siblings_view children.now)) }
+{
+    let mut out = Output::new(alloc);
+    write_children(&mut out, Escaping::Raw, children)?;
+    Ok(out.into_string())
+}
+
+/// Writes the children of a raw or an escapable raw element.
+pub(crate) fn write_children(
+    out: &mut Output,
+    escaping: Escaping,
+    children: &Siblings,
+) -> Result<(), ExportFault>
+    ensures { Writes result out.old out.new
+        (escaped_text escaping (nodes_raw_text (siblings_view children.now)))
+        (nodes_raw_faults escaping (siblings_view children.now)) }
+{
+    for node in children.nodes {
+        write_child(out, escaping, node)?;
+    }
+    Ok(())
+}
+
+/// Writes a child of a raw or an escapable raw element: a text.
+fn write_child(out: &mut Output, escaping: Escaping, child: &FlatNode) -> Result<(), ExportFault>
+    ensures { (names : NamesView) → let n = node_with (flat_node_view names child.now) none in
+        Writes result out.old out.new
+        (escaped_text escaping (node_raw_text n)) (node_raw_faults escaping n) }
+{
+    match child {
+        FlatNode::Tag(_) => Ok(()),
+        FlatNode::Text(text, span) => write_text(out, escaping, text.as_str(), *span),
+        FlatNode::Element(element) => Err(ExportFault::RawChild { span: element.span }),
+        FlatNode::Frame(frame) => Err(ExportFault::RawChild { span: frame.span }),
+    }
+}
+
+/// Writes a raw text, on lines of its own where pretty writing puts it there.
+fn write_joined(
+    out: &mut Output,
+    element: &Element,
+    text: &str,
+    margin: Margin,
+) -> Result<(), AllocError>
+    ensures { OnOk result (out.new ≡ out.old
+        ++ raw_text margin (head_view element.now.head) (chars text.now)) }
+{
+    if margin.pretty && is_by_lines(&element.head) {
+        write_lines(out, element.head.tag(), text, margin)
+    } else {
+        out.push_str(text)
+    }
+}
+
+/// Writes a raw text on lines of its own.
+#[tactic(auto, unfolding(crate::specs::Layout::lines_text))]
+fn write_lines(
+    out: &mut Output,
+    tag: &HtmlTag,
+    text: &str,
+    margin: Margin,
+) -> Result<(), AllocError>
+    ensures { OnOk result (out.new ≡ out.old ++ lines_text margin.level tag.now (chars text.now)) }
+{
+    if keeps_lines(tag, text) {
+        out.push('\n')?;
+        out.push_str(text)?;
+    } else {
+        push_lines(out, text, margin.deeper()?.level, true)?;
+    }
+    push_indent(out, margin.level)
+}

@@ -1,0 +1,231 @@
+//! Writing, plain and pretty: one walk over a flat tree.
+
+ghost use Rattle.std.specs.Prelude.{◌≡◌, ◌++◌, OnOk, Some, chars, false};
+ghost use Rattle.html_dom_tree.specs.FrameViews.{html_frame_view};
+ghost use Rattle.html_dom_tree.specs.Views.{element_view};
+ghost use Rattle.html_dom_flat.specs.FlatTrees.{tree_nodes};
+ghost use Rattle.typst_html_encode.specs.Faults.{void_faults, frame_faults, nodes_faults, element_faults};
+ghost use Rattle.typst_html_encode.specs.Layout.{indent_where, frame_text};
+ghost use Rattle.typst_html_encode.specs.OpenElements.{open_element_view, Enters};
+ghost use Rattle.typst_html_encode.specs.ReadingBack.{HeadIsNamed, NodesAreNamed, ElementIsNamed};
+ghost use Rattle.typst_html_encode.specs.Siblings.{head_view, flat_element_view, node_flat_view, node_view, siblings_view};
+ghost use Rattle.typst_html_encode.specs.Text.{escaping_of, end_tag_text, element_text};
+ghost use Rattle.typst_html_encode.specs.Walk.{first_text, first_faults, FirstIsNamed};
+ghost use Rattle.typst_html_encode.specs.Walk.{outside_text, element_first_text, element_first_faults};
+ghost use Rattle.typst_html_encode.specs.Writes.{Writes, Passes};
+
+use crate::content::ContentKind;
+use crate::escape::{Escaping, write_text};
+use crate::fault::ExportFault;
+use crate::frame::{FrameFault, FrameWriter};
+use crate::indent::{push_indent_if, push_lines};
+use crate::layout::{Margin, due_after};
+use crate::node::node_at;
+use crate::open_elements::{OpenElement, OpenElements};
+use crate::raw;
+use crate::siblings::{Element, ElementHead, Node};
+use crate::tags::{write_end, write_feed, write_start};
+use html_dom_flat::{FlatNode, FlatTree};
+use html_dom_tree::{HtmlElement, HtmlFrame};
+use html_names::Output;
+use std::alloc::{AllocError, Global};
+
+/// Writes an element at that margin.
+pub(crate) fn write_root<F: FrameWriter>(
+    alloc: Global,
+    out: &mut Output,
+    root: &HtmlElement,
+    margin: Margin,
+    frames: &F,
+) -> Result<(), ExportFault>
+    ensures writes { Writes result out.old out.new
+        (element_text (F.drawing frames.now) margin (element_view root.now))
+        (element_faults (F.drawing frames.now) margin.pretty (element_view root.now)) }
+    ensures named { OnOk result (ElementIsNamed (element_view root.now)) }
+{
+    let tree = FlatTree::from_element(alloc, root)?;
+    write_tree(alloc, out, &tree, margin, frames)
+}
+
+/// Writes the nodes of a flat tree, one after another: nodes that stand in no element have that
+/// margin.
+fn write_tree<F: FrameWriter>(
+    alloc: Global,
+    out: &mut Output,
+    tree: &FlatTree,
+    outer: Margin,
+    frames: &F,
+) -> Result<(), ExportFault>
+    ensures writes { let ns = tree_nodes tree.now in
+        Writes result out.old out.new (outside_text (F.drawing frames.now) outer ns)
+        (nodes_faults (F.drawing frames.now) false outer.pretty ns) }
+    ensures named { OnOk result (NodesAreNamed (tree_nodes tree.now)) }
+{
+    let names = tree.names();
+    let nodes = tree.nodes();
+    let mut open_elements = OpenElements::new(alloc);
+    let mut due = false;
+    let mut place = 0;
+    loop {
+        if let Some(element) = open_elements.pop_at(place) {
+            write_close(out, &element)?;
+            due = element.due_after;
+        } else if place < nodes.len() {
+            let node = node_at(names, nodes, place);
+            let margin = open_elements.margin(outer)?;
+            push_indent_if(out, open_elements.has_indent(due, &node), margin.level)?;
+            write_first(out, &node, open_elements.pre_span(), margin, frames)?;
+            if let Some(element) = entered(&node, margin, due) {
+                open_elements.push(element)?;
+                due = true;
+                place += 1;
+            } else {
+                due = due_after(due, &node);
+                place = node.past;
+            }
+        } else {
+            return Ok(());
+        }
+    }
+}
+
+/// Writes the end of an element that the walk leaves.
+fn write_close(out: &mut Output, element: &OpenElement) -> Result<(), AllocError>
+    ensures { let o = open_element_view element.now in OnOk result (out.new ≡
+        out.old ++ (indent_where o.margin.pretty o.margin.level ++ end_tag_text o.name)) }
+{
+    push_indent_if(out, element.margin.pretty, element.margin.level)?;
+    write_end(out, element.tag)
+}
+
+/// The element that the walk enters with that node, if it does.
+fn entered<'a>(node: &Node<'a>, margin: Margin, due: bool) -> Option<OpenElement<'a>>
+    ensures { Enters result (node_flat_view node.now) (siblings_view node.now.children) margin due }
+{
+    let FlatNode::Element(flat) = node.flat else {
+        return None;
+    };
+    let head = ElementHead {
+        names: node.children.names,
+        flat,
+    };
+    if head.ends_at_once() || !matches!(head.content_kind(), ContentKind::Nodes) {
+        return None;
+    }
+    let element = Element {
+        head,
+        children: node.children,
+    };
+    Some(OpenElement {
+        tag: head.tag(),
+        pre_span: flat.pre_span,
+        past: flat.past,
+        margin: margin.inside(&element),
+        due_after: due_after(due, node),
+    })
+}
+
+/// Writes a node, or the start of an element that the walk enters.
+fn write_first<F: FrameWriter>(
+    out: &mut Output,
+    node: &Node,
+    pre_span: bool,
+    margin: Margin,
+    frames: &F,
+) -> Result<(), ExportFault>
+    ensures writes { Writes result out.old out.new
+        (first_text (F.drawing frames.now) pre_span margin (node_view node.now))
+        (first_faults (F.drawing frames.now) pre_span margin.pretty (node_view node.now)) }
+    ensures named { OnOk result (FirstIsNamed (node_view node.now)) }
+{
+    match node.flat {
+        FlatNode::Tag(_) => Ok(()),
+        FlatNode::Text(text, span) => write_text(out, escaping(pre_span), text.as_str(), *span),
+        FlatNode::Element(flat) => {
+            let children = node.children;
+            let head = ElementHead {
+                names: children.names,
+                flat,
+            };
+            write_element(out, &Element { head, children }, margin)
+        }
+        FlatNode::Frame(frame) => write_frame(out, frame, margin, frames),
+    }
+}
+
+/// Writes an element whose children are not written one by one, and else its start.
+fn write_element(out: &mut Output, element: &Element, margin: Margin) -> Result<(), ExportFault>
+    ensures writes { Writes result out.old out.new
+        (element_first_text margin (flat_element_view element.now))
+        (element_first_faults (flat_element_view element.now)) }
+    ensures named { OnOk result (HeadIsNamed (head_view element.now.head)) }
+{
+    write_start(out, &element.head)?;
+    if element.head.ends_at_once() {
+        return refuse_children(element);
+    }
+    write_feed(out, element)?;
+    match element.head.content_kind() {
+        ContentKind::Raw => raw::write_raw(out, element, margin)?,
+        ContentKind::EscapableRaw => raw::write_children(out, Escaping::Text, &element.children)?,
+        ContentKind::Nodes => return Ok(()),
+    }
+    write_end(out, element.head.tag())?;
+    Ok(())
+}
+
+/// Refuses a child of an element that is its start tag alone.
+#[tactic(auto, unfolding(html_dom_flat::specs::Flat::spelled_nodes))]
+fn refuse_children(element: &Element) -> Result<(), ExportFault>
+    ensures { Passes result
+        (void_faults (head_view element.now.head).span (siblings_view element.now.children)) }
+{
+    match element.children.nodes.first() {
+        None => Ok(()),
+        Some(_) => Err(ExportFault::VoidChildren {
+            span: element.head.flat.span,
+        }),
+    }
+}
+/// Writes a frame by its writer.
+fn write_frame<F: FrameWriter>(
+    out: &mut Output,
+    frame: &HtmlFrame,
+    margin: Margin,
+    frames: &F,
+) -> Result<(), ExportFault>
+    ensures { let answer = F.drawing frames.now (html_frame_view frame.now) margin.pretty in
+        Writes result out.old out.new
+        (frame_text margin answer) (frame_faults frame.now.span.0 answer) }
+{
+    match frames.write(frame, margin.pretty) {
+        Ok(text) => {
+            write_drawn(out, text.as_str(), margin)?;
+            Ok(())
+        }
+        Err(FrameFault::OutOfMemory) => Err(ExportFault::OutOfMemory),
+        Err(FrameFault::Refused) => Err(ExportFault::FrameRefused { span: frame.span }),
+    }
+}
+
+/// Writes the text of a frame.
+fn write_drawn(out: &mut Output, text: &str, margin: Margin) -> Result<(), AllocError>
+    ensures { OnOk result (out.new ≡ out.old ++ frame_text margin (Some (chars text.now))) }
+{
+    if margin.pretty {
+        push_lines(out, text, margin.level, false)
+    } else {
+        out.push_str(text)
+    }
+}
+
+/// How texts are written directly under an element with this flag.
+fn escaping(pre_span: bool) -> Escaping
+    ensures { result ≡ escaping_of pre_span }
+{
+    if pre_span {
+        Escaping::Reference
+    } else {
+        Escaping::Text
+    }
+}

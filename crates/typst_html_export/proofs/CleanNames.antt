@@ -1,0 +1,177 @@
+-- Names that are made of clean labels are clean: they are the label or `loc`, a hyphen and digits.
+use Rattle.std.proofs.Common.{◌≡◌, ℕ, zero, suc, ◌+◌, ◌%◌, ◌<◌, ◌^◌, Bool, true, false, ◌&&◌, ◌==◌, List, [], ◌∷◌, ◌++◌, codes, Option, Some, None, refl, arith}
+use Rattle.std.specs.Prelude.{decimal, if◌then◌else◌}
+use Rattle.std.proofs.lemmas.Bool.{and_parts, false≢true}
+use Rattle.std.proofs.lemmas.Fmt.{decimal_by_steps}
+use Rattle.html_names.specs.Characters.{all, is_text_char}
+use Rattle.html_dom_tree.specs.Tags.{starts, ends}
+use Rattle.html_dom_tree.specs.Tree.{tag_node, text_node, element_node, frame_node, NodesView, none, node}
+use Rattle.typst_html_encode.proofs.Stretches.{all_append}
+use Rattle.html_dom_link.specs.NewNames.{Name, numbered, first_free, stem_of, first_number, free_name, new_name}
+use Rattle.html_dom_link.specs.Events.{Start, Event, other_start, target_start, end_tag, element, text, html_frame, Targets, start_event, events}
+use Rattle.html_dom_link.specs.Groups.{serves, waiting_after, cut_at, cuts, own_name, first_label, label_of, label_for}
+use Rattle.html_dom_link.specs.Namings.{made_for, used_after, namings}
+use Rattle.html_dom_link.proofs.Numbers.{free_within, first_is_low}
+use Rattle.typst_html_spaces.specs.CleanNodes.{is_clean_text, is_clean_content, is_clean_head, is_clean_node, are_clean_nodes, IsCleanId}
+use Rattle.typst_html_spaces.proofs.Each.{Each, Each-append}
+use Rattle.typst_html_export.proofs.AnchoredRoots.{Passing, MadePasses}
+
+-- numbers
+
+digit_is_text : (d : ℕ) → d < 10 → is_text_char (48 + d) ≡ true
+digit_is_text zero h = refl
+digit_is_text (suc zero) h = refl
+digit_is_text (suc (suc zero)) h = refl
+digit_is_text (suc (suc (suc zero))) h = refl
+digit_is_text (suc (suc (suc (suc zero)))) h = refl
+digit_is_text (suc (suc (suc (suc (suc zero))))) h = refl
+digit_is_text (suc (suc (suc (suc (suc (suc zero)))))) h = refl
+digit_is_text (suc (suc (suc (suc (suc (suc (suc zero))))))) h = refl
+digit_is_text (suc (suc (suc (suc (suc (suc (suc (suc zero)))))))) h = refl
+digit_is_text (suc (suc (suc (suc (suc (suc (suc (suc (suc zero))))))))) h = refl
+digit_is_text (suc (suc (suc (suc (suc (suc (suc (suc (suc (suc d)))))))))) h =
+    absurd (omega arith)
+
+decimal_is_text : (n : ℕ) → n < 2 ^ 64 → all is_text_char (decimal n) ≡ true
+decimal_is_text = decimal_by_steps (λ m ds. all is_text_char ds ≡ true)
+    (λ m l. rw (digit_is_text m l) refl)
+    (λ m ds l h. all_append is_text_char ds ((48 + m % 10) ∷ []) h
+    (rw (digit_is_text (m % 10) (omega arith)) refl))
+
+-- names
+
+numbered_is_clean : (stem : Name) (n : ℕ) → n < 2 ^ 64 → IsCleanId stem →
+    IsCleanId (numbered stem n)
+numbered_is_clean stem n h e = all_append is_text_char stem (codes "-" ++ decimal n) e
+    (all_append is_text_char (codes "-") (decimal n) refl (decimal_is_text n h))
+
+stem_is_clean : (label : Name) → IsCleanId label → IsCleanId (stem_of label)
+stem_is_clean [] e = refl
+stem_is_clean (c ∷ cs) e = e
+
+free_is_clean : (label : Name) (used : Name → Bool) → IsCleanId label →
+    IsCleanId (free_name label used)
+free_is_clean label used e =
+    let n = first_free (stem_of label) used (2 ^ 63) (first_number label) in
+    let within = free_within (stem_of label) used (2 ^ 63) (first_number label) in
+    let start = first_is_low label in
+    numbered_is_clean (stem_of label) n (omega (arith, within, start)) (stem_is_clean label e)
+
+new_is_clean : (label : Option Name) (used : Name → Bool) → is_clean_text label ≡ true →
+    IsCleanId (new_name label used)
+unfolding new_name
+new_is_clean None used e = free_is_clean [] used refl
+new_is_clean (Some []) used e = free_is_clean [] used refl
+new_is_clean (Some (c ∷ cs)) used e = by_test (used (c ∷ cs))
+  where
+    by_test : (b : Bool) → IsCleanId (if b then free_name (c ∷ cs) used else c ∷ cs)
+    by_test true = free_is_clean (c ∷ cs) used e
+    by_test false = e
+
+-- start tags with clean labels
+
+abbrev StartIsClean : Start → Type 0
+StartIsClean s = is_clean_text s.label ≡ true
+
+abbrev EventIsClean : Event → Type 0
+EventIsClean other_start = Unit {0}
+EventIsClean (target_start s) = StartIsClean s
+EventIsClean (end_tag l) = Unit {0}
+EventIsClean (element id) = Unit {0}
+EventIsClean text = Unit {0}
+EventIsClean (html_frame id inside) = Unit {0}
+
+all_or_none : (b : Bool) (group : List Start) → Each StartIsClean group →
+    Each StartIsClean (if b then group else [])
+all_or_none true group r = r
+all_or_none false group r = tt
+
+none_or_all : (b : Bool) (group : List Start) → Each StartIsClean group →
+    Each StartIsClean (if b then [] else group)
+none_or_all true group r = tt
+none_or_all false group r = r
+
+waiting_is_clean : (group : List Start) (e : Event) → Each StartIsClean group → EventIsClean e →
+    Each StartIsClean (waiting_after group e)
+waiting_is_clean group other_start r c = none_or_all (serves group other_start) group r
+waiting_is_clean group (target_start s) r c =
+    Each-append StartIsClean group (s ∷ []) r (c, tt)
+waiting_is_clean group (end_tag l) r c = none_or_all (serves group (end_tag l)) group r
+waiting_is_clean group (element id) r c = none_or_all (serves group (element id)) group r
+waiting_is_clean group text r c = none_or_all (serves group text) group r
+waiting_is_clean group (html_frame id inside) r c =
+    none_or_all (serves group (html_frame id inside)) group r
+
+first_is_clean : (group : List Start) → Each StartIsClean group →
+    is_clean_text (first_label group) ≡ true
+first_is_clean [] r = refl
+first_is_clean (s ∷ ss) r = r.0
+
+label_of_is_clean : (l : ℕ) (group : List Start) → Each StartIsClean group →
+    is_clean_text (label_of l group) ≡ true
+label_of_is_clean l [] r = refl
+label_of_is_clean l (s ∷ ss) r = by_test (s.location == l) (label_of_is_clean l ss r.1)
+  where
+    by_test : (b : Bool) → is_clean_text (label_of l ss) ≡ true →
+        is_clean_text (if b then s.label else label_of l ss) ≡ true
+    by_test true so = r.0
+    by_test false so = so
+
+label_is_clean : (e : Event) (group : List Start) → Each StartIsClean group →
+    is_clean_text (label_for e group) ≡ true
+label_is_clean other_start group r = first_is_clean group r
+label_is_clean (target_start s) group r = first_is_clean group r
+label_is_clean (end_tag l) group r = label_of_is_clean l group r
+label_is_clean (element id) group r = first_is_clean group r
+label_is_clean text group r = first_is_clean group r
+label_is_clean (html_frame id inside) group r = first_is_clean group r
+
+made_is_clean : (own label : Option Name) (used : Name → Bool) (group : List Start) →
+    is_clean_text label ≡ true → Passing IsCleanId (made_for own label used group)
+made_is_clean own label used [] e = tt
+made_is_clean (Some n) label used (s ∷ ss) e = tt
+made_is_clean None label used (s ∷ ss) e = new_is_clean label used e
+
+namings_are_clean : (es : List Event) (waiting : List Start) (used : Name → Bool) →
+    Each EventIsClean es → Each StartIsClean waiting →
+    Each (MadePasses IsCleanId) (namings used (cuts waiting es))
+namings_are_clean [] waiting used r w = tt
+namings_are_clean (e ∷ es) waiting used r w =
+    let group = (cut_at waiting e).group in
+    let clean = all_or_none (serves waiting e) waiting w in (
+      made_is_clean (own_name e) (label_for e group) used group (label_is_clean e group clean),
+      namings_are_clean es (waiting_after waiting e) (used_after used (cut_at waiting e)) r.1
+          (waiting_is_clean waiting e w r.0),
+    )
+
+start_is_clean : (is_target : Bool) (l : ℕ) (label : Option Name) → is_clean_text label ≡ true →
+    EventIsClean (start_event is_target l label)
+start_is_clean true l label e = e
+start_is_clean false l label e = tt
+
+events_are_clean : (x : Targets) (ns : NodesView) (p : Bool) → are_clean_nodes p ns ≡ true →
+    Each EventIsClean (events x ns)
+unfolding events is_clean_node
+events_are_clean x none p e = tt
+events_are_clean x (node (tag_node (starts l label dest)) ns) p e =
+    let both = and_parts (is_clean_text label) (are_clean_nodes p ns) e in
+    (start_is_clean (x.is_target l) l label both.0, events_are_clean x ns p both.1)
+events_are_clean x (node (tag_node (ends l)) ns) p e = (tt, events_are_clean x ns p e)
+events_are_clean x (node (text_node s span) ns) p e =
+    (tt, events_are_clean x ns p (and_parts (is_clean_content p s) (are_clean_nodes p ns) e).1)
+events_are_clean x (node (element_node h kids) ns) p e =
+    let both = and_parts (is_clean_head h kids && are_clean_nodes h.pre_span kids)
+    (are_clean_nodes p ns) e in
+    let own = and_parts (is_clean_head h kids) (are_clean_nodes h.pre_span kids) both.0 in (
+      tt,
+      Each-append EventIsClean (events x kids) (events x ns)
+          (events_are_clean x kids h.pre_span own.1) (events_are_clean x ns p both.1),
+    )
+events_are_clean x (node (frame_node f) ns) p e = absurd (false≢true e)
+
+-- of clean nodes, while no start tag waits
+pub clean_namings : (x : Targets) (used : Name → Bool) (ns : NodesView) (p : Bool) →
+    are_clean_nodes p ns ≡ true →
+    Each (MadePasses IsCleanId) (namings used (cuts [] (events x ns)))
+clean_namings x used ns p e =
+    namings_are_clean (events x ns) [] used (events_are_clean x ns p e) tt

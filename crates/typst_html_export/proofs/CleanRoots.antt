@@ -1,0 +1,296 @@
+-- The root of a document of clean items in plain flow and of clean information has no fault, with
+-- anchors too.
+use Rattle.std.proofs.Common.{◌≡◌, ℕ, Bool, true, false, ◌&&◌, List, [], ◌∷◌, ◌++◌, map, drop, codes, Option, Some, None, refl, ap, sym, ◌∙◌, subst, append_assoc, append-nil}
+use Rattle.std.specs.List.{flat_map}
+use Rattle.std.proofs.lemmas.Bool.{and_parts}
+use Rattle.std.proofs.lemmas.List.{drop-drop}
+use Rattle.html_names.specs.Characters.{all, is_text_char}
+use Rattle.html_names.specs.Kinds.{is_void, is_raw, is_escapable_raw, is_foreign_self_closing}
+use Rattle.html_names.specs.Names.{stands_in}
+use Rattle.html_names.specs.Texts.{TextPair}
+use Rattle.html_dom_tree.specs.Styled.{node_styled, nodes_styled}
+use Rattle.html_dom_tree.specs.Tree.{Head, NodeView, tag_node, text_node, element_node, frame_node, NodesView, none, node, ElementView}
+use Rattle.html_dom_tree.specs.Views.{nodes_of}
+use Rattle.html_dom_document.specs.Documents.{LocaleView, InfoView}
+use Rattle.typst_html_encode.specs.FaultViews.{export_fault_view}
+use Rattle.typst_html_encode.specs.Faults.{node_faults, nodes_faults}
+use Rattle.typst_html_encode.specs.Faults as writing
+use Rattle.typst_html_encode.specs.Frames.{Frames}
+use Rattle.typst_html_encode.specs.Layout.{is_pretty_inside}
+use Rattle.typst_html_encode.specs.Text.{ends_at_once, escaping_of}
+use Rattle.typst_html_encode.proofs.Stretches.{all_append}
+use Rattle.typst_html_encode.specs.declared.options.HtmlOptions.{HtmlOptions}
+use Rattle.html_flow_convert.specs.Items.{ItemsView}
+use Rattle.html_dom_link.specs.Anchors.{nodes_size, nodes_anchored, element_anchored}
+use Rattle.html_dom_link.specs.Events.{Event, Targets, events}
+use Rattle.html_dom_link.specs.Groups.{cuts}
+use Rattle.html_dom_link.specs.Namings.{namings}
+use Rattle.html_dom_link.specs.NewNames.{Name, element_names}
+use Rattle.typst_html_spaces.specs.CleanItems.{are_clean_items}
+use Rattle.typst_html_spaces.specs.CleanNodes.{is_clean_text, are_clean_values, are_clean_nodes, IsCleanId}
+use Rattle.typst_html_spaces.proofs.Anchored.{anchors_keep_clean_nodes}
+use Rattle.typst_html_spaces.proofs.CleanItems.{clean_items_make_clean_nodes}
+use Rattle.typst_html_spaces.proofs.CleanNodes.{plain_clean, no_faults_of, no_attrs_faults, clean_nodes_are_written}
+use Rattle.typst_html_spaces.proofs.Each.{Each, Each-append}
+use Rattle.typst_html_export.specs.Assembled.{document_nodes}
+use Rattle.typst_html_export.specs.CleanInfo.{are_clean_texts, is_clean_locale, is_clean_info, CleanDocumentsAreWritten}
+use Rattle.typst_html_export.specs.DocumentHead.{made_node, charset_node, entry_node, viewport_node, title_node, title_nodes, description_nodes, joined_text, list_nodes, entry_nodes, lang_text}
+use Rattle.typst_html_export.specs.Exported.{linked_root, root_faults}
+use Rattle.typst_html_export.specs.SpacesInDocuments.{ArePlainItems}
+use Rattle.typst_html_export.proofs.AnchoredRoots.{MadePasses, nodes_are_anchored}
+use Rattle.typst_html_export.proofs.CleanNames.{clean_namings}
+use Rattle.typst_html_export.proofs.PlainRoots.{root_over, linked_root_is}
+
+-- what stands before all tags gets no anchor
+
+abbrev mutual
+  IsQuiet : NodeView → Type 0
+  IsQuiet (tag_node t) = ⊥
+  IsQuiet (text_node s span) = Unit {0}
+  IsQuiet (element_node h ns) = AreQuiet ns
+  IsQuiet (frame_node f) = ⊥
+
+  AreQuiet : NodesView → Type 0
+  AreQuiet none = Unit {0}
+  AreQuiet (node n ns) = IsQuiet n × AreQuiet ns
+
+quiet_kept : (x : Targets) (ns : NodesView) → AreQuiet ns → (used : Name → Bool)
+    (more : List Event) →
+    (nodes_anchored (namings used (cuts [] (events x ns ++ more))) ns ≡ ns)
+    × (drop (nodes_size ns) (namings used (cuts [] (events x ns ++ more)))
+    ≡ namings used (cuts [] more))
+unfolding events nodes_anchored nodes_size
+quiet_kept x none q used more = (refl, refl)
+quiet_kept x (node (tag_node t) ns) q used more = absurd q.0
+quiet_kept x (node (text_node s span) ns) q used more =
+    let after = quiet_kept x ns q.1 used more in
+    (ap (node (text_node s span)) after.0, after.1)
+quiet_kept x (node (element_node h kids) ns) q used more =
+    let inside = quiet_kept x kids q.0 used (events x ns ++ more) in
+    let after = quiet_kept x ns q.1 used more in
+    let both = append_assoc (events x kids) (events x ns) more in (
+      rw (both, inside.0, inside.1, after.0) refl,
+      rw both (sym (drop-drop (nodes_size ns) (nodes_size kids)
+          (namings used (cuts [] (events x kids ++ (events x ns ++ more)))))
+          ∙ (ap (drop (nodes_size ns)) inside.1 ∙ after.1)),
+    )
+quiet_kept x (node (frame_node f) ns) q used more = absurd q.0
+
+-- a root of a quiet head and of a body of clean nodes
+abbrev root_of_both : (top h g : Head) (kids inside : NodesView) → ElementView
+root_of_both top h g kids inside =
+    (top, node (element_node h kids) (node (element_node g inside) none))
+
+body_anchored : (x : Targets) (top h g : Head) (kids inside : NodesView) → AreQuiet kids →
+    are_clean_nodes false inside ≡ true →
+    (new : NodesView) × (element_anchored x (root_of_both top h g kids inside)
+    ≡ root_of_both top h g kids new) × (are_clean_nodes false new ≡ true)
+unfolding element_anchored nodes_anchored events
+body_anchored x top h g kids inside q c =
+    let used : Name → Bool = stands_in (element_names (root_of_both top h g kids inside)) in
+    let es = events x inside ++ [] in
+    let kept = quiet_kept x kids q used (events x (node (element_node g inside) none)) in
+    let passing : Each (MadePasses IsCleanId) (namings used (cuts [] es)) =
+    subst (λ fs. Each (MadePasses IsCleanId) (namings used (cuts [] fs)))
+    (sym (append-nil (events x inside))) (clean_namings x used inside false c) in (
+      nodes_anchored (namings used (cuts [] es)) inside,
+      rw (kept.0, kept.1) refl,
+      anchors_keep_clean_nodes false inside (nodes_anchored (namings used (cuts [] es)) inside)
+          (nodes_are_anchored IsCleanId inside (namings used (cuts [] es)) passing) c,
+    )
+
+-- elements
+
+element_written : (frames : Frames) (pre_span pretty : Bool) (h : Head) (ns : NodesView) →
+    are_clean_values h.attrs ≡ true → ends_at_once h ≡ false → is_raw h.name ≡ false →
+    is_escapable_raw h.name ≡ false →
+    ((p : Bool) → nodes_faults frames h.pre_span p ns ≡ []) →
+    node_faults frames pre_span pretty (element_node h ns) ≡ []
+unfolding node_faults
+element_written frames pre_span pretty h ns values at_once raw escapable inside =
+    rw (no_attrs_faults h.span h.attrs values, at_once, raw, escapable)
+    (inside (pretty && is_pretty_inside h ns))
+
+-- entries of a head
+
+record IsEntry (n : NodeView) : Type 0 where
+  quiet : IsQuiet (node_styled n)
+  written : (frames : Frames) (pretty : Bool) → node_faults frames false pretty (node_styled n) ≡ []
+
+meta_entry : (attrs : List TextPair) → are_clean_values attrs ≡ true →
+    IsEntry (made_node (codes "meta") attrs none)
+unfolding node_styled node_faults is_void is_foreign_self_closing stands_in
+meta_entry attrs e =
+    record { quiet = tt; written = λ frames pretty. rw (no_attrs_faults 0 attrs e) refl }
+
+title_entry : (t : List ℕ) → all is_text_char t ≡ true → IsEntry (title_node t)
+unfolding node_styled node_faults is_void is_foreign_self_closing is_raw is_escapable_raw stands_in
+title_entry t e = record {
+  quiet = (tt, tt);
+  written = λ frames pretty. rw (no_faults_of (escaping_of false) 0 t (plain_clean t e)) refl;
+}
+
+named_entry : (name content : List ℕ) → all is_text_char name ≡ true →
+    all is_text_char content ≡ true → IsEntry (entry_node name content)
+named_entry name content e f =
+    meta_entry ((codes "name", name) ∷ (codes "content", content) ∷ []) (rw (e, f) refl)
+
+title_entries : (t : Option (List ℕ)) → is_clean_text t ≡ true → Each IsEntry (title_nodes t)
+title_entries None e = tt
+title_entries (Some t) e = (title_entry t e, tt)
+
+description_entries : (t : Option (List ℕ)) → is_clean_text t ≡ true →
+    Each IsEntry (description_nodes t)
+description_entries None e = tt
+description_entries (Some t) e = (named_entry (codes "description") t refl e, tt)
+
+others_are_clean : (ts : List (List ℕ)) → are_clean_texts ts ≡ true →
+    all is_text_char (flat_map (λ t. codes ", " ++ t) ts) ≡ true
+others_are_clean [] e = refl
+others_are_clean (t ∷ ts) e =
+    let both = and_parts (all is_text_char t) (are_clean_texts ts) e in
+    all_append is_text_char (codes ", " ++ t) (flat_map (λ s. codes ", " ++ s) ts)
+    (all_append is_text_char (codes ", ") t refl both.0) (others_are_clean ts both.1)
+
+joined_is_clean : (ts : List (List ℕ)) → are_clean_texts ts ≡ true →
+    all is_text_char (joined_text ts) ≡ true
+joined_is_clean [] e = refl
+joined_is_clean (t ∷ ts) e =
+    let both = and_parts (all is_text_char t) (are_clean_texts ts) e in
+    all_append is_text_char t (flat_map (λ s. codes ", " ++ s) ts) both.0
+    (others_are_clean ts both.1)
+
+list_entries : (name : List ℕ) (ts : List (List ℕ)) → all is_text_char name ≡ true →
+    are_clean_texts ts ≡ true → Each IsEntry (list_nodes name ts)
+list_entries name [] e f = tt
+list_entries name (t ∷ ts) e f =
+    (named_entry name (joined_text (t ∷ ts)) e (joined_is_clean (t ∷ ts) f), tt)
+
+-- what clean information says
+record InfoParts (info : InfoView) : Type 0 where
+  title : is_clean_text info.title ≡ true
+  description : is_clean_text info.description ≡ true
+  author : are_clean_texts info.author ≡ true
+  keywords : are_clean_texts info.keywords ≡ true
+  locale : is_clean_locale info.locale ≡ true
+
+info_parts : (info : InfoView) → is_clean_info info ≡ true → InfoParts info
+info_parts info e =
+    let t = is_clean_text info.title in
+    let d = is_clean_text info.description in
+    let a = are_clean_texts info.author in
+    let k = are_clean_texts info.keywords in
+    let four = and_parts (t && d && a && k) (is_clean_locale info.locale) e in
+    let three = and_parts (t && d && a) k four.0 in
+    let two = and_parts (t && d) a three.0 in
+    let one = and_parts t d two.0 in
+    record {
+      title = one.0;
+      description = one.1;
+      author = two.1;
+      keywords = three.1;
+      locale = four.1;
+    }
+
+all_entries : (info : InfoView) → InfoParts info →
+    Each IsEntry (charset_node ∷ viewport_node ∷ entry_nodes info)
+all_entries info parts =
+    let authors = list_nodes (codes "authors") info.author in
+    let keywords = list_nodes (codes "keywords") info.keywords in
+    let descriptions = description_nodes info.description in (
+      meta_entry ((codes "charset", codes "utf-8") ∷ []) refl,
+      (
+        named_entry (codes "viewport") (codes "width=device-width, initial-scale=1") refl refl,
+        Each-append IsEntry (title_nodes info.title) (descriptions ++ (authors ++ keywords))
+            (title_entries info.title parts.title)
+            (Each-append IsEntry descriptions (authors ++ keywords)
+            (description_entries info.description parts.description)
+            (Each-append IsEntry authors keywords
+            (list_entries (codes "authors") info.author refl parts.author)
+            (list_entries (codes "keywords") info.keywords refl parts.keywords))),
+      ),
+    )
+
+entries_quiet : (ns : List NodeView) → Each IsEntry ns → AreQuiet (nodes_styled (nodes_of ns))
+unfolding nodes_styled
+entries_quiet [] e = tt
+entries_quiet (n ∷ ns) e = (e.0.quiet, entries_quiet ns e.1)
+
+entries_written : (frames : Frames) (pretty : Bool) (ns : List NodeView) → Each IsEntry ns →
+    nodes_faults frames false pretty (nodes_styled (nodes_of ns)) ≡ []
+unfolding nodes_styled nodes_faults
+entries_written frames pretty [] e = refl
+entries_written frames pretty (n ∷ ns) e =
+    rw (e.0.written frames pretty, entries_written frames pretty ns e.1) refl
+
+-- the language
+
+region_is_clean : (lang : List ℕ) (region : Option (List ℕ)) → all is_text_char lang ≡ true →
+    is_clean_text region ≡ true →
+    all is_text_char (lang_text (Some (record { lang = lang; region = region }))) ≡ true
+region_is_clean lang None e f = all_append is_text_char lang [] e refl
+region_is_clean lang (Some region) e f = all_append is_text_char lang (codes "-" ++ region) e
+    (all_append is_text_char (codes "-") region refl f)
+
+lang_is_clean : (locale : Option LocaleView) → is_clean_locale locale ≡ true →
+    all is_text_char (lang_text locale) ≡ true
+lang_is_clean None e = refl
+lang_is_clean (Some locale) e =
+    let both = and_parts (all is_text_char locale.lang) (is_clean_text locale.region) e in
+    region_is_clean locale.lang locale.region both.0 both.1
+
+-- the root
+
+abbrev plain_made : (name : List ℕ) → List TextPair → Head
+plain_made name attrs =
+    record { name = name; attrs = attrs; css = []; parent = None; span = 0; pre_span = false }
+
+abbrev made_root : (lang : List ℕ) (kids inside : NodesView) → ElementView
+made_root lang kids inside = root_of_both (plain_made (codes "html") ((codes "lang", lang) ∷ []))
+    (plain_made (codes "head") []) (plain_made (codes "body") []) kids inside
+
+root_written : (frames : Frames) (pretty : Bool) (lang : List ℕ) (kids inside : NodesView) →
+    all is_text_char lang ≡ true → ((p : Bool) → nodes_faults frames false p kids ≡ []) →
+    ((p : Bool) → nodes_faults frames false p inside ≡ []) →
+    writing.element_faults frames pretty (made_root lang kids inside) ≡ []
+unfolding nodes_faults is_void is_foreign_self_closing is_raw is_escapable_raw stands_in
+root_written frames pretty lang kids inside e own below =
+    let root = made_root lang kids inside in
+    let head = plain_made (codes "head") [] in
+    let body = plain_made (codes "body") [] in
+    element_written frames false pretty root.0 root.1 (rw e refl) refl refl refl (λ p. rw (
+      element_written frames false p head kids refl refl refl refl own,
+      element_written frames false p body inside refl refl refl refl below,
+    ) refl)
+
+abbrev entries_of : InfoView → NodesView
+entries_of info = nodes_styled (nodes_of (charset_node ∷ viewport_node ∷ entry_nodes info))
+
+root_is_made : (info : InfoView) (ns : NodesView) →
+    root_over info ns ≡ made_root (lang_text info.locale) (entries_of info) (nodes_styled ns)
+unfolding node_styled
+root_is_made info ns = refl
+
+pub clean_documents_are_written : CleanDocumentsAreWritten
+clean_documents_are_written frames options info items plain clean known =
+    let parts = info_parts info known in
+    let entries = charset_node ∷ viewport_node ∷ entry_nodes info in
+    let each = all_entries info parts in
+    let ns = document_nodes items in
+    let lang = lang_text info.locale in
+    let root = linked_root_is info items plain in
+    let anchored = body_anchored root.0 (made_root lang none none).0 (plain_made (codes "head") [])
+    (plain_made (codes "body") []) (entries_of info) (nodes_styled ns)
+    (entries_quiet entries each) (clean_items_make_clean_nodes None items refl plain clean) in
+    let is = root.1 ∙ (ap (element_anchored root.0) (root_is_made info ns) ∙ anchored.1) in
+    ap (map export_fault_view) (ap (writing.document_faults frames options) is
+    ∙ root_written frames options.pretty lang (entries_of info) anchored.0
+    (lang_is_clean info.locale parts.locale) (λ p. entries_written frames p entries each)
+    (λ p. clean_nodes_are_written false anchored.0 anchored.2 frames p))
+
+pub clean_exports : (frames : Frames) (options : HtmlOptions) (limit : ℕ) (info : InfoView)
+    (items notes : ItemsView) → ArePlainItems limit items notes → are_clean_items items ≡ true →
+    is_clean_info info ≡ true → root_faults frames options (linked_root info items notes) ≡ []
+clean_exports frames options limit info items notes are clean known =
+    ap (λ n. root_faults frames options (linked_root info items n)) are.alone
+    ∙ clean_documents_are_written frames options info items are.plain clean known

@@ -1,0 +1,64 @@
+-- The faults of writing come after those of making a document.
+use Rattle.std.proofs.Common.{◌≡◌, ℕ, List, [], ◌∷◌, ◌++◌, map, ap, subst, Result, Ok, Err, String, Global}
+use Rattle.html_dom_tree.specs.Views.{text_view}
+use Rattle.html_dom_document.specs.Documents.{InfoView, DocumentView, document_root}
+use Rattle.typst_html_encode.specs.Faults.{BeginsWith, IsFirst}
+use Rattle.typst_html_encode.specs.Faults as writing
+use Rattle.typst_html_encode.specs.Frames.{Frames}
+use Rattle.typst_html_encode.specs.Text.{document_text}
+use Rattle.typst_html_encode.specs.Writes.{Makes}
+use Rattle.typst_html_encode.specs.declared.options.HtmlOptions.{HtmlOptions}
+use Rattle.typst_html_encode.specs.FaultViews.{ExportFaultView, export_fault_view, IsFirstView}
+use Rattle.typst_html_encode.specs.declared.fault.ExportFault.{ExportFault}
+use Rattle.typst_html_encode.specs.declared.fault.ExportFault.TheVariants as fault
+use Rattle.html_flow_convert.specs.Items.{ItemsView}
+use Rattle.typst_html_export.specs.Assembled.{document_faults}
+use Rattle.typst_html_export.specs.Assembles.{Assembles}
+use Rattle.typst_html_export.specs.Exported.{export_text, root_faults, export_faults}
+use Rattle.typst_html_export.specs.Linked.{linked_document}
+use Rattle.typst_html_export.proofs.Firsts.{first_after_none, none_after_none}
+
+abbrev views : List ExportFault → List ExportFaultView
+views = map export_fault_view
+
+abbrev seen : {f : ExportFault} {fs : List ExportFault} → BeginsWith f fs
+    → (rest : List ExportFaultView) × (views fs ≡ export_fault_view f ∷ rest)
+seen h = (views h.0, ap views h.1)
+
+-- the first fault of a list is the first as a value
+first_seen : (e : ExportFault) (fs : List ExportFault) → IsFirst e fs → IsFirstView e (views fs)
+first_seen fault.OutOfMemory fs h = tt
+first_seen (fault.TooDeep span) fs h = seen h
+first_seen (fault.NotAlone tag span) fs h = seen h
+first_seen (fault.Footnotes spans) fs h = seen h
+first_seen (fault.Unencodable c span) fs h = seen h
+first_seen (fault.VoidChildren span) fs h = seen h
+first_seen (fault.RawChild span) fs h = seen h
+first_seen (fault.RawClosing span) fs h = seen h
+first_seen (fault.FrameRefused span) fs h = seen h
+
+first_written : (e : ExportFault) (made : List ExportFaultView) (fs : List ExportFault)
+    → made ≡ [] → IsFirst e fs → IsFirstView e (made ++ views fs)
+first_written e made fs none h = first_after_none e made (views fs) none (first_seen e fs h)
+
+-- what is answered for a document that was made of items
+written : (r : Result (String Global) ExportFault) (wanted : List ℕ) (made : List ExportFaultView)
+    (fs : List ExportFault) → made ≡ [] → Makes r wanted fs
+    → Assembles text_view r wanted (made ++ views fs)
+written (Ok s) wanted made fs none m =
+    record { made = m.made; clean = none_after_none made (views fs) none (ap views m.clean); fault = tt }
+written (Err e) wanted made fs none m =
+    record { made = tt; clean = tt; fault = first_written e made fs none m.fault }
+
+pub exported : (frames : Frames) (options : HtmlOptions) (limit : ℕ) (info : InfoView)
+    (items notes : ItemsView) (d : DocumentView) (r : Result (String Global) ExportFault)
+    → d ≡ linked_document info items notes → document_faults limit items notes ≡ []
+    → Makes r (document_text frames options (document_root d))
+    (writing.document_faults frames options (document_root d))
+    → Assembles text_view r (export_text frames options info items notes)
+    (export_faults limit frames options info items notes)
+exported frames options limit info items notes d r is none m =
+    subst (λ v. Assembles text_view r (document_text frames options (document_root v))
+    (document_faults limit items notes ++ root_faults frames options (document_root v))) is
+    (written r (document_text frames options (document_root d)) (document_faults limit items notes)
+    (writing.document_faults frames options (document_root d)) none m)

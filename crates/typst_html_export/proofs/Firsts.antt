@@ -1,0 +1,60 @@
+-- The first fault of a list is the first of a longer one, and of one after no fault. Of no fault at
+-- all none is the first.
+use Rattle.std.proofs.Common.{◌≡◌, List, [], ◌∷◌, ◌++◌, refl, ap, sym, ◌∙◌, subst, Result, Ok, Err, IfErr}
+use Rattle.typst_html_encode.specs.FaultViews.{ExportFaultView, IsFirstView}
+use Rattle.typst_html_encode.specs.declared.fault.ExportFault.{ExportFault}
+use Rattle.typst_html_encode.specs.declared.fault.ExportFault.TheVariants as fault
+use Rattle.typst_html_export.specs.Assembles.{FailsByMemoryAlone}
+
+abbrev more : {A : Type 0} {x : A} {fs : List A} (gs : List A)
+    → (rest : List A) × (fs ≡ x ∷ rest) → (rest : List A) × (fs ++ gs ≡ x ∷ rest)
+more gs h = (h.0 ++ gs, ap (λ xs. xs ++ gs) h.1)
+
+pub first_of_more : (e : ExportFault) (fs gs : List ExportFaultView) → IsFirstView e fs
+    → IsFirstView e (fs ++ gs)
+first_of_more fault.OutOfMemory fs gs h = tt
+first_of_more (fault.TooDeep span) fs gs h = more gs h
+first_of_more (fault.NotAlone tag span) fs gs h = more gs h
+first_of_more (fault.Footnotes spans) fs gs h = more gs h
+first_of_more (fault.Unencodable c span) fs gs h = more gs h
+first_of_more (fault.VoidChildren span) fs gs h = more gs h
+first_of_more (fault.RawChild span) fs gs h = more gs h
+first_of_more (fault.RawClosing span) fs gs h = more gs h
+first_of_more (fault.FrameRefused span) fs gs h = more gs h
+
+pub first_after_none : (e : ExportFault) (fs gs : List ExportFaultView) → fs ≡ []
+    → IsFirstView e gs → IsFirstView e (fs ++ gs)
+first_after_none e fs gs none h = subst (λ xs. IsFirstView e (xs ++ gs)) (sym none) h
+
+-- out of memory may come before any
+pub memory_first : (e : ExportFault) (fs : List ExportFaultView) → e ≡ fault.OutOfMemory
+    → IsFirstView e fs
+memory_first e fs is = subst (λ f. IsFirstView f fs) (sym is) tt
+
+pub first_past_none : {A : Type 0} (r : Result A ExportFault) (fs gs : List ExportFaultView)
+    → fs ≡ [] → IfErr r (λ e. IsFirstView e (fs ++ gs)) → IfErr r (λ e. IsFirstView e gs)
+first_past_none r fs gs none h = subst (λ xs. IfErr r (λ e. IsFirstView e (xs ++ gs))) none h
+
+pub none_after_none : (fs gs : List ExportFaultView) → fs ≡ [] → gs ≡ [] → fs ++ gs ≡ []
+none_after_none fs gs p q = rw (p, q) refl
+
+none_first : {A : Type 0} {f : A} {fs : List A} → fs ≡ [] → (rest : List A) × (fs ≡ f ∷ rest) → ⊥
+none_first {A} {f} none first =
+    let same : [] ≡ f ∷ first.0 = sym none ∙ first.1 in cc
+
+pub memory_alone : (e : ExportFault) (fs : List ExportFaultView) → fs ≡ [] → IsFirstView e fs
+    → e ≡ fault.OutOfMemory
+memory_alone fault.OutOfMemory fs none h = refl
+memory_alone (fault.TooDeep span) fs none h = absurd (none_first none h)
+memory_alone (fault.NotAlone tag span) fs none h = absurd (none_first none h)
+memory_alone (fault.Footnotes spans) fs none h = absurd (none_first none h)
+memory_alone (fault.Unencodable c span) fs none h = absurd (none_first none h)
+memory_alone (fault.VoidChildren span) fs none h = absurd (none_first none h)
+memory_alone (fault.RawChild span) fs none h = absurd (none_first none h)
+memory_alone (fault.RawClosing span) fs none h = absurd (none_first none h)
+memory_alone (fault.FrameRefused span) fs none h = absurd (none_first none h)
+
+pub fails_by_memory_alone : {A : Type 0} (r : Result A ExportFault) (fs : List ExportFaultView)
+    → fs ≡ [] → IfErr r (λ e. IsFirstView e fs) → FailsByMemoryAlone r
+fails_by_memory_alone (Ok a) fs none h = tt
+fails_by_memory_alone (Err e) fs none h = memory_alone e fs none h

@@ -1,0 +1,164 @@
+-- The root of a document that is made of items in plain flow, without footnotes.
+use Rattle.std.proofs.Common.{◌≡◌, ℕ, true, false, List, [], ◌∷◌, ◌++◌, Option, None, Some, codes, refl, ap, ◌∙◌, append-nil}
+use Rattle.std.proofs.lemmas.Bool.{and_parts}
+use Rattle.html_names.specs.Kinds.{is_raw}
+use Rattle.html_names.specs.Names.{stands_in}
+use Rattle.html_dom_tree.specs.Styled.{head_styled, node_styled, nodes_styled}
+use Rattle.html_dom_tree.specs.Tree.{NodeView, tag_node, text_node, element_node, frame_node, NodesView, none, node, ElementView, new_element}
+use Rattle.html_dom_tree.specs.Views.{nodes_of}
+use Rattle.html_flow_whitespace.specs.Protected.{nodes_protected}
+use Rattle.html_flow_whitespace.specs.Runs.{front, after_front}
+use Rattle.typst_html_encode.specs.IndentsCollapse.{body_of}
+use Rattle.html_dom_document.specs.Documents.{InfoView, OutputView, DocumentView, node_of, root_of, given_root, with_root, document_root}
+use Rattle.html_dom_link.specs.Anchors.{element_anchored}
+use Rattle.html_dom_link.specs.Events.{Targets}
+use Rattle.html_dom_link.specs.LinkAnchors.{document_targets}
+use Rattle.html_flow_convert.specs.Converted.{item_nodes}
+use Rattle.html_flow_convert.specs.Depth.{item_too_deep}
+use Rattle.html_flow_convert.specs.Items.{ItemsView, no_items}
+use Rattle.html_flow_convert.specs.LoneNode.{node_list}
+use Rattle.typst_html_spaces.specs.PlainFlow.{is_plain_flow, is_plain_name}
+use Rattle.typst_html_spaces.specs.PlainNodes.{is_plain_node, are_plain_nodes}
+use Rattle.typst_html_spaces.proofs.PlainNodes.{makes_plain_nodes, names_are_inside}
+use Rattle.typst_html_spaces.specs.ReadableNodes.{AreReadable}
+use Rattle.typst_html_spaces.proofs.ReadableNodes.{styled_readable}
+use Rattle.typst_html_export.specs.Assembled.{own_head, first_own, nothing_own, document_outline, outline_by, shown_count, both_nodes, body_node, document_nodes, document_output, assembled_document}
+use Rattle.typst_html_export.specs.DocumentHead.{title_nodes, description_nodes, list_nodes, entry_nodes, head_node, lang_text}
+use Rattle.typst_html_export.specs.Linked.{linked_document}
+use Rattle.typst_html_export.specs.SpacesInDocuments.{PlainDocumentsAreMade}
+
+-- plain nodes leave the document its own root and body
+
+plain_not_own : (n : NodeView) → is_plain_node n ≡ true → own_head n ≡ None
+unfolding is_plain_node
+plain_not_own (tag_node t) e = refl
+plain_not_own (text_node s span) e = refl
+plain_not_own (element_node h ns) e =
+    let names = names_are_inside h.name (and_parts (is_plain_name h.name) (are_plain_nodes ns) e).0 in
+    rw (names.0, names.1) refl
+plain_not_own (frame_node f) e = refl
+
+no_own : (ns : NodesView) → are_plain_nodes ns ≡ true → first_own ns ≡ None
+unfolding is_plain_node first_own
+no_own none e = refl
+no_own (node n ns) e =
+    let both = and_parts (is_plain_node n) (are_plain_nodes ns) e in
+    rw (plain_not_own n both.0, no_own ns both.1) refl
+
+module _ (items : ItemsView) (e : is_plain_flow items ≡ true) where
+  made_plain : are_plain_nodes (document_nodes items) ≡ true
+  made_plain = (makes_plain_nodes None items e).0
+
+  outline : document_outline (document_nodes items) ≡ nothing_own
+  outline = ap (outline_by (shown_count (document_nodes items))) (no_own (document_nodes items) made_plain)
+
+pub plain_documents_are_made : PlainDocumentsAreMade
+unfolding item_too_deep
+plain_documents_are_made limit items notes are =
+    rw (are.alone, are.within, outline items are.plain) refl
+
+-- without footnotes the body is the nodes
+
+nodes_of_list : (ns : NodesView) → nodes_of (node_list ns) ≡ ns
+unfolding node_list
+nodes_of_list none = refl
+nodes_of_list (node n ns) = ap (node n) (nodes_of_list ns)
+
+no_notes : (ns : NodesView) → both_nodes ns (document_nodes no_items) ≡ ns
+unfolding node_list item_nodes front after_front nodes_protected
+no_notes ns = ap nodes_of (append-nil (node_list ns)) ∙ nodes_of_list ns
+
+-- the root that is made, with styles
+
+abbrev pub root_over : InfoView → NodesView → ElementView
+root_over info ns = (
+  head_styled (record (new_element (codes "html")).0 {
+    attrs = (codes "lang", lang_text info.locale) ∷ [];
+  }),
+  nodes_styled (node (head_node info) (node (body_node ns) none)),
+)
+
+output_is : (info : InfoView) (items : ItemsView) → is_plain_flow items ≡ true →
+    document_output info items no_items
+    ≡ record { nodes = node (node_of (root_over info (document_nodes items))) none; root = 0 }
+unfolding node_styled
+output_is info items e = rw (outline items e, no_notes (document_nodes items)) refl
+
+pub body_is : (info : InfoView) (ns : NodesView) →
+    body_of (root_over info ns).1 ≡ Some (nodes_styled ns)
+unfolding node_styled
+body_is info ns = refl
+
+-- it can be read back: there is no frame and no raw element
+
+meta_not_raw : is_raw (codes "meta") ≡ false
+unfolding is_raw stands_in
+meta_not_raw = refl
+
+title_not_raw : is_raw (codes "title") ≡ false
+unfolding is_raw stands_in
+title_not_raw = refl
+
+head_not_raw : is_raw (codes "head") ≡ false
+unfolding is_raw stands_in
+head_not_raw = refl
+
+body_not_raw : is_raw (codes "body") ≡ false
+unfolding is_raw stands_in
+body_not_raw = refl
+
+pub html_not_raw : is_raw (codes "html") ≡ false
+unfolding is_raw stands_in
+html_not_raw = refl
+
+both_readable : (ns more : List NodeView) → AreReadable (nodes_of ns) →
+    AreReadable (nodes_of more) → AreReadable (nodes_of (ns ++ more))
+both_readable [] more r s = s
+both_readable (n ∷ ns) more r s = (r.0, both_readable ns more r.1 s)
+
+title_readable : (t : Option (List ℕ)) → AreReadable (nodes_of (title_nodes t))
+title_readable None = tt
+title_readable (Some t) = ((title_not_raw, (tt, tt)), tt)
+
+description_readable : (t : Option (List ℕ)) → AreReadable (nodes_of (description_nodes t))
+description_readable None = tt
+description_readable (Some t) = ((meta_not_raw, tt), tt)
+
+list_readable : (name : List ℕ) (ts : List (List ℕ)) → AreReadable (nodes_of (list_nodes name ts))
+list_readable name [] = tt
+list_readable name (t ∷ ts) = ((meta_not_raw, tt), tt)
+
+entries_readable : (info : InfoView) → AreReadable (nodes_of (entry_nodes info))
+entries_readable info =
+    both_readable (title_nodes info.title) _ (title_readable info.title)
+    (both_readable (description_nodes info.description) _ (description_readable info.description)
+    (both_readable (list_nodes (codes "authors") info.author) _
+    (list_readable (codes "authors") info.author)
+    (list_readable (codes "keywords") info.keywords)))
+
+pub root_readable : (info : InfoView) (ns : NodesView) → AreReadable ns →
+    AreReadable (root_over info ns).1
+root_readable info ns r =
+    styled_readable (node (head_node info) (node (body_node ns) none)) (
+      (head_not_raw, ((meta_not_raw, tt), ((meta_not_raw, tt), entries_readable info))),
+      ((body_not_raw, r), tt),
+    )
+
+-- the root with anchors
+
+pub linked_root_is : (info : InfoView) (items : ItemsView) → is_plain_flow items ≡ true →
+    (x : Targets) × (document_root (linked_document info items no_items)
+    ≡ element_anchored x (root_over info (document_nodes items)))
+linked_root_is info items e =
+    let d : DocumentView = assembled_document info items no_items in
+    let x : Targets = document_targets d.introspector.is_link_target d in (
+      x,
+      with_new_root (document_output info items no_items) (root_over info (document_nodes items))
+          (output_is info items e) (λ root. element_anchored x root),
+    )
+  where
+    with_new_root : (o : OutputView) (root : ElementView) →
+        o ≡ record { nodes = node (node_of root) none; root = 0 } →
+        (change : ElementView → ElementView) →
+        given_root (root_of (with_root o (change (given_root (root_of o))))) ≡ change root
+    with_new_root o root is change = rw is refl

@@ -1,0 +1,30 @@
+use Rattle.std.proofs.Common.{◌∙◌, ap, sym, subst}
+use Rattle.std.proofs.lemmas.Result.{err_from_is_err_and}
+use Rattle.html_dom_document.specs.Views.{document_view, info_view}
+use Rattle.html_flow_convert.specs.Views.{items_view}
+use Rattle.typst_html_export.specs.Assembled.{document_faults}
+use Rattle.typst_html_export.specs.Linked.{AnchorsAreFirstIds, document_with_anchors}
+use Rattle.typst_html_export.proofs.Anchors.{anchors_are_first_ids}
+use Rattle.typst_html_export.proofs.Firsts.{memory_alone}
+use Rattle.typst_html_export.proofs.PlainRoots.{plain_documents_are_made}
+use Rattle.typst_html_export.proofs.SpacesInDocuments.{spaces_are_left}
+use Rattle.typst_html_export.proofs.document.html_document.Goals as goal
+
+pub returns-clause-anchors : goal.returns-clause-anchors
+returns-clause-anchors c =
+    subst (λ d. AnchorsAreFirstIds d) (sym c.in_ok-with_anchors.ensures)
+    (anchors_are_first_ids (document_view c.in_ok-document.document))
+
+pub returns-in_err-document-clause-plain : goal.returns-in_err-document-clause-plain
+returns-in_err-document-clause-plain c = λ are.
+    let items = items_view c.args.items.now in
+    let notes = items_view c.args.footnotes.now in
+    let failed = err_from_is_err_and c.from_residual.result c.from_residual.ensures.1 in
+    rw (failed.1, failed.2) (memory_alone _ (document_faults c.args.limit items notes)
+    (plain_documents_are_made c.args.limit items notes are) c.in_err-document.ensures.made.fault)
+
+pub returns-clause-spaces : goal.returns-clause-spaces
+returns-clause-spaces c =
+    spaces_are_left (info_view c.args.info.now) (items_view c.args.items.now)
+    (items_view c.args.footnotes.now) _
+    (c.in_ok-with_anchors.ensures ∙ ap document_with_anchors c.in_ok-document.ensures.made.made)

@@ -1,0 +1,133 @@
+-- Documents made of items (this project's rules; `html`, `head` and `body` are those of HTML
+-- Standard 4.1 to 4.3): what stands around the nodes, and what is refused.
+use Rattle.std.specs.Prelude.{ℕ, ◌+◌, Bool, ◌||◌, ◌==◌, List, [], ◌∷◌, ◌++◌, codes, bytes_eq, if◌then◌else◌, Option, Some, None, option_map}
+use Rattle.html_dom_tree.specs.Attributes.{or_else}
+use Rattle.html_dom_tree.specs.Styled.{nodes_styled}
+use Rattle.html_dom_tree.specs.Tree.{Head, NodeView, tag_node, text_node, element_node, frame_node, NodesView, none, node}
+use Rattle.html_dom_tree.specs.Views.{nodes_of}
+use Rattle.html_dom_document.specs.Documents.{InfoView, OutputView, DocumentView, new_document}
+use Rattle.html_flow_whitespace.specs.Nodes.{is_tag}
+use Rattle.html_flow_convert.specs.Converted.{converted_nodes}
+use Rattle.html_flow_convert.specs.Depth.{items_too_deep}
+use Rattle.html_flow_convert.specs.Items.{ItemsView, no_items, item, item_span}
+use Rattle.html_flow_convert.specs.LoneNode.{node_list}
+use Rattle.html_flow_convert.specs.declared.convert.ConversionLevel.TheVariants.{Block}
+use Rattle.html_flow_convert.specs.declared.convert.Whitespace.TheVariants.{Normal}
+use Rattle.typst_html_encode.specs.FaultViews.{ExportFaultView, too_deep, not_alone, footnotes}
+use Rattle.typst_html_export.specs.DocumentHead.{made_node, head_node, lang_text}
+
+abbrev pub is_html : Head → Bool
+is_html h = bytes_eq h.name (codes "html")
+
+-- an element that a document has of its own where one of its nodes is that
+abbrev pub is_own : Head → Bool
+is_own h = is_html h || bytes_eq h.name (codes "body")
+
+abbrev pub own_head : NodeView → Option Head
+own_head (tag_node t) = None
+own_head (text_node s span) = None
+own_head (element_node h ns) = if is_own h then Some h else None
+own_head (frame_node f) = None
+
+-- an element with the number of nodes before it, where so many more stand before it
+abbrev pub own_after : ℕ → ℕ × Head → ℕ × Head
+own_after more own = (own.0 + more, own.1)
+
+-- the first `html` or `body`, and how many nodes stand before it
+unfoldable pub first_own : NodesView → Option (ℕ × Head)
+first_own none = None
+first_own (node n ns) =
+    or_else (option_map (λ h. (0, h)) (own_head n)) (option_map (own_after 1) (first_own ns))
+
+-- how many nodes are no tags
+unfoldable pub shown_count : NodesView → ℕ
+shown_count none = 0
+shown_count (node n ns) = if is_tag n then shown_count ns else shown_count ns + 1
+
+-- what a document has of its own: its root, at that place among the nodes; its body; nothing; or an
+-- element of that name and span that does not stand alone
+pub data Outline : Type 0 where
+  own_html : (place : ℕ) → Outline
+  own_body : Outline
+  nothing_own : Outline
+  own_among_others : (name : List ℕ) (span : ℕ) → Outline
+
+abbrev pub outline_by : (shown : ℕ) → Option (ℕ × Head) → Outline
+outline_by shown None = nothing_own
+outline_by shown (Some own) =
+    if shown == 1 then (if is_html own.1 then own_html own.0 else own_body)
+    else own_among_others own.1.name own.1.span
+
+abbrev pub document_outline : NodesView → Outline
+document_outline ns = outline_by (shown_count ns) (first_own ns)
+
+-- nodes, and then others
+abbrev pub both_nodes : NodesView → NodesView → NodesView
+both_nodes ns others = nodes_of (node_list ns ++ node_list others)
+
+abbrev pub body_node : NodesView → NodeView
+body_node ns = made_node (codes "body") [] ns
+
+-- the root that is made, with these nodes after its head
+abbrev pub html_node : InfoView → NodesView → NodeView
+html_node info ns =
+    made_node (codes "html") ((codes "lang", lang_text info.locale) ∷ []) (node (head_node info) ns)
+
+abbrev pub html_output : InfoView → NodesView → OutputView
+html_output info ns = record { nodes = node (html_node info ns) none; root = 0 }
+
+-- what stands around the nodes of a document and of its footnotes
+abbrev pub output_by : Outline → InfoView → (content notes : NodesView) → OutputView
+output_by (own_html place) info content notes = record { nodes = content; root = place }
+output_by own_body info content notes = html_output info content
+output_by nothing_own info content notes =
+    html_output info (node (body_node (both_nodes content notes)) none)
+output_by (own_among_others name span) info content notes = html_output info content
+
+abbrev pub assembled_output : InfoView → (content notes : NodesView) → OutputView
+assembled_output info content notes = output_by (document_outline content) info content notes
+
+abbrev pub output_styled : OutputView → OutputView
+output_styled o = record o { nodes = nodes_styled o.nodes }
+
+-- the nodes of a document's items or of its footnotes
+abbrev pub document_nodes : ItemsView → NodesView
+document_nodes items = converted_nodes Block Normal None items
+
+-- the document of items, of what is known of it, and of footnotes
+abbrev pub document_output : InfoView → (items notes : ItemsView) → OutputView
+document_output info items notes =
+    output_styled (assembled_output info (document_nodes items) (document_nodes notes))
+
+abbrev pub assembled_document : InfoView → (items notes : ItemsView) → DocumentView
+assembled_document info items notes = new_document (document_output info items notes) info
+
+abbrev pub item_spans : ItemsView → List ℕ
+item_spans no_items = []
+item_spans (item i role items) = item_span i ∷ item_spans items
+
+-- footnotes have no place beside an element of the document's own, even where they have no nodes
+abbrev pub note_faults : (spans : List ℕ) → List ExportFaultView
+note_faults [] = []
+note_faults (span ∷ spans) = footnotes (span ∷ spans) ∷ []
+
+abbrev pub outline_faults : Outline → (notes : ItemsView) → List ExportFaultView
+outline_faults (own_html place) notes = note_faults (item_spans notes)
+outline_faults own_body notes = note_faults (item_spans notes)
+outline_faults nothing_own notes = []
+outline_faults (own_among_others name span) notes = not_alone name span ∷ []
+
+abbrev pub depth_faults : Option ℕ → List ExportFaultView
+depth_faults None = []
+depth_faults (Some span) = too_deep span ∷ []
+
+-- the faults of a document that is assembled of nodes and of footnotes, whose list has the depth 1
+abbrev pub assembly_faults : (limit : ℕ) (content : NodesView) (notes : ItemsView)
+    → List ExportFaultView
+assembly_faults limit content notes =
+    outline_faults (document_outline content) notes ++ depth_faults (items_too_deep 1 limit notes)
+
+-- all faults for which no document is made of items, in the order in which it is refused
+abbrev pub document_faults : (limit : ℕ) (items notes : ItemsView) → List ExportFaultView
+document_faults limit items notes = depth_faults (items_too_deep 0 limit items)
+    ++ assembly_faults limit (document_nodes items) notes

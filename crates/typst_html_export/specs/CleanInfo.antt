@@ -1,0 +1,31 @@
+-- Clean information of a document: its texts hold text characters alone. Of it and of clean items
+-- in plain flow a document is made that can be written.
+use Rattle.std.specs.Prelude.{◌≡◌, ℕ, Bool, true, ◌&&◌, List, [], Option, Some, None}
+use Rattle.std.specs.List.{list_all}
+use Rattle.html_names.specs.Characters.{all, is_text_char}
+use Rattle.html_dom_document.specs.Documents.{LocaleView, InfoView}
+use Rattle.typst_html_encode.specs.Frames.{Frames}
+use Rattle.typst_html_encode.specs.declared.options.HtmlOptions.{HtmlOptions}
+use Rattle.html_flow_convert.specs.Items.{ItemsView, no_items}
+use Rattle.typst_html_spaces.specs.CleanItems.{are_clean_items}
+use Rattle.typst_html_spaces.specs.CleanNodes.{is_clean_text}
+use Rattle.typst_html_spaces.specs.PlainFlow.{is_plain_flow}
+use Rattle.typst_html_export.specs.Exported.{linked_root, root_faults}
+
+abbrev pub are_clean_texts : List (List ℕ) → Bool
+are_clean_texts = list_all (all is_text_char)
+
+abbrev pub is_clean_locale : Option LocaleView → Bool
+is_clean_locale None = true
+is_clean_locale (Some locale) = all is_text_char locale.lang && is_clean_text locale.region
+
+abbrev pub is_clean_info : InfoView → Bool
+is_clean_info info =
+    is_clean_text info.title && is_clean_text info.description && are_clean_texts info.author
+    && are_clean_texts info.keywords && is_clean_locale info.locale
+
+-- such a document can be written, by any writer of frames, plain and pretty
+abbrev pub CleanDocumentsAreWritten : Type 0
+CleanDocumentsAreWritten = (frames : Frames) (options : HtmlOptions) (info : InfoView)
+    (items : ItemsView) → is_plain_flow items ≡ true → are_clean_items items ≡ true →
+    is_clean_info info ≡ true → root_faults frames options (linked_root info items no_items) ≡ []

@@ -1,0 +1,31 @@
+-- The HTML text of items, and for what they have none: that of their document with anchors.
+use Rattle.std.specs.Prelude.{ℕ, List, ◌++◌, map}
+use Rattle.html_dom_tree.specs.Tree.{ElementView}
+use Rattle.html_dom_document.specs.Documents.{InfoView, document_root}
+use Rattle.typst_html_encode.specs.Faults as writing
+use Rattle.typst_html_encode.specs.FaultViews.{ExportFaultView, export_fault_view}
+use Rattle.typst_html_encode.specs.Frames.{Frames}
+use Rattle.typst_html_encode.specs.Text.{document_text}
+use Rattle.typst_html_encode.specs.declared.options.HtmlOptions.{HtmlOptions}
+use Rattle.html_flow_convert.specs.Items.{ItemsView}
+use Rattle.typst_html_export.specs.Assembled.{document_faults}
+use Rattle.typst_html_export.specs.Linked.{linked_document}
+
+abbrev pub linked_root : InfoView → (items notes : ItemsView) → ElementView
+linked_root info items notes = document_root (linked_document info items notes)
+
+abbrev pub export_text : Frames → HtmlOptions → InfoView → (items notes : ItemsView) → List ℕ
+export_text frames options info items notes =
+    document_text frames options (linked_root info items notes)
+
+-- the faults of writing a tree with this root
+abbrev pub root_faults : Frames → HtmlOptions → ElementView → List ExportFaultView
+root_faults frames options root =
+    map export_fault_view (writing.document_faults frames options root)
+
+-- all faults for which items have no text: first those of making their document, then those of
+-- writing its tree
+abbrev pub export_faults : (limit : ℕ) → Frames → HtmlOptions → InfoView → (items notes : ItemsView)
+    → List ExportFaultView
+export_faults limit frames options info items notes = document_faults limit items notes
+    ++ root_faults frames options (linked_root info items notes)

@@ -1,0 +1,18 @@
+-- What the pieces of assembly answer.
+use Rattle.std.specs.Prelude.{ℕ}
+use Rattle.std.specs.Borrow.{Bor}
+use Rattle.html_dom_tree.specs.Tree.{Head}
+use Rattle.html_dom_tree.specs.Views.{element_view}
+use Rattle.html_dom_tree.specs.declared.node.HtmlElement.{HtmlElement}
+use Rattle.typst_html_export.specs.Assembled as assembled
+use Rattle.typst_html_export.specs.declared.document.Outline.{Outline}
+use Rattle.typst_html_export.specs.declared.document.Outline.TheVariants.{OwnHtml, OwnBody, NothingOwn}
+
+abbrev pub outline_view : Outline → assembled.Outline
+outline_view (OwnHtml place) = assembled.own_html place
+outline_view OwnBody = assembled.own_body
+outline_view NothingOwn = assembled.nothing_own
+
+-- an element at its place
+abbrev pub own_view : ℕ × Bor HtmlElement → ℕ × Head
+own_view own = (own.0, (element_view own.1.now).0)

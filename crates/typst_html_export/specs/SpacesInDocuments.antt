@@ -1,0 +1,65 @@
+-- Documents of items in plain flow: what is seen of their text is exactly the items' text.
+use Rattle.std.specs.Prelude.{◌≡◌, ℕ, true, List, [], Some, None}
+use Rattle.html_dom_tree.specs.PlainTree.{element_normal}
+use Rattle.html_dom_tree.specs.Tree.{ElementView}
+use Rattle.typst_html_encode.specs.Faults as writing
+use Rattle.typst_html_encode.specs.Frames.{Frames}
+use Rattle.typst_html_encode.specs.Indented.{element_layout, ElementEndsWell}
+use Rattle.html_dom_tree.specs.FrameFree.{ElementIsFrameFree}
+use Rattle.typst_html_encode.specs.ReadingBack.{ElementIsNamed}
+use Rattle.typst_html_encode.specs.Text.{document_text}
+use Rattle.typst_html_encode.specs.declared.options.HtmlOptions.{HtmlOptions}
+use Rattle.html_dom_document.specs.Documents.{InfoView, DocumentView, document_root}
+use Rattle.html_flow_convert.specs.Depth.{items_too_deep}
+use Rattle.html_flow_convert.specs.Items.{ItemsView, no_items}
+use Rattle.typst_html_spaces.specs.ItemText.{items_text}
+use Rattle.typst_html_spaces.specs.PlainFlow.{is_plain_flow}
+use Rattle.typst_html_spaces.specs.SeenBody.{tree_seen, text_seen}
+use Rattle.typst_html_export.specs.Assembled.{document_faults}
+use Rattle.typst_html_export.specs.Linked.{linked_document}
+
+-- items in plain flow without footnotes, none of which stands too deep
+pub record ArePlainItems (limit : ℕ) (items notes : ItemsView) : Type 0 where
+  pub plain : is_plain_flow items ≡ true
+  pub within : items_too_deep 0 limit items ≡ None
+  pub alone : notes ≡ no_items
+
+-- of them a document is made
+abbrev pub PlainDocumentsAreMade : Type 0
+PlainDocumentsAreMade = (limit : ℕ) (items notes : ItemsView) → ArePlainItems limit items notes →
+    document_faults limit items notes ≡ []
+
+-- what is seen of a document's text, plain or pretty, is the text of these items, if the document
+-- has no fault
+abbrev pub IsSeenAs : DocumentView → ItemsView → Type 0
+IsSeenAs d items = (frames : Frames) (options : HtmlOptions) → ElementIsNamed (document_root d) →
+    writing.document_faults frames options (document_root d) ≡ [] →
+    text_seen (document_text frames options (document_root d)) ≡ Some (items_text items)
+
+-- of a document that is made of items in plain flow, with its anchors
+abbrev pub PlainDocumentsAreSeen : Type 0
+PlainDocumentsAreSeen = (info : InfoView) (items : ItemsView) → is_plain_flow items ≡ true →
+    IsSeenAs (linked_document info items no_items) items
+
+-- a root whose text reads as a tree with a body, in which exactly that text of items is seen: the
+-- plain text, and the pretty one, in which indents stand
+pub record IsReadAs (root : ElementView) (items : ItemsView) : Type 0 where
+  pub frame_free : ElementIsFrameFree root
+  pub ends_well : ElementEndsWell true root
+  pub plain : tree_seen (Some (element_normal root)) ≡ Some (items_text items)
+  pub pretty : tree_seen (Some (element_normal (element_layout root))) ≡ Some (items_text items)
+
+-- so is the root of a document that is made of items in plain flow, with its anchors
+abbrev pub PlainDocumentsAreRead : Type 0
+PlainDocumentsAreRead = (info : InfoView) (items : ItemsView) → is_plain_flow items ≡ true →
+    IsReadAs (document_root (linked_document info items no_items)) items
+
+-- where items in plain flow have no footnotes, that is so of a document
+abbrev pub SpacesAreLeft : DocumentView → (items notes : ItemsView) → Type 0
+SpacesAreLeft d items notes = is_plain_flow items ≡ true → notes ≡ no_items →
+    IsReadAs (document_root d) items
+
+-- and in a text exactly the items' text is seen
+abbrev pub SpacesAreSeen : (text : List ℕ) → (items notes : ItemsView) → Type 0
+SpacesAreSeen text items notes = is_plain_flow items ≡ true → notes ≡ no_items →
+    text_seen text ≡ Some (items_text items)

@@ -1,0 +1,351 @@
+//! Documents made of items.
+
+ghost use Rattle.std.specs.Prelude.{◌≡◌, ◌≤◌, IfOk, option_map};
+ghost use Rattle.html_dom_tree.specs.Tree.{none, node};
+ghost use Rattle.html_dom_tree.specs.Views.{element_view, node_view, nodes_view};
+ghost use Rattle.html_dom_document.specs.Positions.{PositionsLead};
+ghost use Rattle.html_dom_document.specs.Views.{document_view, info_view, output_view};
+ghost use Rattle.typst_html_encode.specs.FaultViews.{spans_view};
+ghost use Rattle.html_flow_whitespace.specs.Nodes.{is_tag};
+ghost use Rattle.html_flow_convert.specs.Depth.{items_too_deep};
+ghost use Rattle.html_flow_convert.specs.Items.{no_items};
+ghost use Rattle.html_flow_convert.specs.Views.{items_view};
+ghost use Rattle.typst_html_export.specs.Assembled.{assembled_document, assembled_output, document_nodes};
+ghost use Rattle.typst_html_export.specs.Assembled.{first_own, is_html, is_own, own_head, document_outline, shown_count};
+ghost use Rattle.typst_html_export.specs.Assembled.{body_node, both_nodes, html_output};
+ghost use Rattle.typst_html_export.specs.Assembled.{assembly_faults, depth_faults, document_faults, item_spans, note_faults, outline_faults};
+ghost use Rattle.typst_html_export.specs.Assembles.{Assembles, FailsByMemoryAlone, Passes};
+ghost use Rattle.typst_html_export.specs.Linked.{document_with_anchors, linked_document, AnchorsAreFirstIds};
+ghost use Rattle.typst_html_export.specs.Outlines.{outline_view, own_view};
+ghost use Rattle.typst_html_export.specs.Roots.{root_styled};
+ghost use Rattle.typst_html_export.specs.SpacesInDocuments.{ArePlainItems, SpacesAreLeft};
+
+use crate::head::{head_node, lang_text};
+use html_dom_document::{DocumentInfo, HtmlDocument, HtmlOutput};
+use html_dom_link::with_link_anchors;
+use html_dom_tree::{HtmlElement, HtmlNode, Span, with_inline_styles};
+use html_flow_convert::{ConversionLevel, FlowFault, Pair, Whitespace, convert_to_nodes};
+use html_names::{attr, tag};
+use std::alloc::{AllocError, Global};
+use std::mem;
+use typst_html_encode::ExportFault;
+
+/// The document of items, with what is known of it and with footnotes, and with anchors for all
+/// locations to which links lead.
+///
+/// It is that of [`html_document_for_bundle`], in which each target of a start tag or of a link in a
+/// frame then gets an anchor as by [`with_link_anchors`]; the document's introspector knows them.
+/// The positions that it knows stay those of the tree without anchors. It fails as
+/// `html_document_for_bundle` does.
+///
+/// Of items in plain flow, without footnotes and none too deep, a document is always made, out of
+/// memory aside, and once white space has collapsed exactly their text is seen in its body.
+///
+/// ```
+/// let mut items = Vec::new(alloc);
+/// let location = Location(7);
+/// let start = Tag::Start { location, label: None, dest: Some(location) };
+/// items.push(Pair { item: Item::Tag(start), role: Role::Inherit })?;
+/// items.push(Pair { item: Item::Tag(Tag::End { location }), role: Role::Inherit })?;
+/// let info = DocumentInfo::new(alloc);
+/// let document = html_document(alloc, &items, &info, &[], 50)?;
+/// let anchor = document.introspector().anchor(location)?;
+/// assert!(rt; anchor.as_str() == "loc-1"); // of an empty `span` between the tags
+/// ```
+pub fn html_document(
+    alloc: Global,
+    items: &[Pair],
+    info: &DocumentInfo,
+    footnotes: &[Pair],
+    limit: usize,
+) -> Result<HtmlDocument, ExportFault>
+    requires some_limit { 1 ≤ limit }
+    requires low_limit { limit ≤ 10000 }
+    ensures made { Assembles document_view result
+        (linked_document (info_view info.now) (items_view items.now) (items_view footnotes.now))
+        (document_faults limit (items_view items.now) (items_view footnotes.now)) }
+    ensures anchors { IfOk result (λ document. AnchorsAreFirstIds (document_view document)) }
+    // Items in plain flow become a document, out of memory aside, and in its text exactly theirs
+    // is seen.
+    ensures plain { ArePlainItems limit (items_view items.now) (items_view footnotes.now) →
+        FailsByMemoryAlone result }
+    ensures spaces { IfOk result (λ document. SpacesAreLeft (document_view document)
+        (items_view items.now) (items_view footnotes.now)) }
+{
+    let document = html_document_for_bundle(alloc, items, info, footnotes, limit)?;
+    Ok(with_anchors(alloc, document)?)
+}
+
+/// The document with anchors for all locations to which links lead.
+fn with_anchors(alloc: Global, document: HtmlDocument) -> Result<HtmlDocument, AllocError>
+    ensures { IfOk result (λ made.
+        document_view made ≡ document_with_anchors (document_view document)) }
+{
+    let targets = document.introspector().link_targets()?;
+    let (mut made, anchors) = with_link_anchors(alloc, document, &targets)?;
+    made.introspector_mut().set_anchors(anchors);
+    Ok(made)
+}
+
+/// The document of items, with what is known of it and with footnotes, without anchors.
+///
+/// Items and footnotes become nodes as by [`convert_to_nodes`] at block level, the list of items at
+/// depth 0, that of footnotes at depth 1. An `html` alone, tags aside, is the root as it is; a
+/// `body` alone stays the body; otherwise a `body` is made around the nodes and then those of the
+/// footnotes. The root that is made has the language and a head of what is known. At last the css of
+/// all elements is written into their attributes `style`.
+///
+/// It fails where an allocation does, and by the first of these: items too deep for the limit; an
+/// `html` or `body` among other nodes; footnotes beside an `html` or `body` of the document's own;
+/// footnotes too deep.
+///
+/// The positions of tags lead to the elements that hold them, as in [`HtmlDocument::new`].
+///
+/// ```
+/// let paragraph = HtmlElem::new(alloc, tag::p);
+/// let mut items = Vec::new(alloc);
+/// items.push(Pair { item: Item::Element(paragraph), role: Role::Inherit })?;
+/// let info = DocumentInfo::new(alloc);
+/// let document = html_document_for_bundle(alloc, &items, &info, &[], 50)?;
+/// assert!(rt; document.root().tag == tag::html);
+/// ```
+pub fn html_document_for_bundle(
+    alloc: Global,
+    items: &[Pair],
+    info: &DocumentInfo,
+    footnotes: &[Pair],
+    limit: usize,
+) -> Result<HtmlDocument, ExportFault>
+    requires some_limit { 1 ≤ limit }
+    requires low_limit { limit ≤ 10000 }
+    ensures made { Assembles document_view result
+        (assembled_document (info_view info.now) (items_view items.now) (items_view footnotes.now))
+        (document_faults limit (items_view items.now) (items_view footnotes.now)) }
+    ensures leads { IfOk result (λ document. PositionsLead (document_view document)) }
+{
+    let content = converted(alloc, items, 0, limit)?;
+    let output = assembled(alloc, content, info, footnotes, limit)?;
+    let output = styled(alloc, output)?;
+    Ok(HtmlDocument::new(alloc, output, info.try_clone()?)?)
+}
+
+/// The nodes of a list of items at that depth.
+fn converted(
+    alloc: Global,
+    items: &[Pair],
+    depth: usize,
+    limit: usize,
+) -> Result<Vec<HtmlNode>, ExportFault>
+    requires within { depth ≤ limit }
+    requires some_limit { 1 ≤ limit }
+    requires low_limit { limit ≤ 10000 }
+    ensures { Assembles (λ made. nodes_view made.items) result
+        (document_nodes (items_view items.now))
+        (depth_faults (items_too_deep depth limit (items_view items.now))) }
+{
+    let (level, whitespace) = (ConversionLevel::Block, Whitespace::Normal);
+    match convert_to_nodes(alloc, items, level, whitespace, None, depth, limit) {
+        Ok(nodes) => Ok(nodes),
+        Err(FlowFault::OutOfMemory) => Err(ExportFault::OutOfMemory),
+        Err(FlowFault::TooDeep { span }) => Err(ExportFault::TooDeep { span }),
+    }
+}
+
+/// What stands around the nodes of a document and of its footnotes.
+fn assembled(
+    alloc: Global,
+    content: Vec<HtmlNode>,
+    info: &DocumentInfo,
+    footnotes: &[Pair],
+    limit: usize,
+) -> Result<HtmlOutput, ExportFault>
+    requires some_limit { 1 ≤ limit }
+    requires low_limit { limit ≤ 10000 }
+    ensures { Assembles output_view result
+        (assembled_output (info_view info.now) (nodes_view content.items)
+        (document_nodes (items_view footnotes.now)))
+        (assembly_faults limit (nodes_view content.items) (items_view footnotes.now)) }
+{
+    match document_outline(&content)? {
+        Outline::OwnHtml(place) => {
+            refuse_footnotes(alloc, footnotes)?;
+            Ok(HtmlOutput::new(content, place))
+        }
+        Outline::OwnBody => {
+            refuse_footnotes(alloc, footnotes)?;
+            Ok(html_output(alloc, info, content)?)
+        }
+        Outline::NothingOwn => {
+            let notes = converted(alloc, footnotes, 1, limit)?;
+            let body = body_nodes(alloc, both_nodes(content, notes)?)?;
+            Ok(html_output(alloc, info, body)?)
+        }
+    }
+}
+
+/// What a document has of its own.
+#[derive(Clone, Copy)]
+enum Outline {
+    /// Its root, at that place among the nodes.
+    OwnHtml(usize),
+    /// Its body.
+    OwnBody,
+    /// Neither.
+    NothingOwn,
+}
+
+/// What a document of these nodes has of its own; an `html` or `body` among others is refused.
+fn document_outline(nodes: &[HtmlNode]) -> Result<Outline, ExportFault>
+    ensures { Assembles outline_view result (document_outline (nodes_view nodes.now))
+        (outline_faults (document_outline (nodes_view nodes.now)) no_items) }
+{
+    let Some((place, element)) = first_own(nodes) else {
+        return Ok(Outline::NothingOwn);
+    };
+    if shown_count(nodes) != 1 {
+        return Err(ExportFault::NotAlone {
+            tag: element.tag.try_clone()?,
+            span: element.span,
+        });
+    }
+    if is_html(element) {
+        Ok(Outline::OwnHtml(place))
+    } else {
+        Ok(Outline::OwnBody)
+    }
+}
+
+/// The first `html` or `body`, and how many nodes stand before it.
+fn first_own(nodes: &[HtmlNode]) -> Option<(usize, &HtmlElement)>
+    ensures { option_map own_view result ≡ first_own (nodes_view nodes.now) }
+{
+    for (place, node) in nodes.iter().enumerate() {
+        if let Some(element) = own_element(node) {
+            return Some((place, element));
+        }
+    }
+    None
+}
+
+/// The element that the node is, if it is an `html` or `body`.
+fn own_element(node: &HtmlNode) -> Option<&HtmlElement>
+    ensures { option_map (λ element. (element_view element.now).0) result
+        ≡ own_head (node_view node.now) }
+{
+    match node {
+        HtmlNode::Element(element) if is_own(element) => Some(element),
+        _ => None,
+    }
+}
+
+/// Whether the element is an `html`.
+#[tactic(auto, unfolding(html_names::specs::Tables::known_tags))]
+fn is_html(element: &HtmlElement) -> bool
+    ensures { result ≡ is_html (element_view element.now).0 }
+{
+    element.tag == tag::html
+}
+
+/// Whether the element is an `html` or `body`.
+#[tactic(auto, unfolding(html_names::specs::Tables::known_tags))]
+fn is_own(element: &HtmlElement) -> bool
+    ensures { result ≡ is_own (element_view element.now).0 }
+{
+    is_html(element) || element.tag == tag::body
+}
+
+/// How many nodes are no tags.
+fn shown_count(nodes: &[HtmlNode]) -> usize
+    ensures { result ≡ shown_count (nodes_view nodes.now) }
+{
+    let mut count = 0;
+    for node in nodes {
+        if !is_tag(node) {
+            count += 1;
+        }
+    }
+    count
+}
+
+/// Whether the node is a tag.
+fn is_tag(node: &HtmlNode) -> bool
+    ensures { result ≡ is_tag (node_view node.now) }
+{
+    matches!(node, HtmlNode::Tag(_))
+}
+
+/// Refuses footnotes.
+fn refuse_footnotes(alloc: Global, footnotes: &[Pair]) -> Result<(), ExportFault>
+    ensures { Passes result (note_faults (item_spans (items_view footnotes.now))) }
+{
+    if footnotes.is_empty() {
+        return Ok(());
+    }
+    Err(ExportFault::Footnotes {
+        spans: item_spans(alloc, footnotes)?,
+    })
+}
+
+/// The spans of items.
+fn item_spans(alloc: Global, items: &[Pair]) -> Result<Vec<Span>, AllocError>
+    ensures { IfOk result (λ spans. spans_view spans.items ≡ item_spans (items_view items.now)) }
+{
+    let mut spans = Vec::new(alloc);
+    for pair in items {
+        spans.push(pair.item.span())?;
+    }
+    Ok(spans)
+}
+
+/// Nodes, and then others.
+fn both_nodes(
+    mut content: Vec<HtmlNode>,
+    mut notes: Vec<HtmlNode>,
+) -> Result<Vec<HtmlNode>, AllocError>
+    ensures { IfOk result (λ both. nodes_view both.items
+        ≡ both_nodes (nodes_view content.items) (nodes_view notes.items)) }
+{
+    content.append(&mut notes)?;
+    Ok(content)
+}
+
+/// A `body` alone, with these nodes.
+#[tactic(auto, unfolding(html_names::specs::Tables::known_tags))]
+fn body_nodes(alloc: Global, content: Vec<HtmlNode>) -> Result<Vec<HtmlNode>, AllocError>
+    ensures { IfOk result (λ made.
+        nodes_view made.items ≡ node (body_node (nodes_view content.items)) none) }
+{
+    let body = HtmlElement::new(alloc, tag::body).with_children(content);
+    let mut made = Vec::new(alloc);
+    made.push(HtmlNode::Element(body))?;
+    Ok(made)
+}
+
+/// The root that is made, alone, with these nodes after its head.
+#[tactic(auto, unfolding(html_names::specs::Tables::known_tags, html_names::specs::Tables::known_attrs))]
+fn html_output(
+    alloc: Global,
+    info: &DocumentInfo,
+    mut content: Vec<HtmlNode>,
+) -> Result<HtmlOutput, AllocError>
+    ensures { IfOk result (λ output.
+        output_view output ≡ html_output (info_view info.now) (nodes_view content.items)) }
+{
+    let mut children = vec![in alloc; head_node(alloc, info)?]?;
+    children.append(&mut content)?;
+    let html = HtmlElement::new(alloc, tag::html)
+        .with_attr(attr::lang, lang_text(alloc, &info.locale)?)?
+        .with_children(children);
+    let nodes = vec![in alloc; HtmlNode::Element(html)]?;
+    Ok(HtmlOutput::new(nodes, 0))
+}
+
+/// The output with the css of each element of its root in the attribute `style`.
+fn styled(alloc: Global, mut output: HtmlOutput) -> Result<HtmlOutput, AllocError>
+    ensures { IfOk result (λ made. output_view made ≡ root_styled (output_view output)) }
+{
+    let root = output.root_mut();
+    let bare = mem::replace(root, HtmlElement::new(alloc, tag::html));
+    *root = with_inline_styles(alloc, bare)?;
+    Ok(output)
+}

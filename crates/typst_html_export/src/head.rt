@@ -1,0 +1,187 @@
+//! The head of a document, and its language.
+#![tactic(auto, unfolding(html_names::specs::Tables::known_tags, html_names::specs::Tables::known_attrs))]
+
+ghost use Rattle.std.specs.Prelude.{◌≡◌, ◌++◌, IfOk, IsTrue, OnOk, codes, map, option_map};
+ghost use Rattle.std.specs.List.{flat_map};
+ghost use Rattle.html_names.specs.Names.{is_ascii};
+ghost use Rattle.html_dom_tree.specs.Views.{element_view, node_view, optional_text_view, text_view};
+ghost use Rattle.html_dom_document.specs.Views.{info_view, locale_view, texts_view};
+ghost use Rattle.typst_html_export.specs.DocumentHead.{charset_node, description_nodes, entry_node, entry_nodes, head_node};
+ghost use Rattle.typst_html_export.specs.DocumentHead.{joined_text, lang_text, list_nodes, region_text, title_node, title_nodes, viewport_node};
+
+use html_dom_document::{DocumentInfo, Locale};
+use html_dom_tree::{HtmlElement, HtmlNode, Span};
+use html_names::{Output, attr, tag};
+use std::alloc::{AllocError, Global};
+
+/// The head of a document: how it is encoded, how it is shown, and what is known of it.
+pub(crate) fn head_node(alloc: Global, info: &DocumentInfo) -> Result<HtmlNode, AllocError>
+    ensures { IfOk result (λ made. node_view made ≡ head_node (info_view info.now)) }
+{
+    let mut children = Vec::new(alloc);
+    children.push(charset_node(alloc)?)?;
+    children.push(viewport_node(alloc)?)?;
+    push_entries(alloc, &mut children, info)?;
+    let head = HtmlElement::new(alloc, tag::head).with_children(children);
+    Ok(HtmlNode::Element(head))
+}
+
+/// Adds the entries of what is known.
+fn push_entries(
+    alloc: Global,
+    nodes: &mut Vec<HtmlNode>,
+    info: &DocumentInfo,
+) -> Result<(), AllocError>
+    ensures { OnOk result (map node_view nodes.new.items
+        ≡ map node_view nodes.old.items ++ entry_nodes (info_view info.now)) }
+{
+    push_title(alloc, nodes, &info.title)?;
+    push_description(alloc, nodes, &info.description)?;
+    push_list(alloc, nodes, "authors", &info.author)?;
+    push_list(alloc, nodes, "keywords", &info.keywords)
+}
+
+/// Adds the title, where there is one.
+fn push_title(
+    alloc: Global,
+    nodes: &mut Vec<HtmlNode>,
+    title: &Option<String>,
+) -> Result<(), AllocError>
+    ensures { OnOk result (map node_view nodes.new.items
+        ≡ map node_view nodes.old.items ++ title_nodes (optional_text_view title.now)) }
+{
+    let Some(title) = title else {
+        return Ok(());
+    };
+    nodes.push(title_node(alloc, title)?)?;
+    Ok(())
+}
+
+/// Adds the description, where there is one.
+fn push_description(
+    alloc: Global,
+    nodes: &mut Vec<HtmlNode>,
+    description: &Option<String>,
+) -> Result<(), AllocError>
+    ensures { OnOk result (map node_view nodes.new.items
+        ≡ map node_view nodes.old.items ++ description_nodes (optional_text_view description.now)) }
+{
+    let Some(description) = description else {
+        return Ok(());
+    };
+    nodes.push(entry_node(alloc, "description", description.clone()?)?)?;
+    Ok(())
+}
+
+/// Adds the entry of texts, where there are any.
+fn push_list(
+    alloc: Global,
+    nodes: &mut Vec<HtmlNode>,
+    name: &str,
+    texts: &[String],
+) -> Result<(), AllocError>
+    requires { IsTrue (is_ascii name.now) }
+    ensures { OnOk result (map node_view nodes.new.items
+        ≡ map node_view nodes.old.items ++ list_nodes name.now (texts_view texts.now)) }
+{
+    if texts.is_empty() {
+        return Ok(());
+    }
+    nodes.push(entry_node(alloc, name, joined_text(alloc, texts)?)?)?;
+    Ok(())
+}
+
+/// Texts in one, with `, ` between.
+fn joined_text(alloc: Global, texts: &[String]) -> Result<String, AllocError>
+    ensures { IfOk result (λ text. text_view text ≡ joined_text (texts_view texts.now)) }
+{
+    let mut text = Output::new(alloc);
+    if let [first, others @ ..] = texts {
+        text.push_str(first.as_str())?;
+        push_others(&mut text, others)?;
+    }
+    Ok(text.into_string())
+}
+
+/// Adds texts, each after `, `.
+fn push_others(text: &mut Output, others: &[String]) -> Result<(), AllocError>
+    ensures { OnOk result (text.new ≡ text.old
+        ++ flat_map (λ t. codes ", " ++ t) (texts_view others.now)) }
+{
+    for other in others {
+        text.push_ascii(", ")?;
+        text.push_str(other.as_str())?;
+    }
+    Ok(())
+}
+
+/// A text of ASCII on the heap.
+pub(crate) fn ascii_text(alloc: Global, text: &str) -> Result<String, AllocError>
+    requires { IsTrue (is_ascii text.now) }
+    ensures { IfOk result (λ made. text_view made ≡ text.now) }
+{
+    Ok(String::from_str(alloc, text)?)
+}
+
+/// How the document is encoded.
+fn charset_node(alloc: Global) -> Result<HtmlNode, AllocError>
+    ensures { IfOk result (λ made. node_view made ≡ charset_node) }
+{
+    let value = ascii_text(alloc, "utf-8")?;
+    let meta = HtmlElement::new(alloc, tag::meta).with_attr(attr::charset, value)?;
+    Ok(HtmlNode::Element(meta))
+}
+
+/// An entry of that name.
+fn entry_node(alloc: Global, name: &str, content: String) -> Result<HtmlNode, AllocError>
+    requires { IsTrue (is_ascii name.now) }
+    ensures { IfOk result (λ made. node_view made ≡ entry_node name.now (text_view content)) }
+{
+    let meta = HtmlElement::new(alloc, tag::meta)
+        .with_attr(attr::name, ascii_text(alloc, name)?)?
+        .with_attr(attr::content, content)?;
+    Ok(HtmlNode::Element(meta))
+}
+
+/// How wide the document is shown.
+fn viewport_node(alloc: Global) -> Result<HtmlNode, AllocError>
+    ensures { IfOk result (λ made. node_view made ≡ viewport_node) }
+{
+    let content = ascii_text(alloc, "width=device-width, initial-scale=1")?;
+    entry_node(alloc, "viewport", content)
+}
+
+/// The title.
+fn title_node(alloc: Global, title: &String) -> Result<HtmlNode, AllocError>
+    ensures { IfOk result (λ made. node_view made ≡ title_node (text_view title.now)) }
+{
+    let mut children = Vec::new(alloc);
+    children.push(HtmlNode::Text(title.clone()?, Span(0)))?;
+    let element = HtmlElement::new(alloc, tag::title).with_children(children);
+    Ok(HtmlNode::Element(element))
+}
+
+/// The language of a document, English where none is known.
+pub(crate) fn lang_text(alloc: Global, locale: &Option<Locale>) -> Result<String, AllocError>
+    ensures { IfOk result
+        (λ text. text_view text ≡ lang_text (option_map locale_view locale.now)) }
+{
+    match locale {
+        Some(locale) => locale_text(alloc, locale),
+        None => ascii_text(alloc, "en"),
+    }
+}
+
+/// A language and its region.
+fn locale_text(alloc: Global, locale: &Locale) -> Result<String, AllocError>
+    ensures { IfOk result (λ text. text_view text
+        ≡ text_view locale.now.lang ++ region_text (optional_text_view locale.now.region)) }
+{
+    let mut text = Output::new(alloc);
+    text.push_str(locale.lang.as_str())?;
+    if let Some(region) = &locale.region {
+        text.push_ascii("-")?;
+        text.push_str(region.as_str())?;
+    }
+    Ok(text.into_string())
+}

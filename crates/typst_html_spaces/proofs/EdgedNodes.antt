@@ -1,0 +1,186 @@
+-- What pretty writing puts indents around or inside is a border in the nodes of plain flow.
+use Rattle.std.proofs.Common.{◌≡◌, ◌⊎◌, ℕ, Bool, true, false, not, ◌&&◌, ◌||◌, List, Option, Some, inl, inr, refl, ap, ◌∙◌, sym, codes, bytes_eq}
+use Rattle.std.proofs.lemmas.Bool.{cases_Bool, false≢true, and_parts, or_cases, not-true}
+use Rattle.std.proofs.lemmas.Slice.Eq.{bytes_eq-Decides}
+use Rattle.html_names.specs.Displays.{default_display}
+use Rattle.html_names.specs.Kinds.{is_replaced, is_raw, is_mathml, mathml_names, is_token, is_metadata_content, metadata_content_names, shows_border}
+use Rattle.html_names.specs.Names.{stands_in}
+use Rattle.html_names.specs.Texts.{TextPair}
+use Rattle.html_names.specs.declared.property.Display.{Display}
+use Rattle.html_names.specs.declared.property.Display.TheVariants as display
+use Rattle.html_dom_tree.specs.Attributes.{first}
+use Rattle.html_dom_tree.specs.Styled.{attrs_styled, head_styled, node_styled, nodes_styled}
+use Rattle.html_dom_tree.specs.Tree.{Head, tag_node, text_node, element_node, frame_node, NodesView, none, node}
+use Rattle.typst_html_encode.specs.Collapsing.{preserves, has_border_display}
+use Rattle.typst_html_encode.specs.IndentsCollapse.{HeadIsEdged, NodesAreEdged}
+use Rattle.typst_html_encode.specs.Layout.{is_of_lines, allows_pretty_inside, wants_pretty_around}
+use Rattle.html_flow_convert.specs.Converted.{RoleText, items_nodes, converted_nodes}
+use Rattle.html_flow_convert.specs.Items.{ItemsView}
+use Rattle.html_flow_convert.specs.declared.convert.ConversionLevel.TheVariants.{Block}
+use Rattle.html_flow_convert.specs.declared.convert.Whitespace.TheVariants.{Normal}
+use Rattle.typst_html_spaces.specs.PlainFlow.{is_plain_name, is_plain_flow}
+use Rattle.typst_html_spaces.proofs.MadeHeads.{MadeCss, plain, block, wrap, block_wrap, made_style, MadeHead, head_style_is, is_wrap, is_away, plain_is_there, plain_is_no_math, listed_pass}
+use Rattle.typst_html_spaces.proofs.MadeNodes.{AreMade, list_made, items_made}
+use Rattle.typst_html_spaces.proofs.ReadyElements.{raw_is_not_plain}
+
+-- names
+
+of_lines : (d : Option Display) → is_of_lines d ≡ true →
+    (shows_border d ≡ true) ⊎ (is_away d ≡ true)
+of_lines (Some display.TableColumn) e = inr refl
+of_lines (Some display.TableColumnGroup) e = inr refl
+of_lines (Some display.Block) e = inl refl
+of_lines (Some display.ListItem) e = inl refl
+of_lines (Some display.Table) e = inl refl
+of_lines (Some display.TableCaption) e = inl refl
+of_lines (Some display.TableCell) e = inl refl
+of_lines (Some display.TableRow) e = inl refl
+of_lines (Some display.TableRowGroup) e = inl refl
+of_lines (Some display.TableHeaderGroup) e = inl refl
+of_lines (Some display.TableFooterGroup) e = inl refl
+of_lines _ e = absurd (false≢true e)
+
+plain_lines : (name : List ℕ) → is_plain_name name ≡ true →
+    is_of_lines (default_display name) ≡ true → has_border_display name ≡ true
+plain_lines name p e = elim (of_lines (default_display name) e) [
+  | inl f ↦ f
+  | inr f ↦ absurd (false≢true (sym (plain_is_there name p) ∙ f))
+]
+
+by_plain : (a b : Bool) → (not a || b) ≡ true → a ≡ true → b ≡ true
+by_plain true b e f = e
+by_plain false b e f = absurd (false≢true f)
+
+plain_mathml : (name : List ℕ) → is_plain_name name ≡ true → is_mathml name ≡ true →
+    has_border_display name ≡ true
+unfolding is_mathml is_plain_name is_replaced default_display stands_in
+plain_mathml name p e = by_plain (is_plain_name name) (has_border_display name)
+    (listed_pass (λ n. not (is_plain_name n) || has_border_display n) mathml_names name refl e) p
+
+plain_metadata : (name : List ℕ) → is_plain_name name ≡ true →
+    is_metadata_content name ≡ true → has_border_display name ≡ true
+unfolding is_metadata_content is_plain_name is_replaced default_display stands_in
+plain_metadata name p e = by_plain (is_plain_name name) (has_border_display name)
+    (listed_pass (λ n. not (is_plain_name n) || has_border_display n) metadata_content_names name
+    refl e) p
+
+-- a fact of one name
+of_name : (p : List ℕ → Bool) (name own : List ℕ) → p own ≡ true → bytes_eq name own ≡ true →
+    p name ≡ true
+of_name p name own e f = ap p ((bytes_eq-Decides name own).0 f) ∙ e
+
+head_is_not_plain : (not (is_plain_name (codes "head")) || has_border_display (codes "head")) ≡ true
+unfolding is_plain_name is_replaced default_display stands_in
+head_is_not_plain = refl
+
+plain_head : (name : List ℕ) → is_plain_name name ≡ true → bytes_eq name (codes "head") ≡ true →
+    has_border_display name ≡ true
+plain_head name p e = by_plain (is_plain_name name) (has_border_display name)
+    (of_name (λ n. not (is_plain_name n) || has_border_display n) name (codes "head")
+    head_is_not_plain e) p
+
+pre_border : has_border_display (codes "pre") ≡ true
+unfolding default_display stands_in
+pre_border = refl
+
+pre_shuts : not (allows_pretty_inside (codes "pre")) ≡ true
+unfolding allows_pretty_inside is_mathml is_token default_display stands_in
+pre_shuts = refl
+
+-- indents inside
+
+inside_border : (name : List ℕ) → is_plain_name name ≡ true → allows_pretty_inside name ≡ true →
+    has_border_display name ≡ true
+unfolding allows_pretty_inside
+inside_border name p e =
+    elim (or_cases (is_mathml name && not (is_token name))
+    ((is_of_lines (default_display name) && not (bytes_eq name (codes "pre")))
+    || bytes_eq name (codes "head")) e) [
+      | inl f ↦ plain_mathml name p (and_parts (is_mathml name) (not (is_token name)) f).0
+      | inr f ↦ elim (or_cases (is_of_lines (default_display name)
+          && not (bytes_eq name (codes "pre"))) (bytes_eq name (codes "head")) f) [
+            | inl g ↦ plain_lines name p (and_parts (is_of_lines (default_display name))
+                (not (bytes_eq name (codes "pre"))) g).0
+            | inr g ↦ plain_head name p g
+          ]
+    ]
+
+inside_no_pre : (name : List ℕ) → allows_pretty_inside name ≡ true →
+    bytes_eq name (codes "pre") ≡ false
+inside_no_pre name e = elim (cases_Bool (bytes_eq name (codes "pre"))) [
+  | inl f ↦ absurd (false≢true (sym (not-true (allows_pretty_inside name)
+      (of_name (λ n. not (allows_pretty_inside n)) name (codes "pre") pre_shuts f)) ∙ e))
+  | inr f ↦ f
+]
+
+-- indents around
+
+around_border : (h : Head) → is_plain_name h.name ≡ true → wants_pretty_around h ≡ true →
+    has_border_display h.name ≡ true
+unfolding wants_pretty_around
+around_border h p e =
+    let f : (is_mathml h.name || (bytes_eq h.name (codes "pre")
+    || (is_metadata_content h.name || allows_pretty_inside h.name))) ≡ true =
+    rw (plain_is_no_math h.name p) at e in
+    elim (or_cases (is_mathml h.name) (bytes_eq h.name (codes "pre")
+    || (is_metadata_content h.name || allows_pretty_inside h.name)) f) [
+      | inl g ↦ plain_mathml h.name p g
+      | inr g ↦ elim (or_cases (bytes_eq h.name (codes "pre"))
+          (is_metadata_content h.name || allows_pretty_inside h.name) g) [
+            | inl k ↦ of_name has_border_display h.name (codes "pre") pre_border k
+            | inr k ↦ elim (or_cases (is_metadata_content h.name) (allows_pretty_inside h.name) k) [
+              | inl l ↦ plain_metadata h.name p l
+              | inr l ↦ inside_border h.name p l
+            ]
+          ]
+    ]
+
+-- blanks inside
+
+kept_by : (c : MadeCss) (name : List ℕ) (attrs : List TextPair) → is_wrap c ≡ false →
+    bytes_eq name (codes "pre") ≡ false → first attrs (codes "style") ≡ made_style c →
+    preserves name attrs ≡ false
+unfolding preserves
+kept_by plain name attrs w e f = rw (e, f) refl
+kept_by block name attrs w e f = rw (e, f) refl
+kept_by wrap name attrs w e f = absurd (false≢true (sym w))
+kept_by block_wrap name attrs w e f = absurd (false≢true (sym w))
+
+border_no_wrap : (h : Head) (m : MadeHead h) → has_border_display h.name ≡ true →
+    is_wrap m.kind ≡ false
+border_no_wrap h m e = elim (cases_Bool (is_wrap m.kind)) [
+  | inl w ↦ absurd (false≢true (sym (m.in_line w) ∙ e))
+  | inr w ↦ w
+]
+
+not_raw : (name : List ℕ) → is_plain_name name ≡ true → is_raw name ≡ false
+not_raw name p = elim (cases_Bool (is_raw name)) [
+  | inl e ↦ absurd (false≢true (sym (raw_is_not_plain name e) ∙ p))
+  | inr e ↦ e
+]
+
+pub made_is_edged : (h : Head) → MadeHead h → HeadIsEdged (head_styled h)
+made_is_edged h m = (
+  not_raw h.name m.named,
+  around_border (head_styled h) m.named,
+  λ e. let b = inside_border h.name m.named e in (
+    b,
+    kept_by m.kind h.name (attrs_styled h.css h.attrs) (border_no_wrap h m b)
+        (inside_no_pre h.name e) (head_style_is h m),
+  ),
+)
+
+pub made_are_edged : (ns : NodesView) (p : Bool) → AreMade p ns → NodesAreEdged (nodes_styled ns)
+unfolding node_styled
+made_are_edged none p r = tt
+made_are_edged (node (tag_node t) ns) p r = made_are_edged ns p r.1
+made_are_edged (node (text_node s span) ns) p r = made_are_edged ns p r.1
+made_are_edged (node (element_node h kids) ns) p r =
+    ((made_is_edged h r.0.0, made_are_edged kids h.pre_span r.0.1), made_are_edged ns p r.1)
+made_are_edged (node (frame_node f) ns) p r = absurd r.0
+
+pub converted_are_edged : (role : RoleText) (items : ItemsView) → is_plain_flow items ≡ true →
+    NodesAreEdged (nodes_styled (converted_nodes Block Normal role items))
+converted_are_edged role items e =
+    made_are_edged (converted_nodes Block Normal role items) false
+    (list_made Block Normal (items_nodes Normal role items) (items_made Normal role items e))

@@ -1,0 +1,397 @@
+-- Nodes of which one line break is all: only items of which it is all become such nodes.
+use Rattle.std.proofs.Common.{◌≡◌, ◌⊎◌, ℕ, Bool, true, false, ◌==◌, cond, List, [], ◌∷◌, ◌++◌, map, drop, codes, Option, None, Some, inl, inr, refl, ap, ◌∙◌, sym, eqb-true}
+use Rattle.std.specs.List.{filter}
+use Rattle.std.proofs.lemmas.Bool.{cases_Bool, false≢true}
+use Rattle.html_names.specs.Kinds.{is_line_break}
+use Rattle.html_names.specs.Names.{stands_in}
+use Rattle.html_dom_tree.specs.Tree.{NodeView, tag_node, text_node, element_node, frame_node, NodesView, none, node}
+use Rattle.html_dom_tree.specs.Views.{nodes_of}
+use Rattle.typst_html_encode.specs.Collapsing.{Piece, char, thing, line, edge}
+use Rattle.html_flow_whitespace.specs.BareSpaces.{node_things, bare_spaces, is_entered}
+use Rattle.html_flow_whitespace.specs.Nodes.{is_one}
+use Rattle.html_flow_whitespace.specs.Pieces.{PieceView, stretch, alone, line_break, is_in_stretch, in_stretch, is_carriage_return, pieces_after, piece_node}
+use Rattle.html_flow_whitespace.specs.Protected.{space_count, is_bare, node_protected, nodes_protected}
+use Rattle.html_flow_whitespace.specs.Runs.{is_blank_node, are_kept, run_nodes, nodes_with_runs}
+use Rattle.html_flow_convert.specs.Converted.{text_item_nodes, list_nodes}
+use Rattle.html_flow_convert.specs.Items.{ItemView, text_item, ItemsView, no_items, item, BodyView, absent, present}
+use Rattle.html_flow_convert.specs.LoneNode.{node_list, are_tags, lone_node, DisplayChangeView, node_displayed}
+use Rattle.html_flow_convert.specs.declared.convert.ConversionLevel.{ConversionLevel}
+use Rattle.html_flow_convert.specs.declared.convert.ConversionLevel.TheVariants.{Block, Inline}
+use Rattle.html_flow_convert.specs.declared.convert.Whitespace.{Whitespace}
+use Rattle.html_flow_convert.specs.declared.convert.Whitespace.TheVariants.{Normal, Pre}
+use Rattle.typst_html_spaces.specs.ItemText.{chars_by_line}
+use Rattle.typst_html_spaces.specs.PlainFlow.{is_nothing, are_nothing, is_break, are_one_break, is_one_break}
+use Rattle.typst_html_spaces.proofs.Runs.{with_runs}
+use Rattle.typst_html_spaces.proofs.TextPieces.{in_stretch_no_line}
+
+-- what a list holds, tags aside
+pub data Content : Type 0 where
+  nothing : Content
+  one_break : Content
+  other : Content
+
+abbrev pub add : Content → Content → Content
+add nothing w = w
+add one_break nothing = one_break
+add one_break one_break = other
+add one_break other = other
+add other w = other
+
+add_nothing : (v : Content) → add v nothing ≡ v
+add_nothing nothing = refl
+add_nothing one_break = refl
+add_nothing other = refl
+
+add_other : (v : Content) → add v other ≡ other
+add_other nothing = refl
+add_other one_break = refl
+add_other other = refl
+
+add_assoc : (u v w : Content) → add (add u v) w ≡ add u (add v w)
+add_assoc nothing v w = refl
+add_assoc one_break nothing w = refl
+add_assoc one_break one_break nothing = refl
+add_assoc one_break one_break one_break = refl
+add_assoc one_break one_break other = refl
+add_assoc one_break other w = refl
+add_assoc other v w = refl
+
+two_breaks : (w : Content) → add one_break (add one_break w) ≡ other
+two_breaks nothing = refl
+two_breaks one_break = refl
+two_breaks other = refl
+
+abbrev pub node_content : NodeView → Content
+node_content (tag_node t) = nothing
+node_content (text_node s span) = other
+node_content (element_node h ns) = cond (is_line_break h.name) one_break other
+node_content (frame_node f) = other
+
+abbrev pub nodes_content : NodesView → Content
+nodes_content none = nothing
+nodes_content (node n ns) = add (node_content n) (nodes_content ns)
+
+abbrev pub list_content : List NodeView → Content
+list_content ns = nodes_content (nodes_of ns)
+
+pub list_content-append : (xs ys : List NodeView) →
+    list_content (xs ++ ys) ≡ add (list_content xs) (list_content ys)
+list_content-append [] ys = refl
+list_content-append (x ∷ xs) ys =
+    ap (add (node_content x)) (list_content-append xs ys)
+    ∙ sym (add_assoc (node_content x) (list_content xs) (list_content ys))
+
+-- runs of blanks
+
+blank_content : (n : NodeView) → is_blank_node n ≡ true → node_content n ≡ other
+blank_content (tag_node t) e = absurd (false≢true e)
+blank_content (text_node s span) e = refl
+blank_content (element_node h ns) e = absurd (false≢true e)
+blank_content (frame_node f) e = refl
+
+kept_content : (ns : List NodeView) → are_kept (filter is_blank_node ns) ≡ true →
+    list_content ns ≡ other
+kept_content [] e = absurd (false≢true e)
+kept_content (n ∷ ns) e =
+    elim (cases_Bool (is_blank_node n)) [
+      | inl b ↦ ap (λ v. add v (list_content ns)) (blank_content n b)
+      | inr b ↦
+          let f : are_kept (filter is_blank_node ns) ≡ true = rw b at e in
+          ap (add (node_content n)) (kept_content ns f) ∙ add_other (node_content n)
+    ]
+
+run_content : (ns : List NodeView) → list_content (run_nodes ns) ≡ list_content ns
+unfolding stands_in
+run_content ns =
+    elim (cases_Bool (are_kept (filter is_blank_node ns))) [
+      | inl e ↦ rw e (sym (kept_content ns e))
+      | inr e ↦ rw e refl
+    ]
+
+-- spaces in spans of their own
+
+protected_content : (bare : List Bool) (n : NodeView) →
+    node_content (node_protected bare n) ≡ node_content n
+unfolding node_protected stands_in
+protected_content bare (tag_node t) = refl
+protected_content bare (text_node s span) =
+    elim (cases_Bool (is_one 32 s)) [
+      | inl e ↦ elim (cases_Bool (is_bare bare)) [ inl b ↦ rw (e, b) refl | inr b ↦ rw (e, b) refl ]
+      | inr e ↦ rw e refl
+    ]
+protected_content bare (element_node h ns) =
+    elim (cases_Bool (is_entered h)) [ inl e ↦ rw e refl | inr e ↦ rw e refl ]
+protected_content bare (frame_node f) = refl
+
+nodes_protected_content : (bare : List Bool) (ns : NodesView) →
+    nodes_content (nodes_protected bare ns) ≡ nodes_content ns
+unfolding node_protected
+nodes_protected_content bare none = refl
+nodes_protected_content bare (node n ns) =
+    let left : List Bool = drop (space_count (node_things n)) bare in
+    ap (λ v. add v (nodes_content (nodes_protected left ns))) (protected_content bare n)
+    ∙ ap (add (node_content n)) (nodes_protected_content left ns)
+
+pub list_nodes_content : (level : ConversionLevel) (whitespace : Whitespace) (ns : List NodeView) →
+    nodes_content (list_nodes level whitespace ns) ≡ list_content ns
+list_nodes_content level Pre ns = refl
+list_nodes_content Inline Normal ns =
+    with_runs list_content add list_content-append run_content ns
+list_nodes_content Block Normal ns =
+    let runs = nodes_of (nodes_with_runs ns) in
+    nodes_protected_content (bare_spaces runs) runs
+    ∙ with_runs list_content add list_content-append run_content ns
+
+-- texts
+
+abbrev piece_content : Piece → Content
+piece_content (char c) = other
+piece_content (thing name) = other
+piece_content line = one_break
+piece_content edge = other
+
+abbrev pieces_content : List Piece → Content
+pieces_content [] = nothing
+pieces_content (p ∷ ps) = add (piece_content p) (pieces_content ps)
+
+abbrev made_content : (span : ℕ) → List PieceView → Content
+made_content span ps = list_content (map (piece_node span) ps)
+
+in_stretch_content : (span c : ℕ) (ps : List PieceView) →
+    made_content span (in_stretch c ps) ≡ other
+in_stretch_content span c [] = refl
+in_stretch_content span c (stretch s ∷ ps) = refl
+in_stretch_content span c (alone d ∷ ps) = refl
+in_stretch_content span c (line_break ∷ ps) = refl
+
+break_content : (span : ℕ) (ps : List PieceView) →
+    made_content span (line_break ∷ ps) ≡ add one_break (made_content span ps)
+unfolding stands_in
+break_content span ps = refl
+
+made_is : (span : ℕ) (before : Option ℕ) (cs : List ℕ) →
+    made_content span (pieces_after before cs)
+    ≡ pieces_content (chars_by_line (is_carriage_return before) cs)
+unfolding pieces_after
+made_is span before [] = refl
+made_is span before (c ∷ cs) =
+    let others = pieces_after (Some c) cs in
+    let more : made_content span others ≡ pieces_content (chars_by_line (c == 13) cs) =
+    made_is span (Some c) cs in
+    elim (cases_Bool (is_in_stretch before c cs)) [
+      | inl e ↦
+          let plain = in_stretch_no_line before c cs e in
+          rw (e, plain.0, plain.1) (in_stretch_content span c others)
+      | inr e ↦ elim (cases_Bool (c == 13)) [
+        | inl f ↦ rw (e, f) (break_content span others
+            ∙ ap (add one_break) (more ∙ ap (λ b. pieces_content (chars_by_line b cs)) f))
+        | inr f ↦
+            let on : made_content span others ≡ pieces_content (chars_by_line false cs) =
+            more ∙ ap (λ b. pieces_content (chars_by_line b cs)) f in
+            elim (cases_Bool (c == 10)) [
+              | inl g ↦ elim (cases_Bool (is_carriage_return before)) [
+                | inl h ↦ rw (e, f, g, h) on
+                | inr h ↦ rw (e, f, g, h) (break_content span others ∙ ap (add one_break) on)
+              ]
+              | inr g ↦ rw (e, f, g) refl
+            ]
+      ]
+    ]
+
+-- a break and a character more
+more_than_break : (c : ℕ) (cs : List ℕ) →
+    add one_break (pieces_content (chars_by_line false (c ∷ cs))) ≡ other
+more_than_break c cs =
+    elim (cases_Bool (c == 13)) [
+      | inl e ↦ rw e (two_breaks (pieces_content (chars_by_line true cs)))
+      | inr e ↦ elim (cases_Bool (c == 10)) [
+        | inl f ↦ rw (e, f) (two_breaks (pieces_content (chars_by_line false cs)))
+        | inr f ↦ rw (e, f) refl
+      ]
+    ]
+
+-- the texts that are one break, or nothing
+abbrev BreakOrNothing : List ℕ → Type 0
+BreakOrNothing s = (s ≡ []) ⊎ ((s ≡ codes "\r\n") ⊎ ((s ≡ codes "\r") ⊎ (s ≡ codes "\n")))
+
+after_return : (c : ℕ) (cs : List ℕ) → c ≡ 13 →
+    (add one_break (pieces_content (chars_by_line true cs)) ≡ other) ⊎ BreakOrNothing (c ∷ cs)
+after_return c [] e = inr (inr (inr (inl (ap (λ x. x ∷ []) e))))
+after_return c (d ∷ ds) e =
+    elim (cases_Bool (d == 13)) [
+      | inl f ↦ inl (rw f (two_breaks (pieces_content (chars_by_line true ds))))
+      | inr f ↦ elim (cases_Bool (d == 10)) [
+        | inl g ↦ after_feed d ds (eqb-true d 10 g) f g
+        | inr g ↦ inl (rw (f, g) refl)
+      ]
+    ]
+  where
+    after_feed : (d : ℕ) (ds : List ℕ) → d ≡ 10 → (d == 13) ≡ false → (d == 10) ≡ true →
+        (add one_break (pieces_content (chars_by_line true (d ∷ ds))) ≡ other)
+        ⊎ BreakOrNothing (c ∷ d ∷ ds)
+    after_feed d [] g f h = inr (inr (inl (rw (e, g) refl)))
+    after_feed d (x ∷ xs) g f h = inl (rw (f, h) (more_than_break x xs))
+
+break_or_other : (s : List ℕ) →
+    (pieces_content (chars_by_line false s) ≡ other) ⊎ BreakOrNothing s
+break_or_other [] = inr (inl refl)
+break_or_other (c ∷ cs) =
+    elim (cases_Bool (c == 13)) [
+      | inl e ↦ rw e (after_return c cs (eqb-true c 13 e))
+      | inr e ↦ elim (cases_Bool (c == 10)) [
+        | inl f ↦ rw (e, f) (after_feed cs (eqb-true c 10 f))
+        | inr f ↦ inl (rw (e, f) refl)
+      ]
+    ]
+  where
+    after_feed : (cs : List ℕ) → c ≡ 10 →
+        (add one_break (pieces_content (chars_by_line false cs)) ≡ other) ⊎ BreakOrNothing (c ∷ cs)
+    after_feed [] e = inr (inr (inr (inr (ap (λ x. x ∷ []) e))))
+    after_feed (d ∷ ds) e = inl (more_than_break d ds)
+
+-- items
+
+-- nodes hold no more than their items, or more than one break
+abbrev pub AtMost : Content → Content → Type 0
+AtMost made wanted = (made ≡ wanted) ⊎ (made ≡ other)
+
+pub add_at_most : (u v w x : Content) → AtMost u v → AtMost w x → AtMost (add u w) (add v x)
+add_at_most u v w x (inl e) (inl f) = inl (ap (λ y. add y w) e ∙ ap (add v) f)
+add_at_most u v w x (inl e) (inr f) = inr (ap (add u) f ∙ add_other u)
+add_at_most u v w x (inr e) f = inr (ap (λ y. add y w) e)
+
+abbrev pub item_content : Whitespace → ItemView → Content
+item_content whitespace i =
+    cond (is_nothing i) nothing (cond (is_break whitespace i) one_break other)
+
+abbrev pub items_content : Whitespace → ItemsView → Content
+items_content whitespace no_items = nothing
+items_content whitespace (item i role items) =
+    add (item_content whitespace i) (items_content whitespace items)
+
+abbrev pub body_content : Whitespace → BodyView → Content
+body_content whitespace absent = nothing
+body_content whitespace (present items) = items_content whitespace items
+
+-- the definitions of plain flow say the same
+
+abbrev holds_nothing : Content → Bool
+holds_nothing nothing = true
+holds_nothing one_break = false
+holds_nothing other = false
+
+abbrev pub holds_one_break : Content → Bool
+holds_one_break nothing = false
+holds_one_break one_break = true
+holds_one_break other = false
+
+break_and_nothing : (w : Content) → holds_one_break (add one_break w) ≡ holds_nothing w
+break_and_nothing nothing = refl
+break_and_nothing one_break = refl
+break_and_nothing other = refl
+
+not_nothing : (b : Bool) (w : Content) →
+    holds_nothing (add (cond b one_break other) w) ≡ false
+not_nothing true nothing = refl
+not_nothing true one_break = refl
+not_nothing true other = refl
+not_nothing false w = refl
+
+are_nothing_is : (whitespace : Whitespace) (items : ItemsView) →
+    holds_nothing (items_content whitespace items) ≡ are_nothing items
+are_nothing_is whitespace no_items = refl
+are_nothing_is whitespace (item i role items) =
+    elim (cases_Bool (is_nothing i)) [
+      | inl e ↦ rw e (are_nothing_is whitespace items)
+      | inr e ↦ rw e (not_nothing (is_break whitespace i) (items_content whitespace items))
+    ]
+
+are_one_break_is : (whitespace : Whitespace) (items : ItemsView) →
+    holds_one_break (items_content whitespace items) ≡ are_one_break whitespace items
+are_one_break_is whitespace no_items = refl
+are_one_break_is whitespace (item i role items) =
+    elim (cases_Bool (is_nothing i)) [
+      | inl e ↦ rw e (are_one_break_is whitespace items)
+      | inr e ↦ elim (cases_Bool (is_break whitespace i)) [
+        | inl f ↦ rw (e, f) (break_and_nothing (items_content whitespace items)
+            ∙ are_nothing_is whitespace items)
+        | inr f ↦ rw (e, f) refl
+      ]
+    ]
+
+pub is_one_break_is : (whitespace : Whitespace) (body : BodyView) →
+    holds_one_break (body_content whitespace body) ≡ is_one_break whitespace body
+is_one_break_is whitespace absent = refl
+is_one_break_is whitespace (present items) = are_one_break_is whitespace items
+
+-- a text
+pub text_at_most : (whitespace : Whitespace) (s : List ℕ) (span : ℕ) →
+    AtMost (list_content (text_item_nodes whitespace s span))
+    (item_content whitespace (text_item s span))
+text_at_most Pre s span = inr refl
+text_at_most Normal s span =
+    elim (break_or_other s) [
+      | inl e ↦ inr (made_is span None s ∙ e)
+      | inr e ↦ inl (made_is span None s ∙ known s e)
+    ]
+  where
+    known : (s : List ℕ) → BreakOrNothing s →
+        pieces_content (chars_by_line false s) ≡ item_content Normal (text_item s span)
+    known s (inl e) = rw e refl
+    known s (inr (inl e)) = rw e refl
+    known s (inr (inr (inl e))) = rw e refl
+    known s (inr (inr (inr e))) = rw e refl
+
+-- a block whose body is not one break
+
+displayed_content : (change : DisplayChangeView) (n : NodeView) →
+    node_content (node_displayed change n) ≡ node_content n
+displayed_content change (tag_node t) = refl
+displayed_content change (text_node s span) = refl
+displayed_content change (element_node h ns) = refl
+displayed_content change (frame_node f) = refl
+
+pub all_displayed_content : (change : DisplayChangeView) (ns : NodesView) →
+    list_content (map (node_displayed change) (node_list ns)) ≡ nodes_content ns
+unfolding node_list
+all_displayed_content change none = refl
+all_displayed_content change (node n ns) =
+    ap (λ v. add v (list_content (map (node_displayed change) (node_list ns))))
+    (displayed_content change n)
+    ∙ ap (add (node_content n)) (all_displayed_content change ns)
+
+tags_content : (ns : NodesView) → are_tags ns ≡ true → nodes_content ns ≡ nothing
+tags_content none e = refl
+tags_content (node (tag_node t) ns) e = tags_content ns e
+tags_content (node (text_node s span) ns) e = absurd (false≢true e)
+tags_content (node (element_node h kids) ns) e = absurd (false≢true e)
+tags_content (node (frame_node f) ns) e = absurd (false≢true e)
+
+-- nodes with a lone one hold something
+pub lone_content : (ns : NodesView) (n : NodeView) → lone_node ns ≡ Some n →
+    nodes_content ns ≡ node_content n
+unfolding lone_node
+lone_content none n e = cc
+lone_content (node (tag_node t) ns) n e = lone_content ns n e
+lone_content (node (text_node s span) ns) n e =
+    elim (cases_Bool (are_tags ns)) [
+      | inl f ↦ let g : None ≡ Some n = rw f at e in cc
+      | inr f ↦ let g : None ≡ Some n = rw f at e in cc
+    ]
+lone_content (node (element_node h kids) ns) n e =
+    elim (cases_Bool (are_tags ns)) [
+      | inl f ↦
+          let g : Some (element_node h kids) ≡ Some n = rw f at e in
+          let same : element_node h kids ≡ n = cc in
+          ap (add (node_content (element_node h kids))) (tags_content ns f)
+          ∙ (add_nothing (node_content (element_node h kids)) ∙ ap node_content same)
+      | inr f ↦ let g : None ≡ Some n = rw f at e in cc
+    ]
+lone_content (node (frame_node b) ns) n e =
+    elim (cases_Bool (are_tags ns)) [
+      | inl f ↦
+          let g : Some (frame_node b) ≡ Some n = rw f at e in
+          let same : frame_node b ≡ n = cc in
+          ap node_content same
+      | inr f ↦ let g : None ≡ Some n = rw f at e in cc
+    ]

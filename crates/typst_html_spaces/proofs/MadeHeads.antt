@@ -1,0 +1,324 @@
+-- Elements that conversion makes: what their css can be, and what becomes of a lone one that stands
+-- for its block.
+use Rattle.std.proofs.Common.{◌≡◌, ℕ, Bool, true, false, not, ◌||◌, List, [], ◌∷◌, ◌++◌, Option, Some, None, ◌⊎◌, inl, inr, refl, ap, ◌∙◌, sym, codes, bytes_eq}
+use Rattle.std.specs.List.{list_all}
+use Rattle.std.proofs.lemmas.Bool.{cases_Bool, false≢true, and_parts, or_cases, or_right, not-true}
+use Rattle.std.proofs.lemmas.Slice.Eq.{bytes_eq-Decides}
+use lib.Utf8.{encode}
+use Rattle.html_names.specs.Displays.{default_display}
+use Rattle.html_names.specs.Kinds.{is_replaced, replaced_names, is_whitespace_collapsing, is_line_break, shows_border}
+use Rattle.html_names.specs.Names.{stands_in}
+use Rattle.html_names.specs.Texts.{TextPair}
+use Rattle.html_names.specs.declared.property.Display.{Display}
+use Rattle.html_names.specs.declared.property.Display.TheVariants as display
+use Rattle.html_values_css.specs.Properties.{with_value, without}
+use Rattle.html_dom_tree.specs.Attributes.{first}
+use Rattle.html_dom_tree.specs.Styled.{attrs_styled}
+use Rattle.html_dom_tree.specs.Tree.{Head, element_node, NodesView}
+use Rattle.html_flow_whitespace.specs.BareSpaces.{is_border, makes_block}
+use Rattle.html_flow_convert.specs.LoneNode.{DisplayChangeView, removed, set_to, css_displayed, change_by_display, block_change}
+use Rattle.typst_html_encode.specs.Collapsing.{preserves, has_border, style_is}
+use Rattle.typst_html_spaces.specs.PlainFlow.{is_inline, is_plain_name, unplain_names}
+
+-- the css of what conversion makes
+pub data MadeCss : Type 0 where
+  plain : MadeCss
+  block : MadeCss
+  wrap : MadeCss
+  block_wrap : MadeCss
+
+abbrev pub made_css : MadeCss → List TextPair
+made_css plain = []
+made_css block = (codes "display", codes "block") ∷ []
+made_css wrap = (codes "white-space", codes "pre-wrap") ∷ []
+made_css block_wrap =
+    (codes "display", codes "block") ∷ (codes "white-space", codes "pre-wrap") ∷ []
+
+abbrev pub made_style : MadeCss → Option (List ℕ)
+made_style plain = None
+made_style block = Some (codes "display: block")
+made_style wrap = Some (codes "white-space: pre-wrap")
+made_style block_wrap = Some (codes "display: block; white-space: pre-wrap")
+
+abbrev pub is_wrap : MadeCss → Bool
+is_wrap plain = false
+is_wrap block = false
+is_wrap wrap = true
+is_wrap block_wrap = true
+
+style_added : (attrs : List TextPair) (text : List ℕ) → first attrs (codes "style") ≡ None →
+    first (attrs ++ (codes "style", text) ∷ []) (codes "style") ≡ Some text
+style_added [] text e = refl
+style_added (p ∷ ps) text e =
+    elim (cases_Bool (bytes_eq p.0 (codes "style"))) [
+      | inl t ↦ let f : Some p.1 ≡ None = rw t at e in cc
+      | inr t ↦ let f : first ps (codes "style") ≡ None = rw t at e in rw t (style_added ps text f)
+    ]
+
+pub made_style_is : (c : MadeCss) (attrs : List TextPair) → first attrs (codes "style") ≡ None →
+    first (attrs_styled (made_css c) attrs) (codes "style") ≡ made_style c
+made_style_is plain attrs e = e
+made_style_is block attrs e = rw e (style_added attrs (codes "display: block") e)
+made_style_is wrap attrs e = rw e (style_added attrs (codes "white-space: pre-wrap") e)
+made_style_is block_wrap attrs e =
+    rw e (style_added attrs (codes "display: block; white-space: pre-wrap") e)
+
+-- an element as conversion makes it in plain flow
+pub record MadeHead (h : Head) : Type 0 where
+  pub kind : MadeCss
+  pub css_is : h.css ≡ made_css kind
+  pub no_style : first h.attrs (codes "style") ≡ None
+  pub named : is_plain_name h.name ≡ true
+  -- white space stays in lines alone
+  pub in_line : is_wrap kind ≡ true → shows_border (default_display h.name) ≡ false
+
+pub head_style_is : (h : Head) (m : MadeHead h) →
+    first (attrs_styled h.css h.attrs) (codes "style") ≡ made_style m.kind
+head_style_is h m = ap (λ c. first (attrs_styled c h.attrs) (codes "style")) m.css_is
+    ∙ made_style_is m.kind h.attrs m.no_style
+
+-- `display` in css
+
+with_block : MadeCss → MadeCss
+with_block plain = block
+with_block block = block
+with_block wrap = block_wrap
+with_block block_wrap = block_wrap
+
+without_block : MadeCss → MadeCss
+without_block plain = plain
+without_block block = plain
+without_block wrap = wrap
+without_block block_wrap = wrap
+
+block_css : (c : MadeCss) →
+    with_value (made_css c) (codes "display") (codes "block") ≡ made_css (with_block c)
+unfolding with_block lib.Utf8.encode
+block_css plain = refl
+block_css block = refl
+block_css wrap = refl
+block_css block_wrap = refl
+
+removed_css : (c : MadeCss) → without (made_css c) (codes "display") ≡ made_css (without_block c)
+unfolding without_block lib.Utf8.encode
+removed_css plain = refl
+removed_css block = refl
+removed_css wrap = refl
+removed_css block_wrap = refl
+
+block_wraps : (c : MadeCss) → is_wrap (with_block c) ≡ is_wrap c
+unfolding with_block
+block_wraps plain = refl
+block_wraps block = refl
+block_wraps wrap = refl
+block_wraps block_wrap = refl
+
+removed_wraps : (c : MadeCss) → is_wrap (without_block c) ≡ is_wrap c
+unfolding without_block
+removed_wraps plain = refl
+removed_wraps block = refl
+removed_wraps wrap = refl
+removed_wraps block_wrap = refl
+
+-- names
+
+-- shown neither as a line nor as a block
+abbrev pub is_away : Option Display → Bool
+is_away (Some display.None) = true
+is_away (Some display.Contents) = true
+is_away (Some display.TableColumn) = true
+is_away (Some display.TableColumnGroup) = true
+is_away _ = false
+
+inline_is_there : (d : Option Display) → is_inline d ≡ true → is_away d ≡ false
+inline_is_there (Some display.None) e = absurd (false≢true e)
+inline_is_there (Some display.Contents) e = absurd (false≢true e)
+inline_is_there (Some display.TableColumn) e = absurd (false≢true e)
+inline_is_there (Some display.TableColumnGroup) e = absurd (false≢true e)
+inline_is_there _ e = refl
+
+border_is_there : (d : Option Display) → shows_border d ≡ true → is_away d ≡ false
+border_is_there (Some display.None) e = absurd (false≢true e)
+border_is_there (Some display.Contents) e = absurd (false≢true e)
+border_is_there (Some display.TableColumn) e = absurd (false≢true e)
+border_is_there (Some display.TableColumnGroup) e = absurd (false≢true e)
+border_is_there _ e = refl
+
+-- what each name of a list passes
+pub listed_pass : (p : List ℕ → Bool) (names : List (List ℕ)) (name : List ℕ) →
+    list_all p names ≡ true → stands_in names name ≡ true → p name ≡ true
+unfolding stands_in
+listed_pass p [] name a e = absurd (false≢true e)
+listed_pass p (n ∷ ns) name a e =
+    let both = and_parts (p n) (list_all p ns) a in
+    elim (or_cases (bytes_eq n name) (stands_in ns name) e) [
+      | inl t ↦ rw (← (bytes_eq-Decides n name).0 t) both.0
+      | inr t ↦ listed_pass p ns name both.1 t
+    ]
+
+replaced_is_there : (name : List ℕ) → is_replaced name ≡ true →
+    is_away (default_display name) ≡ false
+unfolding is_replaced default_display stands_in
+replaced_is_there name e =
+    not-true (is_away (default_display name))
+    (listed_pass (λ n. not (is_away (default_display n))) replaced_names name refl e)
+
+pub plain_is_there : (name : List ℕ) → is_plain_name name ≡ true →
+    is_away (default_display name) ≡ false
+unfolding is_plain_name
+plain_is_there name e =
+    let shown = and_parts (is_replaced name || is_inline (default_display name)
+    || shows_border (default_display name)) (not (stands_in unplain_names name)) e in
+    elim (or_cases (is_replaced name || is_inline (default_display name))
+    (shows_border (default_display name)) shown.0) [
+      | inl f ↦ elim (or_cases (is_replaced name) (is_inline (default_display name)) f) [
+        | inl g ↦ replaced_is_there name g
+        | inr g ↦ inline_is_there (default_display name) g
+      ]
+      | inr f ↦ border_is_there (default_display name) f
+    ]
+
+math_is_not_plain : is_plain_name (codes "math") ≡ false
+unfolding is_plain_name is_replaced default_display stands_in
+math_is_not_plain = refl
+
+pub plain_is_no_math : (name : List ℕ) → is_plain_name name ≡ true →
+    bytes_eq name (codes "math") ≡ false
+plain_is_no_math name e =
+    elim (cases_Bool (bytes_eq name (codes "math"))) [
+      | inl t ↦ absurd (false≢true (sym math_is_not_plain
+          ∙ (sym (ap is_plain_name ((bytes_eq-Decides name (codes "math")).0 t)) ∙ e)))
+      | inr f ↦ f
+    ]
+
+-- what a lone element's default display says
+change_cases : (d : Option Display) (c : DisplayChangeView) → change_by_display d ≡ Some c →
+    (c ≡ set_to (codes "block")) ⊎ ((c ≡ removed) × ((shows_border d ≡ true) ⊎ (is_away d ≡ true)))
+change_cases None c e = inl (cc)
+change_cases (Some display.None) c e = inr (cc, inr refl)
+change_cases (Some display.Contents) c e = inr (cc, inr refl)
+change_cases (Some display.Block) c e = inr (cc, inl refl)
+change_cases (Some display.Table) c e = inr (cc, inl refl)
+change_cases (Some display.ListItem) c e = inr (cc, inl refl)
+change_cases (Some display.Inline) c e = inl (cc)
+change_cases (Some display.InlineBlock) c e = inl (cc)
+change_cases _ c e = cc
+
+-- a lone element that stands for its block
+
+style_border : (name : List ℕ) (attrs : List TextPair) (c : MadeCss) →
+    first attrs (codes "style") ≡ made_style (with_block c) → has_border name attrs ≡ true
+unfolding has_border with_block
+style_border name attrs plain e = rw e (or_right (shows_border (default_display name)) true refl)
+style_border name attrs block e = rw e (or_right (shows_border (default_display name)) true refl)
+style_border name attrs wrap e = rw e (or_right (shows_border (default_display name)) true refl)
+style_border name attrs block_wrap e = rw e (or_right (shows_border (default_display name)) true refl)
+
+name_border : (name : List ℕ) (attrs : List TextPair) → shows_border (default_display name) ≡ true →
+    has_border name attrs ≡ true
+unfolding has_border
+name_border name attrs e = rw e refl
+
+preserves_by : (name : List ℕ) (attrs others : List TextPair) →
+    (style_is (codes "white-space: pre-wrap") attrs
+    || style_is (codes "display: block; white-space: pre-wrap") attrs)
+    ≡ (style_is (codes "white-space: pre-wrap") others
+    || style_is (codes "display: block; white-space: pre-wrap") others) →
+    preserves name attrs ≡ preserves name others
+unfolding preserves
+preserves_by name attrs others e = ap (λ b. bytes_eq name (codes "pre") || b) e
+
+block_preserves : (name : List ℕ) (attrs others : List TextPair) (c : MadeCss) →
+    first attrs (codes "style") ≡ made_style (with_block c) →
+    first others (codes "style") ≡ made_style c → preserves name attrs ≡ preserves name others
+unfolding with_block
+block_preserves name attrs others plain e f = preserves_by name attrs others (rw (e, f) refl)
+block_preserves name attrs others block e f = preserves_by name attrs others (rw (e, f) refl)
+block_preserves name attrs others wrap e f = preserves_by name attrs others (rw (e, f) refl)
+block_preserves name attrs others block_wrap e f = preserves_by name attrs others (rw (e, f) refl)
+
+removed_preserves : (name : List ℕ) (attrs others : List TextPair) (c : MadeCss) →
+    first attrs (codes "style") ≡ made_style (without_block c) →
+    first others (codes "style") ≡ made_style c → preserves name attrs ≡ preserves name others
+unfolding without_block
+removed_preserves name attrs others plain e f = preserves_by name attrs others (rw (e, f) refl)
+removed_preserves name attrs others block e f = preserves_by name attrs others (rw (e, f) refl)
+removed_preserves name attrs others wrap e f = preserves_by name attrs others (rw (e, f) refl)
+removed_preserves name attrs others block_wrap e f = preserves_by name attrs others (rw (e, f) refl)
+
+css_border : (h : Head) (c : MadeCss) (css : List TextPair) → css ≡ made_css (with_block c) →
+    is_border (record h { css = css }) ≡ true
+unfolding is_border with_block
+css_border h plain css e = rw e refl
+css_border h block css e = rw e refl
+css_border h wrap css e = rw e refl
+css_border h block_wrap css e = rw e refl
+
+pub name_is_border : (h : Head) → shows_border (default_display h.name) ≡ true → is_border h ≡ true
+unfolding is_border
+name_is_border h e = or_right (makes_block h.css) (is_whitespace_collapsing h.name)
+    (or_right (is_line_break h.name) (shows_border (default_display h.name)) e)
+
+-- the element with its new css
+pub record StandsForBlock (h : Head) (css : List TextPair) : Type 0 where
+  pub made : MadeHead (record h { css = css })
+  pub borders : has_border h.name (attrs_styled css h.attrs) ≡ true
+  pub preserved : preserves h.name (attrs_styled css h.attrs)
+      ≡ preserves h.name (attrs_styled h.css h.attrs)
+  pub is_one : is_border (record h { css = css }) ≡ true
+
+set_block : (h : Head) (m : MadeHead h) (css : List TextPair) →
+    with_value h.css (codes "display") (codes "block") ≡ css → StandsForBlock h css
+set_block h m css e =
+    let c : css ≡ made_css (with_block m.kind) = sym e
+    ∙ (ap (λ l. with_value l (codes "display") (codes "block")) m.css_is ∙ block_css m.kind) in
+    let made : MadeHead (record h { css = css }) = record {
+      kind = with_block m.kind;
+      css_is = c;
+      no_style = m.no_style;
+      named = m.named;
+      in_line = λ w. m.in_line (sym (block_wraps m.kind) ∙ w);
+    } in
+    let style = head_style_is (record h { css = css }) made in
+    record {
+      made = made;
+      borders = style_border h.name (attrs_styled css h.attrs) m.kind style;
+      preserved = block_preserves h.name (attrs_styled css h.attrs) (attrs_styled h.css h.attrs)
+          m.kind style (head_style_is h m);
+      is_one = css_border h m.kind css c;
+    }
+
+drop_block : (h : Head) (m : MadeHead h) (css : List TextPair) →
+    without h.css (codes "display") ≡ css → shows_border (default_display h.name) ≡ true →
+    StandsForBlock h css
+drop_block h m css e s =
+    let c : css ≡ made_css (without_block m.kind) = sym e
+    ∙ (ap (λ l. without l (codes "display")) m.css_is ∙ removed_css m.kind) in
+    let made : MadeHead (record h { css = css }) = record {
+      kind = without_block m.kind;
+      css_is = c;
+      no_style = m.no_style;
+      named = m.named;
+      in_line = λ w. m.in_line (sym (removed_wraps m.kind) ∙ w);
+    } in
+    record {
+      made = made;
+      borders = name_border h.name (attrs_styled css h.attrs) s;
+      preserved = removed_preserves h.name (attrs_styled css h.attrs)
+          (attrs_styled h.css h.attrs) m.kind (head_style_is (record h { css = css }) made)
+          (head_style_is h m);
+      is_one = name_is_border (record h { css = css }) s;
+    }
+
+pub stands_for_block : (h : Head) (ns : NodesView) (c : DisplayChangeView) → MadeHead h →
+    block_change (element_node h ns) ≡ Some c → StandsForBlock h (css_displayed c h.css)
+stands_for_block h ns c m e =
+    let f : change_by_display (default_display h.name) ≡ Some c =
+    rw (plain_is_no_math h.name m.named) at e in
+    elim (change_cases (default_display h.name) c f) [
+      | inl g ↦ rw g (set_block h m (css_displayed (set_to (codes "block")) h.css) refl)
+      | inr g ↦ elim (g.1) [
+        | inl s ↦ rw g.0 (drop_block h m (css_displayed removed h.css) refl s)
+        | inr s ↦ absurd (false≢true (sym (plain_is_there h.name m.named) ∙ s))
+      ]
+    ]

@@ -1,0 +1,98 @@
+-- What holds of an element in plain flow.
+use Rattle.std.proofs.Common.{◌≡◌, ℕ, Bool, true, false, not, ◌&&◌, ◌||◌, List, [], ◌∷◌, ◌++◌, Option, Some, None, inl, inr, refl, sym, codes, bytes_eq}
+use Rattle.std.specs.Prelude.{is_some}
+use Rattle.std.proofs.lemmas.Bool.{cases_Bool, false≢true, and_parts, not-true}
+use Rattle.html_names.specs.Displays.{default_display}
+use Rattle.html_names.specs.Kinds.{is_replaced, replaced_names, is_line_break, shows_border}
+use Rattle.html_names.specs.Names.{stands_in}
+use Rattle.html_names.specs.Texts.{TextPair}
+use Rattle.html_dom_tree.specs.Attributes.{first, has}
+use Rattle.typst_html_encode.specs.Collapsing.{has_border}
+use Rattle.html_flow_convert.specs.Converted.{RoleText, passes_role, role_pairs, element_head}
+use Rattle.html_flow_convert.specs.Items.{ElemHead}
+use Rattle.typst_html_spaces.specs.PlainFlow.{is_plain_name, has_no_css, is_plain_head}
+use Rattle.typst_html_spaces.proofs.MadeHeads.{plain, MadeHead, listed_pass}
+
+no_css : (css : List TextPair) → has_no_css css ≡ true → css ≡ []
+no_css [] e = refl
+no_css (p ∷ ps) e = absurd (false≢true e)
+
+no_value : (o : Option (List ℕ)) → is_some o ≡ false → o ≡ None
+no_value None e = refl
+no_value (Some t) e = absurd (false≢true (sym e))
+
+-- a plain name, no css, and no attribute `style`
+pub record PlainHead (h : ElemHead) : Type 0 where
+  pub named : is_plain_name h.name ≡ true
+  pub no_css : h.css ≡ []
+  pub no_style : first h.attrs (codes "style") ≡ None
+
+pub plain_head : (h : ElemHead) → is_plain_head h ≡ true → PlainHead h
+plain_head h e =
+    let both = and_parts (is_plain_name h.name && has_no_css h.css)
+    (not (has h.attrs (codes "style"))) e in
+    let front = and_parts (is_plain_name h.name) (has_no_css h.css) both.0 in
+    record {
+      named = front.0;
+      no_css = no_css h.css front.1;
+      no_style = no_value (first h.attrs (codes "style"))
+          (not-true (has h.attrs (codes "style")) both.1);
+    }
+
+-- with a role it is made as plain flow makes it
+
+past_attrs : (attrs more : List TextPair) → first attrs (codes "style") ≡ None →
+    first more (codes "style") ≡ None → first (attrs ++ more) (codes "style") ≡ None
+past_attrs [] more e f = f
+past_attrs (p ∷ ps) more e f =
+    elim (cases_Bool (bytes_eq p.0 (codes "style"))) [
+      | inl t ↦ let g : Some p.1 ≡ None = rw t at e in cc
+      | inr t ↦ let g : first ps (codes "style") ≡ None = rw t at e in rw t (past_attrs ps more g f)
+    ]
+
+role_no_style : (role : RoleText) → first (role_pairs role) (codes "style") ≡ None
+role_no_style None = refl
+role_no_style (Some text) = refl
+
+element_no_style : (role : RoleText) (h : ElemHead) → first h.attrs (codes "style") ≡ None →
+    first (element_head role h).attrs (codes "style") ≡ None
+element_no_style role h e =
+    elim (cases_Bool (passes_role h.name)) [
+      | inl t ↦ rw t e
+      | inr t ↦ rw t (past_attrs h.attrs (role_pairs role) e (role_no_style role))
+    ]
+
+pub element_made : (role : RoleText) (h : ElemHead) → PlainHead h → MadeHead (element_head role h)
+element_made role h p = record {
+  kind = plain;
+  css_is = p.no_css;
+  no_style = element_no_style role h p.no_style;
+  named = p.named;
+  in_line = λ e. absurd (false≢true e);
+}
+
+-- without a `style` the default display makes borders
+
+or_no : (b : Bool) → (b || false) ≡ b
+or_no true = refl
+or_no false = refl
+
+pub plain_border : (name : List ℕ) (attrs : List TextPair) → first attrs (codes "style") ≡ None →
+    has_border name attrs ≡ shows_border (default_display name)
+unfolding has_border
+plain_border name attrs e = rw e (or_no (shows_border (default_display name)))
+
+-- replaced elements have no border, and are no line breaks
+
+pub replaced_no_border : (name : List ℕ) → is_replaced name ≡ true →
+    shows_border (default_display name) ≡ false
+unfolding is_replaced default_display stands_in
+replaced_no_border name e =
+    not-true (shows_border (default_display name))
+    (listed_pass (λ n. not (shows_border (default_display n))) replaced_names name refl e)
+
+pub replaced_no_break : (name : List ℕ) → is_replaced name ≡ true → is_line_break name ≡ false
+unfolding is_replaced stands_in
+replaced_no_break name e =
+    not-true (is_line_break name)
+    (listed_pass (λ n. not (is_line_break n)) replaced_names name refl e)

@@ -1,0 +1,37 @@
+-- Spaces stay: each atom of the nodes stays, and each by itself they are the items' text.
+use Rattle.std.proofs.Common.{◌≡◌, false, ap, ◌∙◌}
+use Rattle.html_dom_tree.specs.Styled.{nodes_styled}
+use Rattle.html_dom_tree.specs.Tree.{NodesView}
+use Rattle.typst_html_encode.specs.Collapsing.{merged_edges, collapsed_pieces}
+use Rattle.typst_html_encode.proofs.IndentsCollapse.{content_collapses}
+use Rattle.typst_html_encode.proofs.NodeAtoms.{nodes_atoms, normal_atoms}
+use Rattle.html_flow_convert.specs.Converted.{converted_nodes}
+use Rattle.html_flow_convert.specs.declared.convert.ConversionLevel.TheVariants.{Block}
+use Rattle.html_flow_convert.specs.declared.convert.Whitespace.TheVariants.{Normal}
+use Rattle.typst_html_spaces.specs.AtomContexts.{AtomsStay}
+use Rattle.typst_html_spaces.specs.SpacesStay.{seen_pieces, SpacesStay, PrettySpacesStay}
+use Rattle.typst_html_spaces.proofs.AtomContexts.{own_collapsed}
+use Rattle.typst_html_spaces.proofs.EdgedNodes.{converted_are_edged}
+use Rattle.typst_html_spaces.proofs.ItemPieces.{converted_seen}
+use Rattle.typst_html_spaces.proofs.OwnPieces.{nodes_pieces, nodes_own}
+use Rattle.typst_html_spaces.proofs.ReadyItems.{items_stay}
+
+-- nodes whose atoms all stay
+seen_own : (ns : NodesView) → AtomsStay false false (nodes_atoms false (nodes_styled ns)) →
+    seen_pieces ns ≡ merged_edges false (nodes_pieces ns)
+seen_own ns s =
+    ap collapsed_pieces (normal_atoms (nodes_styled ns) false)
+    ∙ (own_collapsed (nodes_atoms false (nodes_styled ns)) s
+    ∙ ap (merged_edges false) (nodes_own false ns))
+
+pub spaces_stay : SpacesStay
+spaces_stay role items e =
+    seen_own (converted_nodes Block Normal role items) (items_stay role items e)
+    ∙ (converted_seen Block Normal role items e false).0
+
+-- indents are not seen
+pub pretty_spaces_stay : PrettySpacesStay
+pretty_spaces_stay role items level h e r =
+    content_collapses level h (nodes_styled (converted_nodes Block Normal role items)) r
+    (converted_are_edged role items e)
+    ∙ spaces_stay role items e

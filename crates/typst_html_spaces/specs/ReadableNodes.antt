@@ -1,0 +1,37 @@
+-- Readable nodes: without a raw element and without a frame, at any depth. So they can be read
+-- back, and anchors leave them so.
+use Rattle.std.specs.Prelude.{◌≡◌, Bool, false, Some}
+use Rattle.html_names.specs.Kinds.{is_raw}
+use Rattle.html_dom_tree.specs.Tree.{NodeView, tag_node, text_node, element_node, frame_node, NodesView, none, node}
+use Rattle.typst_html_encode.specs.Indented.{NodesEndWell}
+use Rattle.typst_html_encode.specs.IndentsCollapse.{body_of}
+use Rattle.html_dom_tree.specs.FrameFree.{NodesAreFrameFree}
+use Rattle.typst_html_spaces.specs.Anchored.{Anchored, IsAny}
+
+abbrev mutual
+  pub IsReadable : NodeView → Type 0
+  IsReadable (tag_node t) = Unit {0}
+  IsReadable (text_node s span) = Unit {0}
+  IsReadable (element_node h ns) = (is_raw h.name ≡ false) × AreReadable ns
+  IsReadable (frame_node f) = ⊥
+
+  pub AreReadable : NodesView → Type 0
+  AreReadable none = Unit {0}
+  AreReadable (node n ns) = IsReadable n × AreReadable ns
+
+abbrev pub ReadableNodesCanBeRead : Type 0
+ReadableNodesCanBeRead = (ns : NodesView) → AreReadable ns →
+    NodesAreFrameFree ns × ((pretty : Bool) → NodesEndWell pretty ns)
+
+-- anchors bring no raw element and no frame
+abbrev pub AnchorsKeepReadable : Type 0
+AnchorsKeepReadable = (ns ms : NodesView) → Anchored IsAny ns ms → AreReadable ns → AreReadable ms
+
+abbrev pub AnchorsKeepFrameFree : Type 0
+AnchorsKeepFrameFree = (ns ms : NodesView) → Anchored IsAny ns ms → NodesAreFrameFree ns →
+    NodesAreFrameFree ms
+
+-- the first `body` is that of the nodes without anchors, with anchors in it
+abbrev pub AnchorsKeepBody : Type 0
+AnchorsKeepBody = (ns ms body : NodesView) → Anchored IsAny ns ms → body_of ns ≡ Some body →
+    (new : NodesView) × (body_of ms ≡ Some new) × Anchored IsAny body new

@@ -1,0 +1,88 @@
+//! Laws of how white space collapses. Each function has laws as its contract, and does nothing.
+
+ghost use Rattle.typst_html_spaces.specs.Anchored.{AnchorsAreUnseen, AnchorsKeepEdges, AnchorsKeepPlainNodes};
+ghost use Rattle.typst_html_spaces.specs.AtomContexts.{CollapsesByContext, PiecesOfBoth};
+ghost use Rattle.typst_html_spaces.specs.Rows.{AreSeen, AreNotPlain, lines, blocks, lists_and_tables, others};
+ghost use Rattle.typst_html_spaces.specs.CleanItems.{CleanItemsMakeCleanNodes};
+ghost use Rattle.typst_html_spaces.specs.CleanNodes.{AnchorsKeepCleanNodes, CleanNodesAreWritten};
+ghost use Rattle.typst_html_spaces.specs.LineContexts.{ProtectsByContext};
+ghost use Rattle.typst_html_spaces.specs.PlainNodes.{PlainFlowMakesPlainNodes, PlainNamesAreInside, PlainNodesCanBeRead};
+ghost use Rattle.typst_html_spaces.specs.ReadableNodes.{AnchorsKeepBody, AnchorsKeepFrameFree, AnchorsKeepReadable, ReadableNodesCanBeRead};
+ghost use Rattle.typst_html_spaces.specs.SeenBody.{BodyIsSeen, ItemsAreSeen};
+ghost use Rattle.typst_html_spaces.specs.SpacesStay.{PrettySpacesStay, SpacesStay};
+
+/// Collapsing judges each atom by what stands before and after it.
+#[tactic(auto, using(crate::proofs::AtomContexts::collapses_by_context))]
+pub fn atoms_collapse_by_context()
+    ensures { CollapsesByContext }
+{}
+
+/// What is seen of two lists, each with the other beside it, is what is seen of them together.
+#[tactic(auto, using(crate::proofs::AtomContexts::pieces_of_both))]
+pub fn atoms_in_contexts_append()
+    ensures { PiecesOfBoth }
+{}
+
+/// Each lone space is kept or stays as it is by what stands before and after it.
+#[tactic(auto, using(crate::proofs::LineContexts::protects_by_context))]
+pub fn lone_spaces_by_context()
+    ensures { ProtectsByContext }
+{}
+
+/// Texts and spaces of paragraphs, blocks, lists and tables, as they are seen; and items that are no
+/// plain flow.
+pub fn rows_are_seen()
+    ensures lines { AreSeen lines }
+    ensures blocks { AreSeen blocks }
+    ensures lists_and_tables { AreSeen lists_and_tables }
+    ensures others { AreNotPlain others }
+{}
+
+/// Spaces stay: what is seen of the nodes of items in plain flow, once white space has collapsed, is
+/// exactly the items' text.
+#[tactic(auto, using(crate::proofs::SpacesStay::spaces_stay))]
+pub fn spaces_stay()
+    ensures { SpacesStay }
+{}
+
+/// Spaces stay in pretty text too: its indents are not seen.
+#[tactic(auto, using(crate::proofs::SpacesStay::pretty_spaces_stay))]
+pub fn pretty_spaces_stay()
+    ensures { PrettySpacesStay }
+{}
+
+/// A root that can be read back: what is seen of the body of its text, plain or pretty, is what is
+/// seen of its body. If that is made of items in plain flow, it is exactly their text.
+pub fn documents_are_seen()
+    ensures body { BodyIsSeen }
+    ensures items { ItemsAreSeen }
+{}
+
+/// Items in plain flow become elements of plain names alone and no frame, in which what has indents
+/// is a border. So they can be read back, and none is a document's root or its body.
+pub fn plain_flow_makes_plain_nodes()
+    ensures made { PlainFlowMakesPlainNodes }
+    ensures read { PlainNodesCanBeRead }
+    ensures inside { PlainNamesAreInside }
+{}
+
+/// Items in plain flow whose texts and labels hold text characters alone, and of which no void element
+/// has a body, become nodes without a fault. They stay so with anchors of text characters alone.
+pub fn clean_items_are_written()
+    ensures made { CleanItemsMakeCleanNodes }
+    ensures written { CleanNodesAreWritten }
+    ensures anchored { AnchorsKeepCleanNodes }
+{}
+
+/// Anchors are not seen: neither an `id` in front of an element's attributes nor a `span` with
+/// nothing but an `id`, after a tag or around a text. What has indents stays a border, plain nodes
+/// stay plain, there is no new frame and no new raw element, and the first `body` stays the first.
+pub fn anchors_are_unseen()
+    ensures seen { AnchorsAreUnseen }
+    ensures edges { AnchorsKeepEdges }
+    ensures plain { AnchorsKeepPlainNodes }
+    ensures frame_free { AnchorsKeepFrameFree }
+    ensures body { AnchorsKeepBody }
+    ensures readable { AnchorsKeepReadable }
+    ensures read { ReadableNodesCanBeRead }
+{}
