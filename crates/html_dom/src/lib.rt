@@ -1,5 +1,22 @@
-//! The tree of an HTML document, with its positions, anchors, documents and flat form.
+//! The tree of an HTML document: elements, texts, frames and tags, the document around them, where its
+//! located elements stand, the anchors that links lead to, and the tree as one list.
+//!
+//! Each name is of one of the parts `html_dom_tree`, `html_dom_document`, `html_dom_introspect`,
+//! `html_dom_link` and `html_dom_flat`; users find them here.
+//!
+//! ```
+//! use html_dom::{HtmlElement, HtmlNode, Span};
+//! use html_names::{attr, tag};
+//!
+//! let text = HtmlNode::text(String::from_str(alloc, "Hello")?, Span(1));
+//! let paragraph = HtmlElement::new(alloc, tag::p)
+//!     .with_attr(attr::class, String::from_str(alloc, "intro")?)?
+//!     .with_child(text)?;
+//! assert_eq!(rt; paragraph.children.len(), 1);
+//! ```
 #![tactic(auto)]
+
+pub mod laws;
 
 pub use html_dom_document::{DocumentInfo, HtmlDocument, HtmlOutput, Locale};
 pub use html_dom_flat::{FlatElement, FlatNode, FlatTree};

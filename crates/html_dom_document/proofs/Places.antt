@@ -1,5 +1,5 @@
 -- The node at a place of a list, where an element stands.
-use Rattle.std.proofs.Common.{◌≡◌, ℕ, zero, suc, ◌<◌, true, List, [], ◌∷◌, length, get_or, Some, sym, ap, ◌∙◌, arith, true≢false}
+use Rattle.std.proofs.Common.{◌≡◌, ℕ, zero, suc, ◌<◌, ◌≤◌, true, false, List, [], ◌∷◌, length, get_or, Some, refl, sym, ap, ◌∙◌, arith, true≢false}
 use Rattle.std.specs.Prelude.{is_some}
 use Rattle.html_dom_tree.specs.Views.{node_view, nodes_view, element_view}
 use Rattle.html_dom_tree.specs.declared.node.HtmlElement.{HtmlElement}
@@ -37,3 +37,17 @@ element_seen ns i x e stands is here =
     ap as_element (seen_at ns i x stands is)
     ∙ (ap (λ n. as_element (Some (node_view n))) here
     ∙ ap (λ n. as_element (Some n)) (view-Element e))
+
+-- whether it is an element is asked of the node there; past the list there is none
+pub element_test : (ns : List HtmlNode) (i : ℕ) (x : HtmlNode) → i < length ns →
+    x ≡ get_or ns i x →
+    is_some (as_element (Some (node_view x))) ≡ is_element_at (nodes_view ns) i
+element_test [] i x inside is = absurd (omega arith)
+element_test (n ∷ ns) zero x inside is = ap (λ m. is_some (as_element (Some (node_view m)))) is
+element_test (n ∷ ns) (suc i) x inside is = element_test ns i x (omega arith) is
+
+pub none_past : (ns : List HtmlNode) (i : ℕ) → length ns ≤ i →
+    false ≡ is_element_at (nodes_view ns) i
+none_past [] i past = refl
+none_past (n ∷ ns) zero past = absurd (omega arith)
+none_past (n ∷ ns) (suc i) past = none_past ns i (omega arith)

@@ -9,6 +9,10 @@ pub record LocaleView : Type 0 where
   pub lang : List ℕ
   pub region : Option (List ℕ)
 
+-- a language alone
+abbrev pub locale_of : List ℕ → LocaleView
+locale_of lang = record { lang = lang; region = None }
+
 -- what is known of a document
 pub record InfoView : Type 0 where
   pub title : Option (List ℕ)

@@ -8,6 +8,13 @@ ghost use Rattle.html_dom_document.specs.Documents.{as_element};
 
 use html_dom_tree::{HtmlElement, HtmlNode};
 
+/// Whether the node is an element.
+pub(crate) fn is_element(node: &HtmlNode) -> bool
+    ensures { result ≡ is_some (as_element (Some (node_view node.now))) }
+{
+    matches!(node, HtmlNode::Element(_))
+}
+
 /// The element that a node is.
 pub(crate) fn element(node: &HtmlNode) -> &HtmlElement
     requires { is_some (as_element (Some (node_view node.now))) ≡ true }

@@ -1,6 +1,6 @@
 ghost use Rattle.std.specs.Prelude.{◌≡◌, IfOk};
-ghost use Rattle.html_dom_tree.specs.Views.{optional_text_view};
-ghost use Rattle.html_dom_document.specs.Documents.{no_info};
+ghost use Rattle.html_dom_tree.specs.Views.{optional_text_view, text_view};
+ghost use Rattle.html_dom_document.specs.Documents.{locale_of, no_info};
 ghost use Rattle.html_dom_document.specs.Views.{texts_view, locale_view, info_view};
 
 use std::alloc::{AllocError, Global};
@@ -31,6 +31,13 @@ pub struct DocumentInfo {
 }
 
 impl Locale {
+    /// That language, and no region.
+    pub fn new(lang: String) -> Locale
+        ensures { locale_view result ≡ locale_of (text_view lang) }
+    {
+        Locale { lang, region: None }
+    }
+
     /// A copy. It fails only where an allocation does.
     pub fn try_clone(&self) -> Result<Locale, AllocError>
         ensures { IfOk result (λ copy. locale_view copy ≡ locale_view self.now) }

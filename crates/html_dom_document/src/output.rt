@@ -2,7 +2,7 @@ ghost use Rattle.std.specs.Prelude.{◌≡◌, true};
 ghost use Rattle.html_dom_tree.specs.Views.{nodes_view};
 ghost use Rattle.html_dom_document.specs.Documents.{is_element_at};
 
-use crate::element::{element, element_mut};
+use crate::element::{element, element_mut, is_element};
 use html_dom_tree::{HtmlElement, HtmlNode};
 use std::alloc::AllocError;
 
@@ -30,6 +30,22 @@ impl HtmlOutput {
             ≡ record { nodes = nodes_view nodes.items; root = root_index } }
     {
         HtmlOutput { nodes, root_index }
+    }
+
+    /// Whether an element stands at that place of the nodes, which so can be the root.
+    ///
+    /// ```
+    /// if HtmlOutput::can_be_root(&nodes, place) {
+    ///     let output = HtmlOutput::new(nodes, place);
+    /// }
+    /// ```
+    pub fn can_be_root(nodes: &[HtmlNode], place: usize) -> bool
+        ensures { result ≡ is_element_at (nodes_view nodes.now) place }
+    {
+        match nodes.get(place) {
+            Some(node) => is_element(node),
+            None => false,
+        }
     }
 
     /// All nodes, in order.

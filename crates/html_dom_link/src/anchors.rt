@@ -20,11 +20,13 @@ use std::mem;
 
 /// Gives the tree of a document anchors for these locations, and answers the anchor of each.
 ///
-/// A start tag of one of them waits for the next element, text or frame, which serves all that wait:
-/// with its `id`, or with a new one, made of the first label that waits. A text is put in a new
-/// `span`; at an end tag of a location that waits a new empty `span` stands. A start tag in a frame
-/// gets an anchor of its own at its point. New names differ from each other and from all that the
-/// tree has. It fails only where an allocation does, and then the document is as it was.
+/// A start tag of one of them waits for the next element, text or frame, which serves all that
+/// wait: with its `id`, or with a new one, made of the first label that waits. A text is put in a
+/// new `span`; at an end tag of a location that waits a new empty `span` stands, with a name made
+/// of the first label of that location. Where a location was recorded in a frame, each of its start
+/// tags in frames gets an anchor of its own, at the recorded point. New names differ from each
+/// other and from all that the tree has, as long as both are at most 2^63. It fails only where an
+/// allocation does, and then the document is as it was.
 ///
 /// The new tree is made beside the old one. [`with_link_anchors`] takes a document, and copies
 /// nothing.

@@ -12,13 +12,13 @@ pub fn one_walk_serves()
     ensures { OneWalkServes }
 {}
 
-/// Names that are made differ from each other and from all in use.
+/// Names that are made differ from each other and from all in use, where both are at most 2^63.
 #[tactic(auto, using(crate::proofs::Freshes::names_are_new))]
 pub fn names_are_new()
     ensures { NamesAreNew }
 {}
 
-/// The number in a new name is the first one that is free.
+/// The number in a new name is the first one that is free, where at most 2^63 names are in use.
 pub fn number_is_first_free()
     ensures { IsFirstFree }
 {}

@@ -1,4 +1,4 @@
-//! Anchors of links: each target that a link leads to gets a name in the tree.
+//! Anchors of links: the targets of links that stand in the tree get names there.
 #![tactic(auto)]
 
 mod anchors;

@@ -40,6 +40,15 @@ new_element name =
 abbrev pub with_pair : TextPair → ElementView → ElementView
 with_pair pair e = (record e.0 { attrs = e.0.attrs ++ pair ∷ [] }, e.1)
 
+-- nodes, and one more behind them
+abbrev pub with_last : NodesView → NodeView → NodesView
+with_last none n = node n none
+with_last (node m ms) n = node m (with_last ms n)
+
+-- an element with a node added as its last child
+abbrev pub with_node : NodeView → ElementView → ElementView
+with_node n e = (e.0, with_last e.1 n)
+
 -- the span of a node, 0 for a tag
 abbrev pub node_span : NodeView → ℕ
 node_span (tag_node t) = 0

@@ -1,5 +1,5 @@
 ghost use Rattle.std.specs.Prelude.{◌≡◌, ◌↔◌, ◌++◌, ◌∷◌, [], IsTrue, IfOk, IfErr};
-ghost use Rattle.html_dom_tree.specs.Tree.{new_element, with_pair, node_span, text_node, tag_node, element_node, frame_node};
+ghost use Rattle.html_dom_tree.specs.Tree.{new_element, with_node, with_pair, node_span, text_node, tag_node, element_node, frame_node};
 ghost use Rattle.html_dom_tree.specs.FrameViews.{html_frame_view};
 ghost use Rattle.html_dom_tree.specs.Views.{text_view, tag_view, node_view, element_view, nodes_view};
 
@@ -11,7 +11,7 @@ use crate::text::same_text;
 use html_names::{HtmlAttr, HtmlTag, Refused};
 use html_values_css::Properties;
 use html_values_css::laws::equal_properties;
-use std::alloc::{AllocError, Global};
+use std::alloc::{AllocError, AllocFailed, Global};
 
 /// A node of the tree. Two are equal where all their fields are.
 #[derive(Debug, Drop)]
@@ -129,6 +129,31 @@ impl HtmlElement {
     {
         self.children = children;
         self
+    }
+
+    /// The element with a node added as its last child. Where an allocation fails, both come back.
+    ///
+    /// ```
+    /// let text = HtmlNode::text(String::from_str(alloc, "Hello")?, Span(1));
+    /// let paragraph = HtmlElement::new(alloc, tag::p).with_child(text)?;
+    /// assert_eq!(rt; paragraph.children.len(), 1);
+    /// ```
+    #[tactic(auto, using(crate::proofs::Nodes::with_last_view))]
+    pub fn with_child(
+        mut self,
+        child: HtmlNode,
+    ) -> Result<HtmlElement, Refused<(HtmlElement, HtmlNode)>>
+        ensures ok { IfOk result (λ element.
+            element_view element ≡ with_node (node_view child) (element_view self)) }
+        ensures err { IfErr result (λ refused. (element_view refused.back.0 ≡ element_view self)
+            × (refused.back.1 ≡ child)) }
+    {
+        match self.children.push(child) {
+            Ok(()) => Ok(self),
+            Err(AllocFailed { value }) => Err(Refused {
+                back: (self, value),
+            }),
+        }
     }
 
     /// The element with these css properties in place of its own.

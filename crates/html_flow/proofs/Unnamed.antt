@@ -4,8 +4,8 @@ use Rattle.std.specs.List.{remove}
 use Rattle.std.proofs.lemmas.Bool.{cases_Bool}
 use Rattle.std.proofs.lemmas.Option.{none-some, same_Some}
 use Rattle.html_names.specs.Kinds.{is_void, is_raw}
-use Rattle.html_flow.specs.declared.fault.ConstructFault.{ConstructFault}
-use Rattle.html_flow.specs.declared.fault.ConstructFault.TheVariants.{OutOfMemory, Casts, BodyKind}
+use Rattle.html_flow_convert.specs.declared.construct_fault.ConstructFault.{ConstructFault}
+use Rattle.html_flow_convert.specs.declared.construct_fault.ConstructFault.TheVariants.{OutOfMemory, Casts, BodyKind}
 use Rattle.html_flow.specs.Construct.{ArgView, BodyChoice, arg_view, args_view, arg_body, fails, choice_after, body_choice, choice_from, first_choice, takes}
 use Rattle.html_flow.specs.Pieces.{IsBodyRefusal, IsChoiceRefusal, arg_at, unnamed_at}
 use Rattle.html_flow_convert.specs.Items.{BodyView, absent}

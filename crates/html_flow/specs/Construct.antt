@@ -4,13 +4,13 @@ use Rattle.std.specs.Prelude.{ℕ, List, [], ◌∷◌, ◌++◌, map, Bool, fal
 use Rattle.html_names.specs.Kinds.{is_void, is_raw}
 use Rattle.html_names.specs.Texts.{TextPair, text_view}
 use Rattle.html_names.specs.declared.html_attr.HtmlAttr.{HtmlAttr}
-use Rattle.html_dom_tree.specs.declared.span.Span.{Span}
 use Rattle.html_values.specs.Casts.{CastAnswer, gives, nothing, refuses, cast}
 use Rattle.html_values.specs.Types.{AttrTypeView, attr_type_view}
 use Rattle.html_values.specs.Values.{ValueView, none_value, str_value, value_view}
 use Rattle.html_values.specs.declared.attr_type.AttrType.{AttrType}
-use Rattle.html_values.specs.declared.cast_fault.CastFault.{CastFault}
-use Rattle.html_values.specs.declared.cast_fault.CastFault.TheVariants.{WrongKind}
+use Rattle.html_values_css.specs.declared.cast_fault.CastFault.{CastFault}
+use Rattle.html_values_css.specs.declared.cast_fault.CastFault.TheVariants.{WrongKind}
+use Rattle.html_flow_convert.specs.ConstructFaults.{faults_view}
 use Rattle.html_flow_convert.specs.Items.{ElemView, ItemsView, no_items, item, text_item, inherits, BodyView, absent, present, new_head}
 use Rattle.html_flow_convert.specs.Views.{elem_view, items_view}
 use Rattle.html_flow_convert.specs.declared.item.HtmlElem.{HtmlElem}
@@ -18,8 +18,8 @@ use Rattle.html_flow.specs.declared.args.ArgValue.{ArgValue}
 use Rattle.html_flow.specs.declared.args.ArgValue.TheVariants.{Plain, Body as Items}
 use Rattle.html_flow.specs.declared.args.Arg.{Arg}
 use Rattle.html_flow.specs.declared.args.ElementInfo.{ElementInfo}
-use Rattle.html_flow.specs.declared.fault.ConstructFault.{ConstructFault}
-use Rattle.html_flow.specs.declared.fault.ConstructFault.TheVariants.{OutOfMemory, Casts, BodyKind}
+use Rattle.html_flow_convert.specs.declared.construct_fault.ConstructFault.{ConstructFault}
+use Rattle.html_flow_convert.specs.declared.construct_fault.ConstructFault.TheVariants.{OutOfMemory, Casts, BodyKind}
 
 -- what an argument has: a value, or items
 pub data ArgValueView : Type 0 where
@@ -164,9 +164,6 @@ construct_outcome info args =
     let es = entries_view info.attrs.items in
     unless_faults (faults es args)
     (with_body info.tag es (attrs es args) (body_choice info.tag args))
-
-abbrev pub faults_view : List (CastFault × Span) → List (CastFault × ℕ)
-faults_view = map (λ f. (f.0, f.1.0))
 
 -- a refusal has the right faults, or is out of memory
 abbrev pub IsRefusal : Outcome → ConstructFault → Type 0

@@ -1,3 +1,14 @@
 pub mod Construct
-pub mod Faults
 pub mod Pieces
+pub use Rattle.html_flow_whitespace.specs.BareSpaces
+pub use Rattle.html_flow_whitespace.specs.Nodes
+pub use Rattle.html_flow_whitespace.specs.Pieces as TextPieces
+pub use Rattle.html_flow_whitespace.specs.Protected
+pub use Rattle.html_flow_whitespace.specs.Runs
+pub use Rattle.html_flow_convert.specs.ConstructFaults
+pub use Rattle.html_flow_convert.specs.Converted
+pub use Rattle.html_flow_convert.specs.Converts
+pub use Rattle.html_flow_convert.specs.Depth
+pub use Rattle.html_flow_convert.specs.Items
+pub use Rattle.html_flow_convert.specs.LoneNode
+pub use Rattle.html_flow_convert.specs.Views

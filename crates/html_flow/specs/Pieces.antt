@@ -7,11 +7,12 @@ use Rattle.html_dom_tree.specs.declared.attrs.HtmlAttrs.{HtmlAttrs}
 use Rattle.html_flow_convert.specs.Views.{body_view, items_view}
 use Rattle.html_flow_convert.specs.declared.item.Pair.{Pair}
 use Rattle.html_values.specs.Values.{none_value}
-use Rattle.html_values.specs.declared.cast_fault.CastFault.{CastFault}
+use Rattle.html_values_css.specs.declared.cast_fault.CastFault.{CastFault}
 use Rattle.html_flow_convert.specs.Items.{ItemsView, BodyView, present}
-use Rattle.html_flow.specs.Construct.{ArgValueView, plain, items, ArgView, BodyChoice, takes, fails, faults_view}
-use Rattle.html_flow.specs.declared.fault.ConstructFault.{ConstructFault}
-use Rattle.html_flow.specs.declared.fault.ConstructFault.TheVariants.{OutOfMemory, Casts, BodyKind}
+use Rattle.html_flow.specs.Construct.{ArgValueView, plain, items, ArgView, BodyChoice, takes, fails}
+use Rattle.html_flow_convert.specs.ConstructFaults.{faults_view}
+use Rattle.html_flow_convert.specs.declared.construct_fault.ConstructFault.{ConstructFault}
+use Rattle.html_flow_convert.specs.declared.construct_fault.ConstructFault.TheVariants.{OutOfMemory, Casts, BodyKind}
 
 -- the place of the first argument without a name
 abbrev pub unnamed_at : List ArgView → Option ℕ

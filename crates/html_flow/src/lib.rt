@@ -10,13 +10,12 @@
 
 mod args;
 mod construction;
-mod fault;
 pub mod laws;
 
 pub use args::{Arg, ArgValue, Args, ElementInfo};
 pub use construction::construct;
-pub use fault::ConstructFault;
 pub use html_flow_convert::{
-    Bareness, ConversionLevel, FlowFault, FrameElem, HtmlElem, Item, Pair, Role, Whitespace,
-    bare_spaces, convert_to_nodes, html_block_fragment, html_inline_fragment, html_math_fragment,
+    Bareness, ConstructFault, ConversionLevel, FlowFault, FrameElem, HtmlElem, Item, Pair, Role,
+    Whitespace, bare_spaces, convert_to_nodes, html_block_fragment, html_inline_fragment,
+    html_math_fragment, is_depth_limit, push_located,
 };

@@ -1,3 +1,4 @@
+pub mod ConstructFaults
 pub mod Levels
 pub mod LoneNodes
 pub mod Rows

@@ -1,7 +1,7 @@
 -- What a document flows: items as pure values, in which texts are lists of characters.
 use Rattle.std.specs.Prelude.{ℕ, ℤ, List, [], ◌∷◌, ◌++◌, Option, None, Some}
 use Rattle.html_names.specs.Texts.{TextPair}
-use Rattle.html_dom_tree.specs.Tags.{TagView}
+use Rattle.html_dom_tree.specs.Tags.{TagView, starts, ends}
 use Rattle.html_dom_tree.specs.Frames.{FrameView}
 
 -- the role of an item: that of its list, its own, or none
@@ -60,6 +60,25 @@ with_pair pair e = (record e.0 { attrs = e.0.attrs ++ pair ∷ [] }, e.1)
 abbrev pub with_optional_pair : List ℕ → Option (List ℕ) → ElemView → ElemView
 with_optional_pair name None e = e
 with_optional_pair name (Some value) e = with_pair (name, value) e
+
+-- with that body, with that css, with that span in place of its own
+abbrev pub with_items : ItemsView → ElemView → ElemView
+with_items items e = (e.0, present items)
+
+abbrev pub with_properties : List TextPair → ElemView → ElemView
+with_properties css e = (record e.0 { css = css }, e.1)
+
+abbrev pub with_span : ℕ → ElemView → ElemView
+with_span span e = (record e.0 { span = span }, e.1)
+
+-- an item with the role of its list
+abbrev pub inheriting : ItemView → ItemView × RoleView
+inheriting i = (i, inherits)
+
+-- an item between the tags that locate it
+abbrev pub located : ℕ → Option (List ℕ) → Option ℕ → ItemView → List (ItemView × RoleView)
+located location label dest i = inheriting (tag_item (starts location label dest))
+    ∷ inheriting i ∷ inheriting (tag_item (ends location)) ∷ []
 
 -- the span that an item comes from, 0 for a tag and a hole
 abbrev pub item_span : ItemView → ℕ

@@ -1,3 +1,4 @@
+pub mod ConstructFaults
 pub mod Converted
 pub mod Converts
 pub mod Depth

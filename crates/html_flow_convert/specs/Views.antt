@@ -62,6 +62,9 @@ pair_view = fold-Pair ItemView ElemView (ItemView × RoleView) item_step elem_st
 abbrev pub item_view : Item → ItemView
 item_view = fold-Item ItemView ElemView (ItemView × RoleView) item_step elem_step pair_step
 
+abbrev pub pairs_view : List Pair → List (ItemView × RoleView)
+pairs_view = map pair_view
+
 abbrev pub items_view : List Pair → ItemsView
 items_view ps = items_of (map pair_view ps)
 

@@ -1,7 +1,7 @@
 //! From items to nodes.
 #![tactic(auto, unfolding(crate::specs::Converted::item_nodes, crate::specs::Depth::item_too_deep))]
 
-ghost use Rattle.std.specs.Prelude.{◌≡◌, ◌≤◌, ◌++◌, ◌∷◌, [], IfOk, IsTrue, OnOk, codes, map};
+ghost use Rattle.std.specs.Prelude.{◌≡◌, ◌≤◌, ◌↔◌, ◌++◌, ◌∷◌, [], IfOk, IsTrue, OnOk, codes, map};
 ghost use Rattle.html_names.specs.Names.{is_ascii};
 ghost use Rattle.html_names.specs.Texts.{text_view};
 ghost use Rattle.html_dom_tree.specs.Tree.{tag_node, text_node, element_node};
@@ -29,7 +29,7 @@ use std::alloc::{AllocError, Global};
 /// Where a list of items stands.
 #[derive(Clone, Copy, Debug, PartialEq, Eq, Hash)]
 pub enum ConversionLevel {
-    /// On lines of its own. Spaces that would collapse at the ends of lines are protected.
+    /// On lines of its own. Lone spaces that are not bare are protected.
     Block,
     /// In a line, which is looked at as a whole.
     Inline,
@@ -44,6 +44,17 @@ pub enum Whitespace {
     Pre,
 }
 
+/// Whether it is a limit on how deep items may stand that the calls take: from 1 to 10,000.
+///
+/// ```
+/// let limit = if is_depth_limit(wanted) { wanted } else { 50 };
+/// ```
+pub fn is_depth_limit(limit: usize) -> bool
+    ensures { IsTrue result ↔ ((1 ≤ limit) × (limit ≤ 10000)) }
+{
+    (1..=10_000).contains(&limit)
+}
+
 /// The nodes that items become, in order.
 ///
 /// An element item becomes an element of that tag, with these attributes, css and parent, and with
@@ -52,10 +63,10 @@ pub enum Whitespace {
 /// `display: block`; a box or block the one element or frame in it, whose css then says how it is
 /// displayed, or else a `span` or `div` around its nodes. Each node that is made has its item's span.
 ///
-/// Where white space collapses, a text is cut at line breaks and around blanks, runs of blanks stand
-/// in a `span` that keeps them, and at block level so does each lone space that would collapse (see
-/// [`html_flow_whitespace::bare_spaces`]). The role is that of the list: an element item other than `p`
-/// takes it as its last attribute `role`.
+/// Where white space collapses, a text is cut at line breaks and around blanks, runs of blanks
+/// stand in a `span` that keeps them, and at block level so does each lone space that is not bare
+/// (see [`bare_spaces`](crate::bare_spaces)). The role is that of the list: an element item other
+/// than `p` takes it as its last attribute `role`.
 ///
 /// `depth` is that of the list, a body in it is one deeper. It fails where an allocation does, and
 /// with the span of the first item, in document order, that has a body, even an empty one, deeper
@@ -64,8 +75,8 @@ pub enum Whitespace {
 /// Cost: grows with the number of items at all depths and the length of their texts.
 ///
 /// ```
-/// use html_dom_tree::Span;
-/// use html_flow_convert::{ConversionLevel, Item, Pair, Role, Whitespace, convert_to_nodes};
+/// use html_dom::Span;
+/// use html_flow::{ConversionLevel, Item, Pair, Role, Whitespace, convert_to_nodes};
 ///
 /// let mut items = Vec::new(alloc);
 /// for text in ["a ", " b"] {

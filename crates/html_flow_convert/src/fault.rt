@@ -2,7 +2,8 @@ ghost use Rattle.std.specs.Prelude.{◌≡◌};
 ghost use Rattle.html_flow_convert.specs.Converts.{flow_number_of};
 
 use html_dom_tree::Span;
-use std::alloc::AllocError;
+use html_names::Refused;
+use std::alloc::{AllocError, AllocFailed};
 use thiserror::Error;
 
 /// Why items did not become nodes.
@@ -37,6 +38,26 @@ impl From<AllocError> for FlowFault {
     ghost from_gives = { λ _ e. e ≡ OutOfMemory };
 
     fn from(_refused: AllocError) -> FlowFault {
+        FlowFault::OutOfMemory
+    }
+}
+
+impl<T: Drop> From<AllocFailed<T>> for FlowFault {
+    ghost use Rattle.html_flow_convert.specs.declared.fault.FlowFault.TheVariants.{OutOfMemory};
+
+    ghost from_gives = { λ _ e. e ≡ OutOfMemory };
+
+    fn from(_failed: AllocFailed<T>) -> FlowFault {
+        FlowFault::OutOfMemory
+    }
+}
+
+impl<T: Drop> From<Refused<T>> for FlowFault {
+    ghost use Rattle.html_flow_convert.specs.declared.fault.FlowFault.TheVariants.{OutOfMemory};
+
+    ghost from_gives = { λ _ e. e ≡ OutOfMemory };
+
+    fn from(_refused: Refused<T>) -> FlowFault {
         FlowFault::OutOfMemory
     }
 }

@@ -1,7 +1,8 @@
-ghost use Rattle.std.specs.Prelude.{◌≡◌, IfOk, IfErr, option_map};
+ghost use Rattle.std.specs.Prelude.{◌≡◌, ◌+◌, ◌<◌, ◌≤◌, ◌++◌, ◌∷◌, [], IfOk, IfErr, OnOk, OnErr, option_map, vec_len, vec_capacity};
 ghost use Rattle.html_names.specs.Texts.{text_view};
-ghost use Rattle.html_flow_convert.specs.Items.{absent, item_span, new_head, with_optional_pair, with_pair};
-ghost use Rattle.html_flow_convert.specs.Views.{body_view, elem_view, item_view, pair_view, frame_elem_view, role_view};
+ghost use Rattle.html_flow_convert.specs.Items.{absent, inheriting, item_span, located, new_head, with_items, with_optional_pair, with_pair, with_properties, with_span};
+ghost use Rattle.html_flow_convert.specs.Views.{body_view, elem_view, item_view, items_view, pair_view, pairs_view, frame_elem_view, role_view};
+ghost use Rattle.html_dom_tree.specs.Views.{optional_text_view};
 
 use html_dom_tree::{Frame, HtmlAttrs, Location, Span, Tag};
 use html_names::{HtmlAttr, HtmlTag, Refused};
@@ -80,6 +81,75 @@ pub struct FrameElem {
     pub text_size: Abs,
     /// Where it comes from.
     pub span: Span,
+}
+
+/// The item with the role of its list.
+impl From<Item> for Pair {
+    ghost use Rattle.html_flow_convert.specs.Items.{inheriting};
+
+    ghost from_gives = { λ item pair. pair_view pair ≡ inheriting (item_view item) };
+
+    fn from(item: Item) -> Pair {
+        Pair {
+            item,
+            role: Role::Inherit,
+        }
+    }
+}
+
+/// Adds an item between the two tags that locate it: a start tag with that label and that
+/// destination, the item, and the end tag, each with the role of its list. A destination is where the
+/// element is a link to; a location to which a link leads gets an anchor (see `html_document`). Where
+/// an allocation fails, the list stays, and label and item come back.
+///
+/// ```
+/// // A heading that links lead to, and a link to it.
+/// let mut items = Vec::new(alloc);
+/// push_located(&mut items, Location(1), None, None, Item::Element(heading))?;
+/// push_located(&mut items, Location(2), None, Some(Location(1)), Item::Element(link))?;
+/// assert_eq!(rt; items.len(), 6);
+/// ```
+pub fn push_located(
+    items: &mut Vec<Pair>,
+    location: Location,
+    label: Option<String>,
+    dest: Option<Location>,
+    item: Item,
+) -> Result<(), Refused<(Option<String>, Item)>>
+    ensures ok { OnOk result (pairs_view items.new.items ≡ pairs_view items.old.items
+        ++ located location.0 (optional_text_view label) (option_map (λ l. l.0) dest)
+        (item_view item)) }
+    ensures err { OnErr result (pairs_view items.new.items ≡ pairs_view items.old.items) }
+    ensures back { IfErr result (λ refused.
+        (refused.back.0 ≡ label) × (refused.back.1 ≡ item)) }
+{
+    if items.reserve(3).is_err() {
+        return Err(Refused {
+            back: (label, item),
+        });
+    }
+    let start = Tag::Start {
+        location,
+        label,
+        dest,
+    };
+    push_reserved(items, Item::Tag(start));
+    push_reserved(items, item);
+    push_reserved(items, Item::Tag(Tag::End { location }));
+    Ok(())
+}
+
+/// Adds an item to a list that has room for it.
+fn push_reserved(items: &mut Vec<Pair>, item: Item)
+    requires { vec_len items.old < vec_capacity items.old }
+    ensures added { pairs_view items.new.items
+        ≡ pairs_view items.old.items ++ inheriting (item_view item) ∷ [] }
+    ensures len { vec_len items.new ≡ vec_len items.old + 1 }
+    ensures room { vec_capacity items.old ≤ vec_capacity items.new }
+{
+    if items.push(Pair::from(item)).is_err() {
+        unreachable!();
+    }
 }
 
 impl Pair {
@@ -185,6 +255,30 @@ impl HtmlElem {
             parent: None,
             span: Span(0),
         }
+    }
+
+    /// The element with that body.
+    pub fn with_body(mut self, body: Vec<Pair>) -> HtmlElem
+        ensures { elem_view result ≡ with_items (items_view body.items) (elem_view self) }
+    {
+        self.body = Some(body);
+        self
+    }
+
+    /// The element with these css properties in place of its own.
+    pub fn with_css(mut self, css: Properties) -> HtmlElem
+        ensures { elem_view result ≡ with_properties css (elem_view self) }
+    {
+        self.css = css;
+        self
+    }
+
+    /// The element with that span.
+    pub fn spanned(mut self, span: Span) -> HtmlElem
+        ensures { elem_view result ≡ with_span span.0 (elem_view self) }
+    {
+        self.span = span;
+        self
     }
 
     /// The element with a pair added as its last attribute. Where an allocation fails, all comes

@@ -7,6 +7,7 @@
 //! ```
 #![tactic(auto)]
 
+mod construct_fault;
 mod convert;
 mod fault;
 mod fragment;
@@ -16,8 +17,9 @@ mod lone;
 mod row;
 mod setting;
 
-pub use convert::{ConversionLevel, Whitespace, convert_to_nodes};
+pub use construct_fault::ConstructFault;
+pub use convert::{ConversionLevel, Whitespace, convert_to_nodes, is_depth_limit};
 pub use fault::FlowFault;
 pub use fragment::{html_block_fragment, html_inline_fragment, html_math_fragment};
 pub use html_flow_whitespace::{Bareness, bare_spaces};
-pub use item::{FrameElem, HtmlElem, Item, Pair, Role};
+pub use item::{FrameElem, HtmlElem, Item, Pair, Role, push_located};

@@ -35,6 +35,14 @@ same_equiv v d = record {
       (λ q. p ∙ (same_decides v d y z).0 q, λ q. (same_decides v d y z).1 (sym p ∙ q));
 }
 
+-- what a value is made of, from which it comes back, decides whether two are equal
+pub discrete_by : {A B : Type 0} (f : A → B) (g : B → A) → ((a : A) → g (f a) ≡ a) → Discrete B →
+    Discrete A
+discrete_by f g back d x y = elim (d (f x) (f y)) [
+  | yes p ↦ yes (sym (back x) ∙ ap g p ∙ back y)
+  | no n ↦ no (λ e. n (ap f e))
+]
+
 pub option_discrete : {A : Type 0} → Discrete A → Discrete (Option A)
 option_discrete d None None = yes refl
 option_discrete d None (Some y) = no (λ e. cc)

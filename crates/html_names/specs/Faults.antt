@@ -1,5 +1,8 @@
--- The number of each fault of a name.
-use Rattle.std.specs.Prelude.{ℕ}
+-- The number of each fault of a name, and that it is decided whether two are equal.
+use Rattle.std.specs.Prelude.{◌≡◌, ℕ, ◌==◌, if◌then◌else◌, refl}
+use native.Mathlib.Decide.{ℕ_discrete}
+use mathlib.Core.HLevel.{×_discrete}
+use Rattle.html_names.specs.Equal.{discrete_by}
 use Rattle.html_names.specs.declared.fault.NameFault.{NameFault}
 use Rattle.html_names.specs.declared.fault.NameFault.TheVariants.{OutOfMemory, EmptyTag, BadTagChar, CustomStart, CustomCapital, Reserved, EmptyAttr, BadAttrChar}
 
@@ -12,3 +15,30 @@ number_of CustomCapital = 4
 number_of Reserved = 5
 number_of EmptyAttr = 6
 number_of (BadAttrChar c) = 7
+
+-- the character that a fault has, and 0 where it has none
+abbrev char_of : NameFault → ℕ
+char_of (BadTagChar c) = c
+char_of (BadAttrChar c) = c
+char_of fault = 0
+
+-- the fault of a number, with its character
+abbrev fault_of : ℕ × ℕ → NameFault
+fault_of p = if p.0 == 1 then EmptyTag else (if p.0 == 2 then BadTagChar p.1
+    else (if p.0 == 3 then CustomStart else (if p.0 == 4 then CustomCapital
+    else (if p.0 == 5 then Reserved else (if p.0 == 6 then EmptyAttr
+    else (if p.0 == 7 then BadAttrChar p.1 else OutOfMemory))))))
+
+fault_back : (f : NameFault) → fault_of (number_of f, char_of f) ≡ f
+fault_back OutOfMemory = refl
+fault_back EmptyTag = refl
+fault_back (BadTagChar c) = refl
+fault_back CustomStart = refl
+fault_back CustomCapital = refl
+fault_back Reserved = refl
+fault_back EmptyAttr = refl
+fault_back (BadAttrChar c) = refl
+
+pub name_fault_discrete : Discrete NameFault
+name_fault_discrete = discrete_by (λ f. (number_of f, char_of f)) fault_of fault_back
+    (×_discrete ℕ_discrete ℕ_discrete)

@@ -1,6 +1,7 @@
 pub mod ByNumber
 pub mod Characters
 pub mod Displays
+pub mod Endings
 pub mod Equal
 pub mod Faults
 pub mod Hashes

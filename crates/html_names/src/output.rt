@@ -6,7 +6,7 @@ ghost use Rattle.html_names.specs.Texts.{two_digits};
 use std::alloc::{AllocError, Global};
 use std::marker::Model;
 
-/// A text that is being written.
+/// A text that is being written, by the crates above: who uses names needs none.
 ///
 /// A contract sees it as its characters. Each call that adds to it either adds all that it says, or
 /// answers that an allocation failed; the text may then have any characters.

@@ -2,11 +2,21 @@ ghost use Rattle.std.specs.Prelude.{◌≡◌};
 
 use crate::fault::NameFault;
 use std::alloc::AllocError;
-use thiserror::Error;
+use std::error::Error;
+use std::fmt;
 
 /// An allocation failed in a call that consumes values: they come back unchanged.
-#[derive(Debug, Drop, PartialEq, Eq, Error)]
-#[error("out of memory")]
+///
+/// It is an error whatever comes back, so that `?` hands it on as any other.
+///
+/// ```
+/// let color = String::from_str(alloc, "red")?;
+/// let color = match properties.push("color", color) {
+///     Ok(()) => return Ok(properties),
+///     Err(Refused { back }) => back, // the value that could not be stored
+/// };
+/// ```
+#[derive(Drop, PartialEq, Eq)]
 pub struct Refused<T> {
     /// What the call had consumed.
     pub back: T,
@@ -20,6 +30,30 @@ impl<T> Refused<T> {
         0
     }
 }
+
+/// `out of memory`
+impl<T> fmt::Display for Refused<T> {
+    ghost use Rattle.std.specs.Prelude.{codes, Some};
+
+    ghost output = { λ _. Some (codes "out of memory") };
+
+    fn fmt<W: fmt::Write>(&self, f: &mut fmt::Formatter<W>) -> fmt::Result {
+        write!(f, "out of memory")
+    }
+}
+
+/// `Refused(..)`
+impl<T> fmt::Debug for Refused<T> {
+    ghost use Rattle.std.specs.Prelude.{codes, Some};
+
+    ghost debug_output = { λ _. Some (codes "Refused(..)") };
+
+    fn fmt<W: fmt::Write>(&self, f: &mut fmt::Formatter<W>) -> fmt::Result {
+        write!(f, "Refused(..)")
+    }
+}
+
+impl<T: Drop> Error for Refused<T> {}
 
 impl<T: Drop> From<Refused<T>> for AllocError {
     fn from(_refused: Refused<T>) -> AllocError {

@@ -1,7 +1,7 @@
 //! The program: HTML text of a tree or of items that standard input spells in JSON.
 #![tactic(auto)]
 
-use html_tool_run::{Recorded, Status, run, words_of};
+use html_tool_run::{Status, run, words_of};
 use std::env;
 use std::io::ErrorKind;
 use std::process::ExitCode;
@@ -26,6 +26,6 @@ fn outcome(rt: &HostRuntime) -> Status {
             }
         }
     }
-    let mut writer = Recorded::new(rt.stdout());
-    run(rt.alloc(), &mut rt.stdin(), &mut writer, words_of(&args))
+    let words = words_of(&args);
+    run(rt.alloc(), &mut rt.stdin(), &mut rt.stdout(), words)
 }

@@ -4,9 +4,13 @@ use Rattle.std.specs.Io.KnownBytes.{Appends, Keeps}
 use Rattle.std.specs.Fmt.{decimal}
 use lib.Utf8.{encodes}
 use Rattle.serde_json.specs.Data.{Data}
+use Rattle.html_names.specs.Faults as name
+use Rattle.html_values_css.specs.CastFaults as cast
+use Rattle.html_flow_convert.specs.ConstructFaults as construct
+use Rattle.html_flow_convert.specs.ConstructFaults.{ConstructFaultView}
 use Rattle.html_dom_tree.specs.Tree.{ElementView}
 use Rattle.html_dom_document.specs.Documents.{no_info}
-use Rattle.typst_html_encode.specs.FaultViews.{ExportFaultView, out_of_memory, too_deep, not_alone, footnotes, unencodable, void_children, raw_child, raw_closing, frame_refused}
+use Rattle.typst_html_encode.specs.FaultViews.{ExportFaultView, out_of_memory, too_deep, not_alone, footnotes, unencodable, void_children, raw_child, raw_closing, frame_refused, name_fault, cast_fault, construct_fault}
 use Rattle.typst_html_encode.specs.Frames.{no_frames}
 use Rattle.typst_html_encode.specs.Text.{document_text}
 use Rattle.typst_html_encode.specs.declared.options.HtmlOptions.{HtmlOptions}
@@ -44,7 +48,14 @@ abbrev pub first_span : List ℕ → ℕ
 first_span [] = 0
 first_span (span ∷ spans) = span
 
--- a fault of a tree or of items: its number and its span
+-- a fault of constructing: its number and its span
+abbrev pub construct_refusal : ConstructFaultView → Refusal
+construct_refusal construct.out_of_memory = (0, 0)
+construct_refusal (construct.cast_faults []) = (0, 0)
+construct_refusal (construct.cast_faults (f ∷ fs)) = (cast.number_of f.0, f.1)
+construct_refusal (construct.body_kind span) = (24, span)
+
+-- a fault of a tree or of items, or of a call that makes them: its number and its span
 abbrev pub fault_refusal : ExportFaultView → Refusal
 fault_refusal out_of_memory = (0, 0)
 fault_refusal (too_deep span) = (8, span)
@@ -55,6 +66,9 @@ fault_refusal (void_children span) = (12, span)
 fault_refusal (raw_child span) = (13, span)
 fault_refusal (raw_closing span) = (14, span)
 fault_refusal (frame_refused span) = (15, span)
+fault_refusal (name_fault fault) = (name.number_of fault, 0)
+fault_refusal (cast_fault fault) = (cast.number_of fault, 0)
+fault_refusal (construct_fault fault) = construct_refusal fault
 
 abbrev pub refusal_line : Refusal → List ℕ
 refusal_line r = codes "refused: " ++ (decimal r.0 ++ (codes " at " ++ (decimal r.1 ++ codes "\n")))
@@ -126,6 +140,13 @@ EndsAs answer status old new last =
     ⊎ ((status ≡ Failed) × (Keeps old new ⊎
     ((last ≡ last_call.Failed) × AppendsBeginning old new answer.line)))
 
+-- the same of a writer that remembers nothing: with the answer's status, and then all of its bytes
+-- were added; or with a failure, and then a beginning of them was, perhaps none
+abbrev pub AddsAnswer : Answer → Status → (old new : Option (List ℕ)) → Type 0
+AddsAnswer answer status old new =
+    ((status ≡ answer.status) × Appends old new answer.line)
+    ⊎ ((status ≡ Failed) × AppendsBeginning old new answer.line)
+
 -- all that a reader has left, where that is known
 abbrev pub IsAll : (input : List ℕ) (remaining : Option (List ℕ)) → Type 0
 IsAll input remaining = IfSome remaining (λ bytes. input ≡ bytes)
@@ -135,3 +156,8 @@ abbrev pub EndsOn : (words : List (List ℕ)) (remaining : Option (List ℕ)) �
     → (old new : Option (List ℕ)) → LastCall → Type 0
 EndsOn words remaining status old new last =
     (input : List ℕ) × IsAll input remaining × EndsAs (words_answer words input) status old new last
+
+abbrev pub AddsAnswerOn : (words : List (List ℕ)) (remaining : Option (List ℕ)) → Status
+    → (old new : Option (List ℕ)) → Type 0
+AddsAnswerOn words remaining status old new = (input : List ℕ) × IsAll input remaining
+    × AddsAnswer (words_answer words input) status old new

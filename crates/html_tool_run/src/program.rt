@@ -4,20 +4,20 @@ ghost use Rattle.std.specs.Prelude.{◌≡◌, None, IfSome, IfOk};
 ghost use Rattle.html_dom_tree.specs.Views.{text_view, element_view};
 ghost use Rattle.html_flow_convert.specs.Views.{items_view};
 ghost use Rattle.serde_json.specs.View.{view};
-ghost use Rattle.html_tool_run.specs.Answers.{EndsAs, EndsOn, answer_if, bad_input, input_answer};
+ghost use Rattle.html_tool_run.specs.Answers.{AddsAnswer, AddsAnswerOn, EndsAs, EndsOn, answer_if, bad_input, input_answer};
 ghost use Rattle.html_tool_run.specs.Answers.{doc_answer, doc_refusals, doc_text, refused_answer};
 ghost use Rattle.html_tool_run.specs.Answers.{tree_answer, tree_refusals, tree_text, value_answer};
-ghost use Rattle.html_tool_spell.specs.Refusals.{Makes};
+ghost use Rattle.html_tool_spell.specs.Refusals.{Gives};
 ghost use Rattle.html_tool_run.specs.Refusals.{export_refusal};
 ghost use Rattle.html_tool_run.specs.Replies.{Answers, IsReply, RepliesOn, shown};
 ghost use Rattle.html_tool_spell.specs.Spelled.{element_spelled};
 ghost use Rattle.html_tool_spell.specs.SpelledItems.{items_spelled};
 ghost use Rattle.html_tool_run.specs.Words.{texts_of, wanted_task};
 
-use crate::frames::NoFrames;
 use crate::json::parse;
 use crate::recorded::{Recorded, WriteFailed};
 use crate::status::Status;
+use crate::whole::write_whole;
 use crate::words::{Task, wanted_task};
 use html_dom_document::DocumentInfo;
 use html_dom_tree::{HtmlElement, Span};
@@ -91,27 +91,20 @@ fn refused(alloc: Global, number: u8, span: Span) -> Result<Reply, AllocError>
 fn refusal_of(fault: &ExportFault) -> Refusal
     ensures { result ≡ export_refusal fault.now }
 {
-    match fault {
-        ExportFault::OutOfMemory => Refusal::OutOfMemory,
-        ExportFault::TooDeep { .. }
-        | ExportFault::NotAlone { .. }
-        | ExportFault::Footnotes { .. }
-        | ExportFault::Unencodable { .. }
-        | ExportFault::VoidChildren { .. }
-        | ExportFault::RawChild { .. }
-        | ExportFault::RawClosing { .. }
-        | ExportFault::FrameRefused { .. } => Refusal::At(fault.number(), fault.span()),
+    match fault.number() {
+        0 => Refusal::OutOfMemory,
+        number => Refusal::At(number, fault.span()),
     }
 }
 
 /// The text of an element.
 #[tactic(auto, using(crate::proofs::FirstFaults::first_faults))]
 fn element_text(alloc: Global, element: &HtmlElement, pretty: bool) -> Result<String, Refusal>
-    ensures { Makes text_view result (tree_text pretty (element_view element.now))
+    ensures { Gives text_view result (tree_text pretty (element_view element.now))
         (tree_refusals pretty (element_view element.now)) }
 {
     let options = HtmlOptions { pretty };
-    match html_in_bundle(alloc, element, &options, &NoFrames) {
+    match html_in_bundle(alloc, element, &options, &()) {
         Ok(text) => Ok(text),
         Err(fault) => Err(refusal_of(&fault)),
     }
@@ -120,12 +113,12 @@ fn element_text(alloc: Global, element: &HtmlElement, pretty: bool) -> Result<St
 /// The text of items.
 #[tactic(auto, using(crate::proofs::FirstFaults::first_faults))]
 fn items_text(alloc: Global, items: &[Pair], pretty: bool) -> Result<String, Refusal>
-    ensures { Makes text_view result (doc_text pretty (items_view items.now))
+    ensures { Gives text_view result (doc_text pretty (items_view items.now))
         (doc_refusals pretty (items_view items.now)) }
 {
     let info = DocumentInfo::new(alloc);
     let settings = HtmlOptions { pretty };
-    match export(alloc, items, &info, &[], DEPTH_LIMIT, &settings, &NoFrames) {
+    match export(alloc, items, &info, &[], DEPTH_LIMIT, &settings, &()) {
         Ok(text) => Ok(text),
         Err(fault) => Err(refusal_of(&fault)),
     }
@@ -202,7 +195,18 @@ fn wanted<R: Read>(alloc: Global, reader: &mut R, words: &[String]) -> Result<Re
 }
 
 /// Writes the reply, and says how that ended.
-fn tell<W: Write>(writer: &mut Recorded<W>, reply: &Reply) -> Status
+fn tell<W: Write>(writer: &mut W, reply: &Reply) -> Status
+    ensures { AddsAnswer (shown reply.now) result
+        (W.contents writer.old) (W.contents writer.new) }
+{
+    if write_whole(writer, &reply.text).is_err() {
+        return Status::Failed;
+    }
+    reply.status
+}
+
+/// The same to a writer that remembers how its last call ended.
+fn tell_recorded<W: Write>(writer: &mut Recorded<W>, reply: &Reply) -> Status
     ensures { EndsAs (shown reply.now) result (W.contents writer.old.writer)
         (W.contents writer.new.writer) writer.new.last }
 {
@@ -218,10 +222,43 @@ fn tell<W: Write>(writer: &mut Recorded<W>, reply: &Reply) -> Status
 /// `words` are those after the program's name: `tree` for a tree or `doc` for the document of a list
 /// of items, and then `--pretty` where pretty text is wanted. Others are told before anything is
 /// read. A document is made without footnotes, and nothing is known of it; bodies of its items may
-/// stand 50 deep. Nothing is written where memory runs out or a read fails; where a write or the
-/// flush after the last one fails, a beginning of the answer was. The reader is read in pieces of at
-/// most 4,096 bytes, at most 1,048,576 times.
+/// stand 50 deep. The reader is read in pieces of at most 4,096 bytes, at most 1,048,576 times.
+///
+/// Where the status is `Failed`, memory ran out or a read failed, and nothing was written, or a write
+/// or the flush after the last one failed, and a beginning of the answer was. With any other status
+/// the whole answer was. [`run_recorded`] tells these two failures apart.
+///
+/// ```
+/// let mut text = Vec::new(alloc);
+/// let mut input = r#"["el","p",[],[["text","a < b"]]]"#.as_bytes();
+/// let status = run(alloc, &mut input, &mut text, &words); // `words` holds "tree"
+/// assert!(rt; status == Status::Done);
+/// assert!(rt; text.as_slice() == b"<!DOCTYPE html><p>a &lt; b</p>");
+/// ```
 pub fn run<R: Read, W: Write>(
+    alloc: Global,
+    reader: &mut R,
+    writer: &mut W,
+    words: &[String],
+) -> Status
+    ensures answers { AddsAnswerOn (texts_of words.now) (R.remaining reader.old) result
+        (W.contents writer.old) (W.contents writer.new) }
+
+    // Wrong words.
+    ensures wrong_words { wanted_task (texts_of words.now) ≡ None
+        → AddsAnswer bad_input result (W.contents writer.old) (W.contents writer.new) }
+    ensures unread { wanted_task (texts_of words.now) ≡ None → reader.new ≡ reader.old }
+{
+    match wanted(alloc, reader, words) {
+        Ok(reply) => tell(writer, &reply),
+        Err(AllocError) => Status::Failed,
+    }
+}
+
+/// The run that [`run`] makes, to a writer that remembers how its last call ended: so where the status
+/// is `Failed`, nothing was written unless that call, as [`Recorded::last`] tells, was a write or a
+/// flush that failed.
+pub fn run_recorded<R: Read, W: Write>(
     alloc: Global,
     reader: &mut R,
     writer: &mut Recorded<W>,
@@ -237,7 +274,7 @@ pub fn run<R: Read, W: Write>(
     ensures unread { wanted_task (texts_of words.now) ≡ None → reader.new ≡ reader.old }
 {
     match wanted(alloc, reader, words) {
-        Ok(reply) => tell(writer, &reply),
+        Ok(reply) => tell_recorded(writer, &reply),
         Err(AllocError) => Status::Failed,
     }
 }

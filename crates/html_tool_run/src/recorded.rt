@@ -5,6 +5,7 @@ ghost use Rattle.std.specs.Io.KnownBytes.{Appends, Keeps};
 ghost use Rattle.html_tool_run.specs.Writing.{WritesAll};
 
 use std::io::Write;
+use thiserror::Error;
 
 /// How the last call on a writer ended.
 #[derive(Clone, Copy, Debug, PartialEq, Eq)]
@@ -20,7 +21,8 @@ pub enum LastCall {
 }
 
 /// A write or a flush failed.
-#[derive(Clone, Copy, Debug, PartialEq, Eq)]
+#[derive(Clone, Copy, Debug, PartialEq, Eq, Error)]
+#[error("a write failed")]
 pub struct WriteFailed;
 
 /// A writer, and how the last call on it ended.
@@ -42,6 +44,20 @@ impl<W: Write> Recorded<W> {
             writer,
             last: LastCall::NoCall,
         }
+    }
+
+    /// How the last call ended.
+    pub fn last(&self) -> LastCall
+        ensures { result ≡ self.now.last }
+    {
+        self.last
+    }
+
+    /// The writer, with all that was written to it.
+    pub fn into_writer(self) -> W
+        ensures { result ≡ self.writer }
+    {
+        self.writer
     }
 
     /// Writes some of the bytes, at least one, and answers how many.

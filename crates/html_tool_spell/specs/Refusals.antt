@@ -1,5 +1,6 @@
 -- Refusals, and how calls end that may be refused.
-use Rattle.std.specs.Prelude.{◌≡◌, ℕ, ◌==◌, List, [], ◌∷◌, Result, OnOk, IfOk, IfErr, if◌then◌else◌}
+use Rattle.std.specs.Prelude.{◌≡◌, ℕ, ◌==◌, List, ◌∷◌, Result, if◌then◌else◌}
+use Rattle.html_names.specs.Endings.{GivesBy}
 use Rattle.html_names.specs.Faults as name
 use Rattle.html_names.specs.declared.fault.NameFault.{NameFault}
 use Rattle.html_dom_tree.specs.declared.span.Span.{Span}
@@ -22,8 +23,6 @@ IsFirst (At number span) rs = (rest : List names.Refusal) × (rs ≡ (number, sp
 
 -- how a call that makes a value ends: with that value and no refusal, or with the first refusal;
 -- out of memory may come before
-pub record Makes {A B : Type 0} (view : A → B) (r : Result A Refusal) (value : B)
-    (refusals : List names.Refusal) : Type 0 where
-  pub made : IfOk r (λ a. view a ≡ value)
-  pub clean : OnOk r (refusals ≡ [])
-  pub refused : IfErr r (λ e. IsFirst e refusals)
+abbrev pub Gives : {A B : Type 0} (view : A → B) → Result A Refusal → (value : B)
+    → List names.Refusal → Type 0
+Gives = GivesBy IsFirst

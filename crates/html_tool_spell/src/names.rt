@@ -3,7 +3,7 @@
 ghost use Rattle.std.specs.Prelude.{◌≡◌, chars};
 ghost use Rattle.html_names.specs.Names.{tag_fault, attr_fault};
 ghost use Rattle.html_tool_spell.specs.Names.{refusals, name_view};
-ghost use Rattle.html_tool_spell.specs.Refusals.{Makes, name_refusal};
+ghost use Rattle.html_tool_spell.specs.Refusals.{Gives, name_refusal};
 
 use crate::refusal::Refusal;
 use html_dom_tree::Span;
@@ -22,7 +22,7 @@ fn refused(fault: &NameFault, span: Span) -> Refusal
 
 /// The tag name of that text.
 pub(crate) fn tag_of(alloc: Global, text: &str, span: Span) -> Result<HtmlTag, Refusal>
-    ensures { Makes name_view result (chars text.now)
+    ensures { Gives name_view result (chars text.now)
         (refusals span.0 (tag_fault (chars text.now))) }
 {
     match HtmlTag::intern(alloc, text) {
@@ -33,7 +33,7 @@ pub(crate) fn tag_of(alloc: Global, text: &str, span: Span) -> Result<HtmlTag, R
 
 /// The attribute name of that text.
 pub(crate) fn attr_of(alloc: Global, text: &str, span: Span) -> Result<HtmlAttr, Refusal>
-    ensures { Makes name_view result (chars text.now)
+    ensures { Gives name_view result (chars text.now)
         (refusals span.0 (attr_fault (chars text.now))) }
 {
     match HtmlAttr::intern(alloc, text) {

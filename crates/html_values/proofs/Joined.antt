@@ -1,8 +1,8 @@
 -- The texts of a list's items, made one by one.
 use Rattle.std.proofs.Common.{◌≡◌, ℕ, List, [], ◌∷◌, ◌++◌, Result, Ok, Err, refl, ap, sym, append_assoc}
 use Rattle.html_values.specs.Casts.{CastAnswer, IsRefusal, Texts, and_then, item_answer}
-use Rattle.html_values.specs.declared.cast_fault.CastFault.{CastFault}
-use Rattle.html_values.specs.declared.cast_fault.CastFault.TheVariants.{OutOfMemory, WrongKind, NotInStrings, NumberRange, NotOneChar, VerticalDir, BadImageSource, SeparatorInItem, YearRange}
+use Rattle.html_values_css.specs.declared.cast_fault.CastFault.{CastFault}
+use Rattle.html_values_css.specs.declared.cast_fault.CastFault.TheVariants.{OutOfMemory, WrongKind, NotInStrings, NumberRange, NotOneChar, VerticalDir, BadImageSource, SeparatorInItem, YearRange}
 
 -- texts that are made, and those of the items that are left
 abbrev pub after : List (List ℕ) → Texts → Texts

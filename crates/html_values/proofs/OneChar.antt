@@ -3,7 +3,7 @@ use Rattle.std.proofs.Common.{◌≡◌, ℕ, List, [], ◌∷◌, ◌++◌, len
 use Rattle.std.proofs.lemmas.Str.{chars-nil, chars_past_char, IsUtf8-past_char}
 use lib.Utf8.{encode}
 use Rattle.html_values.specs.Casts.{one_char, gives, refuses}
-use Rattle.html_values.specs.declared.cast_fault.CastFault.TheVariants.{NotOneChar}
+use Rattle.html_values_css.specs.declared.cast_fault.CastFault.TheVariants.{NotOneChar}
 
 chars-empty : (rest : List ℕ) → length rest ≡ 0 → chars rest ≡ []
 chars-empty [] h = chars-nil

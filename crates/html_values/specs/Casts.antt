@@ -14,8 +14,8 @@ use Rattle.html_values.specs.AttrTexts.{word_of, dir_text, has_year, moment_text
 use Rattle.html_values.specs.Types.{texts_view, AttrTypeView, presence, native, strings, union, list, AttrTypesView, no_attr_types, attr_type}
 use Rattle.html_values.specs.Values.{ValueView, none_value, auto_value, bool_value, int_value, str_value, color_value, datetime_value, duration_value, dir_value, image_value, array_value, ValuesView, no_values, value}
 use Rattle.html_values.specs.declared.image.ImageCandidate.{ImageCandidate}
-use Rattle.html_values.specs.declared.cast_fault.CastFault.{CastFault}
-use Rattle.html_values.specs.declared.cast_fault.CastFault.TheVariants.{OutOfMemory, WrongKind, NotInStrings, NumberRange, NotOneChar, VerticalDir, BadImageSource, SeparatorInItem, YearRange}
+use Rattle.html_values_css.specs.declared.cast_fault.CastFault.{CastFault}
+use Rattle.html_values_css.specs.declared.cast_fault.CastFault.TheVariants.{OutOfMemory, WrongKind, NotInStrings, NumberRange, NotOneChar, VerticalDir, BadImageSource, SeparatorInItem, YearRange}
 use Rattle.html_values.specs.declared.native_type.NativeType.{NativeType}
 
 -- what a value becomes as an attribute of a type

@@ -5,11 +5,11 @@ ghost use Rattle.html_values.specs.Types.{inner_view, list, list_type_view, text
 ghost use Rattle.html_values.specs.Values.{value_view, values_view};
 
 use crate::cast::{allowed_text, is_among, join, text_or_empty, without_separator};
-use crate::cast_fault::CastFault;
 use crate::native_type::NativeType;
 use crate::text::empty;
 use crate::value::Value;
 use html_names::Refused;
+use html_values_css::CastFault;
 use std::alloc::{AllocFailed, Global};
 
 /// A type of attribute: which values it takes, and the text of each.

@@ -10,10 +10,10 @@ ghost use Rattle.html_values.specs.Casts.{option_answer, separator_text, item_an
 ghost use Rattle.html_values.specs.Types.{texts_view};
 ghost use Rattle.html_values.specs.Values.{value_view};
 
-use crate::cast_fault::CastFault;
 use crate::text::empty;
 use crate::value::Value;
-use html_names::Output;
+use html_names::output::Output;
+use html_values_css::CastFault;
 use std::alloc::{AllocError, Global};
 
 /// Whether a text is one of these.

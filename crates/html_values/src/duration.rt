@@ -6,7 +6,7 @@ ghost use Rattle.html_values.specs.Attributes.{IsText};
 
 use crate::into_attr::IntoAttr;
 use crate::text::ascii;
-use html_names::Output;
+use html_names::output::Output;
 use std::alloc::{AllocError, Global};
 
 const MINUTE: u64 = 60;

@@ -4,7 +4,7 @@ ghost use Rattle.html_names.specs.Texts.{text_view};
 ghost use Rattle.html_values.specs.AttrTexts.{size_text, candidate_text};
 
 use crate::into_attr::IntoAttr;
-use html_names::Output;
+use html_names::output::Output;
 use std::alloc::{AllocError, Global};
 use std::num::NonZeroU64;
 

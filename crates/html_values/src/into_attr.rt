@@ -7,12 +7,44 @@ ghost use Rattle.html_values.specs.AttrTexts.{dir_text};
 ghost use Rattle.html_values.specs.Attributes.{IsText};
 
 use crate::text::ascii;
-use html_names::Output;
+use html_names::output::Output;
 use html_values_css::{Dir, Rgba, ToCss};
 use std::alloc::{AllocError, Global};
 use std::num::{NonZeroI64, NonZeroU64};
 
 /// A value that has a text as an attribute. The text is decided by the value.
+///
+/// A whole implementation, for an enum. Its variants are brought in by its path, which begins with
+/// the name of the crate where it stands, `tests_surface`:
+///
+/// ```
+/// ghost use Rattle.std.specs.Prelude.{codes};
+/// ghost use Rattle.std.specs.Fmt.{decimal};
+/// ghost use Rattle.tests_surface.specs.declared.own.attr.Limit.TheVariants.{Most, Unlimited};
+///
+/// use html_values::{IntoAttr, NoneValue};
+/// use std::alloc::{AllocError, Global};
+///
+/// /// How many there may be.
+/// #[derive(Clone, Copy)]
+/// enum Limit {
+///     /// At most that many.
+///     Most(u64),
+///     /// Any number, written `none`.
+///     Unlimited,
+/// }
+///
+/// impl IntoAttr for Limit {
+///     ghost attr_text = { λ limit. elim limit [ Most n ↦ decimal n | Unlimited ↦ codes "none" ] };
+///
+///     fn into_attr(&self, alloc: Global) -> Result<String, AllocError> {
+///         match self {
+///             Limit::Most(count) => count.into_attr(alloc),
+///             Limit::Unlimited => NoneValue.into_attr(alloc),
+///         }
+///     }
+/// }
+/// ```
 pub trait IntoAttr {
     /// The text of a value.
     ghost attr_text: { Self → List ℕ };

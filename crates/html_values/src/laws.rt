@@ -1,11 +1,11 @@
-//! Laws of this crate's types, each the contract of a function: what `==` tests.
+//! Laws of this crate's types, each the contract of a function: what `==` tests. Those of css values
+//! stand in [`css`], and beside them the type of which quantities are, with its units.
 
 ghost use Rattle.std.specs.Prelude.{◌≡◌, ◌↔◌, IsTrue};
 ghost use Rattle.html_names.specs.Texts.{text_view};
 ghost use Rattle.html_values.specs.AttrTexts.{image_candidate_view};
 ghost use Rattle.html_values.specs.Moments.{moment_view};
 
-use crate::cast_fault::CastFault;
 use crate::duration::Duration;
 use crate::image::{IconSize, ImageCandidate};
 use crate::into_attr::Str;
@@ -15,6 +15,8 @@ use crate::words::{
     AutoValue, HorizontalDir, NoneEmpty, NoneUndefined, NoneValue, OnOffBool, TrueFalseBool,
     YesNoBool,
 };
+use html_values_css::CastFault;
+pub use html_values_css::{Degrees, Ems, Points, Quantity, Unit, Whole, laws as css};
 
 /// Faults of casts are equal where they are the same.
 pub fn equal_cast_faults(a: CastFault, b: CastFault) -> bool

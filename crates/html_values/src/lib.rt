@@ -13,7 +13,6 @@
 
 mod attr_type;
 mod cast;
-mod cast_fault;
 mod duration;
 mod image;
 mod into_attr;
@@ -25,12 +24,11 @@ mod value;
 mod words;
 
 pub use attr_type::{AttrType, ListType};
-pub use cast_fault::CastFault;
 pub use duration::Duration;
 pub use html_values_css::{
-    Abs, Angle, Calc, CalcPart, Call, CssWriter, Degrees, Dir, Em, Ems, Inline, Length, Paint,
-    Points, Properties, PropertiesBuilder, Property, Quantity, Ratio, Rel, Rgba, Separator, ToCss,
-    Unit, Warning, WarningSink, Whole, laws as css_laws,
+    Abs, Angle, Calc, CalcPart, Call, CastFault, CssWriter, Dir, Em, Inline, Length, Paint,
+    Properties, PropertiesBuilder, Property, Ratio, Rel, Rgba, Separator, ToCss, Warning,
+    WarningSink,
 };
 pub use image::{IconSize, ImageCandidate};
 pub use into_attr::{IntoAttr, Str};

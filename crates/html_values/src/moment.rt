@@ -1,11 +1,11 @@
 ghost use Rattle.std.specs.Prelude.{◌≡◌, ◌++◌, OnOk, IsTrue, IsFalse, IfOk, IfErr, ◌<◌};
 ghost use Rattle.html_names.specs.Texts.{text_view};
 ghost use Rattle.html_values.specs.AttrTexts.{date_text, time_text, seconds_text, has_year, year_fits};
-ghost use Rattle.html_values.specs.declared.cast_fault.CastFault.TheVariants.{YearRange};
+ghost use Rattle.html_values_css.specs.declared.cast_fault.CastFault.TheVariants.{YearRange};
 
-use crate::cast_fault::CastFault;
 use crate::into_attr::IntoAttr;
-use html_names::Output;
+use html_names::output::Output;
+use html_values_css::CastFault;
 use jiff::civil::{Date, DateTime, Time};
 use std::alloc::{AllocError, Global};
 

@@ -4,9 +4,8 @@ ghost use Rattle.html_names.specs.Texts.{text_view};
 ghost use Rattle.html_values.specs.AttrTexts.{horizontal_text, size_text};
 ghost use Rattle.html_values.specs.Casts.{candidate_answer, Casts, Finds, horizontal, icon_size, image, int_of, is_bad_source, native_cast, native_castable, natural, one_char, positive, text_answer, gives};
 ghost use Rattle.html_values.specs.Values.{array_value, auto_value, bool_value, color_value, datetime_value, dir_value, duration_value, image_value, int_value, none_value, str_value, value_view, values_view};
-ghost use Rattle.html_values.specs.declared.cast_fault.CastFault.TheVariants.{NumberRange, WrongKind};
+ghost use Rattle.html_values_css.specs.declared.cast_fault.CastFault.TheVariants.{NumberRange, WrongKind};
 
-use crate::cast_fault::CastFault;
 use crate::duration::Duration;
 use crate::image::{IconSize, ImageCandidate};
 use crate::into_attr::IntoAttr;
@@ -16,7 +15,7 @@ use crate::words::{
     AutoValue, HorizontalDir, NoneEmpty, NoneUndefined, NoneValue, OnOffBool, TrueFalseBool,
     YesNoBool,
 };
-use html_values_css::Dir;
+use html_values_css::{CastFault, Dir};
 use std::alloc::Global;
 use std::num::NonZeroU64;
 

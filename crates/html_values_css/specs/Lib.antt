@@ -1,5 +1,6 @@
 pub mod Calc
 pub mod Call
+pub mod CastFaults
 pub mod Colors
 pub mod Hashes
 pub mod Lengths

@@ -10,6 +10,54 @@ use std::alloc::AllocError;
 /// A part of a sum.
 ///
 /// Its law: `is_zero`, `is_negative` and `negated` speak of one number.
+///
+/// A whole implementation, with the text of the part:
+///
+/// ```
+/// ghost use Rattle.std.specs.Prelude.{neg_ℤ, refl, []};
+/// ghost use Rattle.html_values.specs.Quantities.{abs_text};
+///
+/// use html_values::{Abs, CalcPart, CssWriter, ToCss, WarningSink};
+/// use std::alloc::AllocError;
+///
+/// /// The space between two columns.
+/// #[derive(Clone, Copy)]
+/// struct Gap {
+///     width: Abs,
+/// }
+///
+/// impl ToCss for Gap {
+///     ghost text = { λ gap. abs_text gap.width };
+///
+///     ghost warnings = { λ _. [] };
+///
+///     fn emit<S: WarningSink>(&self, out: &mut CssWriter<S>) -> Result<(), AllocError> {
+///         self.width.emit(out)
+///     }
+/// }
+///
+/// impl CalcPart for Gap {
+///     ghost number = { λ gap. gap.width };
+///
+///     ghost opposite = { λ gap. record { width = neg_ℤ gap.width } };
+///
+///     ghost negates = { λ _. refl };
+///
+///     fn is_zero(&self) -> bool {
+///         self.width.is_zero()
+///     }
+///
+///     fn is_negative(&self) -> bool {
+///         self.width.is_negative()
+///     }
+///
+///     fn negated(&self) -> Gap {
+///         Gap {
+///             width: self.width.negated(),
+///         }
+///     }
+/// }
+/// ```
 pub trait CalcPart: ToCss + Drop {
     /// The number.
     ghost number: { Self → ℤ };

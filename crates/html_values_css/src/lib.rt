@@ -1,4 +1,5 @@
-//! Values of css: quantities, colours, the texts that they have, and maps of properties.
+//! Values of css: quantities, colours, the texts that they have, and maps of properties; and why casts
+//! fail, which the layers above say too. A part of html_values, which passes these names on.
 //!
 //! A contract sees a text as a list of characters, and a quantity as a whole number of millionths.
 //!
@@ -16,6 +17,7 @@
 mod builder;
 mod calc;
 mod call;
+mod cast_fault;
 mod direction;
 mod fixed;
 mod inline;
@@ -32,6 +34,7 @@ mod writer;
 pub use builder::PropertiesBuilder;
 pub use calc::{Calc, CalcPart};
 pub use call::{Call, Separator};
+pub use cast_fault::CastFault;
 pub use direction::Dir;
 pub use inline::Inline;
 pub use length::{Length, Rel};

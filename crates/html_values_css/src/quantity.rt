@@ -1,4 +1,4 @@
-ghost use Rattle.std.specs.Prelude.{◌≡◌, ◌<◌, ◌++◌, ℕ, List, [], IsTrue, codes, neg_ℤ, refl};
+ghost use Rattle.std.specs.Prelude.{◌≡◌, ◌<◌, ◌↔◌, ◌++◌, ℕ, List, [], IsTrue, IsSome, IfSome, codes, neg_ℤ, refl};
 ghost use Rattle.html_names.specs.Names.{is_ascii};
 ghost use Rattle.html_values_css.specs.Quantities.{IsQuantity, fixed_text};
 
@@ -8,6 +8,9 @@ use crate::to_css::ToCss;
 use crate::writer::CssWriter;
 use std::alloc::AllocError;
 use std::marker::{Model, PhantomData};
+
+/// The most millionths that a quantity has, in size.
+const MOST_MILLIONTHS: u64 = 1_000_000_000_000_000;
 
 /// What a quantity is counted in.
 pub trait Unit: Copy {
@@ -135,7 +138,8 @@ impl<U> Model for Quantity<U> {
 }
 
 impl<U> Quantity<U> {
-    /// n millionths of the unit.
+    /// n millionths of the unit. For a number of which nothing is known there is
+    /// [`try_from_millionths`](Quantity::try_from_millionths).
     pub fn from_millionths(millionths: i64) -> Quantity<U>
         requires { IsQuantity millionths }
         ensures { result ≡ millionths }
@@ -143,6 +147,24 @@ impl<U> Quantity<U> {
         Quantity {
             millionths,
             unit: PhantomData,
+        }
+    }
+
+    /// n millionths of the unit, unless they are more than 10^15 in size.
+    ///
+    /// ```
+    /// let width = Abs::try_from_millionths(1_500_000); // 1.5 points
+    /// assert!(rt; width.is_some());
+    /// assert!(rt; Abs::try_from_millionths(i64::MAX).is_none());
+    /// ```
+    pub fn try_from_millionths(millionths: i64) -> Option<Quantity<U>>
+        ensures within { IsSome result ↔ IsQuantity millionths }
+        ensures value { IfSome result (λ made. made ≡ millionths) }
+    {
+        if millionths.unsigned_abs() <= MOST_MILLIONTHS {
+            Some(Quantity::from_millionths(millionths))
+        } else {
+            None
         }
     }
 

@@ -22,6 +22,37 @@ pub enum Warning {
 ///
 /// Its law: after `emit` the list of warnings is the one before, with at most that warning at its
 /// end. What else a sink does, `emit_gives` says.
+///
+/// A whole implementation, which keeps what it is handed:
+///
+/// ```
+/// ghost use Rattle.std.specs.Prelude.{None};
+/// ghost use Rattle.html_values.specs.Sink.{Keeps};
+///
+/// use html_values::{Warning, WarningSink};
+/// use std::alloc::AllocError;
+///
+/// /// Keeps the warnings of one document.
+/// #[derive(Drop)]
+/// struct Kept {
+///     document: u32,
+///     warnings: Vec<Warning>,
+/// }
+///
+/// impl WarningSink for Kept {
+///     ghost warnings = { λ kept. kept.warnings.items };
+///
+///     ghost emit_gives = { λ old warning result new.
+///         Keeps old.warnings.items warning result new.warnings.items };
+///
+///     ghost borrow = { λ _. None };
+///
+///     fn emit(&mut self, warning: Warning) -> Result<(), AllocError> {
+///         self.warnings.push(warning)?;
+///         Ok(())
+///     }
+/// }
+/// ```
 pub trait WarningSink {
     /// The warnings so far, where the sink keeps them.
     ghost warnings: { Self → List Warning };

@@ -15,6 +15,33 @@ use std::alloc::{AllocError, Global};
 /// Its law: the text and the warnings are decided by the value alone; `emit` appends that text and
 /// nothing else, and hands those warnings to the writer's sink and no others. A value that warns
 /// fails: it has no proper text.
+///
+/// A whole implementation, which writes two texts:
+///
+/// ```
+/// ghost use Rattle.std.specs.Prelude.{chars, ◌++◌, []};
+///
+/// use html_values::{CssWriter, ToCss, WarningSink};
+/// use std::alloc::AllocError;
+///
+/// /// A number, which is given as it is written, and its unit.
+/// #[derive(Clone, Copy)]
+/// struct Dimension<'a> {
+///     number: &'a str,
+///     unit: &'a str,
+/// }
+///
+/// impl ToCss for Dimension<'_> {
+///     ghost text = { λ d. chars d.number.now ++ chars d.unit.now };
+///
+///     ghost warnings = { λ _. [] };
+///
+///     fn emit<S: WarningSink>(&self, out: &mut CssWriter<S>) -> Result<(), AllocError> {
+///         out.write(self.number)?;
+///         out.write(self.unit)
+///     }
+/// }
+/// ```
 pub trait ToCss {
     /// The value's text.
     ghost text: { Self → List ℕ };
@@ -48,6 +75,16 @@ impl ToCss for &str {
 
     fn emit<S: WarningSink>(&self, out: &mut CssWriter<S>) -> Result<(), AllocError> {
         out.write(self)
+    }
+}
+
+impl ToCss for String {
+    ghost text = { text_view };
+
+    ghost warnings = { λ _. [] };
+
+    fn emit<S: WarningSink>(&self, out: &mut CssWriter<S>) -> Result<(), AllocError> {
+        out.write(self.as_str())
     }
 }
 

@@ -7,7 +7,6 @@ mod styles;
 mod texts;
 
 use crate::asserts::{add, around, assert_text, tag_of, text_of};
-use crate::encode::frames::NoFrames;
 use html_dom_tree::{HtmlElement, HtmlNode, Span};
 use html_names::tag;
 use std::alloc::{AllocError, Global};
@@ -42,7 +41,7 @@ fn assert_answer<F: FrameWriter>(
 
 /// Asserts what writing the element plainly answers, where no frame is in it.
 fn assert_plain(rt: &impl Abort, root: &HtmlElement, wanted: &str) {
-    assert_answer(rt, root, &PLAIN, &NoFrames, wanted);
+    assert_answer(rt, root, &PLAIN, &(), wanted);
 }
 
 /// A text of that span.
@@ -69,7 +68,7 @@ fn a_paragraph(rt: HostRuntime) {
     let child = text(&rt, rt.alloc(), "a < b", 0);
     let paragraph = around(&rt, rt.alloc(), tag::p, child);
     let wanted = "<!DOCTYPE html><p>a &lt; b</p>";
-    assert_answer(&rt, &paragraph, &HtmlOptions::default(), &NoFrames, wanted);
+    assert_answer(&rt, &paragraph, &HtmlOptions::default(), &(), wanted);
 }
 
 /// The example of the crate.
@@ -81,7 +80,7 @@ fn a_pretty_list(rt: HostRuntime) {
         add(&rt, &mut list.children, HtmlNode::from(item));
     }
     let wanted = "<!DOCTYPE html>\n<ul>\n  <li>one</li>\n  <li>two</li>\n</ul>\n";
-    assert_answer(&rt, &list, &PRETTY, &NoFrames, wanted);
+    assert_answer(&rt, &list, &PRETTY, &(), wanted);
 }
 
 #[test]

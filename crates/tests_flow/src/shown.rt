@@ -7,7 +7,7 @@ use crate::given::items_of;
 use html_dom_tree::{HtmlElement, HtmlFrame, HtmlNode, resolve_inline_styles};
 use html_flow::{ConversionLevel, Pair, Whitespace, convert_to_nodes};
 use html_names::tag;
-use std::alloc::{AllocError, Global};
+use std::alloc::Global;
 use std::process::Abort;
 use typst_html_encode::{FrameFault, FrameWriter, HtmlOptions, html_in_bundle};
 
@@ -27,11 +27,13 @@ pub(crate) fn frame_writer(rt: &impl Abort, alloc: Global) -> OneText {
 impl FrameWriter for OneText {
     ghost drawing = { λ writer _ _. Some (text_view writer.text) };
 
-    fn write(&self, _frame: &HtmlFrame, _pretty: bool) -> Result<String, FrameFault> {
-        match self.text.clone() {
-            Ok(text) => Ok(text),
-            Err(AllocError) => Err(FrameFault::OutOfMemory),
-        }
+    fn write(
+        &self,
+        _alloc: Global,
+        _frame: &HtmlFrame,
+        _pretty: bool,
+    ) -> Result<String, FrameFault> {
+        Ok(self.text.clone()?)
     }
 }
 

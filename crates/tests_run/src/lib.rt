@@ -1,4 +1,4 @@
-//! Tests of a run of the program, over its public calls, and of the names that `typst_html` passes on.
+//! Tests of a run of the program, over its public calls.
 #![tactic(auto)]
 
 #[cfg(test)]
@@ -15,8 +15,6 @@ mod documents;
 mod examples;
 #[cfg(test)]
 mod large;
-#[cfg(test)]
-mod names;
 #[cfg(test)]
 mod no_items;
 #[cfg(test)]

@@ -1,7 +1,7 @@
 //! The program, which ends with status 3 and writes nothing where memory fails.
 
 use crate::runs::words;
-use html_tool_run::{Recorded, Status, run};
+use html_tool_run::{Status, run};
 use std::alloc::Global;
 use tests_growth::{Answer, Growth, made, refused, wrong_call};
 
@@ -34,7 +34,7 @@ impl Growth for Run {
             mut out,
         } = self;
         let mut reader = input.as_bytes();
-        let status = run(alloc, &mut reader, &mut Recorded::new(&mut out), &words);
+        let status = run(alloc, &mut reader, &mut out, &words);
         let is_empty = out.is_empty();
         match status {
             Status::Done => made(!is_empty),

@@ -1,6 +1,6 @@
 //! Runs on given inputs, and what they are held to.
 
-use html_tool_run::{Recorded, Status, run};
+use html_tool_run::{Status, run};
 use std::alloc::Global;
 use std::io::Read;
 use std::process::Abort;
@@ -115,7 +115,7 @@ pub(crate) fn answer<R: Read>(
 ) -> (Status, Vec<u8>) {
     let mut out = Vec::new(alloc);
     let words = words(rt, alloc, list);
-    let status = run(alloc, reader, &mut Recorded::new(&mut out), &words);
+    let status = run(alloc, reader, &mut out, &words);
     (status, out)
 }
 

@@ -11,11 +11,4 @@ begins_more f fs gs h = (h.0 ++ gs, ap (λ xs. xs ++ gs) h.1)
 pub first_of_more : (e : ExportFault) (fs gs : List ExportFault) → IsFirst e fs →
     IsFirst e (fs ++ gs)
 first_of_more fault.OutOfMemory fs gs h = tt
-first_of_more (fault.TooDeep span) fs gs h = begins_more _ fs gs h
-first_of_more (fault.NotAlone tag span) fs gs h = begins_more _ fs gs h
-first_of_more (fault.Footnotes spans) fs gs h = begins_more _ fs gs h
-first_of_more (fault.Unencodable c span) fs gs h = begins_more _ fs gs h
-first_of_more (fault.VoidChildren span) fs gs h = begins_more _ fs gs h
-first_of_more (fault.RawChild span) fs gs h = begins_more _ fs gs h
-first_of_more (fault.RawClosing span) fs gs h = begins_more _ fs gs h
-first_of_more (fault.FrameRefused span) fs gs h = begins_more _ fs gs h
+first_of_more e fs gs h = begins_more _ fs gs h

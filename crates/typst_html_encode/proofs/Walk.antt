@@ -14,7 +14,7 @@ use Rattle.typst_html_encode.specs.Layout.{raw_text, due_after, indent_where, ma
 use Rattle.typst_html_encode.specs.ReadingBack.{NodeIsNamed, NodesAreNamed, ElementIsNamed}
 use Rattle.typst_html_encode.specs.Text.{element_text, start_tag_text, end_tag_text, ends_at_once, feed_text, escaped_text, nodes_raw_text, node_text, nodes_text}
 use Rattle.typst_html_encode.specs.Walk.{is_entered, first_text, first_faults, FirstIsNamed, Rest, outside, inside, node_is_entered, rest_open, rest_flat, RestEnds, outside_text, rest_text, rest_faults, RestIsNamed, rest_nodes, rest_with, next_pre_span, next_margin, next_has_indent}
-use Rattle.typst_html_encode.specs.Writes.{Writes}
+use Rattle.typst_html_encode.specs.Endings.{Adds}
 use Rattle.typst_html_encode.specs.declared.escape.Escaping.TheVariants as escaping
 use Rattle.typst_html_encode.specs.declared.fault.ExportFault.{ExportFault}
 use Rattle.typst_html_encode.specs.declared.layout.Margin.{Margin}
@@ -200,9 +200,9 @@ rest_open_with ns (inside h past margin due ms rest) = refl
 module _ (frames : Frames) (margin : Margin) (h : Head) (kids ns : NodesView)
     (is : ns ≡ node (element_node h kids) none) where
   pub root_writes : (r : Result (Unit {0}) ExportFault) (old new : List ℕ) →
-      Writes r old new (outside_text frames margin ns)
+      Adds r old new (outside_text frames margin ns)
       (nodes_faults frames false margin.pretty ns) →
-      Writes r old new (element_text frames margin (h, kids))
+      Adds r old new (element_text frames margin (h, kids))
       (element_faults frames margin.pretty (h, kids))
   unfolding nodes_faults
   root_writes r old new w =
@@ -211,8 +211,8 @@ module _ (frames : Frames) (margin : Margin) (h : Head) (kids ns : NodesView)
       let faults : nodes_faults frames false margin.pretty ns
       ≡ element_faults frames margin.pretty (h, kids)
       = ap (nodes_faults frames false margin.pretty) is ∙ append-nil _ in
-      subst (λ fs. Writes r old new (element_text frames margin (h, kids)) fs) faults
-      (subst (λ t. Writes r old new t (nodes_faults frames false margin.pretty ns)) text w)
+      subst (λ fs. Adds r old new (element_text frames margin (h, kids)) fs) faults
+      (subst (λ t. Adds r old new t (nodes_faults frames false margin.pretty ns)) text w)
 
   pub root_named : NodesAreNamed ns → ElementIsNamed (h, kids)
   unfolding NodesAreNamed

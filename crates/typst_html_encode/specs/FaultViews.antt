@@ -2,6 +2,11 @@
 use Rattle.std.specs.Prelude.{◌≡◌, ℕ, List, ◌∷◌, map}
 use native.Mathlib.Decide.{ℕ_discrete}
 use Rattle.html_names.specs.Equal.{text_discrete}
+use Rattle.html_names.specs.Faults.{name_fault_discrete}
+use Rattle.html_names.specs.declared.fault.NameFault.{NameFault}
+use Rattle.html_values_css.specs.CastFaults.{cast_fault_discrete}
+use Rattle.html_values_css.specs.declared.cast_fault.CastFault.{CastFault}
+use Rattle.html_flow_convert.specs.ConstructFaults.{ConstructFaultView, construct_fault_view, construct_fault_discrete}
 use Rattle.html_dom_tree.specs.declared.span.Span.{Span}
 use Rattle.typst_html_encode.specs.declared.fault.ExportFault.{ExportFault}
 use Rattle.typst_html_encode.specs.declared.fault.ExportFault.TheVariants as fault
@@ -16,6 +21,9 @@ pub data ExportFaultView : Type 0 where
   raw_child : (span : ℕ) → ExportFaultView
   raw_closing : (span : ℕ) → ExportFaultView
   frame_refused : (span : ℕ) → ExportFaultView
+  name_fault : NameFault → ExportFaultView
+  cast_fault : CastFault → ExportFaultView
+  construct_fault : ConstructFaultView → ExportFaultView
   deriving Discrete as ExportFaultView-discrete
 
 abbrev pub spans_view : List Span → List ℕ
@@ -31,9 +39,13 @@ export_fault_view (fault.VoidChildren span) = void_children span.0
 export_fault_view (fault.RawChild span) = raw_child span.0
 export_fault_view (fault.RawClosing span) = raw_closing span.0
 export_fault_view (fault.FrameRefused span) = frame_refused span.0
+export_fault_view (fault.Name f) = name_fault f
+export_fault_view (fault.Cast f) = cast_fault f
+export_fault_view (fault.Construct f) = construct_fault (construct_fault_view f)
 
 pub export_fault_discrete : Discrete ExportFaultView
-export_fault_discrete = ExportFaultView-discrete ℕ_discrete text_discrete
+export_fault_discrete = ExportFaultView-discrete ℕ_discrete text_discrete name_fault_discrete
+    cast_fault_discrete construct_fault_discrete
 
 -- the fault that is answered is the first of the list, unless memory ran out
 abbrev pub IsFirstView : ExportFault → List ExportFaultView → Type 0

@@ -3,6 +3,9 @@
 -- frame stands.
 use Rattle.std.specs.Prelude.{◌≡◌, ℕ, Bool, true, false, not, ◌||◌, ◌&&◌, ◌==◌, List, [], ◌∷◌, ◌++◌, if◌then◌else◌, Option, Some, None}
 use Rattle.html_names.specs.Characters.{is_text_char}
+use Rattle.html_names.specs.Faults as names
+use Rattle.html_values_css.specs.CastFaults as casts
+use Rattle.html_flow_convert.specs.ConstructFaults as constructs
 use Rattle.html_dom_tree.specs.declared.span.Span.{Span}
 use Rattle.html_dom_tree.specs.Tree.{TextPair, Head, NodeView, tag_node, text_node, element_node, frame_node, NodesView, none, node, ElementView}
 use Rattle.typst_html_encode.specs.Closing.{holds_closing}
@@ -26,12 +29,16 @@ number_of (fault.VoidChildren span) = 12
 number_of (fault.RawChild span) = 13
 number_of (fault.RawClosing span) = 14
 number_of (fault.FrameRefused span) = 15
+number_of (fault.Name f) = names.number_of f
+number_of (fault.Cast f) = casts.number_of f
+number_of (fault.Construct f) = constructs.number_of f
 
 abbrev pub first_span : List Span → ℕ
 first_span [] = 0
 first_span (span ∷ spans) = span.0
 
--- where it lies, at the first of several footnotes; 0 where memory ran out
+-- where it lies, at the first of several footnotes or arguments; 0 where memory ran out, and for a
+-- name or a cast
 abbrev pub span_of : ExportFault → ℕ
 span_of fault.OutOfMemory = 0
 span_of (fault.TooDeep span) = span.0
@@ -42,6 +49,9 @@ span_of (fault.VoidChildren span) = span.0
 span_of (fault.RawChild span) = span.0
 span_of (fault.RawClosing span) = span.0
 span_of (fault.FrameRefused span) = span.0
+span_of (fault.Name f) = 0
+span_of (fault.Cast f) = 0
+span_of (fault.Construct f) = constructs.span_of f
 
 abbrev pub is_reference : Escaping → Bool
 is_reference escaping.Reference = true

@@ -1,6 +1,8 @@
 pub mod Closing
 pub mod Collapsing
 pub mod Content
+pub mod Conversions
+pub mod Endings
 pub mod FaultViews
 pub mod Faults
 pub mod Frames
@@ -16,4 +18,3 @@ pub mod Siblings
 pub mod Stretches
 pub mod Text
 pub mod Walk
-pub mod Writes

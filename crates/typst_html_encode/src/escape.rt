@@ -5,15 +5,15 @@ ghost use Rattle.typst_html_encode.specs.Faults.{is_bad, is_reference, char_faul
 ghost use Rattle.typst_html_encode.specs.References.{reference_to};
 ghost use Rattle.typst_html_encode.specs.Stretches.{is_plain, PassesPlain, WritesUpTo};
 ghost use Rattle.typst_html_encode.specs.Text.{stands_as_is, char_text, escaped_text};
-ghost use Rattle.typst_html_encode.specs.Writes.{Writes};
+ghost use Rattle.typst_html_encode.specs.Endings.{Adds};
 
 use crate::common::past_common;
 use crate::fault::ExportFault;
 use html_dom_tree::Span;
-use html_names::Output;
 use html_names::charsets::{
     is_valid_in_attribute_value, is_valid_in_normal_element_text, is_w3c_text_char,
 };
+use html_names::output::Output;
 use std::alloc::AllocError;
 
 /// How the characters of a text are written.
@@ -80,7 +80,7 @@ fn write_good(out: &mut Output, escaping: Escaping, c: char) -> Result<(), Alloc
 
 /// Writes a character, or says that it can't be written.
 fn write_char(out: &mut Output, escaping: Escaping, c: char, span: Span) -> Result<(), ExportFault>
-    ensures { Writes result out.old out.new (char_text escaping c) (char_faults escaping span.0 c) }
+    ensures { Adds result out.old out.new (char_text escaping c) (char_faults escaping span.0 c) }
 {
     if is_bad(escaping, c) {
         return Err(ExportFault::Unencodable { c, span });
@@ -137,7 +137,7 @@ pub(crate) fn write_text(
     text: &str,
     span: Span,
 ) -> Result<(), ExportFault>
-    ensures { Writes result out.old out.new
+    ensures { Adds result out.old out.new
         (escaped_text escaping (chars text.now))
         (text_faults escaping span.0 (chars text.now)) }
 {

@@ -6,7 +6,7 @@ ghost use Rattle.typst_html_encode.specs.Indented.{element_layout, ElementEndsWe
 ghost use Rattle.typst_html_encode.specs.Reader.{read};
 ghost use Rattle.html_dom_tree.specs.FrameFree.{ElementIsFrameFree};
 ghost use Rattle.typst_html_encode.specs.Text.{document_text};
-ghost use Rattle.typst_html_encode.specs.Writes.{Makes};
+ghost use Rattle.typst_html_encode.specs.Endings.{Gives};
 
 use crate::fault::ExportFault;
 use crate::frame::FrameWriter;
@@ -15,7 +15,7 @@ use crate::layout::Margin;
 use crate::options::HtmlOptions;
 use crate::write::write_root;
 use html_dom_tree::HtmlElement;
-use html_names::Output;
+use html_names::output::Output;
 use std::alloc::Global;
 
 /// The HTML text of a tree: the document type and the element, plain or pretty.
@@ -35,7 +35,7 @@ use std::alloc::Global;
 /// let content = String::from_str(alloc, "a < b")?;
 /// let mut paragraph = HtmlElement::new(alloc, tag::p);
 /// paragraph.children.push(HtmlNode::text(content, Span(0)))?;
-/// let text = html_in_bundle(alloc, &paragraph, &HtmlOptions::default(), &NoFrames)?;
+/// let text = html_in_bundle(alloc, &paragraph, &HtmlOptions::default(), &())?;
 /// assert_eq!(rt; text.as_str(), "<!DOCTYPE html><p>a &lt; b</p>");
 /// ```
 pub fn html_in_bundle<F: FrameWriter>(
@@ -45,7 +45,7 @@ pub fn html_in_bundle<F: FrameWriter>(
     frames: &F,
 ) -> Result<String, ExportFault>
     // The text, or the first fault.
-    ensures makes { Makes result
+    ensures makes { Gives result
         (document_text (F.drawing frames.now) options.now (element_view root.now))
         (document_faults (F.drawing frames.now) options.now (element_view root.now)) }
 

@@ -2,13 +2,19 @@ ghost use Rattle.std.specs.Prelude.{◌≡◌, ◌↔◌, IsTrue};
 ghost use Rattle.typst_html_encode.specs.Faults.{first_span};
 ghost use Rattle.typst_html_encode.specs.FaultViews.{export_fault_view, spans_view};
 
+use crate::frame::FrameFault;
 use html_dom_tree::Span;
-use html_names::{HtmlTag, Refused};
+use html_flow_convert::laws::equal_construct_faults;
+use html_flow_convert::{ConstructFault, FlowFault};
+use html_names::{HtmlTag, NameFault, Refused};
+use html_values_css::CastFault;
 use std::alloc::{AllocError, AllocFailed};
 use thiserror::Error;
 
-/// Why items or a tree have no HTML text. The first three kinds of fault are those of making a
-/// document of items; writing a tree answers none of these.
+/// Why items or a tree have no HTML text. Writing a tree answers the kinds from `Unencodable` to
+/// `FrameRefused`, making a document of items those from `TooDeep` to `Footnotes`. The last three kinds
+/// are faults of calls below; no call here answers them, but a function that makes items and writes
+/// them can hand all its faults on by `?`.
 #[derive(Debug, Drop, Error)]
 pub enum ExportFault {
     /// An allocation failed.
@@ -67,12 +73,22 @@ pub enum ExportFault {
         /// The frame's span.
         span: Span,
     },
+    /// A text is no name of a tag or of an attribute.
+    #[error("{0}")]
+    Name(NameFault),
+    /// A value has no text as an attribute.
+    #[error("{0}")]
+    Cast(CastFault),
+    /// No element could be constructed of its arguments.
+    #[error("{0}")]
+    Construct(ConstructFault),
 }
 
 impl ExportFault {
     ghost use Rattle.typst_html_encode.specs.Faults.{number_of, span_of};
 
-    /// The fault's number: 0 for out of memory, and from 8 on in the order of the variants.
+    /// The fault's number: 0 for out of memory, from 8 on in the order of the variants up to
+    /// `FrameRefused`, and that of the fault below for the last three.
     pub fn number(&self) -> u8
         ensures { result ≡ number_of self.now }
     {
@@ -86,16 +102,20 @@ impl ExportFault {
             ExportFault::RawChild { .. } => 13,
             ExportFault::RawClosing { .. } => 14,
             ExportFault::FrameRefused { .. } => 15,
+            ExportFault::Name(fault) => fault.number(),
+            ExportFault::Cast(fault) => fault.number(),
+            ExportFault::Construct(fault) => fault.number(),
         }
     }
 
-    /// Where the fault lies: at the first of several footnotes, and 0 for out of memory or where
-    /// there is no footnote.
+    /// Where the fault lies: at the first of several footnotes or arguments, and 0 for out of memory,
+    /// for a name or a cast, and where there is none.
     pub fn span(&self) -> Span
         ensures { result.0 ≡ span_of self.now }
     {
         match self {
-            ExportFault::OutOfMemory => Span(0),
+            ExportFault::OutOfMemory | ExportFault::Name(_) | ExportFault::Cast(_) => Span(0),
+            ExportFault::Construct(fault) => fault.span(),
             ExportFault::Footnotes { spans } => first_span(spans),
             ExportFault::TooDeep { span }
             | ExportFault::NotAlone { span, .. }
@@ -147,6 +167,11 @@ fn same_fault(a: &ExportFault, b: &ExportFault) -> bool
         | (ExportFault::RawClosing { span }, ExportFault::RawClosing { span: other })
         | (ExportFault::FrameRefused { span }, ExportFault::FrameRefused { span: other }) => {
             *span == *other
+        }
+        (ExportFault::Name(fault), ExportFault::Name(other)) => *fault == *other,
+        (ExportFault::Cast(fault), ExportFault::Cast(other)) => *fault == *other,
+        (ExportFault::Construct(fault), ExportFault::Construct(other)) => {
+            equal_construct_faults(fault, other)
         }
         _ => false,
     }
@@ -207,5 +232,71 @@ impl<T: Drop> From<Refused<T>> for ExportFault {
 
     fn from(_refused: Refused<T>) -> ExportFault {
         ExportFault::OutOfMemory
+    }
+}
+
+impl From<FlowFault> for ExportFault {
+    ghost use Rattle.typst_html_encode.specs.Conversions.{of_flow};
+
+    ghost from_gives = { λ fault made. made ≡ of_flow fault };
+
+    fn from(fault: FlowFault) -> ExportFault {
+        match fault {
+            FlowFault::OutOfMemory => ExportFault::OutOfMemory,
+            FlowFault::TooDeep { span } => ExportFault::TooDeep { span },
+        }
+    }
+}
+
+/// A refused frame has the span 0 here: which one it was, the caller of its writer knows.
+impl From<FrameFault> for ExportFault {
+    ghost use Rattle.typst_html_encode.specs.Conversions.{of_frame};
+
+    ghost from_gives = { λ fault made. made ≡ of_frame fault };
+
+    fn from(fault: FrameFault) -> ExportFault {
+        match fault {
+            FrameFault::OutOfMemory => ExportFault::OutOfMemory,
+            FrameFault::Refused => ExportFault::FrameRefused { span: Span(0) },
+        }
+    }
+}
+
+impl From<NameFault> for ExportFault {
+    ghost use Rattle.typst_html_encode.specs.Conversions.{of_name};
+
+    ghost from_gives = { λ fault made. made ≡ of_name fault };
+
+    fn from(fault: NameFault) -> ExportFault {
+        match fault {
+            NameFault::OutOfMemory => ExportFault::OutOfMemory,
+            _ => ExportFault::Name(fault),
+        }
+    }
+}
+
+impl From<CastFault> for ExportFault {
+    ghost use Rattle.typst_html_encode.specs.Conversions.{of_cast};
+
+    ghost from_gives = { λ fault made. made ≡ of_cast fault };
+
+    fn from(fault: CastFault) -> ExportFault {
+        match fault {
+            CastFault::OutOfMemory => ExportFault::OutOfMemory,
+            _ => ExportFault::Cast(fault),
+        }
+    }
+}
+
+impl From<ConstructFault> for ExportFault {
+    ghost use Rattle.typst_html_encode.specs.Conversions.{of_construct};
+
+    ghost from_gives = { λ fault made. made ≡ of_construct fault };
+
+    fn from(fault: ConstructFault) -> ExportFault {
+        match fault {
+            ConstructFault::OutOfMemory => ExportFault::OutOfMemory,
+            _ => ExportFault::Construct(fault),
+        }
     }
 }

@@ -14,15 +14,16 @@ use crate::frame::FrameFault;
 use crate::options::HtmlOptions;
 use std::alloc::AllocError;
 
-/// The plain text of a frame-free tree without a fault reads as the tree's normal form, and its
-/// pretty text as that of the indented tree, unless a raw text on lines of its own ends in a
-/// closing tag that lacks its last character.
+/// The plain text of a frame-free tree with valid names and without a fault reads as the tree's
+/// normal form, and its pretty text as that of the indented tree, unless a raw text on lines of its
+/// own ends in a closing tag that lacks its last character.
 #[tactic(auto, using(crate::proofs::ReadingBack::reads_back))]
 pub fn text_reads_back()
     ensures { ReadsBack }
 {}
 
-/// Frame-free trees with the same text have the same normal form.
+/// Frame-free trees with valid names and without a fault have the same normal form if they have the
+/// same plain text.
 #[tactic(auto, using(crate::proofs::Same::same_text))]
 pub fn same_text_same_form()
     ensures { SameTextSameForm }
@@ -116,7 +117,8 @@ pub fn equal_frame_faults(a: &FrameFault, b: &FrameFault) -> bool
     a == b
 }
 
-/// Indents do not show once white space has collapsed: each touches a border.
+/// Indents do not show once white space has collapsed, where there is no frame and no raw element,
+/// what has indents is a border, and none that has them inside keeps its white space.
 pub fn indents_collapse()
     ensures content { ContentCollapses }
     ensures body { BodyCollapses }

@@ -2,18 +2,12 @@
 //!
 //! # Example
 //!
-//! A list in pretty text, by a writer of frames that refuses each:
+//! A list in pretty text. It has no frame, so `()`, which refuses each, is its writer of frames:
 //!
 //! ```
-//! struct NoFrames;
-//!
-//! impl FrameWriter for NoFrames {
-//!     ghost drawing = { λ _. no_frames };
-//!
-//!     fn write(&self, _frame: &HtmlFrame, _pretty: bool) -> Result<String, FrameFault> {
-//!         Err(FrameFault::Refused)
-//!     }
-//! }
+//! use html_dom::{HtmlElement, HtmlNode, Span};
+//! use html_names::tag;
+//! use typst_html::{HtmlOptions, html_in_bundle};
 //!
 //! let mut list = HtmlElement::new(alloc, tag::ul);
 //! for content in ["one", "two"] {
@@ -21,7 +15,7 @@
 //!     item.children.push(HtmlNode::text(String::from_str(alloc, content)?, Span(0)))?;
 //!     list.children.push(HtmlNode::from(item))?;
 //! }
-//! let text = html_in_bundle(alloc, &list, &HtmlOptions { pretty: true }, &NoFrames)?;
+//! let text = html_in_bundle(alloc, &list, &HtmlOptions { pretty: true }, &())?;
 //! assert_eq!(rt;
 //!     text.as_str(),
 //!     "<!DOCTYPE html>\n<ul>\n  <li>one</li>\n  <li>two</li>\n</ul>\n"

@@ -9,7 +9,7 @@ ghost use Rattle.typst_html_encode.specs.Layout.{lines_text, raw_text};
 ghost use Rattle.typst_html_encode.specs.Siblings.{head_view, siblings_view};
 ghost use Rattle.typst_html_encode.specs.Text.{escaped_text, node_raw_text, nodes_raw_text};
 ghost use Rattle.typst_html_encode.specs.Walk.{node_with};
-ghost use Rattle.typst_html_encode.specs.Writes.{Writes, Makes};
+ghost use Rattle.typst_html_encode.specs.Endings.{Adds, Gives};
 
 use crate::closing::holds_closing;
 use crate::escape::{Escaping, write_text};
@@ -18,7 +18,8 @@ use crate::indent::{push_indent, push_lines};
 use crate::layout::{Margin, is_by_lines, keeps_lines};
 use crate::siblings::{Element, Siblings};
 use html_dom_flat::FlatNode;
-use html_names::{HtmlTag, Output};
+use html_names::HtmlTag;
+use html_names::output::Output;
 use std::alloc::{AllocError, Global};
 
 /// Writes the content of a raw element.
@@ -28,7 +29,7 @@ pub(crate) fn write_raw(
     margin: Margin,
 ) -> Result<(), ExportFault>
     ensures { let children = siblings_view element.now.children in
-        Writes result out.old out.new
+        Adds result out.old out.new
         (raw_text margin (head_view element.now.head) (nodes_raw_text children))
         (raw_content_faults (head_view element.now.head) children) }
 {
@@ -40,7 +41,7 @@ pub(crate) fn write_raw(
 /// The text of a raw element, which holds no closing tag of it.
 fn checked_text(element: &Element) -> Result<String, ExportFault>
     ensures { let children = siblings_view element.now.children in
-        Makes result (nodes_raw_text children)
+        Gives result (nodes_raw_text children)
         (raw_content_faults (head_view element.now.head) children) }
 {
     let alloc = *element.head.flat.attrs.allocator();
@@ -55,7 +56,7 @@ fn checked_text(element: &Element) -> Result<String, ExportFault>
 
 /// The text of a raw element: that of its children, joined.
 fn joined(alloc: Global, children: &Siblings) -> Result<String, ExportFault>
-    ensures { Makes result
+    ensures { Gives result
         (nodes_raw_text (siblings_view children.now))
         (nodes_raw_faults Escaping.Raw (siblings_view children.now)) }
 {
@@ -70,7 +71,7 @@ pub(crate) fn write_children(
     escaping: Escaping,
     children: &Siblings,
 ) -> Result<(), ExportFault>
-    ensures { Writes result out.old out.new
+    ensures { Adds result out.old out.new
         (escaped_text escaping (nodes_raw_text (siblings_view children.now)))
         (nodes_raw_faults escaping (siblings_view children.now)) }
 {
@@ -83,7 +84,7 @@ pub(crate) fn write_children(
 /// Writes a child of a raw or an escapable raw element: a text.
 fn write_child(out: &mut Output, escaping: Escaping, child: &FlatNode) -> Result<(), ExportFault>
     ensures { (names : NamesView) → let n = node_with (flat_node_view names child.now) none in
-        Writes result out.old out.new
+        Adds result out.old out.new
         (escaped_text escaping (node_raw_text n)) (node_raw_faults escaping n) }
 {
     match child {

@@ -8,20 +8,21 @@ ghost use Rattle.typst_html_encode.specs.ReadingBack.{PairsAreNamed, HeadIsNamed
 ghost use Rattle.typst_html_encode.specs.Siblings.{head_view, siblings_view};
 ghost use Rattle.typst_html_encode.specs.Text.{value_text, attrs_text, tag_close, start_tag_text};
 ghost use Rattle.typst_html_encode.specs.Text.{end_tag_text, begins_with_feed, feed_text};
-ghost use Rattle.typst_html_encode.specs.Writes.{Writes};
+ghost use Rattle.typst_html_encode.specs.Endings.{Adds};
 
 use crate::escape::{Escaping, write_text};
 use crate::fault::ExportFault;
 use crate::siblings::{Element, ElementHead, Siblings};
 use html_dom_flat::FlatNode;
 use html_dom_tree::Span;
-use html_names::{HtmlTag, Output, tag};
+use html_names::output::Output;
+use html_names::{HtmlTag, tag};
 use std::alloc::AllocError;
 
 /// Writes the value of an attribute, and nothing where it is empty.
 #[tactic(auto, using(crate::proofs::Escapes::values))]
 fn write_value(out: &mut Output, value: &String, span: Span) -> Result<(), ExportFault>
-    ensures { Writes result out.old out.new
+    ensures { Adds result out.old out.new
         (value_text (text_view value.now))
         (text_faults Escaping.Value span.0 (text_view value.now)) }
 {
@@ -38,7 +39,7 @@ fn write_value(out: &mut Output, value: &String, span: Span) -> Result<(), Expor
 #[tactic(auto, using(crate::proofs::Given::pair_given))]
 fn write_attrs(out: &mut Output, head: &ElementHead) -> Result<(), ExportFault>
     ensures writes { let head = head_view head.now in
-        Writes result out.old out.new (attrs_text head.attrs) (attrs_faults head.span head.attrs) }
+        Adds result out.old out.new (attrs_text head.attrs) (attrs_faults head.span head.attrs) }
     ensures named { OnOk result (PairsAreNamed (head_view head.now).attrs) }
 {
     let names = head.names;
@@ -64,7 +65,7 @@ fn write_tag_close(out: &mut Output, head: &ElementHead) -> Result<(), AllocErro
 /// Writes the start tag.
 pub(crate) fn write_start(out: &mut Output, head: &ElementHead) -> Result<(), ExportFault>
     ensures writes { let head = head_view head.now in
-        Writes result out.old out.new (start_tag_text head) (attrs_faults head.span head.attrs) }
+        Adds result out.old out.new (start_tag_text head) (attrs_faults head.span head.attrs) }
     ensures named { OnOk result (HeadIsNamed (head_view head.now)) }
 {
     out.push('<')?;

@@ -12,7 +12,7 @@ ghost use Rattle.typst_html_encode.specs.Siblings.{head_view, flat_element_view,
 ghost use Rattle.typst_html_encode.specs.Text.{escaping_of, end_tag_text, element_text};
 ghost use Rattle.typst_html_encode.specs.Walk.{first_text, first_faults, FirstIsNamed};
 ghost use Rattle.typst_html_encode.specs.Walk.{outside_text, element_first_text, element_first_faults};
-ghost use Rattle.typst_html_encode.specs.Writes.{Writes, Passes};
+ghost use Rattle.typst_html_encode.specs.Endings.{Adds, Passes};
 
 use crate::content::ContentKind;
 use crate::escape::{Escaping, write_text};
@@ -27,7 +27,7 @@ use crate::siblings::{Element, ElementHead, Node};
 use crate::tags::{write_end, write_feed, write_start};
 use html_dom_flat::{FlatNode, FlatTree};
 use html_dom_tree::{HtmlElement, HtmlFrame};
-use html_names::Output;
+use html_names::output::Output;
 use std::alloc::{AllocError, Global};
 
 /// Writes an element at that margin.
@@ -38,7 +38,7 @@ pub(crate) fn write_root<F: FrameWriter>(
     margin: Margin,
     frames: &F,
 ) -> Result<(), ExportFault>
-    ensures writes { Writes result out.old out.new
+    ensures writes { Adds result out.old out.new
         (element_text (F.drawing frames.now) margin (element_view root.now))
         (element_faults (F.drawing frames.now) margin.pretty (element_view root.now)) }
     ensures named { OnOk result (ElementIsNamed (element_view root.now)) }
@@ -57,7 +57,7 @@ fn write_tree<F: FrameWriter>(
     frames: &F,
 ) -> Result<(), ExportFault>
     ensures writes { let ns = tree_nodes tree.now in
-        Writes result out.old out.new (outside_text (F.drawing frames.now) outer ns)
+        Adds result out.old out.new (outside_text (F.drawing frames.now) outer ns)
         (nodes_faults (F.drawing frames.now) false outer.pretty ns) }
     ensures named { OnOk result (NodesAreNamed (tree_nodes tree.now)) }
 {
@@ -74,7 +74,7 @@ fn write_tree<F: FrameWriter>(
             let node = node_at(names, nodes, place);
             let margin = open_elements.margin(outer)?;
             push_indent_if(out, open_elements.has_indent(due, &node), margin.level)?;
-            write_first(out, &node, open_elements.pre_span(), margin, frames)?;
+            write_first(alloc, out, &node, open_elements.pre_span(), margin, frames)?;
             if let Some(element) = entered(&node, margin, due) {
                 open_elements.push(element)?;
                 due = true;
@@ -127,13 +127,14 @@ fn entered<'a>(node: &Node<'a>, margin: Margin, due: bool) -> Option<OpenElement
 
 /// Writes a node, or the start of an element that the walk enters.
 fn write_first<F: FrameWriter>(
+    alloc: Global,
     out: &mut Output,
     node: &Node,
     pre_span: bool,
     margin: Margin,
     frames: &F,
 ) -> Result<(), ExportFault>
-    ensures writes { Writes result out.old out.new
+    ensures writes { Adds result out.old out.new
         (first_text (F.drawing frames.now) pre_span margin (node_view node.now))
         (first_faults (F.drawing frames.now) pre_span margin.pretty (node_view node.now)) }
     ensures named { OnOk result (FirstIsNamed (node_view node.now)) }
@@ -149,13 +150,13 @@ fn write_first<F: FrameWriter>(
             };
             write_element(out, &Element { head, children }, margin)
         }
-        FlatNode::Frame(frame) => write_frame(out, frame, margin, frames),
+        FlatNode::Frame(frame) => write_frame(alloc, out, frame, margin, frames),
     }
 }
 
 /// Writes an element whose children are not written one by one, and else its start.
 fn write_element(out: &mut Output, element: &Element, margin: Margin) -> Result<(), ExportFault>
-    ensures writes { Writes result out.old out.new
+    ensures writes { Adds result out.old out.new
         (element_first_text margin (flat_element_view element.now))
         (element_first_faults (flat_element_view element.now)) }
     ensures named { OnOk result (HeadIsNamed (head_view element.now.head)) }
@@ -187,18 +188,20 @@ fn refuse_children(element: &Element) -> Result<(), ExportFault>
         }),
     }
 }
+
 /// Writes a frame by its writer.
 fn write_frame<F: FrameWriter>(
+    alloc: Global,
     out: &mut Output,
     frame: &HtmlFrame,
     margin: Margin,
     frames: &F,
 ) -> Result<(), ExportFault>
     ensures { let answer = F.drawing frames.now (html_frame_view frame.now) margin.pretty in
-        Writes result out.old out.new
+        Adds result out.old out.new
         (frame_text margin answer) (frame_faults frame.now.span.0 answer) }
 {
-    match frames.write(frame, margin.pretty) {
+    match frames.write(alloc, frame, margin.pretty) {
         Ok(text) => {
             write_drawn(out, text.as_str(), margin)?;
             Ok(())

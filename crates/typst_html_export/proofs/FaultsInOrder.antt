@@ -6,7 +6,7 @@ use Rattle.typst_html_encode.specs.Faults.{BeginsWith, IsFirst}
 use Rattle.typst_html_encode.specs.Faults as writing
 use Rattle.typst_html_encode.specs.Frames.{Frames}
 use Rattle.typst_html_encode.specs.Text.{document_text}
-use Rattle.typst_html_encode.specs.Writes.{Makes}
+use Rattle.typst_html_encode.specs.Endings.{Gives}
 use Rattle.typst_html_encode.specs.declared.options.HtmlOptions.{HtmlOptions}
 use Rattle.typst_html_encode.specs.FaultViews.{ExportFaultView, export_fault_view, IsFirstView}
 use Rattle.typst_html_encode.specs.declared.fault.ExportFault.{ExportFault}
@@ -28,14 +28,7 @@ seen h = (views h.0, ap views h.1)
 -- the first fault of a list is the first as a value
 first_seen : (e : ExportFault) (fs : List ExportFault) → IsFirst e fs → IsFirstView e (views fs)
 first_seen fault.OutOfMemory fs h = tt
-first_seen (fault.TooDeep span) fs h = seen h
-first_seen (fault.NotAlone tag span) fs h = seen h
-first_seen (fault.Footnotes spans) fs h = seen h
-first_seen (fault.Unencodable c span) fs h = seen h
-first_seen (fault.VoidChildren span) fs h = seen h
-first_seen (fault.RawChild span) fs h = seen h
-first_seen (fault.RawClosing span) fs h = seen h
-first_seen (fault.FrameRefused span) fs h = seen h
+first_seen e fs h = seen h
 
 first_written : (e : ExportFault) (made : List ExportFaultView) (fs : List ExportFault)
     → made ≡ [] → IsFirst e fs → IsFirstView e (made ++ views fs)
@@ -43,7 +36,7 @@ first_written e made fs none h = first_after_none e made (views fs) none (first_
 
 -- what is answered for a document that was made of items
 written : (r : Result (String Global) ExportFault) (wanted : List ℕ) (made : List ExportFaultView)
-    (fs : List ExportFault) → made ≡ [] → Makes r wanted fs
+    (fs : List ExportFault) → made ≡ [] → Gives r wanted fs
     → Assembles text_view r wanted (made ++ views fs)
 written (Ok s) wanted made fs none m =
     record { made = m.made; clean = none_after_none made (views fs) none (ap views m.clean); fault = tt }
@@ -53,7 +46,7 @@ written (Err e) wanted made fs none m =
 pub exported : (frames : Frames) (options : HtmlOptions) (limit : ℕ) (info : InfoView)
     (items notes : ItemsView) (d : DocumentView) (r : Result (String Global) ExportFault)
     → d ≡ linked_document info items notes → document_faults limit items notes ≡ []
-    → Makes r (document_text frames options (document_root d))
+    → Gives r (document_text frames options (document_root d))
     (writing.document_faults frames options (document_root d))
     → Assembles text_view r (export_text frames options info items notes)
     (export_faults limit frames options info items notes)

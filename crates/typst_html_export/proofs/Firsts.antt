@@ -13,14 +13,7 @@ more gs h = (h.0 ++ gs, ap (λ xs. xs ++ gs) h.1)
 pub first_of_more : (e : ExportFault) (fs gs : List ExportFaultView) → IsFirstView e fs
     → IsFirstView e (fs ++ gs)
 first_of_more fault.OutOfMemory fs gs h = tt
-first_of_more (fault.TooDeep span) fs gs h = more gs h
-first_of_more (fault.NotAlone tag span) fs gs h = more gs h
-first_of_more (fault.Footnotes spans) fs gs h = more gs h
-first_of_more (fault.Unencodable c span) fs gs h = more gs h
-first_of_more (fault.VoidChildren span) fs gs h = more gs h
-first_of_more (fault.RawChild span) fs gs h = more gs h
-first_of_more (fault.RawClosing span) fs gs h = more gs h
-first_of_more (fault.FrameRefused span) fs gs h = more gs h
+first_of_more e fs gs h = more gs h
 
 pub first_after_none : (e : ExportFault) (fs gs : List ExportFaultView) → fs ≡ []
     → IsFirstView e gs → IsFirstView e (fs ++ gs)
@@ -45,14 +38,7 @@ none_first {A} {f} none first =
 pub memory_alone : (e : ExportFault) (fs : List ExportFaultView) → fs ≡ [] → IsFirstView e fs
     → e ≡ fault.OutOfMemory
 memory_alone fault.OutOfMemory fs none h = refl
-memory_alone (fault.TooDeep span) fs none h = absurd (none_first none h)
-memory_alone (fault.NotAlone tag span) fs none h = absurd (none_first none h)
-memory_alone (fault.Footnotes spans) fs none h = absurd (none_first none h)
-memory_alone (fault.Unencodable c span) fs none h = absurd (none_first none h)
-memory_alone (fault.VoidChildren span) fs none h = absurd (none_first none h)
-memory_alone (fault.RawChild span) fs none h = absurd (none_first none h)
-memory_alone (fault.RawClosing span) fs none h = absurd (none_first none h)
-memory_alone (fault.FrameRefused span) fs none h = absurd (none_first none h)
+memory_alone e fs none h = absurd (none_first none h)
 
 pub fails_by_memory_alone : {A : Type 0} (r : Result A ExportFault) (fs : List ExportFaultView)
     → fs ≡ [] → IfErr r (λ e. IsFirstView e fs) → FailsByMemoryAlone r

@@ -24,7 +24,7 @@ use crate::head::{head_node, lang_text};
 use html_dom_document::{DocumentInfo, HtmlDocument, HtmlOutput};
 use html_dom_link::with_link_anchors;
 use html_dom_tree::{HtmlElement, HtmlNode, Span, with_inline_styles};
-use html_flow_convert::{ConversionLevel, FlowFault, Pair, Whitespace, convert_to_nodes};
+use html_flow_convert::{ConversionLevel, Pair, Whitespace, convert_to_nodes};
 use html_names::{attr, tag};
 use std::alloc::{AllocError, Global};
 use std::mem;
@@ -33,10 +33,10 @@ use typst_html_encode::ExportFault;
 /// The document of items, with what is known of it and with footnotes, and with anchors for all
 /// locations to which links lead.
 ///
-/// It is that of [`html_document_for_bundle`], in which each target of a start tag or of a link in a
-/// frame then gets an anchor as by [`with_link_anchors`]; the document's introspector knows them.
-/// The positions that it knows stay those of the tree without anchors. It fails as
-/// `html_document_for_bundle` does.
+/// It is that of [`html_document_for_bundle`], in which the targets of start tags and of links in
+/// frames then get anchors as by [`create_link_anchors`], where they stand in the tree; the
+/// document's introspector knows them. The positions that it knows stay those of the tree without
+/// anchors. It fails as `html_document_for_bundle` does.
 ///
 /// Of items in plain flow, without footnotes and none too deep, a document is always made, out of
 /// memory aside, and once white space has collapsed exactly their text is seen in its body.
@@ -65,8 +65,8 @@ pub fn html_document(
         (linked_document (info_view info.now) (items_view items.now) (items_view footnotes.now))
         (document_faults limit (items_view items.now) (items_view footnotes.now)) }
     ensures anchors { IfOk result (λ document. AnchorsAreFirstIds (document_view document)) }
-    // Items in plain flow become a document, out of memory aside, and in its text exactly theirs
-    // is seen.
+    // Items in plain flow, without footnotes and none too deep, become a document, out of memory
+    // aside, and in its text exactly theirs is seen.
     ensures plain { ArePlainItems limit (items_view items.now) (items_view footnotes.now) →
         FailsByMemoryAlone result }
     ensures spaces { IfOk result (λ document. SpacesAreLeft (document_view document)
@@ -144,11 +144,8 @@ fn converted(
         (depth_faults (items_too_deep depth limit (items_view items.now))) }
 {
     let (level, whitespace) = (ConversionLevel::Block, Whitespace::Normal);
-    match convert_to_nodes(alloc, items, level, whitespace, None, depth, limit) {
-        Ok(nodes) => Ok(nodes),
-        Err(FlowFault::OutOfMemory) => Err(ExportFault::OutOfMemory),
-        Err(FlowFault::TooDeep { span }) => Err(ExportFault::TooDeep { span }),
-    }
+    let nodes = convert_to_nodes(alloc, items, level, whitespace, None, depth, limit)?;
+    Ok(nodes)
 }
 
 /// What stands around the nodes of a document and of its footnotes.

@@ -10,7 +10,7 @@ ghost use Rattle.typst_html_encode.specs.Indented.{element_layout, ElementEndsWe
 ghost use Rattle.typst_html_encode.specs.Reader.{read};
 ghost use Rattle.html_dom_tree.specs.FrameFree.{ElementIsFrameFree};
 ghost use Rattle.typst_html_encode.specs.Text.{document_text};
-ghost use Rattle.typst_html_encode.specs.Writes.{Makes};
+ghost use Rattle.typst_html_encode.specs.Endings.{Gives};
 ghost use Rattle.html_dom_document.specs.Documents.{document_root};
 ghost use Rattle.html_flow_convert.specs.Views.{items_view};
 ghost use Rattle.typst_html_spaces.specs.CleanItems.{are_clean_items};
@@ -41,7 +41,7 @@ pub fn html<F: FrameWriter>(
     frames: &F,
 ) -> Result<String, ExportFault>
     // The text, or the first fault.
-    ensures makes { Makes result
+    ensures makes { Gives result
         (document_text (F.drawing frames.now) options.now (document_root (document_view document.now)))
         (document_faults (F.drawing frames.now) options.now
         (document_root (document_view document.now))) }

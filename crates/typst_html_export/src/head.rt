@@ -11,7 +11,8 @@ ghost use Rattle.typst_html_export.specs.DocumentHead.{joined_text, lang_text, l
 
 use html_dom_document::{DocumentInfo, Locale};
 use html_dom_tree::{HtmlElement, HtmlNode, Span};
-use html_names::{Output, attr, tag};
+use html_names::output::Output;
+use html_names::{attr, tag};
 use std::alloc::{AllocError, Global};
 
 /// The head of a document: how it is encoded, how it is shown, and what is known of it.

@@ -45,14 +45,16 @@ pub fn spaces_stay()
     ensures { SpacesStay }
 {}
 
-/// Spaces stay in pretty text too: its indents are not seen.
+/// Spaces of items in plain flow stay as pretty writing lays their nodes out too: its indents are
+/// not seen.
 #[tactic(auto, using(crate::proofs::SpacesStay::pretty_spaces_stay))]
 pub fn pretty_spaces_stay()
     ensures { PrettySpacesStay }
 {}
 
 /// A root that can be read back: what is seen of the body of its text, plain or pretty, is what is
-/// seen of its body. If that is made of items in plain flow, it is exactly their text.
+/// seen of its body, if what has indents there is a border. If that is made of items in plain flow,
+/// it is exactly their text.
 pub fn documents_are_seen()
     ensures body { BodyIsSeen }
     ensures items { ItemsAreSeen }
@@ -66,8 +68,9 @@ pub fn plain_flow_makes_plain_nodes()
     ensures inside { PlainNamesAreInside }
 {}
 
-/// Items in plain flow whose texts and labels hold text characters alone, and of which no void element
-/// has a body, become nodes without a fault. They stay so with anchors of text characters alone.
+/// Items in plain flow whose texts, values, roles and labels hold text characters alone, and of
+/// which no void element has a body, become nodes without a fault. They stay so with anchors of
+/// text characters alone.
 pub fn clean_items_are_written()
     ensures made { CleanItemsMakeCleanNodes }
     ensures written { CleanNodesAreWritten }

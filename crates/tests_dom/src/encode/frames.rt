@@ -2,7 +2,7 @@
 
 ghost use Rattle.std.specs.Prelude.{◌==◌, [], Some, None, if◌then◌else◌};
 ghost use Rattle.html_dom_tree.specs.Views.{text_view};
-ghost use Rattle.typst_html_encode.specs.Frames.{no_frames, picture_of};
+ghost use Rattle.typst_html_encode.specs.Frames.{picture_of};
 
 use crate::asserts::{add, tag_of, text_of};
 use crate::encode::large::long_text;
@@ -11,20 +11,9 @@ use html_dom_tree::{
     Frame, FrameItem, HtmlElement, HtmlFrame, HtmlNode, Location, Point, Span, Tag,
 };
 use html_values_css::Abs;
-use std::alloc::{AllocError, Global};
+use std::alloc::Global;
 use std::process::Abort;
 use typst_html_encode::{FrameFault, FrameWriter, HtmlOptions};
-
-/// Refuses every frame.
-pub(crate) struct NoFrames;
-
-impl FrameWriter for NoFrames {
-    ghost drawing = { λ _. no_frames };
-
-    fn write(&self, _frame: &HtmlFrame, _pretty: bool) -> Result<String, FrameFault> {
-        Err(FrameFault::Refused)
-    }
-}
 
 /// Writes one text where pretty writing is on, and another where it is off, and refuses the pictures
 /// of one number.
@@ -40,15 +29,12 @@ impl FrameWriter for TwoTexts {
         if picture_of frame.inner == writer.refused then None
         else Some (if pretty then text_view writer.pretty else text_view writer.plain) };
 
-    fn write(&self, frame: &HtmlFrame, pretty: bool) -> Result<String, FrameFault> {
+    fn write(&self, _alloc: Global, frame: &HtmlFrame, pretty: bool) -> Result<String, FrameFault> {
         if frame.inner.picture == self.refused {
             return Err(FrameFault::Refused);
         }
         let text = if pretty { &self.pretty } else { &self.plain };
-        match text.clone() {
-            Ok(text) => Ok(text),
-            Err(AllocError) => Err(FrameFault::OutOfMemory),
-        }
+        Ok(text.clone()?)
     }
 }
 
@@ -58,7 +44,12 @@ struct Exhausted;
 impl FrameWriter for Exhausted {
     ghost drawing = { λ _ frame pretty. Some [] };
 
-    fn write(&self, _frame: &HtmlFrame, _pretty: bool) -> Result<String, FrameFault> {
+    fn write(
+        &self,
+        _alloc: Global,
+        _frame: &HtmlFrame,
+        _pretty: bool,
+    ) -> Result<String, FrameFault> {
         Err(FrameFault::OutOfMemory)
     }
 }
@@ -198,7 +189,7 @@ fn writers_that_write_nothing(rt: HostRuntime) {
     let refused = "FrameRefused { span: Span(3) }";
     for options in [PLAIN, PRETTY] {
         assert_answer(&rt, &div, &options, &Exhausted, "OutOfMemory");
-        assert_answer(&rt, &div, &options, &NoFrames, refused);
+        assert_answer(&rt, &div, &options, &(), refused);
     }
 }
 

@@ -1,7 +1,6 @@
 //! Deep trees, long lists and long texts: no size is refused.
 
 use crate::asserts::{add, around, assert_number, nested};
-use crate::encode::frames::NoFrames;
 use crate::encode::{PLAIN, PRETTY, element};
 use html_dom_tree::{HtmlElement, HtmlNode, Span};
 use html_names::tag;
@@ -12,7 +11,7 @@ use typst_html_encode::{HtmlOptions, html_in_bundle};
 /// Asserts how many bytes are written for the element.
 fn assert_length(rt: &impl Abort, root: &HtmlElement, options: &HtmlOptions, wanted: usize) {
     let alloc = *root.children.allocator();
-    let text = html_in_bundle(alloc, root, options, &NoFrames).expect(rt, "a text");
+    let text = html_in_bundle(alloc, root, options, &()).expect(rt, "a text");
     assert_number(rt, text.as_str().len(), wanted);
 }
 

@@ -1,7 +1,7 @@
 //! A text that is being written.
 
 use crate::asserts::assert_text;
-use html_names::Output;
+use html_names::output::Output;
 use std::alloc::AllocError;
 
 /// Adds texts and characters.

@@ -4,11 +4,11 @@ use crate::asserts::text_of;
 use crate::growths::given::items::{blocks_of, elem_of, inheriting, text_item_of};
 use crate::growths::given::{add, assert_growths, list_of};
 use crate::growths::shown::{is_shown, shown_of};
-use html_dom_tree::{HtmlNode, Span};
+use html_dom_tree::{HtmlNode, Location, Span};
 use html_flow::{
-    Arg, ArgValue, Args, ConstructFault, ConversionLevel, ElementInfo, FlowFault, HtmlElem, Pair,
-    Whitespace, construct, convert_to_nodes, html_block_fragment, html_inline_fragment,
-    html_math_fragment,
+    Arg, ArgValue, Args, ConstructFault, ConversionLevel, ElementInfo, FlowFault, HtmlElem, Item,
+    Pair, Whitespace, construct, convert_to_nodes, html_block_fragment, html_inline_fragment,
+    html_math_fragment, push_located,
 };
 use html_names::{Refused, attr, tag};
 use html_values::{AttrType, ListType, NativeType, Value};
@@ -30,6 +30,7 @@ enum Form {
 enum ItemCall {
     WithAttr(HtmlElem, String, String),
     WithOptionalAttr(HtmlElem, String, String),
+    Locate(Vec<Pair>, String, Item, String),
     Convert(Form, Vec<Pair>, String),
     Construct(ElementInfo, Args, String),
 }
@@ -41,6 +42,7 @@ impl Growth for ItemCall {
             ItemCall::WithOptionalAttr(element, value, shown) => {
                 with_optional_attr(element, value, shown)
             }
+            ItemCall::Locate(items, label, item, shown) => located(items, label, item, shown),
             ItemCall::Convert(form, items, shown) => converted(alloc, form, items, shown),
             ItemCall::Construct(info, args, shown) => constructed(alloc, info, args, shown),
         }
@@ -79,6 +81,26 @@ fn with_optional_attr(element: HtmlElem, value: String, shown: String) -> Answer
             refused(
                 is_back && is_shown(&element, &shown),
                 ItemCall::WithOptionalAttr(element, value, shown),
+            )
+        }
+    }
+}
+
+fn located(mut items: Vec<Pair>, label: String, item: Item, shown: String) -> Answer<ItemCall> {
+    match push_located(&mut items, Location(1), Some(label), None, item) {
+        Ok(()) => made(items.len() == 3),
+        Err(
+            Refused {
+                back: (label, item),
+            },
+        ) => {
+            let Some(label) = label else {
+                return Answer::Wrong;
+            };
+            let is_back = label.as_str() == "held" && is_shown(&item, &shown);
+            refused(
+                is_back && items.is_empty(),
+                ItemCall::Locate(items, label, item, shown),
             )
         }
     }
@@ -188,6 +210,13 @@ fn construct_call(rt: &impl Abort, alloc: Global) -> ItemCall {
     ItemCall::Construct(info_of(rt, alloc), args, shown)
 }
 
+/// A text is put between tags, into a list without room.
+fn locate_call(rt: &impl Abort, alloc: Global) -> ItemCall {
+    let item = text_item_of(rt, alloc);
+    let shown = shown_of(rt, alloc, &item);
+    ItemCall::Locate(Vec::new(alloc), text_of(rt, alloc, "held"), item, shown)
+}
+
 /// Each way in which items become nodes.
 const FORMS: [Form; 5] = [
     Form::Nodes(ConversionLevel::Block),
@@ -218,6 +247,6 @@ fn changed_items(rt: HostRuntime) {
         alloc,
         list_of(&rt, alloc, [with_attr, with_optional_attr]),
     );
-    let construct = construct_call(&rt, alloc);
-    assert_growths(&rt, alloc, list_of(&rt, alloc, [construct]));
+    let (locate, construct) = (locate_call(&rt, alloc), construct_call(&rt, alloc));
+    assert_growths(&rt, alloc, list_of(&rt, alloc, [locate, construct]));
 }

@@ -2,7 +2,8 @@
 
 use crate::asserts::{tag_of, text_of};
 use crate::growths::given::{add, assert_growths, list_of};
-use html_names::{HtmlAttr, HtmlTag, NameFault, NameTable, Output, attr, laws, tag};
+use html_names::output::Output;
+use html_names::{HtmlAttr, HtmlTag, NameFault, NameTable, attr, laws, tag};
 use std::alloc::{AllocError, Global};
 use std::process::Abort;
 use tests_growth::{Answer, Growth, refused};

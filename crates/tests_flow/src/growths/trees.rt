@@ -2,8 +2,8 @@
 
 use crate::asserts::text_of;
 use crate::growths::given::{assert_growths, element_of, id_of, inner_of, list_of};
-use html_dom_tree::{HtmlAttrs, HtmlElement, resolve_inline_styles};
-use html_names::{Refused, attr};
+use html_dom_tree::{HtmlAttrs, HtmlElement, HtmlNode, Span, resolve_inline_styles};
+use html_names::{Refused, attr, tag};
 use std::alloc::{AllocError, Global};
 use tests_growth::{Answer, Growth, made, refused};
 
@@ -14,6 +14,7 @@ enum TreeCall {
     PushFront(HtmlAttrs, String),
     Fold(HtmlAttrs, HtmlAttrs),
     WithAttr(HtmlElement, HtmlElement, String),
+    WithChild(HtmlElement, HtmlNode),
     Resolve(HtmlElement, HtmlElement),
 }
 
@@ -24,6 +25,7 @@ impl Growth for TreeCall {
             TreeCall::PushFront(list, value) => push_front(list, value),
             TreeCall::Fold(inner, outer) => fold(inner, outer),
             TreeCall::WithAttr(element, copy, value) => with_attr(element, copy, value),
+            TreeCall::WithChild(element, child) => with_child(element, child),
             TreeCall::Resolve(element, copy) => resolve(alloc, element, copy),
         }
     }
@@ -99,6 +101,24 @@ fn with_attr(element: HtmlElement, copy: HtmlElement, value: String) -> Answer<T
     }
 }
 
+fn with_child(element: HtmlElement, child: HtmlNode) -> Answer<TreeCall> {
+    match element.with_child(child) {
+        Ok(element) => made(element.children.len() == 1),
+        Err(
+            Refused {
+                back: (element, child),
+            },
+        ) => {
+            let is_back =
+                matches!(&child, HtmlNode::Text(text, Span(7)) if text.as_str() == "held");
+            refused(
+                is_back && element.children.is_empty(),
+                TreeCall::WithChild(element, child),
+            )
+        }
+    }
+}
+
 fn resolve(alloc: Global, mut element: HtmlElement, copy: HtmlElement) -> Answer<TreeCall> {
     match resolve_inline_styles(alloc, &mut element) {
         Ok(()) => made(element != copy),
@@ -123,5 +143,11 @@ fn changed_elements(rt: HostRuntime) {
     let value = text_of(&rt, alloc, "held");
     let with_attr = TreeCall::WithAttr(inner_of(&rt, alloc), inner_of(&rt, alloc), value);
     let resolve = TreeCall::Resolve(element_of(&rt, alloc), element_of(&rt, alloc));
-    assert_growths(&rt, alloc, list_of(&rt, alloc, [with_attr, resolve]));
+    let child = HtmlNode::text(text_of(&rt, alloc, "held"), Span(7));
+    let with_child = TreeCall::WithChild(HtmlElement::new(alloc, tag::p), child);
+    assert_growths(
+        &rt,
+        alloc,
+        list_of(&rt, alloc, [with_attr, with_child, resolve]),
+    );
 }

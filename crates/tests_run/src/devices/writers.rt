@@ -1,6 +1,6 @@
 use super::cases;
 use crate::runs::{Group, whole, words};
-use html_tool_run::{Recorded, Status, run};
+use html_tool_run::{Recorded, Status, run, run_recorded};
 use std::alloc::Global;
 use std::io;
 use std::io::{Error, ErrorKind, Write};
@@ -68,9 +68,34 @@ fn status_of(
 ) -> Status {
     let words = words(rt, alloc, list);
     let mut bytes = input.as_bytes();
-    let status = run(alloc, &mut bytes, &mut Recorded::new(&mut *writer), &words);
+    let status = run(alloc, &mut bytes, &mut *writer, &words);
     assert!(rt; writer.taken.as_slice() == taken, "{input}");
     status
+}
+
+/// Asserts that a run that remembers how its last call ended answers as one that does not.
+fn assert_recorded(rt: &impl Abort, alloc: Global, group: &Group, input: &str, text: &str) {
+    let words = words(rt, alloc, group.words);
+    let whole = whole(rt, alloc, group, text);
+    for fails_at in 0..=whole.len() {
+        let mut writer = Slow::new(alloc, 1);
+        writer.fails_at = fails_at;
+        let mut bytes = input.as_bytes();
+        let status = run_recorded(alloc, &mut bytes, &mut Recorded::new(&mut writer), &words);
+        let taken = whole.as_bytes().get(..fails_at).expect(rt, "a beginning");
+        assert!(rt; writer.taken.as_slice() == taken, "{input}");
+        assert!(rt;
+            (status == group.status) == (fails_at == whole.len()),
+            "{input}"
+        );
+    }
+}
+
+#[test]
+fn recorded_writes(rt: HostRuntime) {
+    for (group, input, text) in &cases() {
+        assert_recorded(&rt, rt.alloc(), group, input, text);
+    }
 }
 
 /// Asserts that a write that fails ends the run: a beginning was written, nothing is tried again,

@@ -24,7 +24,7 @@ returns-in_err-items_text c =
     let made = items_view c.deref.result.now in
     rw (failed.1, failed.2, c.in_ok-items.ensures.0, ← c.deref.ensures.value)
     (other_said (items_refusals made) (doc_refusals c.args.pretty made) (doc_text c.args.pretty made)
-    c.in_err-items_text.field-0.0 (rw c.deref.ensures.value c.in_ok-items.ensures.1) c.in_err-items_text.ensures.refused)
+    c.in_err-items_text.field-0.0 (rw c.deref.ensures.value c.in_ok-items.ensures.1) c.in_err-items_text.ensures.fault)
 
 pub returns : goal.returns
 unfolding doc_answer

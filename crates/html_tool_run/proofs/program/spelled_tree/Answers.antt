@@ -24,7 +24,7 @@ returns-in_err-element_text c =
     let made = element_view c.in_ok-element.element in
     rw (failed.1, failed.2, c.in_ok-element.ensures.0)
     (other_said (element_refusals made) (tree_refusals c.args.pretty made)
-    (tree_text c.args.pretty made) c.in_err-element_text.field-0.0 c.in_ok-element.ensures.1 c.in_err-element_text.ensures.refused)
+    (tree_text c.args.pretty made) c.in_err-element_text.field-0.0 c.in_ok-element.ensures.1 c.in_err-element_text.ensures.fault)
 
 pub returns : goal.returns
 unfolding tree_answer

@@ -27,7 +27,7 @@ element_of-returns-in_err-tag t c =
     (wrong_tag (element_made c.args.number) name_refusals all_name_refusals c.args.number
     (own_first c.args.number) (chars c.in-Some.tag.now) (pairs_at (view c.attrs-item.result))
     (list_at (view c.children-item.result) (c.args.number + 1))
-    c.in_err-tag.field-0.0 c.in_err-tag.ensures.refused)
+    c.in_err-tag.field-0.0 c.in_err-tag.ensures.fault)
 
 pub element_of-returns-in_err-attrs : goal.element_of-returns-in_err-attrs
 element_of-returns-in_err-attrs t c =

@@ -6,13 +6,13 @@ use Rattle.std.proofs.lemmas.Bool.{and_parts, and_from}
 use Rattle.std.proofs.lemmas.Bool.Decides.{Decides-eqb}
 use Rattle.html_values_css.proofs.Equals.{lists_decide}
 use Rattle.html_dom_tree.specs.declared.span.Span.{Span}
-use Rattle.html_values.specs.declared.cast_fault.CastFault.{CastFault}
-use Rattle.html_values.specs.contracts.cast_fault.CastFault.{the_type}
-use Rattle.html_values.specs.contracts.cast_fault.CastFaultPartialEq.TheImpl as casts
-use Rattle.html_flow.specs.Faults.{ConstructFaultView, cast_faults, body_kind, construct_fault_view}
-use Rattle.html_flow.specs.declared.fault.ConstructFault.{ConstructFault}
-use Rattle.html_flow.specs.declared.fault.ConstructFault.TheVariants as kinds
-use Rattle.html_flow.specs.contracts.fault.ConstructFaultPartialEq.TheImpl as block
+use Rattle.html_values_css.specs.declared.cast_fault.CastFault.{CastFault}
+use Rattle.html_values_css.specs.contracts.cast_fault.CastFault.{the_type}
+use Rattle.html_values_css.specs.contracts.cast_fault.CastFaultPartialEq.TheImpl as casts
+use Rattle.html_flow_convert.specs.ConstructFaults.{ConstructFaultView, cast_faults, body_kind, construct_fault_view}
+use Rattle.html_flow_convert.specs.declared.construct_fault.ConstructFault.{ConstructFault}
+use Rattle.html_flow_convert.specs.declared.construct_fault.ConstructFault.TheVariants as kinds
+use Rattle.html_flow_convert.specs.contracts.construct_fault.ConstructFaultPartialEq.TheImpl as block
 
 apart : {P : Type 0} → (P → ⊥) → Decides false P
 apart differ = (λ h. absurd (true≢false (sym h)), λ e. absurd (differ e))

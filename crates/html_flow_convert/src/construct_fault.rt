@@ -1,9 +1,9 @@
 ghost use Rattle.std.specs.Prelude.{◌≡◌};
-ghost use Rattle.html_flow.specs.Faults.{number_of};
+ghost use Rattle.html_flow_convert.specs.ConstructFaults.{number_of, span_of};
 
 use html_dom_tree::Span;
-use html_names::{HtmlAttr, Refused};
-use html_values::CastFault;
+use html_names::Refused;
+use html_values_css::CastFault;
 use std::alloc::{AllocError, AllocFailed};
 use thiserror::Error;
 
@@ -39,10 +39,25 @@ impl ConstructFault {
             ConstructFault::BodyKind { .. } => 24,
         }
     }
+
+    /// Where the first argument that is wrong comes from; 0 for out of memory, and where there is
+    /// none.
+    pub fn span(&self) -> Span
+        ensures { result.0 ≡ span_of self.now }
+    {
+        match self {
+            ConstructFault::OutOfMemory => Span(0),
+            ConstructFault::Casts(faults) => match faults.first() {
+                Some((_, span)) => *span,
+                None => Span(0),
+            },
+            ConstructFault::BodyKind { span } => *span,
+        }
+    }
 }
 
 impl From<AllocError> for ConstructFault {
-    ghost use Rattle.html_flow.specs.declared.fault.ConstructFault.TheVariants.{OutOfMemory};
+    ghost use Rattle.html_flow_convert.specs.declared.construct_fault.ConstructFault.TheVariants.{OutOfMemory};
 
     ghost from_gives = { λ _ e. e ≡ OutOfMemory };
 
@@ -52,7 +67,7 @@ impl From<AllocError> for ConstructFault {
 }
 
 impl<T: Drop> From<AllocFailed<T>> for ConstructFault {
-    ghost use Rattle.html_flow.specs.declared.fault.ConstructFault.TheVariants.{OutOfMemory};
+    ghost use Rattle.html_flow_convert.specs.declared.construct_fault.ConstructFault.TheVariants.{OutOfMemory};
 
     ghost from_gives = { λ _ e. e ≡ OutOfMemory };
 
@@ -61,12 +76,12 @@ impl<T: Drop> From<AllocFailed<T>> for ConstructFault {
     }
 }
 
-impl From<Refused<(HtmlAttr, String)>> for ConstructFault {
-    ghost use Rattle.html_flow.specs.declared.fault.ConstructFault.TheVariants.{OutOfMemory};
+impl<T: Drop> From<Refused<T>> for ConstructFault {
+    ghost use Rattle.html_flow_convert.specs.declared.construct_fault.ConstructFault.TheVariants.{OutOfMemory};
 
     ghost from_gives = { λ _ e. e ≡ OutOfMemory };
 
-    fn from(_refused: Refused<(HtmlAttr, String)>) -> ConstructFault {
+    fn from(_refused: Refused<T>) -> ConstructFault {
         ConstructFault::OutOfMemory
     }
 }

@@ -1,5 +1,6 @@
 ghost use Rattle.std.specs.Prelude.{◌≡◌};
 
+use html_names::Refused;
 use std::alloc::{AllocError, AllocFailed};
 use thiserror::Error;
 
@@ -36,7 +37,7 @@ pub enum CastFault {
 }
 
 impl CastFault {
-    ghost use Rattle.html_values.specs.CastFaults.{number_of};
+    ghost use Rattle.html_values_css.specs.CastFaults.{number_of};
 
     /// The fault's number: 0 for out of memory, and from 16 on in the order of the variants.
     pub fn number(&self) -> u8
@@ -57,7 +58,7 @@ impl CastFault {
 }
 
 impl From<AllocError> for CastFault {
-    ghost use Rattle.html_values.specs.declared.cast_fault.CastFault.TheVariants.{OutOfMemory};
+    ghost use Rattle.html_values_css.specs.declared.cast_fault.CastFault.TheVariants.{OutOfMemory};
 
     ghost from_gives = { λ _ e. e ≡ OutOfMemory };
 
@@ -67,11 +68,21 @@ impl From<AllocError> for CastFault {
 }
 
 impl<T: Drop> From<AllocFailed<T>> for CastFault {
-    ghost use Rattle.html_values.specs.declared.cast_fault.CastFault.TheVariants.{OutOfMemory};
+    ghost use Rattle.html_values_css.specs.declared.cast_fault.CastFault.TheVariants.{OutOfMemory};
 
     ghost from_gives = { λ _ e. e ≡ OutOfMemory };
 
     fn from(_refused: AllocFailed<T>) -> CastFault {
+        CastFault::OutOfMemory
+    }
+}
+
+impl<T: Drop> From<Refused<T>> for CastFault {
+    ghost use Rattle.html_values_css.specs.declared.cast_fault.CastFault.TheVariants.{OutOfMemory};
+
+    ghost from_gives = { λ _ e. e ≡ OutOfMemory };
+
+    fn from(_refused: Refused<T>) -> CastFault {
         CastFault::OutOfMemory
     }
 }

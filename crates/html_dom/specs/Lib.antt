@@ -1,0 +1,29 @@
+-- The words of its parts, which the contracts of what it passes on are in.
+pub use Rattle.html_dom_tree.specs.Attributes
+pub use Rattle.html_dom_tree.specs.FrameFree
+pub use Rattle.html_dom_tree.specs.FrameViews
+pub use Rattle.html_dom_tree.specs.Frames
+pub use Rattle.html_dom_tree.specs.PlainTree
+pub use Rattle.html_dom_tree.specs.Styled
+pub use Rattle.html_dom_tree.specs.Tags
+pub use Rattle.html_dom_tree.specs.Tree
+pub use Rattle.html_dom_tree.specs.Views
+pub use Rattle.html_dom_flat.specs.Flat
+pub use Rattle.html_dom_flat.specs.FlatTrees
+pub use Rattle.html_dom_flat.specs.FlatViews
+pub use Rattle.html_dom_introspect.specs.DomIndices
+pub use Rattle.html_dom_introspect.specs.Introspectors
+pub use Rattle.html_dom_introspect.specs.Paths
+pub use Rattle.html_dom_introspect.specs.Places
+pub use Rattle.html_dom_document.specs.Documents
+pub use Rattle.html_dom_document.specs.Positions
+pub use Rattle.html_dom_document.specs.Views as DocumentViews
+pub use Rattle.html_dom_link.specs.Anchors
+pub use Rattle.html_dom_link.specs.Answered
+pub use Rattle.html_dom_link.specs.Fresh
+pub use Rattle.html_dom_link.specs.Groups
+pub use Rattle.html_dom_link.specs.LinkAnchors
+pub use Rattle.html_dom_link.specs.Namings
+pub use Rattle.html_dom_link.specs.NewNames
+pub use Rattle.html_dom_link.specs.Seen
+pub use Rattle.html_dom_link.specs.Undone
