@@ -1,0 +1,8 @@
+//! Whole implementations of a user's own, of each trait that users may implement.
+
+mod attr;
+mod frame;
+mod part;
+mod sink;
+mod value;
+mod warns;

@@ -1,0 +1,48 @@
+//! An attribute's value of one's own.
+
+ghost use Rattle.std.specs.Prelude.{codes};
+ghost use Rattle.std.specs.Fmt.{decimal};
+ghost use Rattle.tests_surface.specs.declared.own.attr.Limit.TheVariants.{Most, Unlimited};
+
+use html_values::{IntoAttr, NoneValue};
+use std::alloc::{AllocError, Global};
+
+/// How many there may be.
+#[derive(Clone, Copy)]
+enum Limit {
+    /// At most that many.
+    Most(u64),
+    /// Any number, written `none`.
+    Unlimited,
+}
+
+impl IntoAttr for Limit {
+    ghost attr_text = { λ limit. elim limit [ Most n ↦ decimal n | Unlimited ↦ codes "none" ] };
+
+    fn into_attr(&self, alloc: Global) -> Result<String, AllocError> {
+        match self {
+            Limit::Most(count) => count.into_attr(alloc),
+            Limit::Unlimited => NoneValue.into_attr(alloc),
+        }
+    }
+}
+
+mod tests {
+    use super::Limit;
+    use crate::asserts::assert_text;
+    use html_values::IntoAttr;
+    use std::alloc::Global;
+    use std::process::Abort;
+
+    /// Asserts that the value has that text as an attribute.
+    fn assert_attr<T: IntoAttr>(rt: &impl Abort, alloc: Global, value: &T, wanted: &str) {
+        let text = value.into_attr(alloc).expect(rt, "memory for the text");
+        assert_text(rt, &text, wanted);
+    }
+
+    #[test]
+    fn a_value_has_its_text(rt: HostRuntime) {
+        assert_attr(&rt, rt.alloc(), &Limit::Most(7), "7");
+        assert_attr(&rt, rt.alloc(), &Limit::Unlimited, "none");
+    }
+}

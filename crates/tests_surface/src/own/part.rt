@@ -1,0 +1,72 @@
+//! A part of sums of one's own.
+
+ghost use Rattle.std.specs.Prelude.{neg_ℤ, refl, []};
+ghost use Rattle.html_values.specs.Quantities.{abs_text};
+
+use html_values::{Abs, CalcPart, CssWriter, ToCss, WarningSink};
+use std::alloc::AllocError;
+
+/// The space between two columns.
+#[derive(Clone, Copy)]
+struct Gap {
+    width: Abs,
+}
+
+impl ToCss for Gap {
+    ghost text = { λ gap. abs_text gap.width };
+
+    ghost warnings = { λ _. [] };
+
+    fn emit<S: WarningSink>(&self, out: &mut CssWriter<S>) -> Result<(), AllocError> {
+        self.width.emit(out)
+    }
+}
+
+impl CalcPart for Gap {
+    ghost number = { λ gap. gap.width };
+
+    ghost opposite = { λ gap. record { width = neg_ℤ gap.width } };
+
+    ghost negates = { λ _. refl };
+
+    fn is_zero(&self) -> bool {
+        self.width.is_zero()
+    }
+
+    fn is_negative(&self) -> bool {
+        self.width.is_negative()
+    }
+
+    fn negated(&self) -> Gap {
+        Gap {
+            width: self.width.negated(),
+        }
+    }
+}
+
+mod tests {
+    use super::Gap;
+    use crate::asserts::assert_text;
+    use html_values::{Abs, Calc, CalcPart, CssWriter, Ratio};
+    use std::alloc::AllocError;
+
+    /// Adds half of the whole and a gap.
+    fn add_half_and_gap(out: &mut CssWriter<()>, gap: &Gap) -> Result<(), AllocError> {
+        let mut sum: Calc<'_, ()> = out.calc();
+        sum.sum(&Ratio::from_millionths(500_000))?;
+        sum.sum(gap)?;
+        sum.finish()
+    }
+
+    #[test]
+    fn a_part_is_added(rt: HostRuntime) {
+        let gap = Gap {
+            width: Abs::from_millionths(-2_000_000),
+        };
+        let mut out = CssWriter::new(rt.alloc(), ());
+        add_half_and_gap(&mut out, &gap).expect(&rt, "memory");
+        assert_text(&rt, out.text(), "calc(50% - 2pt)");
+        assert!(rt; gap.is_negative() && !gap.is_zero());
+        assert!(rt; !gap.negated().is_negative());
+    }
+}

@@ -1,0 +1,46 @@
+//! A sink of one's own.
+
+ghost use Rattle.std.specs.Prelude.{None};
+ghost use Rattle.html_values.specs.Sink.{Keeps};
+
+use html_values::{Warning, WarningSink};
+use std::alloc::AllocError;
+
+/// Keeps the warnings of one document.
+#[derive(Drop)]
+struct Kept {
+    document: u32,
+    warnings: Vec<Warning>,
+}
+
+impl WarningSink for Kept {
+    ghost warnings = { λ kept. kept.warnings.items };
+
+    ghost emit_gives = { λ old warning result new.
+        Keeps old.warnings.items warning result new.warnings.items };
+
+    ghost borrow = { λ _. None };
+
+    fn emit(&mut self, warning: Warning) -> Result<(), AllocError> {
+        self.warnings.push(warning)?;
+        Ok(())
+    }
+}
+
+mod tests {
+    use super::Kept;
+    use html_values::{Paint, ToCss, Warning};
+
+    #[test]
+    fn a_sink_keeps_what_it_is_handed(rt: HostRuntime) {
+        let mut kept = Kept {
+            document: 3,
+            warnings: Vec::new(rt.alloc()),
+        };
+        assert!(rt; Paint::Tiling.to_css(rt.alloc(), &mut kept).is_ok());
+        assert!(rt; Paint::Gradient.to_css(rt.alloc(), &mut kept).is_ok());
+        let wanted = [Warning::Tiling, Warning::Gradient];
+        assert_eq!(rt; kept.warnings.as_slice(), wanted.as_slice());
+        assert!(rt; kept.document == 3);
+    }
+}

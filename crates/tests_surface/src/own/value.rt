@@ -1,0 +1,49 @@
+//! A css value of one's own.
+
+ghost use Rattle.std.specs.Prelude.{chars, ◌++◌, []};
+
+use html_values::{CssWriter, ToCss, WarningSink};
+use std::alloc::AllocError;
+
+/// A number, which is given as it is written, and its unit.
+#[derive(Clone, Copy)]
+struct Dimension<'a> {
+    number: &'a str,
+    unit: &'a str,
+}
+
+impl ToCss for Dimension<'_> {
+    ghost text = { λ d. chars d.number.now ++ chars d.unit.now };
+
+    ghost warnings = { λ _. [] };
+
+    fn emit<S: WarningSink>(&self, out: &mut CssWriter<S>) -> Result<(), AllocError> {
+        out.write(self.number)?;
+        out.write(self.unit)
+    }
+}
+
+mod tests {
+    use super::Dimension;
+    use crate::asserts::assert_text;
+    use html_values::{CssWriter, ToCss};
+
+    const SECOND: Dimension<'static> = Dimension {
+        number: "1",
+        unit: "s",
+    };
+
+    #[test]
+    fn a_value_has_its_text(rt: HostRuntime) {
+        let css = SECOND.to_css(rt.alloc(), &mut ()).expect(&rt, "memory");
+        assert_text(&rt, &css, "1s");
+    }
+
+    #[test]
+    fn a_value_is_appended(rt: HostRuntime) {
+        let mut out = CssWriter::new(rt.alloc(), ());
+        out.write("left ").expect(&rt, "memory");
+        out.emit(&SECOND).expect(&rt, "memory");
+        assert_text(&rt, out.text(), "left 1s");
+    }
+}

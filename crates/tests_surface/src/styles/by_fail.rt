@@ -1,0 +1,130 @@
+//! Functions that answer `Fail`, as tests do.
+
+use crate::export::OneText;
+use std::alloc::Global;
+use std::test::Fail;
+use typst_html::civil::date;
+use typst_html::{
+    Abs, Args, AttrType, ConversionLevel, CssWriter, Datetime, DocumentInfo, ElementInfo, FlatTree,
+    Frame, FrameWriter, HtmlAttr, HtmlAttrs, HtmlDocument, HtmlElem, HtmlElement, HtmlFrame,
+    HtmlIntrospector, HtmlNode, HtmlOptions, HtmlOutput, HtmlTag, IntoAttr, Item, ListType,
+    Location, Moment, NameTable, NativeType, Pair, Properties, Separator, Span, Str, ToCss, Value,
+    Warning, Whitespace, attr, bare_spaces, construct, convert_to_nodes, create_link_anchors,
+    export, html, html_block_fragment, html_document, html_document_for_bundle, html_in_bundle,
+    push_located, resolve_inline_styles, tag,
+};
+
+fn names_are_made(alloc: Global) -> Result<(), Fail> {
+    names_are_made!(alloc)
+}
+
+fn names_are_numbered(alloc: Global) -> Result<(), Fail> {
+    names_are_numbered!(alloc)
+}
+
+fn properties_are_made(alloc: Global) -> Result<(), Fail> {
+    properties_are_made!(alloc)
+}
+
+fn css_is_written(alloc: Global) -> Result<(), Fail> {
+    css_is_written!(alloc)
+}
+
+fn values_are_cast(alloc: Global) -> Result<(), Fail> {
+    values_are_cast!(alloc)
+}
+
+fn attributes_are_listed(alloc: Global) -> Result<(), Fail> {
+    attributes_are_listed!(alloc)
+}
+
+fn elements_are_built(alloc: Global) -> Result<(), Fail> {
+    elements_are_built!(alloc)
+}
+
+fn elements_are_changed(alloc: Global) -> Result<(), Fail> {
+    elements_are_changed!(alloc)
+}
+
+fn trees_are_flat(alloc: Global) -> Result<(), Fail> {
+    trees_are_flat!(alloc)
+}
+
+fn targets_are_found(alloc: Global) -> Result<(), Fail> {
+    targets_are_found!(alloc)
+}
+
+fn documents_are_made(alloc: Global) -> Result<(), Fail> {
+    documents_are_made!(alloc)
+}
+
+fn documents_get_anchors(alloc: Global) -> Result<(), Fail> {
+    documents_get_anchors!(alloc)
+}
+
+fn items_are_listed(alloc: Global) -> Result<(), Fail> {
+    items_are_listed!(alloc)
+}
+
+fn items_are_elements(alloc: Global) -> Result<(), Fail> {
+    items_are_elements!(alloc)
+}
+
+fn items_are_converted(alloc: Global) -> Result<(), Fail> {
+    items_are_converted!(alloc)
+}
+
+fn elements_are_constructed(alloc: Global) -> Result<(), Fail> {
+    elements_are_constructed!(alloc)
+}
+
+fn documents_are_written(alloc: Global) -> Result<(), Fail> {
+    documents_are_written!(alloc)
+}
+
+fn items_are_exported(alloc: Global) -> Result<(), Fail> {
+    items_are_exported!(alloc)
+}
+
+fn frames_are_written(alloc: Global) -> Result<(), Fail> {
+    frames_are_written!(alloc)
+}
+
+#[test]
+fn names_and_values(rt: HostRuntime) -> Result<(), Fail> {
+    names_are_made(rt.alloc())?;
+    names_are_numbered(rt.alloc())?;
+    properties_are_made(rt.alloc())?;
+    css_is_written(rt.alloc())?;
+    values_are_cast(rt.alloc())?;
+    Ok(())
+}
+
+#[test]
+fn trees(rt: HostRuntime) -> Result<(), Fail> {
+    attributes_are_listed(rt.alloc())?;
+    elements_are_built(rt.alloc())?;
+    elements_are_changed(rt.alloc())?;
+    trees_are_flat(rt.alloc())?;
+    targets_are_found(rt.alloc())?;
+    Ok(())
+}
+
+#[test]
+fn documents_and_items(rt: HostRuntime) -> Result<(), Fail> {
+    documents_are_made(rt.alloc())?;
+    documents_get_anchors(rt.alloc())?;
+    items_are_listed(rt.alloc())?;
+    items_are_elements(rt.alloc())?;
+    items_are_converted(rt.alloc())?;
+    Ok(())
+}
+
+#[test]
+fn texts(rt: HostRuntime) -> Result<(), Fail> {
+    elements_are_constructed(rt.alloc())?;
+    documents_are_written(rt.alloc())?;
+    items_are_exported(rt.alloc())?;
+    frames_are_written(rt.alloc())?;
+    Ok(())
+}
