@@ -20,9 +20,12 @@ pub use Rattle.html_dom_document.specs.Positions
 pub use Rattle.html_dom_document.specs.Views as DocumentViews
 pub use Rattle.html_dom_link.specs.Anchors
 pub use Rattle.html_dom_link.specs.Answered
+pub use Rattle.html_dom_link.specs.DeadLinks
 pub use Rattle.html_dom_link.specs.Fresh
 pub use Rattle.html_dom_link.specs.Groups
 pub use Rattle.html_dom_link.specs.LinkAnchors
+pub use Rattle.html_dom_link.specs.LinkLaws
+pub use Rattle.html_dom_link.specs.Links
 pub use Rattle.html_dom_link.specs.Namings
 pub use Rattle.html_dom_link.specs.NewNames
 pub use Rattle.html_dom_link.specs.Seen

@@ -3,6 +3,8 @@ pub mod Consequences
 pub mod Freshes
 pub mod Gathering
 pub mod InFrames
+pub mod LeadingLinks
+pub mod Linking
 pub mod LocationMaps
 pub mod MovedRoots
 pub mod Numbers

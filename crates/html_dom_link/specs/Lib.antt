@@ -1,9 +1,12 @@
 pub mod Anchors
 pub mod Answered
+pub mod DeadLinks
 pub mod Events
 pub mod Fresh
 pub mod Groups
 pub mod LinkAnchors
+pub mod LinkLaws
+pub mod Links
 pub mod Joined
 pub mod LocationMaps
 pub mod Namings

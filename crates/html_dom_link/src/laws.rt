@@ -2,6 +2,7 @@
 
 ghost use Rattle.html_dom_link.specs.Answered.{AnswersAreShown, AnswersAreFirstIds, StaysFrameFree, NoTargetNoChange};
 ghost use Rattle.html_dom_link.specs.Fresh.{NamesAreNew, IsFirstFree};
+ghost use Rattle.html_dom_link.specs.LinkLaws.{HrefsDecode, LeftAreDead, NamesStay};
 ghost use Rattle.html_dom_link.specs.Seen.{StaysSeen};
 ghost use Rattle.html_dom_link.specs.Undone.{ComesBack};
 ghost use Rattle.html_dom_link.specs.Walk.{OneWalkServes};
@@ -52,4 +53,23 @@ pub fn stays_seen<T>()
 /// Without a target nothing changes, and no location gets a name.
 pub fn no_target_no_change()
     ensures { NoTargetNoChange }
+{}
+
+/// An `href` that is made for a link, without its `#` and decoded, is the name of the anchor.
+#[tactic(auto, using(crate::proofs::LeadingLinks::hrefs_decode))]
+pub fn hrefs_decode()
+    ensures { HrefsDecode }
+{}
+
+/// Links that are given an `href` change no name of the tree: neither what names are shown, nor the
+/// first `id` of any element.
+pub fn names_stay()
+    ensures { NamesStay }
+{}
+
+/// The links that are left without an `href` are exactly those whose destination has no anchor, so
+/// none is left where no link is dead.
+#[tactic(auto, using(crate::proofs::LeadingLinks::left_are_dead))]
+pub fn left_are_dead()
+    ensures { LeftAreDead }
 {}

@@ -3,9 +3,11 @@
 
 mod anchors;
 mod changes;
+mod dead;
 mod elements;
 mod frames;
 pub mod laws;
+mod links;
 mod location_maps;
 mod names;
 mod names_in_tree;
@@ -14,3 +16,5 @@ mod sought;
 mod state;
 
 pub use anchors::{create_link_anchors, with_link_anchors};
+pub use dead::{DeadLink, dead_links};
+pub use links::{resolve_links, with_resolved_links};

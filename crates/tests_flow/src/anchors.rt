@@ -13,12 +13,12 @@ use typst_html_encode::HtmlOptions;
 use typst_html_export::{export, html, html_document, html_document_for_bundle};
 
 /// The document of items of which nothing else is known.
-fn document_of(rt: &impl Abort, alloc: Global, items: &[Pair]) -> HtmlDocument {
+pub(crate) fn document_of(rt: &impl Abort, alloc: Global, items: &[Pair]) -> HtmlDocument {
     let info = DocumentInfo::new(alloc);
     html_document(alloc, items, &info, &[], 50).expect(rt, "a document")
 }
 
-fn html_of(rt: &impl Abort, alloc: Global, document: &HtmlDocument) -> String {
+pub(crate) fn html_of(rt: &impl Abort, alloc: Global, document: &HtmlDocument) -> String {
     let (options, frames) = (HtmlOptions::default(), frame_writer(rt, alloc));
     html(alloc, document, &options, &frames).expect(rt, "HTML")
 }
@@ -43,7 +43,7 @@ fn anchored(rt: &impl Abort, alloc: Global, items: &[Pair]) -> String {
 }
 
 /// The whole text of a document with that in its body.
-fn document_text(rt: &impl Abort, alloc: Global, body: &str) -> String {
+pub(crate) fn document_text(rt: &impl Abort, alloc: Global, body: &str) -> String {
     let metas = "<meta charset=\"utf-8\">\
         <meta name=\"viewport\" content=\"width=device-width, initial-scale=1\">";
     let text = format!(in alloc;

@@ -25,6 +25,8 @@ mod growths;
 #[cfg(test)]
 mod judged;
 #[cfg(test)]
+mod links;
+#[cfg(test)]
 mod roles;
 #[cfg(test)]
 mod shown;

@@ -2,8 +2,9 @@
 
 use crate::asserts::{add, assert_number, assert_some, assert_text, only, text_of};
 use html_dom::{
-    DocumentInfo, Frame, FrameItem, HtmlDocument, HtmlElement, HtmlFrame, HtmlIntrospector,
-    HtmlNode, HtmlOutput, HtmlPosition, Locale, Location, Point, Span, Tag, create_link_anchors,
+    DeadLink, DocumentInfo, Frame, FrameItem, HtmlDocument, HtmlElement, HtmlFrame,
+    HtmlIntrospector, HtmlNode, HtmlOutput, HtmlPosition, Locale, Location, Point, Span, Tag,
+    create_link_anchors, dead_links, resolve_links, with_resolved_links,
 };
 use html_names::{attr, tag};
 use html_values::Abs;
@@ -318,4 +319,62 @@ fn anchors_of_links_are_created(rt: HostRuntime) {
     assert_number(&rt, anchors.len(), 1);
     assert_some(&rt, anchors.get(&Location(7)), "loc-1");
     assert_some(&rt, last_id(&document), "loc-1");
+}
+
+/// A document of an `html` with the start of 1, which links to 7, and an `a` of span 5. Element 7 has
+/// an anchor, if it is to have one.
+fn linking(rt: &impl Abort, alloc: Global, is_anchored: bool) -> HtmlDocument {
+    let link = HtmlElement::new(alloc, tag::a).spanned(Span(5));
+    let root = html(alloc, 0)
+        .with_child(HtmlNode::from(start(1, Some(Location(7)))))
+        .expect(rt, "memory for a child")
+        .with_child(HtmlNode::from(link))
+        .expect(rt, "memory for a child");
+    let nodes = only(rt, alloc, HtmlNode::from(root));
+    assert!(rt; HtmlOutput::can_be_root(&nodes, 0));
+    let output = HtmlOutput::new(nodes, 0);
+    let mut document = HtmlDocument::new(alloc, output, DocumentInfo::new(alloc)).expect(
+        rt,
+        "a document",
+    );
+    if is_anchored {
+        document
+            .introspector_mut()
+            .set_anchors(anchors(rt, alloc, 7));
+    }
+    document
+}
+
+/// The `href` of the last child of the root.
+fn last_href(document: &HtmlDocument) -> Option<&String> {
+    match document.root().children.last() {
+        Some(HtmlNode::Element(element)) => element.attrs.get(&attr::href),
+        _ => None,
+    }
+}
+
+#[test]
+fn links_are_resolved(rt: HostRuntime) {
+    let mut document = linking(&rt, rt.alloc(), true);
+    assert!(rt; last_href(&document).is_none());
+    assert!(rt; resolve_links(rt.alloc(), &mut document).is_ok());
+    assert_some(&rt, last_href(&document), "#here");
+}
+
+#[test]
+fn documents_get_resolved_links(rt: HostRuntime) {
+    let document = linking(&rt, rt.alloc(), true);
+    let linked = with_resolved_links(rt.alloc(), document).expect(&rt, "memory for links");
+    assert_some(&rt, last_href(&linked), "#here");
+}
+
+#[test]
+fn links_without_an_anchor_are_dead(rt: HostRuntime) {
+    let document = linking(&rt, rt.alloc(), true);
+    let dead = dead_links(rt.alloc(), &document).expect(&rt, "memory for the dead links");
+    assert!(rt; dead.is_empty());
+    let document = linking(&rt, rt.alloc(), false);
+    let dead = dead_links(rt.alloc(), &document).expect(&rt, "memory for the dead links");
+    let (span, dest) = (Span(5), Location(7));
+    assert!(rt; dead.as_slice() == [DeadLink { span, dest }].as_slice());
 }

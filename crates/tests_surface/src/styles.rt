@@ -131,6 +131,9 @@ macro_rules! documents_get_anchors {
         let targets = document.introspector().link_targets()?;
         let anchors = create_link_anchors($alloc, &mut document, &targets)?;
         document.introspector_mut().set_anchors(anchors);
+        resolve_links($alloc, &mut document)?;
+        let document = with_resolved_links($alloc, document)?;
+        let _ = dead_links($alloc, &document)?;
         Ok(())
     }};
 }

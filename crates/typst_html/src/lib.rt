@@ -16,6 +16,7 @@
 
 pub mod laws;
 
+pub use html_dom::DeadLink;
 pub use html_dom::DocumentInfo;
 pub use html_dom::DomIndices;
 pub use html_dom::FlatElement;
@@ -38,7 +39,10 @@ pub use html_dom::Point;
 pub use html_dom::Span;
 pub use html_dom::Tag;
 pub use html_dom::create_link_anchors;
+pub use html_dom::dead_links;
 pub use html_dom::resolve_inline_styles;
+pub use html_dom::resolve_links;
+pub use html_dom::with_resolved_links;
 pub use html_flow::Arg;
 pub use html_flow::ArgValue;
 pub use html_flow::Args;

@@ -4,9 +4,11 @@ use crate::growths::given::documents::{document_of, info_of, output_of};
 use crate::growths::given::{add, assert_growths, list_of};
 use crate::growths::shown::{is_shown, shown_of};
 use html_dom_document::{DocumentInfo, HtmlDocument, HtmlOutput};
-use html_dom_link::{create_link_anchors, with_link_anchors};
-use html_dom_tree::Location;
-use html_names::Refused;
+use html_dom_link::{
+    create_link_anchors, dead_links, resolve_links, with_link_anchors, with_resolved_links,
+};
+use html_dom_tree::{HtmlElement, HtmlNode, Location, Span, Tag};
+use html_names::{Refused, tag};
 use std::alloc::{AllocError, Global};
 use std::collections::BTreeSet;
 use std::process::Abort;
@@ -18,6 +20,9 @@ use tests_growth::{Answer, Growth, made, refused};
 enum DocumentCall {
     New(HtmlOutput, DocumentInfo, (String, String)),
     Anchors(HtmlDocument, BTreeSet<Location>, String),
+    Resolve(HtmlDocument, String),
+    WithResolved(HtmlDocument, String),
+    Dead(HtmlDocument, String),
     WithAnchors(Vec<HtmlDocument>, BTreeSet<Location>),
 }
 
@@ -28,6 +33,9 @@ impl Growth for DocumentCall {
             DocumentCall::Anchors(document, targets, shown) => {
                 anchors(alloc, document, targets, shown)
             }
+            DocumentCall::Resolve(document, shown) => resolved(alloc, document, shown),
+            DocumentCall::WithResolved(document, shown) => with_resolved(alloc, document, shown),
+            DocumentCall::Dead(document, shown) => dead(alloc, document, shown),
             DocumentCall::WithAnchors(spares, targets) => with_anchors(alloc, spares, targets),
         }
     }
@@ -72,6 +80,36 @@ fn anchors(
     }
 }
 
+fn resolved(alloc: Global, mut document: HtmlDocument, shown: String) -> Answer<DocumentCall> {
+    match resolve_links(alloc, &mut document) {
+        Ok(()) => Answer::Made,
+        Err(AllocError) => {
+            let is_kept = is_kept(&document, &shown);
+            refused(is_kept, DocumentCall::Resolve(document, shown))
+        }
+    }
+}
+
+fn with_resolved(alloc: Global, document: HtmlDocument, shown: String) -> Answer<DocumentCall> {
+    match with_resolved_links(alloc, document) {
+        Ok(_) => Answer::Made,
+        Err(Refused { back }) => {
+            let is_back = is_kept(&back, &shown);
+            refused(is_back, DocumentCall::WithResolved(back, shown))
+        }
+    }
+}
+
+fn dead(alloc: Global, document: HtmlDocument, shown: String) -> Answer<DocumentCall> {
+    match dead_links(alloc, &document) {
+        Ok(links) => made(links.len() == 1),
+        Err(AllocError) => {
+            let is_kept = is_kept(&document, &shown);
+            refused(is_kept, DocumentCall::Dead(document, shown))
+        }
+    }
+}
+
 fn with_anchors(
     alloc: Global,
     mut spares: Vec<HtmlDocument>,
@@ -112,6 +150,36 @@ fn anchors_call(rt: &impl Abort, alloc: Global) -> DocumentCall {
     DocumentCall::Anchors(document, targets_of(rt, alloc), shown)
 }
 
+/// A document with a link that leads nowhere.
+fn dead_of(rt: &impl Abort, alloc: Global) -> HtmlDocument {
+    let start = Tag::Start {
+        location: Location(1),
+        label: None,
+        dest: Some(Location(9)),
+    };
+    let link = HtmlElement::new(alloc, tag::a).spanned(Span(3));
+    let children = list_of(rt, alloc, [HtmlNode::from(start), HtmlNode::from(link)]);
+    let root = HtmlElement::new(alloc, tag::html).with_children(children);
+    let nodes = list_of(rt, alloc, [HtmlNode::from(root)]);
+    assert!(rt; HtmlOutput::can_be_root(&nodes, 0));
+    let output = HtmlOutput::new(nodes, 0);
+    HtmlDocument::new(alloc, output, DocumentInfo::new(alloc)).expect(rt, "a document")
+}
+
+/// A document and the text by which it is shown.
+fn shown_document(rt: &impl Abort, alloc: Global) -> (HtmlDocument, String) {
+    let document = document_of(rt, alloc);
+    let shown = shown_of(rt, alloc, &document);
+    (document, shown)
+}
+
+/// Dead links of a document are listed.
+fn dead_call(rt: &impl Abort, alloc: Global) -> DocumentCall {
+    let document = dead_of(rt, alloc);
+    let shown = shown_of(rt, alloc, &document);
+    DocumentCall::Dead(document, shown)
+}
+
 /// How many attempts there are at most of the call that consumes documents: what a refused one
 /// frees is there for the next.
 const SPARES: usize = 40;
@@ -135,5 +203,16 @@ fn made_documents(rt: HostRuntime) {
 fn linked_documents(rt: HostRuntime) {
     let alloc = rt.alloc();
     let calls = [anchors_call(&rt, alloc), with_anchors_call(&rt, alloc)];
+    assert_growths(&rt, alloc, list_of(&rt, alloc, calls));
+}
+
+#[test]
+fn documents_with_links(rt: HostRuntime) {
+    let alloc = rt.alloc();
+    let (document, shown) = shown_document(&rt, alloc);
+    let resolve = DocumentCall::Resolve(document, shown);
+    let (document, shown) = shown_document(&rt, alloc);
+    let with_resolved = DocumentCall::WithResolved(document, shown);
+    let calls = [resolve, with_resolved, dead_call(&rt, alloc)];
     assert_growths(&rt, alloc, list_of(&rt, alloc, calls));
 }

@@ -6,9 +6,9 @@ use std::process::Abort;
 use typst_html::{
     Args, AttrType, ConversionLevel, DocumentInfo, ElementInfo, FlatTree, FlowFault, HtmlDocument,
     HtmlElement, HtmlNode, HtmlOutput, Item, Location, Pair, Properties, Span, Tag, Whitespace,
-    attr, bare_spaces, construct, convert_to_nodes, create_link_anchors, html_block_fragment,
-    html_inline_fragment, html_math_fragment, is_depth_limit, push_located, resolve_inline_styles,
-    tag,
+    attr, bare_spaces, construct, convert_to_nodes, create_link_anchors, dead_links,
+    html_block_fragment, html_inline_fragment, html_math_fragment, is_depth_limit, push_located,
+    resolve_inline_styles, resolve_links, tag, with_resolved_links,
 };
 
 /// A word and a space, which at the end of a block is kept.
@@ -110,4 +110,13 @@ fn anchors(rt: HostRuntime) {
     let anchors = create_link_anchors(rt.alloc(), &mut document, &targets).expect(&rt, "anchors");
     let anchor = anchors.get(&Location(7)).expect(&rt, "an anchor");
     assert_text(&rt, anchor, "sec");
+}
+
+#[test]
+fn links(rt: HostRuntime) {
+    let mut document = started(&rt, rt.alloc());
+    assert!(rt; resolve_links(rt.alloc(), &mut document).is_ok());
+    let linked = with_resolved_links(rt.alloc(), document).expect(&rt, "memory for links");
+    let dead = dead_links(rt.alloc(), &linked).expect(&rt, "memory for the dead links");
+    assert!(rt; dead.is_empty());
 }

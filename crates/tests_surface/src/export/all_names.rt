@@ -6,15 +6,15 @@ use std::alloc::Global;
 use std::process::Abort;
 use typst_html::{
     Abs, Angle, Arg, ArgValue, Args, AttrType, AutoValue, Bareness, Calc, CalcPart, Call,
-    CastFault, ConstructFault, ConversionLevel, CssWriter, Datetime, Dir, DocumentInfo, DomIndices,
-    Duration, ElementInfo, Em, FlatElement, FlatNode, FlatTree, FlowFault, Frame, FrameElem,
-    FrameItem, HorizontalDir, HtmlAttr, HtmlAttrs, HtmlDocument, HtmlElem, HtmlElement, HtmlFrame,
-    HtmlIntrospector, HtmlNode, HtmlOutput, HtmlPosition, HtmlSliceExt, HtmlTag, IconSize,
-    ImageCandidate, Inline, IntoAttr, Item, Length, ListType, Locale, Location, Moment, NameFault,
-    NameTable, NativeType, NoneEmpty, NoneUndefined, NoneValue, OnOffBool, Paint, Pair, Point,
-    Properties, PropertiesBuilder, Property, Ratio, Refused, Rel, Rgba, Role, Separator, Span, Str,
-    Tag, ToCss, TrueFalseBool, Value, Warning, WarningSink, Whitespace, YesNoBool, attr, charsets,
-    civil, property, tag,
+    CastFault, ConstructFault, ConversionLevel, CssWriter, Datetime, DeadLink, Dir, DocumentInfo,
+    DomIndices, Duration, ElementInfo, Em, FlatElement, FlatNode, FlatTree, FlowFault, Frame,
+    FrameElem, FrameItem, HorizontalDir, HtmlAttr, HtmlAttrs, HtmlDocument, HtmlElem, HtmlElement,
+    HtmlFrame, HtmlIntrospector, HtmlNode, HtmlOutput, HtmlPosition, HtmlSliceExt, HtmlTag,
+    IconSize, ImageCandidate, Inline, IntoAttr, Item, Length, ListType, Locale, Location, Moment,
+    NameFault, NameTable, NativeType, NoneEmpty, NoneUndefined, NoneValue, OnOffBool, Paint, Pair,
+    Point, Properties, PropertiesBuilder, Property, Ratio, Refused, Rel, Rgba, Role, Separator,
+    Span, Str, Tag, ToCss, TrueFalseBool, Value, Warning, WarningSink, Whitespace, YesNoBool, attr,
+    charsets, civil, property, tag,
 };
 
 type NamesBelow = (
@@ -186,6 +186,7 @@ type DocumentsBelow = (
     html_dom::HtmlDocument,
     html_dom::HtmlIntrospector,
     html_dom::HtmlPosition,
+    html_dom::DeadLink,
 );
 
 fn documents(
@@ -197,6 +198,7 @@ fn documents(
     HtmlDocument,
     HtmlIntrospector,
     HtmlPosition,
+    DeadLink,
 ) {
     these
 }

@@ -1,0 +1,19 @@
+use Rattle.std.proofs.Common.{[], refl, ap, ◌∙◌}
+use Rattle.html_dom_tree.specs.Views.{element_view, nodes_view}
+use Rattle.html_dom_tree.specs.declared.node.HtmlElement.{HtmlElement}
+use Rattle.html_dom_document.specs.Views.{document_view}
+use Rattle.html_dom_introspect.specs.Introspectors.{introspector_view}
+use Rattle.html_dom_link.specs.Links.{nodes_with_links}
+use Rattle.html_dom_link.proofs.Linking.{links_written}
+use Rattle.html_dom_link.proofs.links.resolve_links.Goals as goal
+
+pub returns-clause-ok : goal.returns-clause-ok
+returns-clause-ok c =
+    let anchor = (introspector_view c.introspector.result.now).anchor in
+    let root : HtmlElement = c.root_mut.result.now in
+    let last : HtmlElement = record root { children = c.in_ok-children-2.children } in
+    links_written (document_view c.args.document.now) _ anchor (element_view c.root.result.now)
+    (element_view root) (element_view last) (nodes_view c.in_ok-children-2.children.items)
+    c.root.ensures c.root_mut.ensures.value (ap (λ i. i.anchor) c.introspector.ensures)
+    (c.in_ok-children-2.ensures ∙ ap (λ e. nodes_with_links anchor [] e.1) c.in_ok-children.ensures)
+    refl (c.root_mut.ensures.written last)

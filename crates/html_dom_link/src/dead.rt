@@ -1,0 +1,122 @@
+//! Links that lead nowhere.
+
+ghost use Rattle.std.specs.Prelude.{◌≡◌, ◌++◌, [], map, option_map, IfOk, OnOk};
+ghost use Rattle.html_dom_tree.specs.Tree.{element_node};
+ghost use Rattle.html_dom_tree.specs.Views.{element_view, node_view, nodes_view};
+ghost use Rattle.html_dom_document.specs.Views.{document_view};
+ghost use Rattle.html_dom_introspect.specs.Introspectors.{introspector_view};
+ghost use Rattle.html_dom_link.specs.DeadLinks.{dead_links_view};
+ghost use Rattle.html_dom_link.specs.Links.{dead_link, document_dead_links, node_dead_links, nodes_dead_links};
+
+use crate::links::{dest_past, name_of, open_dest};
+use html_dom_document::HtmlDocument;
+use html_dom_introspect::HtmlIntrospector;
+use html_dom_tree::{HtmlElement, HtmlNode, Location, Span};
+use std::alloc::{AllocError, Global};
+
+/// A link of a document that leads nowhere.
+#[derive(Clone, Copy, Debug, PartialEq, Eq, Hash)]
+pub struct DeadLink {
+    /// Where the link comes from.
+    pub span: Span,
+    /// The location that it would lead to.
+    pub dest: Location,
+}
+
+/// The links of a document that have no `href` and whose destination has no anchor, or an empty one,
+/// in document order: those that [`resolve_links`](crate::resolve_links) leaves as they are. It fails
+/// only where an allocation does.
+///
+/// ```
+/// for link in &dead_links(alloc, &document)? {
+///     println!(rt; "the link at {} leads nowhere", link.span.0)?;
+/// }
+/// ```
+pub fn dead_links(alloc: Global, document: &HtmlDocument) -> Result<Vec<DeadLink>, AllocError>
+    ensures { IfOk result (λ links.
+        dead_links_view links.items ≡ document_dead_links (document_view document.now)) }
+{
+    let mut dead = Vec::new(alloc);
+    add_nodes(
+        &document.root().children,
+        document.introspector(),
+        &mut dead,
+    )?;
+    Ok(dead)
+}
+
+/// Adds a link whose destination has no anchor.
+fn add_link(
+    known: &HtmlIntrospector,
+    dest: Option<Location>,
+    span: Span,
+    dead: &mut Vec<DeadLink>,
+) -> Result<(), AllocError>
+    ensures { OnOk result (dead_links_view dead.new.items ≡ dead_links_view dead.old.items
+        ++ dead_link (introspector_view known.now).anchor (option_map (λ l. l.0) dest) span.0) }
+{
+    let Some(there) = dest else {
+        return Ok(());
+    };
+    if name_of(known, dest).is_none() {
+        dead.push(DeadLink { span, dest: there })?;
+    }
+    Ok(())
+}
+
+// Each node stands first among the parameters: its depth shows that the calls end.
+
+/// Adds an element, if it is such a link, behind tags with that destination, and those below it.
+#[cycle(dead)]
+fn add_element(
+    element: &HtmlElement,
+    known: &HtmlIntrospector,
+    dest: Option<Location>,
+    dead: &mut Vec<DeadLink>,
+) -> Result<(), AllocError>
+    ensures { let e = element_view element.now in
+        OnOk result (dead_links_view dead.new.items ≡ dead_links_view dead.old.items
+        ++ node_dead_links (introspector_view known.now).anchor (option_map (λ l. l.0) dest)
+        (element_node e.0 e.1)) }
+{
+    add_link(known, open_dest(element, dest), element.span, dead)?;
+    add_nodes(&element.children, known, dead)?;
+    Ok(())
+}
+
+/// Adds those in a node, behind tags with that destination.
+#[cycle(dead)]
+#[tactic(auto, unfolding(crate::specs::Links::node_dead_links))]
+fn add_node(
+    child: &HtmlNode,
+    known: &HtmlIntrospector,
+    dest: Option<Location>,
+    dead: &mut Vec<DeadLink>,
+) -> Result<(), AllocError>
+    ensures { OnOk result (dead_links_view dead.new.items ≡ dead_links_view dead.old.items
+        ++ node_dead_links (introspector_view known.now).anchor (option_map (λ l. l.0) dest)
+        (node_view child.now)) }
+{
+    match child {
+        HtmlNode::Element(element) => add_element(element, known, dest, dead),
+        HtmlNode::Tag(_) | HtmlNode::Text(_, _) | HtmlNode::Frame(_) => Ok(()),
+    }
+}
+
+/// Adds those in the nodes of a list.
+#[cycle(dead)]
+fn add_nodes(
+    nodes: &[HtmlNode],
+    known: &HtmlIntrospector,
+    dead: &mut Vec<DeadLink>,
+) -> Result<(), AllocError>
+    ensures { OnOk result (dead_links_view dead.new.items ≡ dead_links_view dead.old.items
+        ++ nodes_dead_links (introspector_view known.now).anchor [] (nodes_view nodes.now)) }
+{
+    let mut dest = None;
+    for child in nodes {
+        add_node(child, known, dest, dead)?;
+        dest = dest_past(dest, child);
+    }
+    Ok(())
+}

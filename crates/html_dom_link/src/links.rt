@@ -1,0 +1,204 @@
+//! The `href` of links that have none.
+
+ghost use Rattle.std.specs.Prelude.{◌≡◌, ◌∷◌, [], List, option_map, IfErr, IfOk, OnErr, OnOk};
+ghost use Rattle.html_dom_document.specs.Views.{document_view};
+ghost use Rattle.html_dom_tree.specs.Tree.{NodeView, element_node};
+ghost use Rattle.html_dom_tree.specs.Views.{attrs_view, element_view, node_view, nodes_view, text_view};
+ghost use Rattle.html_dom_introspect.specs.Introspectors.{introspector_view};
+ghost use Rattle.html_dom_link.specs.Links.{attrs_with_href, dest_before, document_with_links, href_to, is_open, name_of, node_with_links, nodes_with_links, open_dest};
+
+use html_dom_document::HtmlDocument;
+use html_dom_introspect::HtmlIntrospector;
+use html_dom_tree::{HtmlAttrs, HtmlElement, HtmlNode, Location, Tag};
+use html_names::{Refused, attr, tag};
+use percent_encoding::{AsciiSet, CONTROLS, ascii_set, utf8_percent_encode};
+use std::alloc::{AllocError, Global};
+
+/// What is percent-encoded in the fragment of an `href`: the fragment percent-encode set of the URL
+/// Standard, and `%`, so that decoding gives the name.
+pub(crate) const FRAGMENT: AsciiSet = ascii_set!(
+    CONTROLS
+        .add(b' ')
+        .add(b'"')
+        .add(b'<')
+        .add(b'>')
+        .add(b'`')
+        .add(b'%')
+);
+
+/// Gives each link of a document that has no `href` one that leads.
+///
+/// A link is an `a` at any depth below the root that stands directly behind a start tag with a
+/// destination, with only tags between; of several such tags the nearest counts. Where the
+/// document's introspector knows an anchor of that destination, and it is not empty, the link's first
+/// attribute becomes `href`, with `#` and the anchor's name, percent-encoded as a fragment (URL
+/// Standard 1.3), so that decoding gives the name; `%` is encoded too. Links that have an `href`, and
+/// all else, stay. What is left without is told by [`dead_links`].
+///
+/// It fails only where an allocation does, and then the document is as it was. The new tree is made
+/// beside the old one.
+///
+/// ```
+/// // Items: a start tag to location 7, an `a`; and a heading that location 7 starts before.
+/// let mut document = html_document(alloc, &items, &info, &[], 50)?;
+/// resolve_links(alloc, &mut document)?;
+/// let html = html(alloc, &document, &HtmlOptions::default(), &())?; // .. <a href="#loc-1"> ..
+/// ```
+pub fn resolve_links(alloc: Global, document: &mut HtmlDocument) -> Result<(), AllocError>
+    ensures ok { OnOk result
+        (document_view document.new ≡ document_with_links (document_view document.old)) }
+    ensures err { OnErr result (document.new ≡ document.old) }
+{
+    let HtmlElement { children, .. } = document.root().try_clone()?;
+    let children = nodes_with_links(children, alloc, document.introspector())?;
+    document.root_mut().children = children;
+    Ok(())
+}
+
+/// The document whose links lead, as [`resolve_links`] makes it. Where an allocation fails, the
+/// document comes back as it was.
+pub fn with_resolved_links(
+    alloc: Global,
+    mut document: HtmlDocument,
+) -> Result<HtmlDocument, Refused<HtmlDocument>>
+    ensures ok { IfOk result (λ made.
+        document_view made ≡ document_with_links (document_view document)) }
+    ensures back { IfErr result (λ refused. refused.back ≡ document) }
+{
+    match resolve_links(alloc, &mut document) {
+        Ok(()) => Ok(document),
+        Err(AllocError) => Err(Refused { back: document }),
+    }
+}
+
+/// The destination of the nearest start tag that has one, with only tags between, behind a node.
+pub(crate) fn dest_past(dest: Option<Location>, node: &HtmlNode) -> Option<Location>
+    ensures { (before : List NodeView) → option_map (λ l. l.0) dest ≡ dest_before before →
+        option_map (λ l. l.0) result ≡ dest_before (node_view node.now ∷ before) }
+{
+    match node {
+        HtmlNode::Tag(
+            Tag::Start {
+                dest: Some(dest),
+                ..
+            },
+        ) => Some(*dest),
+        HtmlNode::Tag(_) => dest,
+        HtmlNode::Text(_, _) | HtmlNode::Element(_) | HtmlNode::Frame(_) => None,
+    }
+}
+
+/// Whether the element is an `a` without an `href`.
+#[tactic(auto, unfolding(html_names::specs::Tables::known_tags, html_names::specs::Tables::known_attrs))]
+fn is_open(element: &HtmlElement) -> bool
+    ensures { result ≡ is_open (element_view element.now).0 }
+{
+    element.tag == tag::a && element.attrs.get(&attr::href).is_none()
+}
+
+/// The destination of a link that has no `href`, behind tags with that destination.
+pub(crate) fn open_dest(element: &HtmlElement, dest: Option<Location>) -> Option<Location>
+    ensures { option_map (λ l. l.0) result
+        ≡ open_dest (element_view element.now).0 (option_map (λ l. l.0) dest) }
+{
+    if is_open(element) { dest } else { None }
+}
+
+/// The name of a destination's anchor, unless it is empty.
+pub(crate) fn name_of(known: &HtmlIntrospector, dest: Option<Location>) -> Option<&String>
+    ensures { option_map (λ name. text_view name.now) result
+        ≡ name_of (introspector_view known.now).anchor (option_map (λ l. l.0) dest) }
+{
+    let name = known.anchor(dest?)?;
+    if name.is_empty() { None } else { Some(name) }
+}
+
+/// The `href` that leads to a name.
+#[tactic(auto, unfolding(crate::specs::Links::href_to))]
+fn href_to(alloc: Global, name: &String) -> Result<String, AllocError>
+    ensures { IfOk result (λ text. text_view text ≡ href_to (text_view name.now)) }
+{
+    let mut text = String::from_str(alloc, "#")?;
+    utf8_percent_encode(name.as_str(), FRAGMENT).append_to(&mut text)?;
+    Ok(text)
+}
+
+/// Attributes, with a new `href` in front where the link leads to a name.
+#[tactic(auto, unfolding(html_names::specs::Tables::known_attrs))]
+fn attrs_with_href(
+    alloc: Global,
+    name: Option<&String>,
+    mut attrs: HtmlAttrs,
+) -> Result<HtmlAttrs, AllocError>
+    ensures { IfOk result (λ made. attrs_view made
+        ≡ attrs_with_href (option_map (λ name. text_view name.now) name.entry) (attrs_view attrs)) }
+{
+    if let Some(name) = name {
+        attrs.push_front(attr::href, href_to(alloc, name)?)?;
+    }
+    Ok(attrs)
+}
+
+// Each node stands first among the parameters: its depth shows that the calls end.
+
+/// An element with its `href`, where it is a link that gets one, and with those of all below it.
+#[cycle(link)]
+fn element_with_links(
+    element: HtmlElement,
+    alloc: Global,
+    known: &HtmlIntrospector,
+    dest: Option<Location>,
+) -> Result<HtmlElement, AllocError>
+    ensures { IfOk result (λ made. let e = element_view element in let m = element_view made in
+        element_node m.0 m.1 ≡ node_with_links (introspector_view known.now).anchor
+        (option_map (λ l. l.0) dest) (element_node e.0 e.1)) }
+{
+    let name = name_of(known, open_dest(&element, dest));
+    Ok(HtmlElement {
+        attrs: attrs_with_href(alloc, name, element.attrs)?,
+        children: nodes_with_links(element.children, alloc, known)?,
+        ..element
+    })
+}
+
+/// A node with the `href` of each link in it, behind tags with that destination.
+#[cycle(link)]
+#[tactic(auto, unfolding(crate::specs::Links::node_with_links))]
+fn node_with_links(
+    child: HtmlNode,
+    alloc: Global,
+    known: &HtmlIntrospector,
+    dest: Option<Location>,
+) -> Result<HtmlNode, AllocError>
+    ensures { IfOk result (λ made. node_view made
+        ≡ node_with_links (introspector_view known.now).anchor (option_map (λ l. l.0) dest)
+        (node_view child)) }
+{
+    match child {
+        HtmlNode::Element(element) => {
+            let linked = element_with_links(element, alloc, known, dest)?;
+            Ok(HtmlNode::Element(linked))
+        }
+        HtmlNode::Tag(_) | HtmlNode::Text(_, _) | HtmlNode::Frame(_) => Ok(child),
+    }
+}
+
+/// The nodes of a list, with the `href` of each link.
+#[cycle(link)]
+pub(crate) fn nodes_with_links(
+    nodes: Vec<HtmlNode>,
+    alloc: Global,
+    known: &HtmlIntrospector,
+) -> Result<Vec<HtmlNode>, AllocError>
+    ensures { IfOk result (λ made. nodes_view made.items
+        ≡ nodes_with_links (introspector_view known.now).anchor [] (nodes_view nodes.items)) }
+{
+    let mut made = Vec::with_capacity(alloc, nodes.len())?;
+    let mut dest = None;
+    for child in nodes {
+        let past = dest_past(dest, &child);
+        made.push(node_with_links(child, alloc, known, dest)?)?;
+        dest = past;
+    }
+    Ok(made)
+}

@@ -1,0 +1,134 @@
+//! Links that are given an `href`, and links that lead nowhere.
+
+use crate::anchors::{document_of, document_text, html_of};
+use crate::given::items_of;
+use html_dom_document::HtmlDocument;
+use html_dom_link::{dead_links, resolve_links};
+use html_dom_tree::{Location, Span};
+use std::alloc::Global;
+use std::process::Abort;
+
+/// The document of items, with its links.
+fn resolved(rt: &impl Abort, alloc: Global, json: &str) -> HtmlDocument {
+    let mut document = document_of(rt, alloc, &items_of(rt, alloc, json));
+    resolve_links(alloc, &mut document).expect(rt, "memory for links");
+    document
+}
+
+/// Items, and what stands in the body of their document.
+static ROWS: [(&str, &str); 13] = [
+    // To an `id` that is there, and to one that is made.
+    (
+        r#"[["start",1,2],["el","a",[],[["text","x"]]],["end",1],["start",2],["el","p",[["id","q"]],[]]]"#,
+        r##"<a href="#q">x</a><p id="q"></p>"##,
+    ),
+    (
+        r#"[["start",1,2],["el","a",[],[["text","x"]]],["end",1],["start",2],["el","p",[],[]]]"#,
+        r##"<a href="#loc-1">x</a><p id="loc-1"></p>"##,
+    ),
+    // Backwards, at any depth, and as the first attribute.
+    (
+        r#"[["start",2],["el","p",[],[["start",1,2],["el","a",[["class","c"]],[]]]]]"#,
+        r##"<p id="loc-1"><a href="#loc-1" class="c"></a></p>"##,
+    ),
+    // Only tags stand between; the nearest destination counts.
+    (
+        r#"[["start",2],["el","p",[],[]],["start",1,2],["start",3],["end",3],["el","a",[],[]]]"#,
+        r##"<p id="loc-1"></p><a href="#loc-1"></a>"##,
+    ),
+    (
+        r#"[["start",2],["el","p",[],[]],["start",4],["el","hr",[],[]],["start",1,2],["start",3,4],["el","a",[],[]]]"#,
+        r##"<p id="loc-1"></p><hr id="loc-2"><a href="#loc-2"></a>"##,
+    ),
+    // Something else stands between, or around.
+    (
+        r#"[["start",2],["el","p",[],[]],["start",1,2],["text","t"],["el","a",[],[]]]"#,
+        r#"<p id="loc-1"></p>t<a></a>"#,
+    ),
+    (
+        r#"[["start",2],["el","p",[],[]],["start",1,2],["el","em",[],[["el","a",[],[]]]]]"#,
+        r#"<p id="loc-1"></p><em><a></a></em>"#,
+    ),
+    // A second link behind one is none.
+    (
+        r#"[["start",2],["el","p",[],[]],["start",1,2],["el","a",[],[]],["el","a",[],[]]]"#,
+        r##"<p id="loc-1"></p><a href="#loc-1"></a><a></a>"##,
+    ),
+    // Other elements, and links that lead already, stay.
+    (
+        r#"[["start",2],["el","p",[],[]],["start",1,2],["el","em",[],[]]]"#,
+        r#"<p id="loc-1"></p><em></em>"#,
+    ),
+    (
+        r#"[["start",2],["el","p",[],[]],["start",1,2],["el","a",[["href",""]],[]]]"#,
+        r#"<p id="loc-1"></p><a href></a>"#,
+    ),
+    // Nowhere, and to an `id` that is empty.
+    (
+        r#"[["start",1,9],["el","a",[],[["text","x"]]]]"#,
+        "<a>x</a>",
+    ),
+    (
+        r#"[["start",2],["el","p",[["id",""]],[]],["start",1,2],["el","a",[],[]]]"#,
+        "<p id></p><a></a>",
+    ),
+    // What is percent-encoded: controls and others outside ASCII, spaces, `"`, `<`, `>`, a backquote
+    // and `%`; the rest stays.
+    (
+        r#"[["start",2],["el","p",[["id","50% \"<>`é/?#'"]],[]],["start",1,2],["el","a",[],[]]]"#,
+        r##"<p id="50% &quot;<>`é/?#'"></p><a href="#50%25%20%22%3C%3E%60%C3%A9/?#'"></a>"##,
+    ),
+];
+
+#[test]
+fn links_lead(rt: HostRuntime) {
+    for (json, body) in &ROWS {
+        let document = resolved(&rt, rt.alloc(), json);
+        let wanted = document_text(&rt, rt.alloc(), body);
+        assert_eq!(rt;
+            html_of(&rt, rt.alloc(), &document).as_str(),
+            wanted.as_str()
+        );
+    }
+}
+
+/// Items, and the spans and destinations of their dead links.
+static DEAD: [(&str, &[(u64, u64)]); 5] = [
+    (r#"[["start",1,9],["el","a",[],[["text","x"]]]]"#, &[(2, 9)]),
+    (
+        r#"[["start",2],["el","p",[["id",""]],[]],["start",1,2],["el","a",[],[]]]"#,
+        &[(4, 2)],
+    ),
+    (
+        r#"[["start",1,8],["el","a",[],[["start",2,9],["el","a",[],[]]]],["start",3,7],["el","a",[],[]]]"#,
+        &[(2, 8), (4, 9), (6, 7)],
+    ),
+    (
+        r#"[["start",2],["el","p",[],[]],["start",1,2],["el","a",[],[]]]"#,
+        &[],
+    ),
+    (
+        r#"[["start",1,9],["text","t"],["el","a",[],[]],["start",2,9],["el","a",[["href","x"]],[]]]"#,
+        &[],
+    ),
+];
+
+/// Asserts the dead links of a document.
+fn assert_dead(rt: &impl Abort, alloc: Global, document: &HtmlDocument, wanted: &[(u64, u64)]) {
+    let links = dead_links(alloc, document).expect(rt, "memory for links");
+    assert_eq!(rt; links.len(), wanted.len());
+    for (link, (span, dest)) in links.iter().zip(wanted) {
+        assert!(rt; link.span == Span(*span));
+        assert!(rt; link.dest == Location(*dest));
+    }
+}
+
+/// They are the same before and after links were given an `href`.
+#[test]
+fn dead_links_are_listed(rt: HostRuntime) {
+    for (json, wanted) in &DEAD {
+        let document = document_of(&rt, rt.alloc(), &items_of(&rt, rt.alloc(), json));
+        assert_dead(&rt, rt.alloc(), &document, wanted);
+        assert_dead(&rt, rt.alloc(), &resolved(&rt, rt.alloc(), json), wanted);
+    }
+}
