@@ -1,14 +1,14 @@
 -- What holds of links that lead.
-use Rattle.std.proofs.Common.{◌≡◌, ◌&&◌, ℕ, List, [], ◌∷◌, ◌++◌, Bool, true, false, not, Option, None, Some, bytes_eq, codes, refl, sym, ap, ◌∙◌}
+use Rattle.std.proofs.Common.{◌≡◌, ◌&&◌, ℕ, List, [], ◌∷◌, ◌++◌, Bool, true, false, Option, None, Some, bytes_eq, codes, refl, ap, ◌∙◌}
 use Rattle.std.specs.Prelude.{if◌then◌else◌, option_to_list}
 use lib.Utf8.{encodes}
 use Rattle.percent_encoding.proofs.PercentLemmas.{round_trip}
 use Rattle.html_dom_tree.specs.Tags.{starts, ends}
-use Rattle.html_dom_tree.specs.Tree.{TextPair, Head, NodeView, tag_node, text_node, element_node, frame_node, NodesView, none, node}
-use Rattle.html_dom_link.specs.NewNames.{Name, first_id, frame_names}
+use Rattle.html_dom_tree.specs.Tree.{Head, NodeView, tag_node, text_node, element_node, frame_node, NodesView, none, node}
+use Rattle.html_dom_link.specs.NewNames.{first_id, frame_names}
 use Rattle.html_dom_link.specs.Answered.{names_shown, first_ids}
 use Rattle.html_dom_link.specs.LinkLaws.{HrefsDecode, LeftAreDead, NamesStay}
-use Rattle.html_dom_link.specs.Links.{Anchors, DeadLinkView, dest_before, open_dest, some_name, name_of, href_to, attrs_with_href, head_with_link, node_with_links, nodes_with_links, dead_without, dead_link, node_dead_links, nodes_dead_links}
+use Rattle.html_dom_link.specs.Links.{Anchors, dest_before, open_dest, some_name, name_of, href_to, attrs_with_href, head_with_link, node_with_links, nodes_with_links, dead_without, dead_link, node_dead_links, nodes_dead_links}
 use Rattle.html_dom_link.specs.declared.links.TheConstants.{FRAGMENT}
 
 pub hrefs_decode : HrefsDecode
@@ -16,7 +16,7 @@ unfolding href_to
 hrefs_decode name small = round_trip FRAGMENT (encodes name) refl small
 
 -- an `href` in front is no `id`
-id_stays : (anchor : Anchors) (dest : Option ℕ) (h : Head) →
+pub id_stays : (anchor : Anchors) (dest : Option ℕ) (h : Head) →
     first_id (head_with_link anchor dest h) ≡ first_id h
 id_stays anchor dest h = by (name_of anchor (open_dest h dest))
   where

@@ -1,15 +1,18 @@
 pub mod Back
+pub mod ChangedRoots
 pub mod Consequences
 pub mod Freshes
 pub mod Gathering
 pub mod InFrames
 pub mod LeadingLinks
+pub mod Leads
 pub mod Linking
 pub mod LocationMaps
 pub mod MovedRoots
 pub mod Numbers
 mod Rows
 pub mod Seeing
+pub mod Serving
 pub mod Showing
 pub mod States
 pub mod Steps

@@ -85,7 +85,7 @@ starts_among (s ∷ ss) used =
           (starts_among ss (with_name n used)),
     )
 
-answers-append : (as' bs : List Naming) →
+pub answers-append : (as' bs : List Naming) →
     all_answers (as' ++ bs) ≡ all_answers as' ++ all_answers bs
 answers-append [] bs = refl
 answers-append (a ∷ as') bs =

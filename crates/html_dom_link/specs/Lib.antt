@@ -6,7 +6,9 @@ pub mod Fresh
 pub mod Groups
 pub mod LinkAnchors
 pub mod LinkLaws
+pub mod Leads
 pub mod Links
+pub mod Serving
 pub mod Joined
 pub mod LocationMaps
 pub mod Namings

@@ -6,6 +6,7 @@ ghost use Rattle.html_dom_tree.specs.Views.{element_view, node_view, nodes_view}
 ghost use Rattle.html_dom_document.specs.Views.{document_view};
 ghost use Rattle.html_dom_introspect.specs.Introspectors.{introspector_view};
 ghost use Rattle.html_dom_link.specs.DeadLinks.{dead_links_view};
+ghost use Rattle.html_dom_link.specs.Leads.{EveryLinkLeads};
 ghost use Rattle.html_dom_link.specs.Links.{dead_link, document_dead_links, node_dead_links, nodes_dead_links};
 
 use crate::links::{dest_past, name_of, open_dest};
@@ -24,8 +25,9 @@ pub struct DeadLink {
 }
 
 /// The links of a document that have no `href` and whose destination has no anchor, or an empty one,
-/// in document order: those that [`resolve_links`](crate::resolve_links) leaves as they are. It fails
-/// only where an allocation does.
+/// in document order: those that [`resolve_links`](crate::resolve_links) leaves as they are. Where
+/// there is none, each link that stands behind a start tag with a destination leads, once links are
+/// resolved. It fails only where an allocation does.
 ///
 /// ```
 /// for link in &dead_links(alloc, &document)? {
@@ -33,8 +35,10 @@ pub struct DeadLink {
 /// }
 /// ```
 pub fn dead_links(alloc: Global, document: &HtmlDocument) -> Result<Vec<DeadLink>, AllocError>
-    ensures { IfOk result (λ links.
+    ensures dead { IfOk result (λ links.
         dead_links_view links.items ≡ document_dead_links (document_view document.now)) }
+    ensures leads { IfOk result (λ links.
+        links.items ≡ [] → EveryLinkLeads (document_view document.now)) }
 {
     let mut dead = Vec::new(alloc);
     add_nodes(

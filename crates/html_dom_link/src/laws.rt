@@ -4,6 +4,7 @@ ghost use Rattle.html_dom_link.specs.Answered.{AnswersAreShown, AnswersAreFirstI
 ghost use Rattle.html_dom_link.specs.Fresh.{NamesAreNew, IsFirstFree};
 ghost use Rattle.html_dom_link.specs.LinkLaws.{HrefsDecode, LeftAreDead, NamesStay};
 ghost use Rattle.html_dom_link.specs.Seen.{StaysSeen};
+ghost use Rattle.html_dom_link.specs.Serving.{AnchorsServe};
 ghost use Rattle.html_dom_link.specs.Undone.{ComesBack};
 ghost use Rattle.html_dom_link.specs.Walk.{OneWalkServes};
 
@@ -28,6 +29,14 @@ pub fn number_is_first_free()
 #[tactic(auto, using(crate::proofs::Showing::answers_are_shown))]
 pub fn answers_are_shown()
     ensures { AnswersAreShown }
+{}
+
+/// Each name that a location gets is that of what serves it in the new tree: the first `id` of the
+/// next element behind its start tag, the `id` of the next frame, with tags alone between, or the
+/// anchor of its start tag in a frame; of several start tags the last counts.
+#[tactic(auto, using(crate::proofs::Serving::anchors_serve))]
+pub fn anchors_serve()
+    ensures { AnchorsServe }
 {}
 
 /// In a tree without frames each name that a location gets is the first `id` of an element, and the

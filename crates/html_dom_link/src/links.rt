@@ -1,11 +1,14 @@
 //! The `href` of links that have none.
 
 ghost use Rattle.std.specs.Prelude.{◌≡◌, ◌∷◌, [], List, option_map, IfErr, IfOk, OnErr, OnOk};
+ghost use Rattle.html_dom_document.specs.Documents.{document_root};
 ghost use Rattle.html_dom_document.specs.Views.{document_view};
 ghost use Rattle.html_dom_tree.specs.Tree.{NodeView, element_node};
 ghost use Rattle.html_dom_tree.specs.Views.{attrs_view, element_view, node_view, nodes_view, text_view};
 ghost use Rattle.html_dom_introspect.specs.Introspectors.{introspector_view};
-ghost use Rattle.html_dom_link.specs.Links.{attrs_with_href, dest_before, document_with_links, href_to, is_open, name_of, node_with_links, nodes_with_links, open_dest};
+ghost use Rattle.html_dom_link.specs.Leads.{AnchorsAreShown, GivenLinksLead, links_without};
+ghost use Rattle.html_dom_link.specs.Links.{attrs_with_href, dest_before, document_dead_links, document_with_links, href_to, is_open, name_of, node_with_links, nodes_with_links, open_dest};
+ghost use Rattle.html_dom_link.specs.Serving.{DocumentServes};
 
 use html_dom_document::HtmlDocument;
 use html_dom_introspect::HtmlIntrospector;
@@ -35,6 +38,11 @@ pub(crate) const FRAGMENT: AsciiSet = ascii_set!(
 /// Standard 1.3), so that decoding gives the name; `%` is encoded too. Links that have an `href`, and
 /// all else, stay. What is left without is told by [`dead_links`].
 ///
+/// Each `href` that is given leads: where the anchors that the introspector knows stand in the tree,
+/// as they do in a document of `html_document`, the decoded name is the first `id` of an element below
+/// the root, the `id` of a frame, or one of a frame's anchors; it stays the name of what serves the
+/// destination there.
+///
 /// It fails only where an allocation does, and then the document is as it was. The new tree is made
 /// beside the old one.
 ///
@@ -47,6 +55,12 @@ pub(crate) const FRAGMENT: AsciiSet = ascii_set!(
 pub fn resolve_links(alloc: Global, document: &mut HtmlDocument) -> Result<(), AllocError>
     ensures ok { OnOk result
         (document_view document.new ≡ document_with_links (document_view document.old)) }
+    ensures leads { AnchorsAreShown (document_view document.old) → OnOk result
+        (GivenLinksLead (document_view document.old) (document_view document.new)) }
+    ensures left { OnOk result (links_without (document_root (document_view document.new)).1
+        ≡ document_dead_links (document_view document.old)) }
+    ensures serves { DocumentServes (document_view document.old) →
+        OnOk result (DocumentServes (document_view document.new)) }
     ensures err { OnErr result (document.new ≡ document.old) }
 {
     let HtmlElement { children, .. } = document.root().try_clone()?;
@@ -63,6 +77,12 @@ pub fn with_resolved_links(
 ) -> Result<HtmlDocument, Refused<HtmlDocument>>
     ensures ok { IfOk result (λ made.
         document_view made ≡ document_with_links (document_view document)) }
+    ensures leads { AnchorsAreShown (document_view document) → IfOk result (λ made.
+        GivenLinksLead (document_view document) (document_view made)) }
+    ensures left { IfOk result (λ made. links_without (document_root (document_view made)).1
+        ≡ document_dead_links (document_view document)) }
+    ensures serves { DocumentServes (document_view document) →
+        IfOk result (λ made. DocumentServes (document_view made)) }
     ensures back { IfErr result (λ refused. refused.back ≡ document) }
 {
     match resolve_links(alloc, &mut document) {

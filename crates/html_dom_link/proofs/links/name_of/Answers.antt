@@ -1,4 +1,4 @@
-use Rattle.std.proofs.Common.{◌≡◌, ◌<◌, length, string_bytes, Some, None, sym, ap, ◌∙◌, rules}
+use Rattle.std.proofs.Common.{◌≡◌, ◌<◌, length, string_bytes, Some, sym, ap, ◌∙◌, rules}
 use Rattle.std.specs.Prelude.{option_map}
 use Rattle.std.proofs.lemmas.Str.{IsUtf8-string_bytes}
 use Rattle.html_dom_tree.specs.Views.{text_view}

@@ -4,7 +4,9 @@ use Rattle.html_dom_tree.specs.declared.node.HtmlElement.{HtmlElement}
 use Rattle.html_dom_document.specs.Views.{document_view}
 use Rattle.html_dom_introspect.specs.Introspectors.{introspector_view}
 use Rattle.html_dom_link.specs.Links.{nodes_with_links}
+use Rattle.html_dom_link.proofs.Leads.{document_links_lead, left_in_document}
 use Rattle.html_dom_link.proofs.Linking.{links_written}
+use Rattle.html_dom_link.proofs.Serving.{still_serves}
 use Rattle.html_dom_link.proofs.links.resolve_links.Goals as goal
 
 pub returns-clause-ok : goal.returns-clause-ok
@@ -17,3 +19,12 @@ returns-clause-ok c =
     c.root.ensures c.root_mut.ensures.value (ap (λ i. i.anchor) c.introspector.ensures)
     (c.in_ok-children-2.ensures ∙ ap (λ e. nodes_with_links anchor [] e.1) c.in_ok-children.ensures)
     refl (c.root_mut.ensures.written last)
+
+pub returns-clause-leads : goal.returns-clause-leads
+returns-clause-leads c = document_links_lead c.args.document.now _ (returns-clause-ok c)
+
+pub returns-clause-left : goal.returns-clause-left
+returns-clause-left c = left_in_document (document_view c.args.document.now) _ (returns-clause-ok c)
+
+pub returns-clause-serves : goal.returns-clause-serves
+returns-clause-serves c = still_serves (document_view c.args.document.now) _ (returns-clause-ok c)

@@ -1,0 +1,25 @@
+-- A document whose root was changed has the changed root.
+use Rattle.std.proofs.Common.{◌≡◌, ℕ, zero, suc, [], refl, sym}
+use Rattle.html_dom_tree.specs.Tree.{NodesView, none, node, ElementView, new_element}
+use Rattle.html_dom_document.specs.Documents.{DocumentView, document_root, element_at, given_root, with_element}
+use Rattle.html_dom_link.specs.Links.{Anchors, document_with_links, nodes_with_links, root_with_links}
+
+-- an element put at a place stands there, unless there is no place
+pub placed : (ns : NodesView) (i : ℕ) (change : ElementView → ElementView)
+    → change (new_element []) ≡ new_element []
+    → let old = given_root (element_at ns i) in
+    given_root (element_at (with_element ns i (change old)) i) ≡ change old
+placed none i change e = sym e
+placed (node n ns) zero change e = refl
+placed (node n ns) (suc i) change e = placed ns i change e
+
+no_links_in_nothing : (anchor : Anchors) →
+    root_with_links anchor (new_element []) ≡ new_element []
+unfolding nodes_with_links
+no_links_in_nothing anchor = refl
+
+pub root_has_links : (d : DocumentView) →
+    document_root (document_with_links d) ≡ root_with_links d.introspector.anchor (document_root d)
+root_has_links d =
+    placed d.output.nodes d.output.root (root_with_links d.introspector.anchor)
+    (no_links_in_nothing d.introspector.anchor)

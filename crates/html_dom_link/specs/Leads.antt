@@ -1,0 +1,85 @@
+-- Where links lead: each link that was given an `href` leads to a name that stands in the tree.
+use Rattle.std.specs.Prelude.{◌≡◌, ℕ, true, List, [], ◌∷◌, ◌++◌, All, codes, Option, Some, None, if◌then◌else◌}
+use lib.Utf8.{encodes, scalars}
+use Rattle.percent_encoding.specs.Percent.{percent_decode}
+use Rattle.html_names.specs.Names.{stands_in}
+use Rattle.html_dom_tree.specs.Attributes.{first}
+use Rattle.html_dom_tree.specs.Tree.{Head, NodeView, tag_node, text_node, element_node, frame_node, NodesView, none, node}
+use Rattle.html_dom_document.specs.Documents.{DocumentView, document_root}
+use Rattle.html_dom_link.specs.Answered.{names_shown}
+use Rattle.html_dom_link.specs.Links.{Anchors, DeadLinkView, dest_before, document_with_links, is_open, nodes_dead_links}
+use Rattle.html_dom_link.specs.NewNames.{Name}
+
+-- a link that was given an `href`: its destination, and that `href`
+abbrev pub GivenLink : Type 0
+GivenLink = ℕ × List ℕ
+
+abbrev pub given_by : (dest : ℕ) → Option (List ℕ) → List GivenLink
+given_by dest None = []
+given_by dest (Some href) = (dest, href) ∷ []
+
+-- of an element in the old and in the new tree, behind tags with that destination
+abbrev pub given_link : Option ℕ → (old new : Head) → List GivenLink
+given_link None old new = []
+given_link (Some dest) old new =
+    if is_open old then given_by dest (first new.attrs (codes "href")) else []
+
+-- of two trees of one shape: the links that had no `href` in the old one and have one in the new
+-- one, in document order
+unfoldable mutual
+  pub node_given : (dest : Option ℕ) → (old new : NodeView) → List GivenLink
+  node_given dest (tag_node t) new = []
+  node_given dest (text_node s span) new = []
+  node_given dest (element_node h kids) (tag_node t) = []
+  node_given dest (element_node h kids) (text_node s span) = []
+  node_given dest (element_node h kids) (element_node g new) =
+      given_link dest h g ++ nodes_given [] kids new
+  node_given dest (element_node h kids) (frame_node f) = []
+  node_given dest (frame_node f) new = []
+
+  pub nodes_given : (before : List NodeView) → (old new : NodesView) → List GivenLink
+  nodes_given before none new = []
+  nodes_given before (node n ns) none = []
+  nodes_given before (node n ns) (node m ms) =
+      node_given (dest_before before) n m ++ nodes_given (n ∷ before) ns ms
+
+abbrev pub document_given : (old new : DocumentView) → List GivenLink
+document_given old new = nodes_given [] (document_root old).1 (document_root new).1
+
+-- an `href` leads to a name: it is `#` and a text that decodes to it
+pub record LeadsTo (href : List ℕ) (name : Name) : Type 0 where
+  pub fragment : List ℕ
+  pub begins : href ≡ codes "#" ++ fragment
+  pub decodes : percent_decode fragment ≡ encodes name
+
+-- a link leads to the anchor of its destination, which is among these names
+pub record LeadsAmong (anchor : Anchors) (names : List Name) (link : GivenLink) : Type 0 where
+  pub name : Name
+  pub leads : LeadsTo link.1 name
+  pub is_anchor : anchor link.0 ≡ Some name
+  pub stands : stands_in names name ≡ true
+
+-- each anchor that is known is the first `id` of an element below the root, or a frame's `id`, or one
+-- of a frame's anchors
+abbrev pub AnchorsAreShown : DocumentView → Type 0
+AnchorsAreShown d = (location : ℕ) (name : Name) → d.introspector.anchor location ≡ Some name →
+    stands_in (names_shown (document_root d).1) name ≡ true
+
+abbrev pub AnchorsAreTexts : Anchors → Type 0
+AnchorsAreTexts anchor =
+    (location : ℕ) (name : Name) → anchor location ≡ Some name → scalars name ≡ true
+
+-- each link that got an `href` leads to such a name of the new tree
+abbrev pub GivenLinksLead : (old new : DocumentView) → Type 0
+GivenLinksLead old new =
+    All (LeadsAmong new.introspector.anchor (names_shown (document_root new).1)) (document_given old new)
+
+-- the links behind a start tag with a destination that have no `href`
+abbrev pub links_without : NodesView → List DeadLinkView
+links_without = nodes_dead_links (λ dest. None) []
+
+-- once links are resolved, none behind a start tag with a destination is without an `href`, and each
+-- that got one leads, where the anchors that are known stand in the tree
+pub record EveryLinkLeads (d : DocumentView) : Type 0 where
+  pub none_left : links_without (document_root (document_with_links d)).1 ≡ []
+  pub given : AnchorsAreShown d → GivenLinksLead d (document_with_links d)
