@@ -1,6 +1,7 @@
 pub mod Back
 pub mod ChangedRoots
 pub mod Consequences
+pub mod DocumentNames
 pub mod Freshes
 pub mod Gathering
 pub mod InFrames

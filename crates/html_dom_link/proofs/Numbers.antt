@@ -8,7 +8,7 @@ use Rattle.std.proofs.lemmas.Fmt.{decimal_injective}
 use Rattle.html_names.specs.Names.{stands_in}
 use Rattle.html_dom_link.specs.NewNames.{Name, name_for, numbered, stem_of, first_number, first_free, free_name, new_name}
 use Rattle.html_dom_link.specs.Fresh.{IsFirstFree}
-use Rattle.html_dom_link.specs.UsedNames.{is_nothing, AreUsedBelow}
+use Rattle.html_dom_link.specs.UsedNames.{is_nothing, AreUsedBelow, IsBounded}
 
 -- the names without the first that is this one
 abbrev without : Name → List Name → List Name
@@ -87,53 +87,53 @@ fewer stem names (suc t) n b h =
     let l = fewer stem (without (numbered stem n) names) t (suc n) (omega arith) others in
     omega (arith, e, l)
 
-all_tried : (stem : Name) (names : List Name) (t n : ℕ) →
-    stands_in names (numbered stem (first_free stem (stands_in names) t n)) ≡ true →
-    AllAmong stem names t n
+all_tried : (stem : Name) (used : Name → Bool) (b : IsBounded used) (t n : ℕ) →
+    used (numbered stem (first_free stem used t n)) ≡ true → AllAmong stem b.names t n
 unfolding first_free
-all_tried stem names zero n e = e
-all_tried stem names (suc t) n e =
-    by_test (stands_in names (numbered stem n)) refl e (all_tried stem names t (suc n))
+all_tried stem used b zero n e = b.holds (numbered stem n) e
+all_tried stem used b (suc t) n e =
+    by_test (used (numbered stem n)) refl e (all_tried stem used b t (suc n))
   where
-    by_test : (b : Bool) → stands_in names (numbered stem n) ≡ b →
-        stands_in names (numbered stem (elim b as (λ a. ℕ) [
-          | true ↦ first_free stem (stands_in names) t (suc n)
+    by_test : (c : Bool) → used (numbered stem n) ≡ c →
+        used (numbered stem (elim c as (λ a. ℕ) [
+          | true ↦ first_free stem used t (suc n)
           | false ↦ n
         ])) ≡ true →
-        (stands_in names (numbered stem (first_free stem (stands_in names) t (suc n))) ≡ true →
-        AllAmong stem names t (suc n)) →
-        (stands_in names (numbered stem n) ≡ true) × AllAmong stem names t (suc n)
-    by_test true s e so = (s, so e)
+        (used (numbered stem (first_free stem used t (suc n))) ≡ true →
+        AllAmong stem b.names t (suc n)) →
+        (stands_in b.names (numbered stem n) ≡ true) × AllAmong stem b.names t (suc n)
+    by_test true s e so = (b.holds (numbered stem n) s, so e)
     by_test false s e so = cc
 
 pub first_is_low : (label : Name) → first_number label ≤ 2
 first_is_low [] = omega arith
 first_is_low (c ∷ cs) = omega arith
 
-free_is_new : (label : Name) (names : List Name) → length names ≤ 2 ^ 63 →
-    stands_in names (free_name label (stands_in names)) ≡ false
-free_is_new label names b = by_test (stands_in names (free_name label (stands_in names))) refl
+free_is_new : (label : Name) (used : Name → Bool) → IsBounded used →
+    used (free_name label used) ≡ false
+free_is_new label used b = by_test (used (free_name label used)) refl
   where
-    by_test : (a : Bool) → stands_in names (free_name label (stands_in names)) ≡ a → a ≡ false
+    by_test : (a : Bool) → used (free_name label used) ≡ a → a ≡ false
     by_test false e = refl
     by_test true e =
         let n = first_number label in
         let l = first_is_low label in
-        let all = all_tried (stem_of label) names (2 ^ 63) n e in
-        let k = fewer (stem_of label) names (2 ^ 63) n (omega (arith, l)) all in
-        absurd (omega (arith, k))
+        let all = all_tried (stem_of label) used b (2 ^ 63) n e in
+        let k = fewer (stem_of label) b.names (2 ^ 63) n (omega (arith, l)) all in
+        let few = b.few in
+        absurd (omega (arith, k, few))
 
 -- a new name is not in use
-pub new_is_new : (label : Option Name) (names : List Name) → length names ≤ 2 ^ 63 →
-    stands_in names (new_name label (stands_in names)) ≡ false
+pub new_is_new : (label : Option Name) (used : Name → Bool) → IsBounded used →
+    used (new_name label used) ≡ false
 unfolding new_name
-new_is_new None names b = free_is_new [] names b
-new_is_new (Some []) names b = free_is_new [] names b
-new_is_new (Some (c ∷ cs)) names b = by_test (stands_in names (c ∷ cs)) refl
+new_is_new None used b = free_is_new [] used b
+new_is_new (Some []) used b = free_is_new [] used b
+new_is_new (Some (c ∷ cs)) used b = by_test (used (c ∷ cs)) refl
   where
-    by_test : (a : Bool) → stands_in names (c ∷ cs) ≡ a →
-        stands_in names (if a then free_name (c ∷ cs) (stands_in names) else c ∷ cs) ≡ false
-    by_test true e = free_is_new (c ∷ cs) names b
+    by_test : (a : Bool) → used (c ∷ cs) ≡ a →
+        used (if a then free_name (c ∷ cs) used else c ∷ cs) ≡ false
+    by_test true e = free_is_new (c ∷ cs) used b
     by_test false e = e
 
 -- numbers below the one that is found are in use
@@ -160,9 +160,9 @@ below_first stem used (suc t) start m a b =
     by_test false s b so = absurd (omega arith)
 
 pub is_first_free : IsFirstFree
-is_first_free label names b = (
-  free_is_new label names b,
-  below_first (stem_of label) (stands_in names) (2 ^ 63) (first_number label),
+is_first_free label used b = (
+  free_is_new label used b,
+  below_first (stem_of label) used (2 ^ 63) (first_number label),
 )
 
 -- numbers that are known to be in use need not be tried again

@@ -113,7 +113,7 @@ pub stem_of_nothing : (label : Name) → is_nothing label ≡ true → chars (co
 stem_of_nothing [] e = chars_ascii (codes "loc") refl
 stem_of_nothing (c ∷ cs) e = cc
 
-or_right : (b : Bool) → (b || true) ≡ true
+pub or_right : (b : Bool) → (b || true) ≡ true
 or_right true = refl
 or_right false = refl
 

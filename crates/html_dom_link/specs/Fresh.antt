@@ -1,10 +1,11 @@
 -- New names are new.
-use Rattle.std.specs.Prelude.{◌≡◌, ℕ, ◌+◌, ◌≤◌, ◌<◌, ◌^◌, Bool, true, false, List, [], ◌∷◌, ◌++◌, length, option_to_list}
+use Rattle.std.specs.Prelude.{◌≡◌, ℕ, ◌≤◌, ◌<◌, ◌^◌, Bool, true, false, List, [], ◌∷◌, ◌++◌, option_to_list}
 use Rattle.html_dom_tree.specs.Tree.{ElementView}
 use Rattle.html_names.specs.Names.{stands_in}
 use Rattle.html_dom_link.specs.NewNames.{Name, with_name, anchor_names, element_names, numbered, stem_of, first_number, first_free}
 use Rattle.html_dom_link.specs.Events.{Targets}
 use Rattle.html_dom_link.specs.Namings.{Naming}
+use Rattle.html_dom_link.specs.UsedNames.{with_names, IsBounded}
 use Rattle.html_dom_link.specs.Anchors.{element_namings}
 
 -- each name is none of those in use, nor of those made before it
@@ -19,17 +20,22 @@ abbrev pub all_made : List Naming → List Name
 all_made [] = []
 all_made (c ∷ cs) = names_made c ++ all_made cs
 
--- where there are no more than 2 ^ 63 of them: no memory holds so many
-abbrev pub NamesAreNew : Type 0
-NamesAreNew = (x : Targets) (e : ElementView) →
-    length (element_names e) + length (all_made (element_namings x e)) ≤ 2 ^ 63 →
-    AreNew (stands_in (element_names e)) (all_made (element_namings x e))
+-- each name that is made for a tree is none of those that it has, nor of those made before it
+abbrev pub MadeAreNew : Targets → ElementView → Type 0
+MadeAreNew x e = AreNew (stands_in (element_names e)) (all_made (element_namings x e))
 
--- the number in a new name is the first one that is free
+-- the names in use when all are made
+abbrev pub used_at_last : Targets → ElementView → Name → Bool
+used_at_last x e = with_names (all_made (element_namings x e)) (stands_in (element_names e))
+
+-- so it is where these are at most 2 ^ 63, as in each call that succeeds
+abbrev pub NamesAreNew : Type 0
+NamesAreNew = (x : Targets) (e : ElementView) → IsBounded (used_at_last x e) → MadeAreNew x e
+
+-- and where those in use are, the number in a new name is the first one that is free
 abbrev pub IsFirstFree : Type 0
-IsFirstFree = (label : Name) (names : List Name) → length names ≤ 2 ^ 63 →
+IsFirstFree = (label : Name) (used : Name → Bool) → IsBounded used →
     let stem = stem_of label in
-    let used = stands_in names in
     let n = first_free stem used (2 ^ 63) (first_number label) in
     (used (numbered stem n) ≡ false)
     × ((m : ℕ) → first_number label ≤ m → m < n → used (numbered stem m) ≡ true)

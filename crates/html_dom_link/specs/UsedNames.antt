@@ -1,5 +1,5 @@
 -- The names in use as they are held: a set of texts, and for each label the next number to try.
-use Rattle.std.specs.Prelude.{◌≡◌, ℕ, ◌+◌, ◌≤◌, ◌<◌, ◌^◌, Bool, true, false, ◌||◌, List, [], ◌∷◌, map, chars, String, Some}
+use Rattle.std.specs.Prelude.{◌≡◌, ℕ, ◌+◌, ◌≤◌, ◌<◌, ◌^◌, Bool, true, false, ◌||◌, List, [], ◌∷◌, length, map, chars, String, Some}
 use Rattle.std.specs.declared.alloc.Global.{Global}
 use Rattle.std.specs.BTreeMap.{BTreeMap, get_by_text}
 use Rattle.std.specs.BTreeSet.{BTreeSet}
@@ -29,3 +29,9 @@ IsCounted used next =
 -- these names are in use too
 abbrev pub with_names : List Name → (used : Name → Bool) → Name → Bool
 with_names names used n = stands_in names n || used n
+
+-- a list of at most 2 ^ 63 names has all that are in use
+pub record IsBounded (used : Name → Bool) : Type 0 where
+  pub names : List Name
+  pub few : length names ≤ 2 ^ 63
+  pub holds : (n : Name) → used n ≡ true → stands_in names n ≡ true

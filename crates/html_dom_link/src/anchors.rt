@@ -2,8 +2,9 @@ ghost use Rattle.std.specs.Prelude.{◌≡◌, IfOk, OnOk, OnErr};
 ghost use Rattle.html_dom_tree.specs.Views.{nodes_view};
 ghost use Rattle.html_dom_document.specs.Views.{document_view};
 ghost use Rattle.html_dom_introspect.specs.Introspectors.{has, text_in};
+ghost use Rattle.html_dom_link.specs.DocumentNames.{AnchorsAreNew, AnchorsAreShown};
 ghost use Rattle.html_dom_link.specs.LinkAnchors.{document_anchor, document_anchored};
-ghost use Rattle.html_dom_link.specs.UsedNames.{used_in};
+ghost use Rattle.html_dom_link.specs.UsedNames.{used_in, IsBounded};
 ghost use Rattle.html_dom_link.specs.Walk.{at_first, walk};
 ghost use Rattle.html_dom_link.specs.WalkViews.{walk_view, targets_view};
 
@@ -25,8 +26,8 @@ use std::mem;
 /// new `span`; at an end tag of a location that waits a new empty `span` stands, with a name made
 /// of the first label of that location. Where a location was recorded in a frame, each of its start
 /// tags in frames gets an anchor of its own, at the recorded point. New names differ from each
-/// other and from all that the tree has, as long as both are at most 2^63. It fails only where an
-/// allocation does, and then the document is as it was.
+/// other and from all that the tree has, and each name that is answered stands in the new tree. It
+/// fails only where an allocation does, and then the document is as it was.
 ///
 /// The new tree is made beside the old one. [`with_link_anchors`] takes a document, and copies
 /// nothing.
@@ -39,6 +40,9 @@ pub fn create_link_anchors(
         ≡ document_anchored (has targets.now) (document_view document.old)) }
     ensures anchors { IfOk result (λ anchors.
         text_in anchors ≡ document_anchor (has targets.now) (document_view document.old)) }
+    ensures fresh { OnOk result (AnchorsAreNew (has targets.now) (document_view document.old)) }
+    ensures shown { IfOk result (λ anchors.
+        AnchorsAreShown (text_in anchors) (document_view document.new)) }
     ensures kept { OnErr result (document.new ≡ document.old) }
 {
     let names = element_names(alloc, document.root())?;
@@ -64,6 +68,9 @@ pub fn with_link_anchors(
         ≡ document_anchored (has targets.now) (document_view document)) }
     ensures anchors { IfOk result (λ made.
         text_in made.1 ≡ document_anchor (has targets.now) (document_view document)) }
+    ensures fresh { OnOk result (AnchorsAreNew (has targets.now) (document_view document)) }
+    ensures shown { IfOk result (λ made.
+        AnchorsAreShown (text_in made.1) (document_view made.0)) }
 {
     let names = element_names(alloc, document.root())?;
     let children = mem::replace(&mut document.root_mut().children, Vec::new(alloc));
@@ -83,11 +90,13 @@ fn walk_over(
     sought: Sought<'_>,
     nodes: Vec<HtmlNode>,
 ) -> Result<(Vec<HtmlNode>, Walk), AllocError>
-    ensures { IfOk result (λ made. (nodes_view made.0.items, walk_view made.1)
+    ensures walk { IfOk result (λ made. (nodes_view made.0.items, walk_view made.1)
         ≡ walk (targets_view sought.entry) (nodes_view nodes.items)
         (at_first (used_in names.used))) }
+    ensures bounded { IfOk result (λ made. IsBounded (walk_view made.1).used) }
 {
     let mut state = Walk::new(alloc, names);
     let made = anchored_nodes(&mut state, alloc, sought, nodes)?;
+    state.names.are_bounded();
     Ok((made, state))
 }

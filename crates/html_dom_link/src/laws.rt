@@ -14,7 +14,8 @@ pub fn one_walk_serves()
     ensures { OneWalkServes }
 {}
 
-/// Names that are made differ from each other and from all in use, where both are at most 2^63.
+/// Names that are made differ from each other and from all in use, where both together are at most
+/// 2^63. A call that makes them and succeeds says so with no condition.
 #[tactic(auto, using(crate::proofs::Freshes::names_are_new))]
 pub fn names_are_new()
     ensures { NamesAreNew }

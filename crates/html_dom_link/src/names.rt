@@ -3,7 +3,7 @@
 ghost use Rattle.std.specs.Prelude.{Bool, true, [], ◌≡◌, ◌-◌, ◌≤◌, ◌<◌, ◌^◌, ◌+◌, chars, IfOk, OnOk};
 ghost use Rattle.html_dom_tree.specs.Views.{text_view, optional_text_view};
 ghost use Rattle.html_dom_link.specs.NewNames.{Name, numbered, stem_of, first_number, first_free, free_name, text_of_label, name_for, new_name, with_name};
-ghost use Rattle.html_dom_link.specs.UsedNames.{used_in, is_nothing, AreUsedBelow, IsCounted};
+ghost use Rattle.html_dom_link.specs.UsedNames.{used_in, is_nothing, AreUsedBelow, IsCounted, IsBounded};
 
 use std::alloc::{AllocError, Global};
 use std::collections::{BTreeMap, BTreeSet};
@@ -96,6 +96,13 @@ impl AnchorNames {
             used: BTreeSet::new(alloc),
             next: BTreeMap::new(alloc),
         }
+    }
+
+    /// At most 2^63 names are in use, since a set has no more.
+    pub(crate) fn are_bounded(&self)
+        ensures { IsBounded (used_in self.now.used) }
+    {
+        let _ = self.used.len();
     }
 
     /// Puts a name in use.

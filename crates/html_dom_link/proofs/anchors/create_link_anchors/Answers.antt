@@ -8,6 +8,7 @@ use Rattle.html_dom_link.specs.LinkAnchors.{targets_in, document_targets}
 use Rattle.html_dom_link.specs.UsedNames.{used_in}
 use Rattle.html_dom_link.specs.Walk.{Walked, at_first, walk, walked}
 use Rattle.html_dom_link.specs.WalkViews.{walk_view}
+use Rattle.html_dom_link.proofs.DocumentNames.{anchors_are_new, anchors_are_shown}
 use Rattle.html_dom_link.proofs.WholeWalk.{root_walked, root_written, answers_are}
 use Rattle.html_dom_link.proofs.anchors.create_link_anchors.Goals as goal
 
@@ -25,11 +26,16 @@ returns c =
     root_walked is_target d known (element_view c.root.result.now)
     (element_view c.root-2.result.now) used w
     c.introspector.ensures c.root.ensures c.root-2.ensures c.in_ok-names.ensures
-    (c.in_ok-children-2.ensures
+    (c.in_ok-children-2.ensures.walk
     ∙ ap (λ e. walk (targets_in known is_target) e.1 (at_first used)) c.in_ok-children.ensures) in
+    let tree = root_written is_target d _ (element_view root) (element_view last) w whole
+    c.root_mut.ensures.value refl (c.root_mut.ensures.written last) in
+    let anchors = answers_are is_target d w whole in
     record {
-      tree = root_written is_target d _ (element_view root) (element_view last) w whole
-          c.root_mut.ensures.value refl (c.root_mut.ensures.written last);
-      anchors = answers_are is_target d w whole;
+      tree = tree;
+      anchors = anchors;
+      fresh = anchors_are_new is_target d w whole c.in_ok-children-2.ensures.bounded;
+      shown = anchors_are_shown is_target d _ (element_view root) _ c.root_mut.ensures.value tree
+          anchors;
       kept = tt;
     }

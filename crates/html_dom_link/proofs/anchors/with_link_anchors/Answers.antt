@@ -10,6 +10,7 @@ use Rattle.html_dom_link.specs.LinkAnchors.{targets_in, document_targets}
 use Rattle.html_dom_link.specs.UsedNames.{used_in}
 use Rattle.html_dom_link.specs.Walk.{Walked, at_first, walk, walked}
 use Rattle.html_dom_link.specs.WalkViews.{walk_view}
+use Rattle.html_dom_link.proofs.DocumentNames.{anchors_are_new, anchors_are_shown}
 use Rattle.html_dom_link.proofs.MovedRoots.{moved_written}
 use Rattle.html_dom_link.proofs.WholeWalk.{root_walked, answers_are}
 use Rattle.html_dom_link.proofs.anchors.with_link_anchors.Goals as goal
@@ -36,12 +37,17 @@ returns c =
     root_walked is_target d known (element_view c.root.result.now) (element_view root) used w
     (c.introspector.ensures ∙ ap (λ (v : DocumentView). v.introspector) emptied)
     c.root.ensures c.root_mut.ensures.value c.in_ok-names.ensures
-    (c.in_ok-children.ensures
+    (c.in_ok-children.ensures.walk
     ∙ ap (λ v. walk (targets_in known is_target) (nodes_view v.items) (at_first used))
     c.replace-children.ensures.value) in
+    let tree = moved_written is_target d (document_view mid) _ (element_view root)
+    (element_view again) (element_view last) w whole c.root_mut.ensures.value emptied
+    c.root_mut-2.ensures.value refl (c.root_mut-2.ensures.written last) in
+    let anchors = answers_are is_target d w whole in
     record {
-      tree = moved_written is_target d (document_view mid) _ (element_view root)
-          (element_view again) (element_view last) w whole c.root_mut.ensures.value emptied
-          c.root_mut-2.ensures.value refl (c.root_mut-2.ensures.written last);
-      anchors = answers_are is_target d w whole;
+      tree = tree;
+      anchors = anchors;
+      fresh = anchors_are_new is_target d w whole c.in_ok-children.ensures.bounded;
+      shown = anchors_are_shown is_target d _ (element_view root) _ c.root_mut.ensures.value tree
+          anchors;
     }

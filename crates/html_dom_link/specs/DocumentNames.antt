@@ -1,0 +1,20 @@
+-- The names of a document's anchors: those that are made are new, and those that are answered are
+-- shown.
+use Rattle.std.specs.Prelude.{◌≡◌, ℕ, Bool, true, Option, Some}
+use Rattle.html_names.specs.Names.{stands_in}
+use Rattle.html_dom_document.specs.Documents.{DocumentView, document_root}
+use Rattle.html_dom_link.specs.NewNames.{Name}
+use Rattle.html_dom_link.specs.Fresh.{MadeAreNew}
+use Rattle.html_dom_link.specs.Answered.{names_shown}
+use Rattle.html_dom_link.specs.LinkAnchors.{document_targets}
+
+-- each name that is made for an anchor is none of those in use in the tree, nor of those made
+-- before it
+abbrev pub AnchorsAreNew : (is_target : ℕ → Bool) → DocumentView → Type 0
+AnchorsAreNew is_target d = MadeAreNew (document_targets is_target d) (document_root d)
+
+-- each name that a location has is the first `id` of an element below the root, a frame's `id`, or
+-- one of a frame's anchors
+abbrev pub AnchorsAreShown : (anchor : ℕ → Option Name) → DocumentView → Type 0
+AnchorsAreShown anchor d = (l : ℕ) (n : Name) → anchor l ≡ Some n →
+    stands_in (names_shown (document_root d).1) n ≡ true
