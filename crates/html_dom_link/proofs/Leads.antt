@@ -20,7 +20,7 @@ use Rattle.html_dom_document.specs.Views.{document_view}
 use Rattle.html_dom_document.specs.declared.document.HtmlDocument.{HtmlDocument}
 use Rattle.html_dom_link.specs.Answered.{names_shown}
 use Rattle.html_dom_link.specs.DeadLinks.{dead_links_view}
-use Rattle.html_dom_link.specs.Leads.{AnchorsAreShown, AnchorsAreTexts, EveryLinkLeads, GivenLinksLead, LeadsAmong, LeadsTo, given_by, given_link, links_without, node_given, nodes_given}
+use Rattle.html_dom_link.specs.Leads.{KnownAnchorsAreShown, AnchorsAreTexts, EveryLinkLeads, GivenLinksLead, LeadsAmong, LeadsTo, given_by, given_link, links_without, node_given, nodes_given}
 use Rattle.html_dom_link.specs.Links.{Anchors, attrs_with_href, dest_before, document_dead_links, document_with_links, head_with_link, href_to, is_open, name_of, node_with_links, nodes_with_links, some_name}
 use Rattle.html_dom_link.specs.NewNames.{Name}
 use Rattle.html_dom_link.specs.declared.dead.DeadLink.{DeadLink}
@@ -132,8 +132,8 @@ texts_in map location name is = by (get location_cmp map (record { 0 = location 
         sym (ap scalars same) ∙ text_is_scalars s
 
 -- links change no anchor, so each stands in the tree as before
-pub anchors_stay_shown : (d : DocumentView) → AnchorsAreShown d →
-    AnchorsAreShown (document_with_links d)
+pub anchors_stay_shown : (d : DocumentView) → KnownAnchorsAreShown d →
+    KnownAnchorsAreShown (document_with_links d)
 anchors_stay_shown d shown location name is =
     let anchor = d.introspector.anchor in
     let root = document_root d in
@@ -143,7 +143,7 @@ anchors_stay_shown d shown location name is =
 
 -- each link of a document leads that was given an `href`
 pub given_links_lead : (d new : DocumentView) → AnchorsAreTexts d.introspector.anchor →
-    new ≡ document_with_links d → AnchorsAreShown d → GivenLinksLead d new
+    new ≡ document_with_links d → KnownAnchorsAreShown d → GivenLinksLead d new
 given_links_lead d new texts is shown =
     let anchor = d.introspector.anchor in
     let linked = document_with_links d in
@@ -156,7 +156,7 @@ given_links_lead d new texts is shown =
     (nodes_given [] (document_root d).1 e.1)) (sym (root_has_links d)) given)
 
 pub document_links_lead : (old : HtmlDocument) (new : DocumentView) →
-    new ≡ document_with_links (document_view old) → AnchorsAreShown (document_view old) →
+    new ≡ document_with_links (document_view old) → KnownAnchorsAreShown (document_view old) →
     GivenLinksLead (document_view old) new
 document_links_lead old new =
     given_links_lead (document_view old) new (texts_in old.introspector.anchors)

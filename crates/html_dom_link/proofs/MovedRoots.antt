@@ -15,7 +15,7 @@ put_twice (node n ns) zero a b = refl
 put_twice (node n ns) (suc i) a b = ap (node n) (put_twice ns i a b)
 
 -- what is put in at a place where an element stands is there
-pub put_is_there : (ns : NodesView) (i : ℕ) (old new : ElementView) →
+put_is_there : (ns : NodesView) (i : ℕ) (old new : ElementView) →
     element_at ns i ≡ Some old → element_at (with_element ns i new) i ≡ Some new
 put_is_there none i old new there = absurd (none-some old there)
 put_is_there (node n ns) zero old new there = refl

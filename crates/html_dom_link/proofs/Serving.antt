@@ -14,7 +14,7 @@ use Rattle.html_dom_link.specs.LinkAnchors.{document_targets}
 use Rattle.html_dom_link.specs.Links.{Anchors, dest_before, document_with_links, nodes_with_links, node_with_links}
 use Rattle.html_dom_link.specs.Namings.{Naming, made_for, answered, start_pairs, start_answers, with_made, all_answers, last_name}
 use Rattle.html_dom_link.specs.NewNames.{Name, new_name, with_name, first_id, element_names}
-use Rattle.html_dom_link.specs.Serving.{AnchorsServe, DocumentServes, Mark, start_mark, place_mark, inner_marks, marks, named, next_name, paired_marks, served_names, start_marks}
+use Rattle.html_dom_link.specs.Serving.{AnchorsServe, KnownAnchorsServe, Mark, start_mark, place_mark, inner_marks, marks, named, next_name, paired_marks, served_names, start_marks}
 use Rattle.html_dom_link.proofs.ChangedRoots.{root_has_links}
 use Rattle.html_dom_link.proofs.LeadingLinks.{id_stays}
 use Rattle.html_dom_link.proofs.Showing.{answers-append}
@@ -261,9 +261,9 @@ marks_stay x anchor before (node (frame_node f) ns) =
     ap (λ ms. place_mark f.id ∷ inner_marks (frame_starts x f.inner) f.anchors ++ ms)
     (marks_stay x anchor (frame_node f ∷ before) ns)
 
-pub still_serves : (d new : DocumentView) → new ≡ document_with_links d → DocumentServes d →
-    DocumentServes new
-still_serves d new is serves = subst DocumentServes (sym is) (λ l.
+pub still_serves : (d new : DocumentView) → new ≡ document_with_links d → KnownAnchorsServe d →
+    KnownAnchorsServe new
+still_serves d new is serves = subst KnownAnchorsServe (sym is) (λ l.
     let x = document_targets d.introspector.is_link_target d in
     serves l
     ∙ (ap (λ ms. last_name (served_names ms) l)

@@ -7,6 +7,7 @@ use Rattle.html_dom_tree.specs.Attributes.{first}
 use Rattle.html_dom_tree.specs.Tree.{Head, NodeView, tag_node, text_node, element_node, frame_node, NodesView, none, node}
 use Rattle.html_dom_document.specs.Documents.{DocumentView, document_root}
 use Rattle.html_dom_link.specs.Answered.{names_shown}
+use Rattle.html_dom_link.specs.DocumentNames.{AnchorsAreShown}
 use Rattle.html_dom_link.specs.Links.{Anchors, DeadLinkView, dest_before, document_with_links, is_open, nodes_dead_links}
 use Rattle.html_dom_link.specs.NewNames.{Name}
 
@@ -59,11 +60,9 @@ pub record LeadsAmong (anchor : Anchors) (names : List Name) (link : GivenLink) 
   pub is_anchor : anchor link.0 ≡ Some name
   pub stands : stands_in names name ≡ true
 
--- each anchor that is known is the first `id` of an element below the root, or a frame's `id`, or one
--- of a frame's anchors
-abbrev pub AnchorsAreShown : DocumentView → Type 0
-AnchorsAreShown d = (location : ℕ) (name : Name) → d.introspector.anchor location ≡ Some name →
-    stands_in (names_shown (document_root d).1) name ≡ true
+-- each anchor that the introspector knows stands in the tree
+abbrev pub KnownAnchorsAreShown : DocumentView → Type 0
+KnownAnchorsAreShown d = AnchorsAreShown d.introspector.anchor d
 
 abbrev pub AnchorsAreTexts : Anchors → Type 0
 AnchorsAreTexts anchor =
@@ -82,4 +81,4 @@ links_without = nodes_dead_links (λ dest. None) []
 -- that got one leads, where the anchors that are known stand in the tree
 pub record EveryLinkLeads (d : DocumentView) : Type 0 where
   pub none_left : links_without (document_root (document_with_links d)).1 ≡ []
-  pub given : AnchorsAreShown d → GivenLinksLead d (document_with_links d)
+  pub given : KnownAnchorsAreShown d → GivenLinksLead d (document_with_links d)

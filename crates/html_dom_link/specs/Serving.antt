@@ -68,7 +68,11 @@ abbrev pub AnchorsServe : Type 0
 AnchorsServe = (x : Targets) (e : ElementView) (location : ℕ) →
     anchor_of x e location ≡ serving_name x (element_anchored x e).1 location
 
--- so it is in a document: the anchors that are known are the names of what serves their locations
-abbrev pub DocumentServes : DocumentView → Type 0
-DocumentServes d = let x = document_targets d.introspector.is_link_target d in
-    (location : ℕ) → d.introspector.anchor location ≡ serving_name x (document_root d).1 location
+-- so it is in a document with these anchors of these locations
+abbrev pub AreServing : (is_target : ℕ → Bool) → (anchor : ℕ → Option Name) → DocumentView → Type 0
+AreServing is_target anchor d = let x = document_targets is_target d in
+    (location : ℕ) → anchor location ≡ serving_name x (document_root d).1 location
+
+-- the anchors that the introspector knows are the names of what serves their locations
+abbrev pub KnownAnchorsServe : DocumentView → Type 0
+KnownAnchorsServe d = AreServing d.introspector.is_link_target d.introspector.anchor d

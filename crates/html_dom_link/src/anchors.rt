@@ -4,6 +4,7 @@ ghost use Rattle.html_dom_document.specs.Views.{document_view};
 ghost use Rattle.html_dom_introspect.specs.Introspectors.{has, text_in};
 ghost use Rattle.html_dom_link.specs.DocumentNames.{AnchorsAreNew, AnchorsAreShown};
 ghost use Rattle.html_dom_link.specs.LinkAnchors.{document_anchor, document_anchored};
+ghost use Rattle.html_dom_link.specs.Serving.{AreServing};
 ghost use Rattle.html_dom_link.specs.UsedNames.{used_in, IsBounded};
 ghost use Rattle.html_dom_link.specs.Walk.{at_first, walk};
 ghost use Rattle.html_dom_link.specs.WalkViews.{walk_view, targets_view};
@@ -26,8 +27,9 @@ use std::mem;
 /// new `span`; at an end tag of a location that waits a new empty `span` stands, with a name made
 /// of the first label of that location. Where a location was recorded in a frame, each of its start
 /// tags in frames gets an anchor of its own, at the recorded point. New names differ from each
-/// other and from all that the tree has, and each name that is answered stands in the new tree. It
-/// fails only where an allocation does, and then the document is as it was.
+/// other and from all that the tree has, and each name that is answered is that of what serves the
+/// location in the new tree. It fails only where an allocation does, and then the document is as it
+/// was.
 ///
 /// The new tree is made beside the old one. [`with_link_anchors`] takes a document, and copies
 /// nothing.
@@ -43,6 +45,8 @@ pub fn create_link_anchors(
     ensures fresh { OnOk result (AnchorsAreNew (has targets.now) (document_view document.old)) }
     ensures shown { IfOk result (λ anchors.
         AnchorsAreShown (text_in anchors) (document_view document.new)) }
+    ensures serves { IfOk result (λ anchors.
+        AreServing (has targets.now) (text_in anchors) (document_view document.new)) }
     ensures kept { OnErr result (document.new ≡ document.old) }
 {
     let names = element_names(alloc, document.root())?;
@@ -71,6 +75,8 @@ pub fn with_link_anchors(
     ensures fresh { OnOk result (AnchorsAreNew (has targets.now) (document_view document)) }
     ensures shown { IfOk result (λ made.
         AnchorsAreShown (text_in made.1) (document_view made.0)) }
+    ensures serves { IfOk result (λ made.
+        AreServing (has targets.now) (text_in made.1) (document_view made.0)) }
 {
     let names = element_names(alloc, document.root())?;
     let children = mem::replace(&mut document.root_mut().children, Vec::new(alloc));

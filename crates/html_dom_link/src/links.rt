@@ -6,9 +6,9 @@ ghost use Rattle.html_dom_document.specs.Views.{document_view};
 ghost use Rattle.html_dom_tree.specs.Tree.{NodeView, element_node};
 ghost use Rattle.html_dom_tree.specs.Views.{attrs_view, element_view, node_view, nodes_view, text_view};
 ghost use Rattle.html_dom_introspect.specs.Introspectors.{introspector_view};
-ghost use Rattle.html_dom_link.specs.Leads.{AnchorsAreShown, GivenLinksLead, links_without};
+ghost use Rattle.html_dom_link.specs.Leads.{KnownAnchorsAreShown, GivenLinksLead, links_without};
 ghost use Rattle.html_dom_link.specs.Links.{attrs_with_href, dest_before, document_dead_links, document_with_links, href_to, is_open, name_of, node_with_links, nodes_with_links, open_dest};
-ghost use Rattle.html_dom_link.specs.Serving.{DocumentServes};
+ghost use Rattle.html_dom_link.specs.Serving.{KnownAnchorsServe};
 
 use html_dom_document::HtmlDocument;
 use html_dom_introspect::HtmlIntrospector;
@@ -55,12 +55,12 @@ pub(crate) const FRAGMENT: AsciiSet = ascii_set!(
 pub fn resolve_links(alloc: Global, document: &mut HtmlDocument) -> Result<(), AllocError>
     ensures ok { OnOk result
         (document_view document.new ≡ document_with_links (document_view document.old)) }
-    ensures leads { AnchorsAreShown (document_view document.old) → OnOk result
+    ensures leads { KnownAnchorsAreShown (document_view document.old) → OnOk result
         (GivenLinksLead (document_view document.old) (document_view document.new)) }
     ensures left { OnOk result (links_without (document_root (document_view document.new)).1
         ≡ document_dead_links (document_view document.old)) }
-    ensures serves { DocumentServes (document_view document.old) →
-        OnOk result (DocumentServes (document_view document.new)) }
+    ensures serves { KnownAnchorsServe (document_view document.old) →
+        OnOk result (KnownAnchorsServe (document_view document.new)) }
     ensures err { OnErr result (document.new ≡ document.old) }
 {
     let HtmlElement { children, .. } = document.root().try_clone()?;
@@ -77,12 +77,12 @@ pub fn with_resolved_links(
 ) -> Result<HtmlDocument, Refused<HtmlDocument>>
     ensures ok { IfOk result (λ made.
         document_view made ≡ document_with_links (document_view document)) }
-    ensures leads { AnchorsAreShown (document_view document) → IfOk result (λ made.
+    ensures leads { KnownAnchorsAreShown (document_view document) → IfOk result (λ made.
         GivenLinksLead (document_view document) (document_view made)) }
     ensures left { IfOk result (λ made. links_without (document_root (document_view made)).1
         ≡ document_dead_links (document_view document)) }
-    ensures serves { DocumentServes (document_view document) →
-        IfOk result (λ made. DocumentServes (document_view made)) }
+    ensures serves { KnownAnchorsServe (document_view document) →
+        IfOk result (λ made. KnownAnchorsServe (document_view made)) }
     ensures back { IfErr result (λ refused. refused.back ≡ document) }
 {
     match resolve_links(alloc, &mut document) {

@@ -8,7 +8,7 @@ use Rattle.html_dom_link.specs.LinkAnchors.{targets_in, document_targets}
 use Rattle.html_dom_link.specs.UsedNames.{used_in}
 use Rattle.html_dom_link.specs.Walk.{Walked, at_first, walk, walked}
 use Rattle.html_dom_link.specs.WalkViews.{walk_view}
-use Rattle.html_dom_link.proofs.DocumentNames.{anchors_are_new, anchors_are_shown}
+use Rattle.html_dom_link.proofs.DocumentNames.{anchors_are_new, anchors_are_serving, anchors_are_shown}
 use Rattle.html_dom_link.proofs.WholeWalk.{root_walked, root_written, answers_are}
 use Rattle.html_dom_link.proofs.anchors.create_link_anchors.Goals as goal
 
@@ -35,7 +35,7 @@ returns c =
       tree = tree;
       anchors = anchors;
       fresh = anchors_are_new is_target d w whole c.in_ok-children-2.ensures.bounded;
-      shown = anchors_are_shown is_target d _ (element_view root) _ c.root_mut.ensures.value tree
-          anchors;
+      shown = anchors_are_shown is_target d _ _ tree anchors;
+      serves = anchors_are_serving is_target d _ _ tree anchors;
       kept = tt;
     }

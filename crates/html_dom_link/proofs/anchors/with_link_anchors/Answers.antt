@@ -10,7 +10,7 @@ use Rattle.html_dom_link.specs.LinkAnchors.{targets_in, document_targets}
 use Rattle.html_dom_link.specs.UsedNames.{used_in}
 use Rattle.html_dom_link.specs.Walk.{Walked, at_first, walk, walked}
 use Rattle.html_dom_link.specs.WalkViews.{walk_view}
-use Rattle.html_dom_link.proofs.DocumentNames.{anchors_are_new, anchors_are_shown}
+use Rattle.html_dom_link.proofs.DocumentNames.{anchors_are_new, anchors_are_serving, anchors_are_shown}
 use Rattle.html_dom_link.proofs.MovedRoots.{moved_written}
 use Rattle.html_dom_link.proofs.WholeWalk.{root_walked, answers_are}
 use Rattle.html_dom_link.proofs.anchors.with_link_anchors.Goals as goal
@@ -48,6 +48,6 @@ returns c =
       tree = tree;
       anchors = anchors;
       fresh = anchors_are_new is_target d w whole c.in_ok-children.ensures.bounded;
-      shown = anchors_are_shown is_target d _ (element_view root) _ c.root_mut.ensures.value tree
-          anchors;
+      shown = anchors_are_shown is_target d _ _ tree anchors;
+      serves = anchors_are_serving is_target d _ _ tree anchors;
     }
