@@ -39,7 +39,7 @@ pub stays_frame_free : StaysFrameFree
 unfolding element_anchored
 stays_frame_free x e f = free-anchored e.1 (element_namings x e) f
 
-shown_first : (ns : NodesView) → NodesAreFrameFree ns → names_shown ns ≡ first_ids ns
+pub shown_first : (ns : NodesView) → NodesAreFrameFree ns → names_shown ns ≡ first_ids ns
 unfolding names_shown first_ids NodeIsFrameFree NodesAreFrameFree
 shown_first none f = refl
 shown_first (node (tag_node t) ns) f = shown_first ns f.1

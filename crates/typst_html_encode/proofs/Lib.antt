@@ -14,6 +14,7 @@ pub mod Plainly
 pub mod RawBack
 pub mod RawChildren
 pub mod RawNames
+pub mod ReadIds
 pub mod ReadingBack
 pub mod References
 pub mod Rows

@@ -11,6 +11,7 @@ pub mod IndentsCollapse
 pub mod Layout
 pub mod OpenElements
 pub mod ReadingBack
+pub mod ReadIds
 pub mod Reader
 pub mod References
 pub mod Rows

@@ -1,16 +1,20 @@
 -- The root of a document with anchors, and what its anchors are.
-use Rattle.std.proofs.Common.{◌≡◌, ℕ, zero, suc, Bool, true, List, [], ◌∷◌, drop, Option, Some, None, refl, sym, subst}
+use Rattle.std.proofs.Common.{◌≡◌, ℕ, Bool, true, List, [], ◌∷◌, drop, Option, Some, None, refl, sym, subst}
 use Rattle.html_dom_tree.specs.FrameFree.{NodeIsFrameFree, NodesAreFrameFree, ElementIsFrameFree}
-use Rattle.html_dom_tree.specs.Tree.{tag_node, text_node, element_node, frame_node, NodesView, none, node, ElementView, new_element}
+use Rattle.html_dom_tree.specs.Tree.{tag_node, text_node, element_node, frame_node, NodesView, none, node, ElementView}
 use Rattle.html_names.specs.Names.{stands_in}
-use Rattle.html_dom_document.specs.Documents.{DocumentView, document_root, element_at, with_element, given_root}
+use Rattle.html_dom_document.specs.Documents.{DocumentView, document_root}
 use Rattle.html_dom_link.specs.NewNames.{Name}
 use Rattle.html_dom_link.specs.Events.{Targets}
 use Rattle.html_dom_link.specs.Namings.{Naming}
 use Rattle.html_dom_link.specs.Anchors.{span_before, nodes_size, nodes_anchored, element_namings, element_anchored}
 use Rattle.html_dom_link.specs.Answered.{first_ids}
-use Rattle.html_dom_link.specs.LinkAnchors.{document_targets}
+use Rattle.html_dom_link.specs.Leads.{KnownAnchorsAreShown}
+use Rattle.html_dom_link.specs.LinkAnchors.{document_anchor, document_anchored, document_targets}
+use Rattle.html_dom_link.specs.Serving.{KnownAnchorsServe}
+use Rattle.html_dom_link.proofs.ChangedRoots.{root_has_anchors}
 use Rattle.html_dom_link.proofs.Consequences.{answers_are_first_ids}
+use Rattle.html_dom_link.proofs.DocumentNames.{anchors_are_serving, anchors_are_shown}
 use Rattle.typst_html_export.specs.Linked.{document_linked, document_with_anchors, AnchorsAreFirstIds}
 
 -- anchors take no frame away
@@ -35,33 +39,30 @@ root_free_before : (x : Targets) (e : ElementView) → ElementIsFrameFree (eleme
 unfolding element_anchored
 root_free_before x e f = free_before e.1 (element_namings x e) f
 
--- an element put at a place stands there, unless there is no place
-placed : (ns : NodesView) (i : ℕ) (change : ElementView → ElementView)
-    → change (new_element []) ≡ new_element []
-    → let old = given_root (element_at ns i) in
-    given_root (element_at (with_element ns i (change old)) i) ≡ change old
-placed none i change e = sym e
-placed (node n ns) zero change e = refl
-placed (node n ns) (suc i) change e = placed ns i change e
-
-nothing_anchored : (x : Targets) → element_anchored x (new_element []) ≡ new_element []
-unfolding element_anchored nodes_anchored
-nothing_anchored x = refl
-
 module _ (is_target : ℕ → Bool) (d : DocumentView) where
-  anchored_root : document_root (document_linked is_target d)
-      ≡ element_anchored (document_targets is_target d) (document_root d)
-  anchored_root = let x = document_targets is_target d in
-      placed d.output.nodes d.output.root (element_anchored x) (nothing_anchored x)
-
   linked_ids : AnchorsAreFirstIds (document_linked is_target d)
   linked_ids free l n is =
       let x = document_targets is_target d in
       let e = document_root d in
-      let before = root_free_before x e (subst ElementIsFrameFree anchored_root free) in
-      subst (λ r. stands_in (first_ids r.1) n ≡ true) (sym anchored_root)
+      let before = root_free_before x e
+      (subst ElementIsFrameFree (root_has_anchors is_target d) free) in
+      subst (λ r. stands_in (first_ids r.1) n ≡ true) (sym (root_has_anchors is_target d))
       (answers_are_first_ids x e before l n is)
 
 -- each anchor is the first `id` of an element
 pub anchors_are_first_ids : (d : DocumentView) → AnchorsAreFirstIds (document_with_anchors d)
 anchors_are_first_ids d = linked_ids d.introspector.is_link_target d
+
+-- with frames it is the first `id` of an element, or a name of a frame
+pub known_anchors_are_shown : (d : DocumentView) → KnownAnchorsAreShown (document_with_anchors d)
+known_anchors_are_shown d =
+    let is_target = d.introspector.is_link_target in
+    anchors_are_shown is_target d (document_anchored is_target d) (document_anchor is_target d)
+    refl refl
+
+-- and it is the name of what serves its location
+pub known_anchors_serve : (d : DocumentView) → KnownAnchorsServe (document_with_anchors d)
+known_anchors_serve d =
+    let is_target = d.introspector.is_link_target in
+    anchors_are_serving is_target d (document_anchored is_target d) (document_anchor is_target d)
+    refl refl

@@ -10,6 +10,7 @@ pub mod Nodes
 pub mod Notes
 pub mod Outlines
 pub mod PlainRoots
+pub mod ReadLinks
 pub mod SpacesInDocuments
 pub mod SpacesInTexts
 pub mod StyledRoots

@@ -5,5 +5,6 @@ pub mod DocumentHead
 pub mod Exported
 pub mod Linked
 pub mod Outlines
+pub mod ReadLinks
 pub mod Roots
 pub mod SpacesInDocuments

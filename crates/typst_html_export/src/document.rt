@@ -1,6 +1,8 @@
 //! Documents made of items.
 
 ghost use Rattle.std.specs.Prelude.{◌≡◌, ◌≤◌, IfOk, option_map};
+ghost use Rattle.html_dom_link.specs.Leads.{KnownAnchorsAreShown};
+ghost use Rattle.html_dom_link.specs.Serving.{KnownAnchorsServe};
 ghost use Rattle.html_dom_tree.specs.Tree.{none, node};
 ghost use Rattle.html_dom_tree.specs.Views.{element_view, node_view, nodes_view};
 ghost use Rattle.html_dom_document.specs.Positions.{PositionsLead};
@@ -35,8 +37,9 @@ use typst_html_encode::ExportFault;
 ///
 /// It is that of [`html_document_for_bundle`], in which the targets of start tags and of links in
 /// frames then get anchors as by [`create_link_anchors`], where they stand in the tree; the
-/// document's introspector knows them. The positions that it knows stay those of the tree without
-/// anchors. It fails as `html_document_for_bundle` does.
+/// document's introspector knows them: each is the name of what serves its location in the tree. The
+/// positions that it knows stay those of the tree without anchors. It fails as
+/// `html_document_for_bundle` does.
 ///
 /// Of items in plain flow, without footnotes and none too deep, a document is always made, out of
 /// memory aside, and once white space has collapsed exactly their text is seen in its body.
@@ -65,6 +68,8 @@ pub fn html_document(
         (linked_document (info_view info.now) (items_view items.now) (items_view footnotes.now))
         (document_faults limit (items_view items.now) (items_view footnotes.now)) }
     ensures anchors { IfOk result (λ document. AnchorsAreFirstIds (document_view document)) }
+    ensures shown { IfOk result (λ document. KnownAnchorsAreShown (document_view document)) }
+    ensures serves { IfOk result (λ document. KnownAnchorsServe (document_view document)) }
     // Items in plain flow, without footnotes and none too deep, become a document, out of memory
     // aside, and in its text exactly theirs is seen.
     ensures plain { ArePlainItems limit (items_view items.now) (items_view footnotes.now) →

@@ -1,10 +1,12 @@
 use Rattle.std.proofs.Common.{◌∙◌, ap, sym, subst}
 use Rattle.std.proofs.lemmas.Result.{err_from_is_err_and}
 use Rattle.html_dom_document.specs.Views.{document_view, info_view}
+use Rattle.html_dom_link.specs.Leads.{KnownAnchorsAreShown}
+use Rattle.html_dom_link.specs.Serving.{KnownAnchorsServe}
 use Rattle.html_flow_convert.specs.Views.{items_view}
 use Rattle.typst_html_export.specs.Assembled.{document_faults}
 use Rattle.typst_html_export.specs.Linked.{AnchorsAreFirstIds, document_with_anchors}
-use Rattle.typst_html_export.proofs.Anchors.{anchors_are_first_ids}
+use Rattle.typst_html_export.proofs.Anchors.{anchors_are_first_ids, known_anchors_are_shown, known_anchors_serve}
 use Rattle.typst_html_export.proofs.Firsts.{memory_alone}
 use Rattle.typst_html_export.proofs.PlainRoots.{plain_documents_are_made}
 use Rattle.typst_html_export.proofs.SpacesInDocuments.{spaces_are_left}
@@ -14,6 +16,16 @@ pub returns-clause-anchors : goal.returns-clause-anchors
 returns-clause-anchors c =
     subst (λ d. AnchorsAreFirstIds d) (sym c.in_ok-with_anchors.ensures)
     (anchors_are_first_ids (document_view c.in_ok-document.document))
+
+pub returns-clause-shown : goal.returns-clause-shown
+returns-clause-shown c =
+    subst KnownAnchorsAreShown (sym c.in_ok-with_anchors.ensures)
+    (known_anchors_are_shown (document_view c.in_ok-document.document))
+
+pub returns-clause-serves : goal.returns-clause-serves
+returns-clause-serves c =
+    subst KnownAnchorsServe (sym c.in_ok-with_anchors.ensures)
+    (known_anchors_serve (document_view c.in_ok-document.document))
 
 pub returns-in_err-document-clause-plain : goal.returns-in_err-document-clause-plain
 returns-in_err-document-clause-plain c = λ are.

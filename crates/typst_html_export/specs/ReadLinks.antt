@@ -1,0 +1,21 @@
+-- Links that lead where the text of their document is read.
+use Rattle.std.specs.Prelude.{◌≡◌, ℕ, true, List, All}
+use Rattle.html_dom_tree.specs.FrameFree.{ElementIsFrameFree}
+use Rattle.html_dom_document.specs.Documents.{DocumentView, document_root}
+use Rattle.html_dom_link.specs.Leads.{LeadsAmong, document_given}
+use Rattle.typst_html_encode.specs.Indented.{ElementEndsWell}
+use Rattle.typst_html_encode.specs.ReadIds.{read_ids}
+use Rattle.typst_html_encode.specs.Reader.{read}
+use Rattle.typst_html_encode.specs.declared.options.HtmlOptions.{HtmlOptions}
+
+-- of a document before and after its links were resolved, and its text: each link that got an `href`
+-- leads to the anchor of its destination, which is the first `id` of an element that is read
+abbrev pub GivenLinksLeadWhenRead : (old new : DocumentView) → (text : List ℕ) → Type 0
+GivenLinksLeadWhenRead old new text =
+    All (LeadsAmong new.introspector.anchor (read_ids (read text))) (document_given old new)
+
+-- a root whose text can be read: it has no frame, and pretty writing puts no raw text on lines of its
+-- own that ends in a closing tag without its last character
+pub record IsReadable (options : HtmlOptions) (d : DocumentView) : Type 0 where
+  pub frame_free : ElementIsFrameFree (document_root d)
+  pub ends_well : options.pretty ≡ true → ElementEndsWell true (document_root d)
