@@ -4,7 +4,7 @@ use Rattle.html_dom_tree.specs.Tree.{TagView, Head, tag_node, text_node, element
 use Rattle.html_dom_link.specs.Anchors.{with_id, text_in, span_before, nodes_size, nodes_anchored, element_namings, element_anchored}
 use Rattle.html_dom_link.specs.Events.{Targets}
 use Rattle.html_dom_link.specs.Namings.{Naming}
-use Rattle.typst_html_spaces.specs.Anchored.{Anchored, at_end, at_tag, after_tag, at_text, around_text, at_element, of_element, at_frame, IsAny}
+use Rattle.typst_html_spaces.specs.Anchored.{Anchored, at_end, at_tag, after_tag, at_text, around_text, at_element, of_element, at_frame, new_id, IsAny}
 use Rattle.typst_html_spaces.proofs.Anchored.{unanchored}
 use Rattle.typst_html_spaces.proofs.Each.{Each, Each-drop}
 
@@ -30,7 +30,7 @@ module _ (P : List ℕ → Type 0) where
       Passing P made → Anchored P kids new → Anchored P ns ms →
       Anchored P (node (element_node h kids) ns) (node (element_node (with_id made h) new) ms)
   head_anchored None h kids new ns ms p q r = at_element q r
-  head_anchored (Some n) h kids new ns ms p q r = of_element n p q r
+  head_anchored (Some n) h kids new ns ms p q r = of_element new_id n p q r
 
   abbrev pub MadePasses : Naming → Type 0
   MadePasses c = Passing P c.made

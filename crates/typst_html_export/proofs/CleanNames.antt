@@ -12,7 +12,7 @@ use Rattle.html_dom_link.specs.Events.{Start, Event, other_start, target_start, 
 use Rattle.html_dom_link.specs.Groups.{serves, waiting_after, cut_at, cuts, own_name, first_label, label_of, label_for}
 use Rattle.html_dom_link.specs.Namings.{made_for, used_after, namings}
 use Rattle.html_dom_link.proofs.Numbers.{free_within, first_is_low}
-use Rattle.typst_html_spaces.specs.CleanNodes.{is_clean_text, is_clean_content, is_clean_head, is_clean_node, are_clean_nodes, IsCleanId}
+use Rattle.typst_html_spaces.specs.CleanNodes.{is_clean_text, is_clean_content, is_clean_head, is_clean_node, are_clean_nodes, IsCleanValue}
 use Rattle.typst_html_spaces.proofs.Each.{Each, Each-append}
 use Rattle.typst_html_export.proofs.AnchoredRoots.{Passing, MadePasses}
 
@@ -40,17 +40,17 @@ decimal_is_text = decimal_by_steps (λ m ds. all is_text_char ds ≡ true)
 
 -- names
 
-numbered_is_clean : (stem : Name) (n : ℕ) → n < 2 ^ 64 → IsCleanId stem →
-    IsCleanId (numbered stem n)
+numbered_is_clean : (stem : Name) (n : ℕ) → n < 2 ^ 64 → IsCleanValue stem →
+    IsCleanValue (numbered stem n)
 numbered_is_clean stem n h e = all_append is_text_char stem (codes "-" ++ decimal n) e
     (all_append is_text_char (codes "-") (decimal n) refl (decimal_is_text n h))
 
-stem_is_clean : (label : Name) → IsCleanId label → IsCleanId (stem_of label)
+stem_is_clean : (label : Name) → IsCleanValue label → IsCleanValue (stem_of label)
 stem_is_clean [] e = refl
 stem_is_clean (c ∷ cs) e = e
 
-free_is_clean : (label : Name) (used : Name → Bool) → IsCleanId label →
-    IsCleanId (free_name label used)
+free_is_clean : (label : Name) (used : Name → Bool) → IsCleanValue label →
+    IsCleanValue (free_name label used)
 free_is_clean label used e =
     let n = first_free (stem_of label) used (2 ^ 63) (first_number label) in
     let within = free_within (stem_of label) used (2 ^ 63) (first_number label) in
@@ -58,13 +58,13 @@ free_is_clean label used e =
     numbered_is_clean (stem_of label) n (omega (arith, within, start)) (stem_is_clean label e)
 
 new_is_clean : (label : Option Name) (used : Name → Bool) → is_clean_text label ≡ true →
-    IsCleanId (new_name label used)
+    IsCleanValue (new_name label used)
 unfolding new_name
 new_is_clean None used e = free_is_clean [] used refl
 new_is_clean (Some []) used e = free_is_clean [] used refl
 new_is_clean (Some (c ∷ cs)) used e = by_test (used (c ∷ cs))
   where
-    by_test : (b : Bool) → IsCleanId (if b then free_name (c ∷ cs) used else c ∷ cs)
+    by_test : (b : Bool) → IsCleanValue (if b then free_name (c ∷ cs) used else c ∷ cs)
     by_test true = free_is_clean (c ∷ cs) used e
     by_test false = e
 
@@ -127,14 +127,14 @@ label_is_clean text group r = first_is_clean group r
 label_is_clean (html_frame id inside) group r = first_is_clean group r
 
 made_is_clean : (own label : Option Name) (used : Name → Bool) (group : List Start) →
-    is_clean_text label ≡ true → Passing IsCleanId (made_for own label used group)
+    is_clean_text label ≡ true → Passing IsCleanValue (made_for own label used group)
 made_is_clean own label used [] e = tt
 made_is_clean (Some n) label used (s ∷ ss) e = tt
 made_is_clean None label used (s ∷ ss) e = new_is_clean label used e
 
 namings_are_clean : (es : List Event) (waiting : List Start) (used : Name → Bool) →
     Each EventIsClean es → Each StartIsClean waiting →
-    Each (MadePasses IsCleanId) (namings used (cuts waiting es))
+    Each (MadePasses IsCleanValue) (namings used (cuts waiting es))
 namings_are_clean [] waiting used r w = tt
 namings_are_clean (e ∷ es) waiting used r w =
     let group = (cut_at waiting e).group in
@@ -172,6 +172,6 @@ events_are_clean x (node (frame_node f) ns) p e = absurd (false≢true e)
 -- of clean nodes, while no start tag waits
 pub clean_namings : (x : Targets) (used : Name → Bool) (ns : NodesView) (p : Bool) →
     are_clean_nodes p ns ≡ true →
-    Each (MadePasses IsCleanId) (namings used (cuts [] (events x ns)))
+    Each (MadePasses IsCleanValue) (namings used (cuts [] (events x ns)))
 clean_namings x used ns p e =
     namings_are_clean (events x ns) [] used (events_are_clean x ns p e) tt

@@ -1,7 +1,8 @@
 -- The root of a document of clean items in plain flow and of clean information has no fault, with
--- anchors too.
+-- anchors and with the `href` of its links too.
 use Rattle.std.proofs.Common.{◌≡◌, ℕ, Bool, true, false, ◌&&◌, List, [], ◌∷◌, ◌++◌, map, drop, codes, Option, Some, None, refl, ap, sym, ◌∙◌, subst, append_assoc, append-nil}
 use Rattle.std.specs.List.{flat_map}
+use Rattle.std.specs.Prelude.{if◌then◌else◌}
 use Rattle.std.proofs.lemmas.Bool.{and_parts}
 use Rattle.std.proofs.lemmas.List.{drop-drop}
 use Rattle.html_names.specs.Characters.{all, is_text_char}
@@ -20,25 +21,29 @@ use Rattle.typst_html_encode.specs.Layout.{is_pretty_inside}
 use Rattle.typst_html_encode.specs.Text.{ends_at_once, escaping_of}
 use Rattle.typst_html_encode.proofs.Stretches.{all_append}
 use Rattle.typst_html_encode.specs.declared.options.HtmlOptions.{HtmlOptions}
-use Rattle.html_flow_convert.specs.Items.{ItemsView}
+use Rattle.html_flow_convert.specs.Items.{ItemsView, no_items}
 use Rattle.html_dom_link.specs.Anchors.{nodes_size, nodes_anchored, element_anchored}
 use Rattle.html_dom_link.specs.Events.{Event, Targets, events}
 use Rattle.html_dom_link.specs.Groups.{cuts}
 use Rattle.html_dom_link.specs.Namings.{namings}
+use Rattle.html_dom_link.specs.Links.{Anchors, dest_before, is_open, nodes_with_links, open_dest, root_with_links}
 use Rattle.html_dom_link.specs.NewNames.{Name, element_names}
 use Rattle.typst_html_spaces.specs.CleanItems.{are_clean_items}
-use Rattle.typst_html_spaces.specs.CleanNodes.{is_clean_text, are_clean_values, are_clean_nodes, IsCleanId}
+use Rattle.typst_html_spaces.specs.CleanNodes.{is_clean_text, are_clean_values, are_clean_nodes, IsCleanValue}
 use Rattle.typst_html_spaces.proofs.Anchored.{anchors_keep_clean_nodes}
 use Rattle.typst_html_spaces.proofs.CleanItems.{clean_items_make_clean_nodes}
 use Rattle.typst_html_spaces.proofs.CleanNodes.{plain_clean, no_faults_of, no_attrs_faults, clean_nodes_are_written}
+use Rattle.typst_html_spaces.specs.PlainFlow.{is_plain_flow}
 use Rattle.typst_html_spaces.proofs.Each.{Each, Each-append}
 use Rattle.typst_html_export.specs.Assembled.{document_nodes}
-use Rattle.typst_html_export.specs.CleanInfo.{are_clean_texts, is_clean_locale, is_clean_info, CleanDocumentsAreWritten}
+use Rattle.typst_html_export.specs.CleanInfo.{are_clean_texts, is_clean_locale, is_clean_info, CleanDocumentsAreWritten, CleanLinkedDocumentsAreWritten}
 use Rattle.typst_html_export.specs.DocumentHead.{made_node, charset_node, entry_node, viewport_node, title_node, title_nodes, description_nodes, joined_text, list_nodes, entry_nodes, lang_text}
 use Rattle.typst_html_export.specs.Exported.{linked_root, root_faults}
 use Rattle.typst_html_export.specs.SpacesInDocuments.{ArePlainItems}
 use Rattle.typst_html_export.proofs.AnchoredRoots.{MadePasses, nodes_are_anchored}
+use Rattle.typst_html_export.proofs.CleanLinks.{href_is_clean}
 use Rattle.typst_html_export.proofs.CleanNames.{clean_namings}
+use Rattle.typst_html_export.proofs.LinkedRoots.{links_are_anchored}
 use Rattle.typst_html_export.proofs.PlainRoots.{root_over, linked_root_is}
 
 -- what stands before all tags gets no anchor
@@ -76,6 +81,28 @@ quiet_kept x (node (element_node h kids) ns) q used more =
     )
 quiet_kept x (node (frame_node f) ns) q used more = absurd q.0
 
+-- nor an `href`, for which a tag stands before an element
+
+no_dest : (h : Head) (dest : Option ℕ) → dest ≡ None → open_dest h dest ≡ None
+no_dest h dest e = by_test (is_open h)
+  where
+    by_test : (b : Bool) → (if b then dest else None) ≡ None
+    by_test true = e
+    by_test false = refl
+
+quiet_unlinked : (anchor : Anchors) (ns : NodesView) (before : List NodeView) → AreQuiet ns →
+    dest_before before ≡ None → nodes_with_links anchor before ns ≡ ns
+unfolding nodes_with_links
+quiet_unlinked anchor none before q e = refl
+quiet_unlinked anchor (node (tag_node t) ns) before q e = absurd q.0
+quiet_unlinked anchor (node (text_node s span) ns) before q e =
+    ap (node (text_node s span)) (quiet_unlinked anchor ns (text_node s span ∷ before) q.1 refl)
+quiet_unlinked anchor (node (element_node h kids) ns) before q e =
+    let inside = quiet_unlinked anchor kids [] q.0 refl in
+    let after = quiet_unlinked anchor ns (element_node h kids ∷ before) q.1 refl in
+    rw (no_dest h (dest_before before) e, inside, after) refl
+quiet_unlinked anchor (node (frame_node f) ns) before q e = absurd q.0
+
 -- a root of a quiet head and of a body of clean nodes
 abbrev root_of_both : (top h g : Head) (kids inside : NodesView) → ElementView
 root_of_both top h g kids inside =
@@ -90,13 +117,13 @@ body_anchored x top h g kids inside q c =
     let used : Name → Bool = stands_in (element_names (root_of_both top h g kids inside)) in
     let es = events x inside ++ [] in
     let kept = quiet_kept x kids q used (events x (node (element_node g inside) none)) in
-    let passing : Each (MadePasses IsCleanId) (namings used (cuts [] es)) =
-    subst (λ fs. Each (MadePasses IsCleanId) (namings used (cuts [] fs)))
+    let passing : Each (MadePasses IsCleanValue) (namings used (cuts [] es)) =
+    subst (λ fs. Each (MadePasses IsCleanValue) (namings used (cuts [] fs)))
     (sym (append-nil (events x inside))) (clean_namings x used inside false c) in (
       nodes_anchored (namings used (cuts [] es)) inside,
       rw (kept.0, kept.1) refl,
       anchors_keep_clean_nodes false inside (nodes_anchored (namings used (cuts [] es)) inside)
-          (nodes_are_anchored IsCleanId inside (namings used (cuts [] es)) passing) c,
+          (nodes_are_anchored IsCleanValue inside (namings used (cuts [] es)) passing) c,
     )
 
 -- elements
@@ -271,22 +298,64 @@ root_is_made : (info : InfoView) (ns : NodesView) →
 unfolding node_styled
 root_is_made info ns = refl
 
+-- the root of such a document: its body is clean
+abbrev HasCleanBody : InfoView → ElementView → Type 0
+HasCleanBody info root = (inside : NodesView)
+    × (root ≡ made_root (lang_text info.locale) (entries_of info) inside)
+    × (are_clean_nodes false inside ≡ true)
+
+clean_body : (info : InfoView) (items : ItemsView) → InfoParts info → is_plain_flow items ≡ true →
+    are_clean_items items ≡ true → HasCleanBody info (linked_root info items no_items)
+clean_body info items parts plain clean =
+    let entries = charset_node ∷ viewport_node ∷ entry_nodes info in
+    let ns = document_nodes items in
+    let root = linked_root_is info items plain in
+    let anchored = body_anchored root.0 (made_root (lang_text info.locale) none none).0
+    (plain_made (codes "head") []) (plain_made (codes "body") []) (entries_of info) (nodes_styled ns)
+    (entries_quiet entries (all_entries info parts))
+    (clean_items_make_clean_nodes None items refl plain clean) in (
+      anchored.0,
+      root.1 ∙ (ap (element_anchored root.0) (root_is_made info ns) ∙ anchored.1),
+      anchored.2,
+    )
+
+-- with the `href` of its links
+body_linked : (info : InfoView) (root : ElementView) (anchor : Anchors) → InfoParts info →
+    HasCleanBody info root → HasCleanBody info (root_with_links anchor root)
+unfolding nodes_with_links
+body_linked info root anchor parts b =
+    let entries = charset_node ∷ viewport_node ∷ entry_nodes info in
+    let kept = quiet_unlinked anchor (entries_of info) [] (entries_quiet entries (all_entries info parts))
+    refl in (
+      nodes_with_links anchor [] b.0,
+      ap (root_with_links anchor) b.1 ∙ rw kept refl,
+      anchors_keep_clean_nodes false b.0 (nodes_with_links anchor [] b.0)
+          (links_are_anchored IsCleanValue href_is_clean anchor [] b.0) b.2,
+    )
+
+clean_body_written : (frames : Frames) (options : HtmlOptions) (info : InfoView)
+    (root : ElementView) → InfoParts info → HasCleanBody info root →
+    root_faults frames options root ≡ []
+clean_body_written frames options info root parts b =
+    let entries = charset_node ∷ viewport_node ∷ entry_nodes info in
+    let each = all_entries info parts in
+    ap (map export_fault_view) (ap (writing.document_faults frames options) b.1
+    ∙ root_written frames options.pretty (lang_text info.locale) (entries_of info) b.0
+    (lang_is_clean info.locale parts.locale) (λ p. entries_written frames p entries each)
+    (λ p. clean_nodes_are_written false b.0 b.2 frames p))
+
 pub clean_documents_are_written : CleanDocumentsAreWritten
 clean_documents_are_written frames options info items plain clean known =
     let parts = info_parts info known in
-    let entries = charset_node ∷ viewport_node ∷ entry_nodes info in
-    let each = all_entries info parts in
-    let ns = document_nodes items in
-    let lang = lang_text info.locale in
-    let root = linked_root_is info items plain in
-    let anchored = body_anchored root.0 (made_root lang none none).0 (plain_made (codes "head") [])
-    (plain_made (codes "body") []) (entries_of info) (nodes_styled ns)
-    (entries_quiet entries each) (clean_items_make_clean_nodes None items refl plain clean) in
-    let is = root.1 ∙ (ap (element_anchored root.0) (root_is_made info ns) ∙ anchored.1) in
-    ap (map export_fault_view) (ap (writing.document_faults frames options) is
-    ∙ root_written frames options.pretty lang (entries_of info) anchored.0
-    (lang_is_clean info.locale parts.locale) (λ p. entries_written frames p entries each)
-    (λ p. clean_nodes_are_written false anchored.0 anchored.2 frames p))
+    clean_body_written frames options info (linked_root info items no_items) parts
+    (clean_body info items parts plain clean)
+
+pub clean_linked_documents_are_written : CleanLinkedDocumentsAreWritten
+clean_linked_documents_are_written frames options info items plain clean known anchor =
+    let parts = info_parts info known in
+    let root : ElementView = linked_root info items no_items in
+    clean_body_written frames options info (root_with_links anchor root) parts
+    (body_linked info root anchor parts (clean_body info items parts plain clean))
 
 pub clean_exports : (frames : Frames) (options : HtmlOptions) (limit : ℕ) (info : InfoView)
     (items notes : ItemsView) → ArePlainItems limit items notes → are_clean_items items ≡ true →
@@ -294,3 +363,11 @@ pub clean_exports : (frames : Frames) (options : HtmlOptions) (limit : ℕ) (inf
 clean_exports frames options limit info items notes are clean known =
     ap (λ n. root_faults frames options (linked_root info items n)) are.alone
     ∙ clean_documents_are_written frames options info items are.plain clean known
+
+pub clean_linked_exports : (frames : Frames) (options : HtmlOptions) (limit : ℕ) (info : InfoView)
+    (items notes : ItemsView) → ArePlainItems limit items notes → are_clean_items items ≡ true →
+    is_clean_info info ≡ true → (anchor : Anchors) →
+    root_faults frames options (root_with_links anchor (linked_root info items notes)) ≡ []
+clean_linked_exports frames options limit info items notes are clean known anchor =
+    ap (λ n. root_faults frames options (root_with_links anchor (linked_root info items n))) are.alone
+    ∙ clean_linked_documents_are_written frames options info items are.plain clean known anchor

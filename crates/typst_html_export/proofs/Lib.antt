@@ -1,11 +1,13 @@
 pub mod AnchoredRoots
 pub mod Anchors
 pub mod Assembling
+pub mod CleanLinks
 pub mod CleanNames
 pub mod CleanRoots
 pub mod Counted
 pub mod FaultsInOrder
 pub mod Firsts
+pub mod LinkedRoots
 pub mod Nodes
 pub mod Notes
 pub mod Outlines

@@ -1,24 +1,26 @@
 -- Documents of items in plain flow: what is seen of their text is exactly the items' text.
-use Rattle.std.proofs.Common.{◌≡◌, Bool, true, false, [], None, Some, codes, ap, sym, subst, ◌∙◌}
+use Rattle.std.proofs.Common.{◌≡◌, Bool, true, false, [], None, Some, ap, sym, subst, ◌∙◌}
 use Rattle.std.proofs.lemmas.Bool.{both_ways}
 use Rattle.html_names.specs.Kinds.{is_raw}
 use Rattle.html_dom_tree.specs.Styled.{nodes_styled}
-use Rattle.html_dom_tree.specs.Tree.{NodesView, ElementView}
+use Rattle.html_dom_tree.specs.PlainTree.{nodes_normal}
+use Rattle.html_dom_tree.specs.Tree.{Head, NodesView, ElementView}
 use Rattle.typst_html_encode.specs.Collapsing.{collapsed_pieces}
 use Rattle.typst_html_encode.specs.Faults as writing
 use Rattle.typst_html_encode.specs.Frames.{Frames}
 use Rattle.typst_html_encode.specs.Indented.{NodeEndsWell}
+use Rattle.typst_html_encode.specs.IndentsCollapse.{NodesAreEdged, body_of}
 use Rattle.typst_html_encode.specs.ReadingBack.{ElementIsNamed}
 use Rattle.typst_html_encode.specs.Text.{document_text}
 use Rattle.html_dom_document.specs.Documents.{InfoView, DocumentView, document_root}
 use Rattle.html_dom_link.specs.Anchors.{element_anchored}
-use Rattle.html_dom_link.specs.Events.{Targets}
+use Rattle.html_dom_link.specs.Links.{Anchors, nodes_with_links, root_with_links}
 use Rattle.html_flow_convert.specs.Items.{ItemsView, no_items}
 use Rattle.typst_html_encode.proofs.ReadingBack.{reads_back}
 use Rattle.typst_html_spaces.specs.Anchored.{Anchored, IsAny}
 use Rattle.typst_html_spaces.specs.ItemText.{items_text}
 use Rattle.typst_html_spaces.specs.PlainFlow.{is_plain_flow}
-use Rattle.typst_html_spaces.specs.SeenBody.{tree_seen, text_seen}
+use Rattle.typst_html_spaces.specs.SeenBody.{plains_seen, tree_seen, text_seen}
 use Rattle.typst_html_spaces.proofs.Anchored.{anchors_are_unseen, anchors_keep_edges}
 use Rattle.typst_html_spaces.proofs.PlainNodes.{makes_plain_nodes, plain_readable}
 use Rattle.typst_html_spaces.specs.ReadableNodes.{AreReadable}
@@ -26,42 +28,88 @@ use Rattle.typst_html_spaces.proofs.ReadableNodes.{readable_frame_free, readable
 use Rattle.typst_html_spaces.proofs.SeenBody.{plain_tree_seen, pretty_tree_seen}
 use Rattle.typst_html_spaces.proofs.SpacesStay.{spaces_stay}
 use Rattle.typst_html_export.specs.Assembled.{document_nodes}
+use Rattle.typst_html_export.specs.Exported.{linked_root}
 use Rattle.typst_html_export.specs.Linked.{linked_document}
-use Rattle.typst_html_export.specs.SpacesInDocuments.{PlainDocumentsAreSeen, IsReadAs, PlainDocumentsAreRead, SpacesAreLeft}
+use Rattle.typst_html_export.specs.SpacesInDocuments.{PlainDocumentsAreSeen, PlainLinkedDocumentsAreSeen, IsReadAs, PlainDocumentsAreRead, PlainLinkedDocumentsAreRead, SpacesAreLeft}
 use Rattle.typst_html_export.proofs.AnchoredRoots.{root_anchored}
+use Rattle.typst_html_export.proofs.LinkedRoots.{nodes_linked}
 use Rattle.typst_html_export.proofs.PlainRoots.{root_over, body_is, html_not_raw, root_readable, linked_root_is}
 
-anchored_read : (info : InfoView) (items : ItemsView) (x : Targets) → is_plain_flow items ≡ true →
-    IsReadAs (element_anchored x (root_over info (document_nodes items))) items
-unfolding element_anchored NodeEndsWell
-anchored_read info items x e =
-    let ns : NodesView = document_nodes items in
-    let old : ElementView = root_over info ns in
-    let new : ElementView = element_anchored x old in
-    let made = makes_plain_nodes None items e in
-    let below : Anchored IsAny old.1 new.1 = root_anchored x old in
-    let readable : AreReadable new.1 =
-    anchored_readable IsAny below (root_readable info ns (plain_readable ns made.0)) in
-    let body = anchored_body IsAny (nodes_styled ns) below (body_is info ns) in
-    let seen = ap Some (ap collapsed_pieces (anchors_are_unseen (nodes_styled ns) body.0 body.2 false)
-    ∙ spaces_stay None items e) in
+-- a root without a raw element and without a frame, in whose body exactly that text of items is
+-- seen, and what has indents is a border
+record ShowsItems (root : ElementView) (items : ItemsView) : Type 0 where
+  not_raw : is_raw root.0.name ≡ false
+  readable : AreReadable root.1
+  body : NodesView
+  body_is : body_of root.1 ≡ Some body
+  edged : NodesAreEdged body
+  seen : plains_seen (nodes_normal body) ≡ items_text items
+
+shown_read : (root : ElementView) (items : ItemsView) → ShowsItems root items → IsReadAs root items
+unfolding NodeEndsWell
+shown_read root items shows = record {
+  frame_free = readable_frame_free root.1 shows.readable;
+  ends_well = (
+    λ r. absurd (both_ways (is_raw root.0.name) shows.not_raw r),
+    readable_end_well root.1 shows.readable _,
+  );
+  plain = plain_tree_seen root shows.body shows.body_is ∙ ap Some shows.seen;
+  pretty = pretty_tree_seen root shows.body shows.body_is shows.not_raw shows.edged
+      ∙ ap Some shows.seen;
+}
+
+-- so is a root with anchors, or with the `href` of its links
+still_shown : (h : Head) (ns ms : NodesView) (items : ItemsView) → Anchored IsAny ns ms →
+    ShowsItems (h, ns) items → ShowsItems (h, ms) items
+still_shown h ns ms items a shows =
+    let new = anchored_body IsAny shows.body a shows.body_is in
     record {
-      frame_free = readable_frame_free new.1 readable;
-      ends_well = (
-        λ r. absurd (both_ways (is_raw (codes "html")) html_not_raw r),
-        readable_end_well new.1 readable _,
-      );
-      plain = plain_tree_seen new body.0 body.1 ∙ seen;
-      pretty = pretty_tree_seen new body.0 body.1 html_not_raw
-          (anchors_keep_edges (nodes_styled ns) body.0 body.2 made.1) ∙ seen;
+      not_raw = shows.not_raw;
+      readable = anchored_readable IsAny a shows.readable;
+      body = new.0;
+      body_is = new.1;
+      edged = anchors_keep_edges shows.body new.0 new.2 shows.edged;
+      seen = ap collapsed_pieces (anchors_are_unseen shows.body new.0 new.2 false) ∙ shows.seen;
     }
+
+-- a root that is made of items in plain flow
+
+made_shown : (info : InfoView) (items : ItemsView) → is_plain_flow items ≡ true →
+    ShowsItems (root_over info (document_nodes items)) items
+made_shown info items e =
+    let ns : NodesView = document_nodes items in
+    let made = makes_plain_nodes None items e in
+    record {
+      not_raw = html_not_raw;
+      readable = root_readable info ns (plain_readable ns made.0);
+      body = nodes_styled ns;
+      body_is = body_is info ns;
+      edged = made.1;
+      seen = spaces_stay None items e;
+    }
+
+linked_shown : (info : InfoView) (items : ItemsView) → is_plain_flow items ≡ true →
+    ShowsItems (linked_root info items no_items) items
+unfolding element_anchored
+linked_shown info items e =
+    let is = linked_root_is info items e in
+    let old : ElementView = root_over info (document_nodes items) in
+    subst (λ r. ShowsItems r items) (sym is.1)
+    (still_shown old.0 old.1 (element_anchored is.0 old).1 items (root_anchored is.0 old)
+    (made_shown info items e))
 
 pub plain_documents_are_read : PlainDocumentsAreRead
 plain_documents_are_read info items e =
-    let root = linked_root_is info items e in
-    subst (λ r. IsReadAs r items) (sym root.1) (anchored_read info items root.0 e)
+    shown_read (linked_root info items no_items) items (linked_shown info items e)
 
--- so in its text exactly the items' text is seen
+pub plain_linked_documents_are_read : PlainLinkedDocumentsAreRead
+plain_linked_documents_are_read info items e anchor =
+    let old : ElementView = linked_root info items no_items in
+    shown_read (root_with_links anchor old) items
+    (still_shown old.0 old.1 (nodes_with_links anchor [] old.1) items (nodes_linked anchor old.1)
+    (linked_shown info items e))
+
+-- so in the text of such a root exactly the items' text is seen
 
 text_is_seen : (frames : Frames) (root : ElementView) (items : ItemsView) → IsReadAs root items →
     ElementIsNamed root → (pretty : Bool) →
@@ -74,11 +122,24 @@ text_is_seen frames root items is named true clean =
 
 pub plain_documents_are_seen : PlainDocumentsAreSeen
 plain_documents_are_seen info items e frames options named clean =
-    text_is_seen frames (document_root (linked_document info items no_items)) items
+    text_is_seen frames (linked_root info items no_items) items
     (plain_documents_are_read info items e) named options.pretty clean
+
+pub plain_linked_documents_are_seen : PlainLinkedDocumentsAreSeen
+plain_linked_documents_are_seen info items e anchor frames options named clean =
+    text_is_seen frames (root_with_links anchor (linked_root info items no_items)) items
+    (plain_linked_documents_are_read info items e anchor) named options.pretty clean
 
 pub spaces_are_left : (info : InfoView) (items notes : ItemsView) (d : DocumentView) →
     d ≡ linked_document info items notes → SpacesAreLeft d items notes
 spaces_are_left info items notes d is e alone =
     subst (λ r. IsReadAs (document_root r) items)
     (sym (is ∙ ap (linked_document info items) alone)) (plain_documents_are_read info items e)
+
+pub spaces_are_left_with_links : (info : InfoView) (items notes : ItemsView) (anchor : Anchors)
+    (d : DocumentView) → document_root d ≡ root_with_links anchor (linked_root info items notes) →
+    SpacesAreLeft d items notes
+spaces_are_left_with_links info items notes anchor d is e alone =
+    subst (λ r. IsReadAs r items)
+    (sym (is ∙ ap (λ n. root_with_links anchor (linked_root info items n)) alone))
+    (plain_linked_documents_are_read info items e anchor)

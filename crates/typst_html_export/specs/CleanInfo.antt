@@ -4,6 +4,7 @@ use Rattle.std.specs.Prelude.{◌≡◌, ℕ, Bool, true, ◌&&◌, List, [], Op
 use Rattle.std.specs.List.{list_all}
 use Rattle.html_names.specs.Characters.{all, is_text_char}
 use Rattle.html_dom_document.specs.Documents.{LocaleView, InfoView}
+use Rattle.html_dom_link.specs.Links.{Anchors, root_with_links}
 use Rattle.typst_html_encode.specs.Frames.{Frames}
 use Rattle.typst_html_encode.specs.declared.options.HtmlOptions.{HtmlOptions}
 use Rattle.html_flow_convert.specs.Items.{ItemsView, no_items}
@@ -29,3 +30,10 @@ abbrev pub CleanDocumentsAreWritten : Type 0
 CleanDocumentsAreWritten = (frames : Frames) (options : HtmlOptions) (info : InfoView)
     (items : ItemsView) → is_plain_flow items ≡ true → are_clean_items items ≡ true →
     is_clean_info info ≡ true → root_faults frames options (linked_root info items no_items) ≡ []
+
+-- and so it can with the `href` of its links, whatever names they lead to
+abbrev pub CleanLinkedDocumentsAreWritten : Type 0
+CleanLinkedDocumentsAreWritten = (frames : Frames) (options : HtmlOptions) (info : InfoView)
+    (items : ItemsView) → is_plain_flow items ≡ true → are_clean_items items ≡ true →
+    is_clean_info info ≡ true → (anchor : Anchors) →
+    root_faults frames options (root_with_links anchor (linked_root info items no_items)) ≡ []

@@ -10,13 +10,14 @@ use Rattle.typst_html_encode.specs.ReadingBack.{ElementIsNamed}
 use Rattle.typst_html_encode.specs.Text.{document_text}
 use Rattle.typst_html_encode.specs.declared.options.HtmlOptions.{HtmlOptions}
 use Rattle.html_dom_document.specs.Documents.{InfoView, DocumentView, document_root}
+use Rattle.html_dom_link.specs.Links.{Anchors, root_with_links}
 use Rattle.html_flow_convert.specs.Depth.{items_too_deep}
 use Rattle.html_flow_convert.specs.Items.{ItemsView, no_items}
 use Rattle.typst_html_spaces.specs.ItemText.{items_text}
 use Rattle.typst_html_spaces.specs.PlainFlow.{is_plain_flow}
 use Rattle.typst_html_spaces.specs.SeenBody.{tree_seen, text_seen}
 use Rattle.typst_html_export.specs.Assembled.{document_faults}
-use Rattle.typst_html_export.specs.Linked.{linked_document}
+use Rattle.typst_html_export.specs.Exported.{linked_root}
 
 -- items in plain flow without footnotes, none of which stands too deep
 pub record ArePlainItems (limit : ℕ) (items notes : ItemsView) : Type 0 where
@@ -29,17 +30,22 @@ abbrev pub PlainDocumentsAreMade : Type 0
 PlainDocumentsAreMade = (limit : ℕ) (items notes : ItemsView) → ArePlainItems limit items notes →
     document_faults limit items notes ≡ []
 
--- what is seen of a document's text, plain or pretty, is the text of these items, if the document
--- has no fault
-abbrev pub IsSeenAs : DocumentView → ItemsView → Type 0
-IsSeenAs d items = (frames : Frames) (options : HtmlOptions) → ElementIsNamed (document_root d) →
-    writing.document_faults frames options (document_root d) ≡ [] →
-    text_seen (document_text frames options (document_root d)) ≡ Some (items_text items)
+-- what is seen of the text of a document's root, plain or pretty, is the text of these items, if the
+-- root has no fault
+abbrev pub IsSeenAs : ElementView → ItemsView → Type 0
+IsSeenAs root items = (frames : Frames) (options : HtmlOptions) → ElementIsNamed root →
+    writing.document_faults frames options root ≡ [] →
+    text_seen (document_text frames options root) ≡ Some (items_text items)
 
 -- of a document that is made of items in plain flow, with its anchors
 abbrev pub PlainDocumentsAreSeen : Type 0
 PlainDocumentsAreSeen = (info : InfoView) (items : ItemsView) → is_plain_flow items ≡ true →
-    IsSeenAs (linked_document info items no_items) items
+    IsSeenAs (linked_root info items no_items) items
+
+-- and with the `href` of its links, whatever names they lead to
+abbrev pub PlainLinkedDocumentsAreSeen : Type 0
+PlainLinkedDocumentsAreSeen = (info : InfoView) (items : ItemsView) → is_plain_flow items ≡ true →
+    (anchor : Anchors) → IsSeenAs (root_with_links anchor (linked_root info items no_items)) items
 
 -- a root whose text reads as a tree with a body, in which exactly that text of items is seen: the
 -- plain text, and the pretty one, in which indents stand
@@ -52,7 +58,12 @@ pub record IsReadAs (root : ElementView) (items : ItemsView) : Type 0 where
 -- so is the root of a document that is made of items in plain flow, with its anchors
 abbrev pub PlainDocumentsAreRead : Type 0
 PlainDocumentsAreRead = (info : InfoView) (items : ItemsView) → is_plain_flow items ≡ true →
-    IsReadAs (document_root (linked_document info items no_items)) items
+    IsReadAs (linked_root info items no_items) items
+
+-- and with the `href` of its links, whatever names they lead to
+abbrev pub PlainLinkedDocumentsAreRead : Type 0
+PlainLinkedDocumentsAreRead = (info : InfoView) (items : ItemsView) → is_plain_flow items ≡ true →
+    (anchor : Anchors) → IsReadAs (root_with_links anchor (linked_root info items no_items)) items
 
 -- where items in plain flow have no footnotes, that is so of a document
 abbrev pub SpacesAreLeft : DocumentView → (items notes : ItemsView) → Type 0

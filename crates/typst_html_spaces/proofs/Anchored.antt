@@ -1,4 +1,4 @@
--- Anchors are not seen.
+-- Anchors are not seen, nor is an `href`.
 use Rattle.std.proofs.Common.{◌≡◌, ℕ, Bool, true, false, not, ◌&&◌, ◌||◌, List, ◌∷◌, ◌++◌, refl, ap, ◌∙◌, sym, append-nil, codes}
 use Rattle.std.proofs.lemmas.Bool.{and_parts, false≢true}
 use Rattle.html_names.specs.Displays.{default_display}
@@ -10,27 +10,31 @@ use Rattle.typst_html_encode.specs.Collapsing.{text_atoms, preserves, has_border
 use Rattle.typst_html_encode.specs.IndentsCollapse.{HeadIsEdged, NodesAreEdged}
 use Rattle.typst_html_encode.specs.Layout.{allows_pretty_inside, wants_pretty_around}
 use Rattle.typst_html_encode.proofs.NodeAtoms.{nodes_atoms, normal_atoms}
-use Rattle.typst_html_spaces.specs.Anchored.{with_id, anchor_head, Anchored, at_end, at_tag, after_tag, at_text, around_text, at_element, of_element, at_frame, AnchorsAreUnseen, AnchorsKeepEdges, AnchorsKeepPlainNodes}
-use Rattle.typst_html_spaces.specs.CleanNodes.{is_clean_tag, are_clean_values, is_clean_content, is_empty, is_clean_head, is_clean_node, are_clean_nodes, IsCleanId, AnchorsKeepCleanNodes}
+use Rattle.typst_html_spaces.specs.Anchored.{NewAttribute, new_id, new_href, attribute_name, with_new, anchor_head, Anchored, at_end, at_tag, after_tag, at_text, around_text, at_element, of_element, at_frame, AnchorsAreUnseen, AnchorsKeepEdges, AnchorsKeepPlainNodes}
+use Rattle.typst_html_spaces.specs.CleanNodes.{is_clean_tag, are_clean_values, is_clean_content, is_empty, is_clean_head, is_clean_node, are_clean_nodes, IsCleanValue, AnchorsKeepCleanNodes}
 use Rattle.typst_html_spaces.specs.PlainFlow.{is_plain_name}
 use Rattle.typst_html_spaces.specs.PlainNodes.{is_plain_node, are_plain_nodes}
 use Rattle.typst_html_spaces.proofs.CleanNodes.{plain_clean, clean_plain}
 
--- an `id` says nothing of how an element is shown
+-- a new attribute says nothing of how an element is shown
 
-id_preserves : (id name : List ℕ) (attrs : List TextPair) →
-    preserves name ((codes "id", id) ∷ attrs) ≡ preserves name attrs
+new_preserves : (a : NewAttribute) (value name : List ℕ) (attrs : List TextPair) →
+    preserves name ((attribute_name a, value) ∷ attrs) ≡ preserves name attrs
 unfolding preserves
-id_preserves id name attrs = refl
+new_preserves new_id value name attrs = refl
+new_preserves new_href value name attrs = refl
 
-id_border : (id name : List ℕ) (attrs : List TextPair) →
-    has_border name ((codes "id", id) ∷ attrs) ≡ has_border name attrs
+new_border : (a : NewAttribute) (value name : List ℕ) (attrs : List TextPair) →
+    has_border name ((attribute_name a, value) ∷ attrs) ≡ has_border name attrs
 unfolding has_border
-id_border id name attrs = refl
+new_border new_id value name attrs = refl
+new_border new_href value name attrs = refl
 
-id_around : (id : List ℕ) (h : Head) → wants_pretty_around (with_id id h) ≡ wants_pretty_around h
+new_around : (a : NewAttribute) (value : List ℕ) (h : Head) →
+    wants_pretty_around (with_new a value h) ≡ wants_pretty_around h
 unfolding wants_pretty_around
-id_around id h = refl
+new_around new_id value h = refl
+new_around new_href value h = refl
 
 -- atoms
 
@@ -49,11 +53,11 @@ element_by k h kids new ns ms e f =
     ap (λ xs. element_atoms h.name h.attrs xs ++ nodes_atoms k ms) (e j)
     ∙ ap (λ xs. element_atoms h.name h.attrs (nodes_atoms j kids) ++ xs) f
 
-named_by : (k : Bool) (id : List ℕ) (h : Head) (new ms : NodesView) →
-    nodes_atoms k (node (element_node (with_id id h) new) ms)
+new_by : (k : Bool) (a : NewAttribute) (value : List ℕ) (h : Head) (new ms : NodesView) →
+    nodes_atoms k (node (element_node (with_new a value h) new) ms)
     ≡ nodes_atoms k (node (element_node h new) ms)
-named_by k id h new ms =
-    rw (id_preserves id h.name h.attrs, id_border id h.name h.attrs) refl
+new_by k a value h new ms =
+    rw (new_preserves a value h.name h.attrs, new_border a value h.name h.attrs) refl
 
 module _ {P : List ℕ → Type 0} where
   anchored_atoms : {ns ms : NodesView} → Anchored P ns ms → (k : Bool) →
@@ -69,8 +73,8 @@ module _ {P : List ℕ → Type 0} where
       ∙ ap (λ xs. text_atoms k s ++ xs) (anchored_atoms r k))
   anchored_atoms (at_element {h = h} {kids = kids} {new = new} {ns = ns} {ms = ms} q r) k =
       element_by k h kids new ns ms (λ j. anchored_atoms q j) (anchored_atoms r k)
-  anchored_atoms (of_element {h = h} {kids = kids} {new = new} {ns = ns} {ms = ms} id p q r) k =
-      named_by k id h new ms
+  anchored_atoms (of_element {h = h} {kids = kids} {new = new} {ns = ns} {ms = ms} a v p q r) k =
+      new_by k a v h new ms
       ∙ element_by k h kids new ns ms (λ j. anchored_atoms q j) (anchored_atoms r k)
   anchored_atoms (at_frame r) k = anchored_atoms r k
 
@@ -84,11 +88,12 @@ anchor_edged : (id : List ℕ) (span : ℕ) → HeadIsEdged (anchor_head id span
 unfolding wants_pretty_around allows_pretty_inside is_raw is_mathml is_token is_metadata_content default_display stands_in
 anchor_edged id span = (refl, λ e. absurd (false≢true e), λ e. absurd (false≢true e))
 
-named_edged : (id : List ℕ) (h : Head) → HeadIsEdged h → HeadIsEdged (with_id id h)
-named_edged id h c = (
+new_edged : (a : NewAttribute) (value : List ℕ) (h : Head) → HeadIsEdged h →
+    HeadIsEdged (with_new a value h)
+new_edged a value h c = (
   c.0,
-  λ e. c.1 (sym (id_around id h) ∙ e),
-  λ e. ((c.2 e).0, id_preserves id h.name h.attrs ∙ (c.2 e).1),
+  λ e. c.1 (sym (new_around a value h) ∙ e),
+  λ e. ((c.2 e).0, new_preserves a value h.name h.attrs ∙ (c.2 e).1),
 )
 
 module _ {P : List ℕ → Type 0} where
@@ -99,8 +104,8 @@ module _ {P : List ℕ → Type 0} where
   anchored_edged (at_text r) c = anchored_edged r c
   anchored_edged (around_text id own p r) c = ((anchor_edged id own, tt), anchored_edged r c)
   anchored_edged (at_element q r) c = ((c.0.0, anchored_edged q c.0.1), anchored_edged r c.1)
-  anchored_edged (of_element {h = h} id p q r) c =
-      ((named_edged id h c.0.0, anchored_edged q c.0.1), anchored_edged r c.1)
+  anchored_edged (of_element {h = h} a v p q r) c =
+      ((new_edged a v h c.0.0, anchored_edged q c.0.1), anchored_edged r c.1)
   anchored_edged (at_frame r) c = absurd c
 
 pub anchors_keep_edges : AnchorsKeepEdges
@@ -125,7 +130,7 @@ module _ {P : List ℕ → Type 0} where
       let both = and_parts (is_plain_name h.name && are_plain_nodes kids) (are_plain_nodes ns) e in
       let one = and_parts (is_plain_name h.name) (are_plain_nodes kids) both.0 in
       rw (one.0, anchored_plain q one.1) (anchored_plain r both.1)
-  anchored_plain (of_element {h = h} {kids = kids} {ns = ns} id p q r) e =
+  anchored_plain (of_element {h = h} {kids = kids} {ns = ns} a v p q r) e =
       let both = and_parts (is_plain_name h.name && are_plain_nodes kids) (are_plain_nodes ns) e in
       let one = and_parts (is_plain_name h.name) (are_plain_nodes kids) both.0 in
       rw (one.0, anchored_plain q one.1) (anchored_plain r both.1)
@@ -149,7 +154,7 @@ span_is_not_void : is_void (codes "span") ≡ false
 unfolding is_void stands_in
 span_is_not_void = refl
 
-anchor_clean : (id : List ℕ) (span : ℕ) (ns : NodesView) → IsCleanId id →
+anchor_clean : (id : List ℕ) (span : ℕ) (ns : NodesView) → IsCleanValue id →
     is_clean_head (anchor_head id span) ns ≡ true
 anchor_clean id span ns c = rw (span_is_plain, c, span_is_not_void) refl
 
@@ -161,7 +166,7 @@ empty_kept (after_tag id span p r) = refl
 empty_kept (at_text r) = refl
 empty_kept (around_text id own p r) = refl
 empty_kept (at_element q r) = refl
-empty_kept (of_element id p q r) = refl
+empty_kept (of_element a v p q r) = refl
 empty_kept (at_frame r) = refl
 
 head_kept : (h : Head) (kids new : NodesView) → is_empty new ≡ is_empty kids →
@@ -169,11 +174,11 @@ head_kept : (h : Head) (kids new : NodesView) → is_empty new ≡ is_empty kids
 head_kept h kids new e c =
     ap (λ b. is_plain_name h.name && are_clean_values h.attrs && (not (is_void h.name) || b)) e ∙ c
 
-named_clean : (id : List ℕ) (h : Head) (ns : NodesView) → IsCleanId id →
-    is_clean_head h ns ≡ true → is_clean_head (with_id id h) ns ≡ true
-named_clean id h ns i c = rw i c
+new_clean : (a : NewAttribute) (value : List ℕ) (h : Head) (ns : NodesView) →
+    IsCleanValue value → is_clean_head h ns ≡ true → is_clean_head (with_new a value h) ns ≡ true
+new_clean a value h ns i c = rw i c
 
-anchored_clean : {ns ms : NodesView} → Anchored IsCleanId ns ms → (p : Bool) →
+anchored_clean : {ns ms : NodesView} → Anchored IsCleanValue ns ms → (p : Bool) →
     are_clean_nodes p ns ≡ true → are_clean_nodes p ms ≡ true
 unfolding is_clean_node
 anchored_clean at_end p c = refl
@@ -196,12 +201,12 @@ anchored_clean (at_element {h = h} {kids = kids} {new = new} {ns = ns} q r) p c 
     let one = and_parts (is_clean_head h kids) (are_clean_nodes h.pre_span kids) both.0 in
     rw (head_kept h kids new (empty_kept q) one.0, anchored_clean q h.pre_span one.1)
     (anchored_clean r p both.1)
-anchored_clean (of_element {h = h} {kids = kids} {new = new} {ns = ns} id i q r) p c =
+anchored_clean (of_element {h = h} {kids = kids} {new = new} {ns = ns} a v i q r) p c =
     let both = and_parts (is_clean_head h kids && are_clean_nodes h.pre_span kids)
     (are_clean_nodes p ns) c in
     let one = and_parts (is_clean_head h kids) (are_clean_nodes h.pre_span kids) both.0 in
     rw (
-      named_clean id h new i (head_kept h kids new (empty_kept q) one.0),
+      new_clean a v h new i (head_kept h kids new (empty_kept q) one.0),
       anchored_clean q h.pre_span one.1,
     )
     (anchored_clean r p both.1)

@@ -63,7 +63,7 @@ module _ (Passes : List ℕ → Type 0) where
       ((span_not_raw, (tt, tt)), anchored_readable a r.1)
   anchored_readable (at_element a b) r =
       ((r.0.0, anchored_readable a r.0.1), anchored_readable b r.1)
-  anchored_readable (of_element id p a b) r =
+  anchored_readable (of_element new v p a b) r =
       ((r.0.0, anchored_readable a r.0.1), anchored_readable b r.1)
   anchored_readable (at_frame a) r = absurd r.0
 
@@ -76,9 +76,21 @@ module _ (Passes : List ℕ → Type 0) where
   anchored_frame_free (at_text r) e = (tt, anchored_frame_free r e.1)
   anchored_frame_free (around_text id own p r) e = ((tt, tt), anchored_frame_free r e.1)
   anchored_frame_free (at_element q r) e = (anchored_frame_free q e.0, anchored_frame_free r e.1)
-  anchored_frame_free (of_element id p q r) e =
+  anchored_frame_free (of_element a v p q r) e =
       (anchored_frame_free q e.0, anchored_frame_free r e.1)
   anchored_frame_free (at_frame r) e = absurd e.0
+
+  free_before : {ns ms : NodesView} → Anchored Passes ns ms → NodesAreFrameFree ms →
+      NodesAreFrameFree ns
+  unfolding NodeIsFrameFree
+  free_before at_end e = tt
+  free_before (at_tag r) e = (tt, free_before r e.1)
+  free_before (after_tag id span p r) e = (tt, free_before r e.1.1)
+  free_before (at_text r) e = (tt, free_before r e.1)
+  free_before (around_text id own p r) e = (tt, free_before r e.1)
+  free_before (at_element q r) e = (free_before q e.0, free_before r e.1)
+  free_before (of_element a v p q r) e = (free_before q e.0, free_before r e.1)
+  free_before (at_frame r) e = absurd e.0
 
   -- the body with anchors
   abbrev pub HasBody : NodesView → NodesView → Type 0
@@ -102,7 +114,7 @@ module _ (Passes : List ℕ → Type 0) where
   anchored_body body (at_element {h} {kids} {new} {ns} {ms} a b) e =
       past_element (bytes_eq h.name (codes "body")) kids new ns ms body a
       (λ f. anchored_body body b f) e
-  anchored_body body (of_element {h} {kids} {new} {ns} {ms} id p a b) e =
+  anchored_body body (of_element {h} {kids} {new} {ns} {ms} added v p a b) e =
       past_element (bytes_eq h.name (codes "body")) kids new ns ms body a
       (λ f. anchored_body body b f) e
   anchored_body body (at_frame a) e = anchored_body body a e
@@ -116,7 +128,7 @@ pub anchors_keep_readable : AnchorsKeepReadable
 anchors_keep_readable ns ms a r = anchored_readable IsAny a r
 
 pub anchors_keep_frame_free : AnchorsKeepFrameFree
-anchors_keep_frame_free ns ms a r = anchored_frame_free IsAny a r
+anchors_keep_frame_free ns ms a = (free_before IsAny a, anchored_frame_free IsAny a)
 
 pub anchors_keep_body : AnchorsKeepBody
 anchors_keep_body ns ms body a e = anchored_body IsAny body a e

@@ -1,4 +1,5 @@
--- Nodes with anchors: what is seen of them is what is seen of the nodes without.
+-- Nodes with anchors, and with an `href` of links: what is seen of them is what is seen of the nodes
+-- without.
 use Rattle.std.specs.Prelude.{◌≡◌, ℕ, Bool, true, false, List, [], ◌∷◌, codes, None}
 use Rattle.html_dom_tree.specs.Frames.{HtmlFrameView}
 use Rattle.html_dom_tree.specs.PlainTree.{nodes_normal}
@@ -8,9 +9,18 @@ use Rattle.typst_html_encode.specs.Collapsing.{plains_atoms}
 use Rattle.typst_html_encode.specs.IndentsCollapse.{NodesAreEdged}
 use Rattle.typst_html_spaces.specs.PlainNodes.{are_plain_nodes}
 
--- an `id` in front of all attributes
-abbrev pub with_id : (id : List ℕ) → Head → Head
-with_id id h = record h { attrs = (codes "id", id) ∷ h.attrs }
+-- an attribute that an element may be given
+pub data NewAttribute : Type 0 where
+  new_id : NewAttribute
+  new_href : NewAttribute
+
+abbrev pub attribute_name : NewAttribute → List ℕ
+attribute_name new_id = codes "id"
+attribute_name new_href = codes "href"
+
+-- with that value, in front of all attributes
+abbrev pub with_new : NewAttribute → (value : List ℕ) → Head → Head
+with_new a value h = record h { attrs = (attribute_name a, value) ∷ h.attrs }
 
 -- a `span` with an `id` and nothing else
 abbrev pub anchor_head : (id : List ℕ) (span : ℕ) → Head
@@ -23,7 +33,7 @@ anchor_head id span = record {
   pre_span = false;
 }
 
--- nodes, and the same with anchors, each `id` of which passes
+-- nodes, and the same with anchors and with an `href` of links; each `id` and each `href` passes
 pub data Anchored (Passes : List ℕ → Type 0) : NodesView → NodesView → Type 0 where
   at_end : Anchored Passes none none
   at_tag : {t : TagView} {ns ms : NodesView} → Anchored Passes ns ms →
@@ -43,16 +53,17 @@ pub data Anchored (Passes : List ℕ → Type 0) : NodesView → NodesView → T
   at_element : {h : Head} {kids new ns ms : NodesView} → Anchored Passes kids new →
       Anchored Passes ns ms →
       Anchored Passes (node (element_node h kids) ns) (node (element_node h new) ms)
-  -- an `id` of the element
-  of_element : {h : Head} {kids new ns ms : NodesView} (id : List ℕ) → Passes id →
-      Anchored Passes kids new → Anchored Passes ns ms →
-      Anchored Passes (node (element_node h kids) ns) (node (element_node (with_id id h) new) ms)
+  -- an `id` or an `href` of the element
+  of_element : {h : Head} {kids new ns ms : NodesView} (a : NewAttribute) (value : List ℕ) →
+      Passes value → Anchored Passes kids new → Anchored Passes ns ms →
+      Anchored Passes (node (element_node h kids) ns)
+      (node (element_node (with_new a value h) new) ms)
   at_frame : {f g : HtmlFrameView} {ns ms : NodesView} → Anchored Passes ns ms →
       Anchored Passes (node (frame_node f) ns) (node (frame_node g) ms)
 
--- any `id`
+-- any `id` and any `href`
 abbrev pub IsAny : List ℕ → Type 0
-IsAny id = Unit {0}
+IsAny value = Unit {0}
 
 -- what is seen stays
 abbrev pub AnchorsAreUnseen : Type 0

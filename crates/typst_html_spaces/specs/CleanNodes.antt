@@ -55,11 +55,11 @@ abbrev pub CleanNodesAreWritten : Type 0
 CleanNodesAreWritten = (pre_span : Bool) (ns : NodesView) → are_clean_nodes pre_span ns ≡ true →
     (frames : Frames) (pretty : Bool) → nodes_faults frames pre_span pretty ns ≡ []
 
--- an `id` of text characters alone
-abbrev pub IsCleanId : List ℕ → Type 0
-IsCleanId id = all is_text_char id ≡ true
+-- a value of text characters alone
+abbrev pub IsCleanValue : List ℕ → Type 0
+IsCleanValue value = all is_text_char value ≡ true
 
--- they stay clean with anchors
+-- they stay clean with anchors and with an `href` of links
 abbrev pub AnchorsKeepCleanNodes : Type 0
-AnchorsKeepCleanNodes = (pre_span : Bool) (ns ms : NodesView) → Anchored IsCleanId ns ms →
+AnchorsKeepCleanNodes = (pre_span : Bool) (ns ms : NodesView) → Anchored IsCleanValue ns ms →
     are_clean_nodes pre_span ns ≡ true → are_clean_nodes pre_span ms ≡ true

@@ -1,6 +1,6 @@
 -- Readable nodes: without a raw element and without a frame, at any depth. So they can be read
 -- back, and anchors leave them so.
-use Rattle.std.specs.Prelude.{◌≡◌, Bool, false, Some}
+use Rattle.std.specs.Prelude.{◌≡◌, ◌↔◌, Bool, false, Some}
 use Rattle.html_names.specs.Kinds.{is_raw}
 use Rattle.html_dom_tree.specs.Tree.{NodeView, tag_node, text_node, element_node, frame_node, NodesView, none, node}
 use Rattle.typst_html_encode.specs.Indented.{NodesEndWell}
@@ -23,13 +23,13 @@ abbrev pub ReadableNodesCanBeRead : Type 0
 ReadableNodesCanBeRead = (ns : NodesView) → AreReadable ns →
     NodesAreFrameFree ns × ((pretty : Bool) → NodesEndWell pretty ns)
 
--- anchors bring no raw element and no frame
+-- anchors bring no raw element, and no frame comes or goes
 abbrev pub AnchorsKeepReadable : Type 0
 AnchorsKeepReadable = (ns ms : NodesView) → Anchored IsAny ns ms → AreReadable ns → AreReadable ms
 
 abbrev pub AnchorsKeepFrameFree : Type 0
-AnchorsKeepFrameFree = (ns ms : NodesView) → Anchored IsAny ns ms → NodesAreFrameFree ns →
-    NodesAreFrameFree ms
+AnchorsKeepFrameFree = (ns ms : NodesView) → Anchored IsAny ns ms →
+    (NodesAreFrameFree ms ↔ NodesAreFrameFree ns)
 
 -- the first `body` is that of the nodes without anchors, with anchors in it
 abbrev pub AnchorsKeepBody : Type 0

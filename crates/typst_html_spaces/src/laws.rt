@@ -69,17 +69,18 @@ pub fn plain_flow_makes_plain_nodes()
 {}
 
 /// Items in plain flow whose texts, values, roles and labels hold text characters alone, and of
-/// which no void element has a body, become nodes without a fault. They stay so with anchors of
-/// text characters alone.
+/// which no void element has a body, become nodes without a fault. They stay so with anchors and
+/// with an `href` of links, of text characters alone.
 pub fn clean_items_are_written()
     ensures made { CleanItemsMakeCleanNodes }
     ensures written { CleanNodesAreWritten }
     ensures anchored { AnchorsKeepCleanNodes }
 {}
 
-/// Anchors are not seen: neither an `id` in front of an element's attributes nor a `span` with
-/// nothing but an `id`, after a tag or around a text. What has indents stays a border, plain nodes
-/// stay plain, there is no new frame and no new raw element, and the first `body` stays the first.
+/// Anchors are not seen, nor is where links lead: neither an `id` or an `href` in front of an
+/// element's attributes nor a `span` with nothing but an `id`, after a tag or around a text. What has
+/// indents stays a border, plain nodes stay plain, no frame comes or goes, there is no new raw
+/// element, and the first `body` stays the first.
 pub fn anchors_are_unseen()
     ensures seen { AnchorsAreUnseen }
     ensures edges { AnchorsKeepEdges }

@@ -1,0 +1,33 @@
+-- What anchors, and the `href` that leads to one, leave of any tree.
+use Rattle.std.specs.Prelude.{◌≡◌, ◌↔◌, Bool}
+use Rattle.html_dom_tree.specs.FrameFree.{ElementIsFrameFree}
+use Rattle.html_dom_tree.specs.PlainTree.{nodes_normal}
+use Rattle.html_dom_tree.specs.Tree.{ElementView}
+use Rattle.html_dom_link.specs.Anchors.{element_anchored}
+use Rattle.html_dom_link.specs.Events.{Targets}
+use Rattle.html_dom_link.specs.Links.{Anchors, root_with_links}
+use Rattle.typst_html_encode.specs.Collapsing.{plains_atoms}
+use Rattle.typst_html_encode.specs.ReadingBack.{ElementIsNamed}
+
+-- both trees have the same atoms, so that the same is seen of them
+abbrev pub HaveSameAtoms : ElementView → ElementView → Type 0
+HaveSameAtoms e old = (preserved : Bool) →
+    plains_atoms preserved (nodes_normal e.1) ≡ plains_atoms preserved (nodes_normal old.1)
+
+-- a tree with anchors has those of the tree without
+abbrev pub AnchorsKeepAtoms : Type 0
+AnchorsKeepAtoms = (x : Targets) (e : ElementView) → HaveSameAtoms (element_anchored x e) e
+
+-- and so has one with the `href` of its links
+abbrev pub LinksKeepAtoms : Type 0
+LinksKeepAtoms = (anchor : Anchors) (e : ElementView) → HaveSameAtoms (root_with_links anchor e) e
+
+-- no frame comes or goes
+abbrev pub LinksKeepFrames : Type 0
+LinksKeepFrames = (anchor : Anchors) (e : ElementView) →
+    (ElementIsFrameFree (root_with_links anchor e) ↔ ElementIsFrameFree e)
+
+-- valid names stay valid
+abbrev pub LinksKeepNames : Type 0
+LinksKeepNames = (anchor : Anchors) (e : ElementView) → ElementIsNamed e →
+    ElementIsNamed (root_with_links anchor e)
