@@ -12,3 +12,5 @@ pub mod Settling
 pub mod LeadWalks
 pub mod Drafting
 pub mod DraftViewing
+pub mod Turns
+pub mod Beginnings

@@ -1,5 +1,6 @@
 pub mod Nodes
 pub mod Pieces
+pub mod Beginnings
 pub mod Runs
 pub mod BareSpaces
 pub mod Looks

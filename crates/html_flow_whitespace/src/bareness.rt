@@ -1,6 +1,7 @@
 //! Which lone spaces may stay bare.
 
-ghost use Rattle.std.specs.Prelude.{◌≡◌, ◌+◌, ◌<◌, ◌^◌, true, IfOk};
+ghost use Rattle.std.specs.Prelude.{◌≡◌, ◌+◌, ◌<◌, ◌≤◌, ◌^◌, true, IfOk};
+ghost use Rattle.html_dom_flat.specs.Flat.{nodes_count};
 ghost use Rattle.html_dom_flat.specs.FlatTrees.{tree_nodes};
 ghost use Rattle.html_dom_flat.specs.FlatViews.{flat_node_view, is_node_given};
 ghost use Rattle.html_flow_whitespace.specs.BareSpaces.{bare_spaces, nodes_turns};
@@ -71,7 +72,7 @@ fn next_place(node: &FlatNode, look: Look, place: usize) -> usize
 /// as what stands in it, and any other text is visible if one of its characters is shown by default.
 /// It fails only where an allocation does.
 ///
-/// Cost: grows with `turns`.
+/// Cost: grows with `turns`, which is at most the number of nodes at all depths.
 ///
 /// ```
 /// use html_dom_tree::{HtmlNode, Span};
@@ -88,8 +89,9 @@ fn next_place(node: &FlatNode, look: Look, place: usize) -> usize
 /// assert_eq!(rt; found.turns, 4);
 /// ```
 pub fn bare_spaces(alloc: Global, tree: &FlatTree) -> Result<Bareness, AllocError>
-    ensures { IfOk result (λ found. (found.bare.items ≡ bare_spaces (tree_nodes tree.now))
+    ensures answers { IfOk result (λ found. (found.bare.items ≡ bare_spaces (tree_nodes tree.now))
         × (found.turns ≡ nodes_turns (tree_nodes tree.now))) }
+    ensures few { IfOk result (λ found. found.turns ≤ nodes_count (tree_nodes tree.now)) }
 {
     let names = tree.names();
     let nodes = tree.nodes();

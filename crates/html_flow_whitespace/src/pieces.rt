@@ -1,7 +1,8 @@
 //! Texts where white space collapses.
 
-ghost use Rattle.std.specs.Prelude.{◌≡◌, ◌++◌, [], ◌∷◌, OnOk, IfOk, chars, map};
+ghost use Rattle.std.specs.Prelude.{◌≡◌, ◌++◌, [], ◌∷◌, OnOk, OnErr, IfOk, chars, map};
 ghost use Rattle.html_dom_tree.specs.Views.{text_view};
+ghost use Rattle.html_flow_whitespace.specs.Beginnings.{AddsBeginning};
 ghost use Rattle.html_flow_whitespace.specs.DraftViews.{draft_shown};
 ghost use Rattle.html_flow_whitespace.specs.Pieces.{first_char, is_in_stretch, is_normal, is_normal_there, outside_stretch, piece_node, text_nodes};
 ghost use Rattle.html_flow_whitespace.specs.Stretches.{with_stretch};
@@ -48,15 +49,17 @@ fn is_in_stretch(before: Option<char>, c: char, after: &str) -> bool
     is_normal(c) || (c == ' ' && is_normal_there(before) && begins_normal(after))
 }
 
-/// Adds the text of a stretch, if it has any character.
+/// Adds the text of a stretch, if it has any character. Where an allocation fails, the list stays as
+/// it was.
 fn push_stretch(
     alloc: Global,
     nodes: &mut Vec<Draft>,
     text: &str,
     span: Span,
 ) -> Result<(), AllocError>
-    ensures { OnOk result (map draft_shown nodes.new.items ≡ map draft_shown nodes.old.items
+    ensures added { OnOk result (map draft_shown nodes.new.items ≡ map draft_shown nodes.old.items
         ++ map (piece_node span.0) (with_stretch (chars text.now) [])) }
+    ensures kept { OnErr result (nodes.new.items ≡ nodes.old.items) }
 {
     if !text.is_empty() {
         nodes.push(Draft::text(String::from_str(alloc, text)?, span))?;
@@ -74,7 +77,7 @@ fn one_char(alloc: Global, c: char) -> Result<String, AllocError>
 }
 
 /// Adds the node of a character that stands outside of stretches. The line feed after a carriage
-/// return has none.
+/// return has none. Where an allocation fails, the list stays as it was.
 fn push_outside(
     alloc: Global,
     nodes: &mut Vec<Draft>,
@@ -82,8 +85,9 @@ fn push_outside(
     c: char,
     span: Span,
 ) -> Result<(), AllocError>
-    ensures { OnOk result (map draft_shown nodes.new.items ≡ map draft_shown nodes.old.items
+    ensures added { OnOk result (map draft_shown nodes.new.items ≡ map draft_shown nodes.old.items
         ++ map (piece_node span.0) (outside_stretch before c [])) }
+    ensures kept { OnErr result (nodes.new.items ≡ nodes.old.items) }
 {
     let node = match c {
         '\n' if before == Some('\r') => return Ok(()),
@@ -98,7 +102,7 @@ fn push_outside(
 /// characters that are neither blanks nor hidden by default stays in its text; any other space, each
 /// tab and each character that is hidden by default is a text of its own; a carriage return with a
 /// line feed, and each of them alone, is a `br`. The stretches between are texts. It fails only
-/// where an allocation does; the list may then have any of the nodes.
+/// where an allocation does; the list then has what it had, and after it a beginning of the nodes.
 ///
 /// Cost: grows with the length of the text.
 pub fn push_text_nodes(
@@ -107,8 +111,10 @@ pub fn push_text_nodes(
     text: &str,
     span: Span,
 ) -> Result<(), AllocError>
-    ensures { OnOk result (map draft_shown nodes.new.items
+    ensures added { OnOk result (map draft_shown nodes.new.items
         ≡ map draft_shown nodes.old.items ++ text_nodes span.0 (chars text.now)) }
+    ensures begun { OnErr result (AddsBeginning (map draft_shown nodes.old.items)
+        (map draft_shown nodes.new.items) (text_nodes span.0 (chars text.now))) }
 {
     let mut pending = text;
     let mut rest = text;

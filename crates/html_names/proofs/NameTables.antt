@@ -203,6 +203,18 @@ number_later names name other =
     number_in-with_name (with_name names name) other name (stands_in-told names name)
     ∙ number_in-told names name
 
+-- a first name that is told stays, so that a second time it is not told again
+pub stands_in-both : (names : List (List ℕ)) (name other : List ℕ) →
+    stands_in (with_name (with_name names name) other) name ≡ true
+stands_in-both names name other =
+    stands_in-with_name (with_name names name) other name (stands_in-told names name)
+
+pub told_again : (names : List (List ℕ)) (name other : List ℕ) →
+    with_name (with_name (with_name names name) other) name
+    ≡ with_name (with_name names name) other
+told_again names name other =
+    with_name-stands (with_name (with_name names name) other) name (stands_in-both names name other)
+
 where_told : (names : List (List ℕ)) (name : List ℕ) (number : ℕ) (s : Bool) →
     stands_in names name ≡ s →
     Some number ≡ (if s then Some (number_in names name) else None) →

@@ -1,5 +1,5 @@
 -- Numbers for names: a table gives each tag, and each attribute, the next number from 0.
-use Rattle.std.specs.Prelude.{◌≡◌, ℕ, ◌+◌, false, List, [], ◌∷◌, ◌++◌, bytes_eq, slice_index_or, if◌then◌else◌, Result, IfOk, OnOk, OnErr, ◌<◌, length}
+use Rattle.std.specs.Prelude.{◌≡◌, ℕ, ◌+◌, ◌⊎◌, false, List, [], ◌∷◌, ◌++◌, bytes_eq, slice_index_or, if◌then◌else◌, Result, IfOk, OnOk, OnErr, ◌<◌, length}
 use Rattle.std.specs.declared.alloc.AllocError.{AllocError}
 use Rattle.html_names.specs.Names.{stands_in}
 
@@ -50,3 +50,12 @@ pub record Numbers (result : Result ℕ AllocError) (given after : List (List �
   pub names : OnOk result (new ≡ told)
   pub absent : OnErr result (stands_in given name ≡ false)
   pub kept : OnErr result (new ≡ old)
+
+-- a call that asks for the number of a first name, where these have one, and then for that of a
+-- second: where it succeeds, the table becomes the one with both; else it stopped at the first name
+-- that had no number, and the table stays, or has the first name
+pub record NumbersBoth {A : Type 0} (result : Result A AllocError) (given : List (List ℕ))
+    (first second : List ℕ) (old new one both : NamesView) : Type 0 where
+  pub names : OnOk result (new ≡ both)
+  pub stopped : OnErr result (((stands_in given first ≡ false) × (new ≡ old))
+      ⊎ ((stands_in (with_name given first) second ≡ false) × (new ≡ one)))

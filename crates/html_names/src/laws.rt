@@ -1,6 +1,8 @@
 //! Laws of this crate's types and constants, each the contract of a function.
 
-ghost use Rattle.std.specs.Prelude.{◌≡◌, ◌↔◌, IsTrue, IfOk};
+ghost use Rattle.std.specs.Prelude.{◌≡◌, ◌↔◌, IsTrue, IfOk, OnErr, OnOk, false};
+ghost use Rattle.html_names.specs.Names.{stands_in};
+ghost use Rattle.html_names.specs.NameTables.{NumbersBoth, with_tag, with_attr};
 
 use crate::property::Display;
 use crate::{HtmlAttr, HtmlTag, NameFault, NameTable, Refused};
@@ -36,7 +38,10 @@ pub fn equal_tag_numbers(
     a: &HtmlTag,
     b: &HtmlTag,
 ) -> Result<bool, AllocError>
-    ensures { IfOk result (λ same. IsTrue same ↔ (a.now ≡ b.now)) }
+    ensures numbers { IfOk result (λ same. IsTrue same ↔ (a.now ≡ b.now)) }
+    ensures table { let one = with_tag names.old a.now in
+        NumbersBoth result names.old.tags a.now b.now names.old names.new one
+        (with_tag one b.now) }
 {
     Ok(names.tag(a)? == names.tag(b)?)
 }
@@ -47,7 +52,10 @@ pub fn tag_number_stays(
     given: &HtmlTag,
     other: &HtmlTag,
 ) -> Result<bool, AllocError>
-    ensures { IfOk result (λ same. IsTrue same) }
+    ensures numbers { IfOk result (λ same. IsTrue same) }
+    ensures table { let one = with_tag names.old given.now in
+        NumbersBoth result names.old.tags given.now other.now names.old names.new one
+        (with_tag one other.now) }
 {
     let number = names.tag(given)?;
     names.tag(other)?;
@@ -56,7 +64,10 @@ pub fn tag_number_stays(
 
 /// What stands at the number of one of the tags has its text.
 pub fn tag_at_number(names: &mut NameTable, given: &HtmlTag) -> Result<bool, AllocError>
-    ensures { IfOk result (λ same. IsTrue same) }
+    ensures numbers { IfOk result (λ same. IsTrue same) }
+    ensures names { OnOk result (names.new ≡ with_tag names.old given.now) }
+    ensures absent { OnErr result (stands_in names.old.tags given.now ≡ false) }
+    ensures kept { OnErr result (names.new ≡ names.old) }
 {
     let number = names.tag(given)?;
     Ok(names.tag_at(number) == given)
@@ -68,7 +79,10 @@ pub fn equal_attr_numbers(
     a: &HtmlAttr,
     b: &HtmlAttr,
 ) -> Result<bool, AllocError>
-    ensures { IfOk result (λ same. IsTrue same ↔ (a.now ≡ b.now)) }
+    ensures numbers { IfOk result (λ same. IsTrue same ↔ (a.now ≡ b.now)) }
+    ensures table { let one = with_attr names.old a.now in
+        NumbersBoth result names.old.attrs a.now b.now names.old names.new one
+        (with_attr one b.now) }
 {
     Ok(names.attr(a)? == names.attr(b)?)
 }
@@ -79,7 +93,10 @@ pub fn attr_number_stays(
     given: &HtmlAttr,
     other: &HtmlAttr,
 ) -> Result<bool, AllocError>
-    ensures { IfOk result (λ same. IsTrue same) }
+    ensures numbers { IfOk result (λ same. IsTrue same) }
+    ensures table { let one = with_attr names.old given.now in
+        NumbersBoth result names.old.attrs given.now other.now names.old names.new one
+        (with_attr one other.now) }
 {
     let number = names.attr(given)?;
     names.attr(other)?;
@@ -88,7 +105,10 @@ pub fn attr_number_stays(
 
 /// What stands at the number of one of the attributes has its text.
 pub fn attr_at_number(names: &mut NameTable, given: &HtmlAttr) -> Result<bool, AllocError>
-    ensures { IfOk result (λ same. IsTrue same) }
+    ensures numbers { IfOk result (λ same. IsTrue same) }
+    ensures names { OnOk result (names.new ≡ with_attr names.old given.now) }
+    ensures absent { OnErr result (stands_in names.old.attrs given.now ≡ false) }
+    ensures kept { OnErr result (names.new ≡ names.old) }
 {
     let number = names.attr(given)?;
     Ok(names.attr_at(number) == given)

@@ -1,4 +1,4 @@
-ghost use Rattle.std.specs.Prelude.{◌≡◌, ◌++◌, ◌∷◌, [], ◌<◌, OnOk, chars, string_bytes, IsTrue, false};
+ghost use Rattle.std.specs.Prelude.{◌≡◌, ◌++◌, ◌∷◌, [], ◌<◌, OnOk, OnErr, chars, string_bytes, IsTrue, false};
 ghost use Rattle.std.specs.Fmt.{decimal, digits};
 ghost use Rattle.html_names.specs.Names.{is_ascii};
 ghost use Rattle.html_names.specs.Texts.{two_digits};
@@ -9,7 +9,8 @@ use std::marker::Model;
 /// A text that is being written, by the crates above: who uses names needs none.
 ///
 /// A contract sees it as its characters. Each call that adds to it either adds all that it says, or
-/// answers that an allocation failed; the text may then have any characters.
+/// answers that an allocation failed, and then the text stays as it was; only after `push_decimal`
+/// and `push_hex` it may have any characters.
 #[derive(Drop)]
 pub struct Output {
     text: String,
@@ -36,7 +37,8 @@ impl Output {
 
     /// Adds a character.
     pub fn push(&mut self, c: char) -> Result<(), AllocError>
-        ensures { OnOk result (self.new ≡ self.old ++ c ∷ []) }
+        ensures added { OnOk result (self.new ≡ self.old ++ c ∷ []) }
+        ensures kept { OnErr result (self.new ≡ self.old) }
     {
         self.text.push(c)?;
         Ok(())
@@ -44,7 +46,8 @@ impl Output {
 
     /// Adds a text.
     pub fn push_str(&mut self, text: &str) -> Result<(), AllocError>
-        ensures { OnOk result (self.new ≡ self.old ++ chars text.now) }
+        ensures added { OnOk result (self.new ≡ self.old ++ chars text.now) }
+        ensures kept { OnErr result (self.new ≡ self.old) }
     {
         self.text.push_str(text)?;
         Ok(())
@@ -54,7 +57,8 @@ impl Output {
     #[tactic(auto, using(crate::proofs::Lists::chars_ascii))]
     pub fn push_ascii(&mut self, text: &str) -> Result<(), AllocError>
         requires { IsTrue (is_ascii text.now) }
-        ensures { OnOk result (self.new ≡ self.old ++ text.now) }
+        ensures added { OnOk result (self.new ≡ self.old ++ text.now) }
+        ensures kept { OnErr result (self.new ≡ self.old) }
     {
         self.push_str(text)
     }
@@ -70,10 +74,13 @@ impl Output {
     /// Adds a number below a hundred in two decimal digits.
     pub fn push_two_digits(&mut self, n: u8) -> Result<(), AllocError>
         requires { n < 100 }
-        ensures { OnOk result (self.new ≡ self.old ++ two_digits n) }
+        ensures added { OnOk result (self.new ≡ self.old ++ two_digits n) }
+        ensures kept { OnErr result (self.new ≡ self.old) }
     {
-        self.push_decimal(u64::from(n / 10))?;
-        self.push_decimal(u64::from(n % 10))
+        self.text.reserve(2)?;
+        self.text.push(char::from(b'0' + n / 10))?;
+        self.text.push(char::from(b'0' + n % 10))?;
+        Ok(())
     }
 
     /// Adds a number in small hexadecimal digits.

@@ -149,7 +149,7 @@ fn write(piece: Piece, mut out: Output, held: String) -> Answer<NameCall> {
     match written(piece, &mut out) {
         Ok(()) => Answer::Made,
         Err(AllocError) => {
-            let kept = out.as_str().starts_with(held.as_str());
+            let kept = out.as_str() == held.as_str();
             refused(kept, NameCall::Write(piece, out, held))
         }
     }

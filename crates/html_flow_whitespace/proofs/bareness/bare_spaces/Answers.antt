@@ -3,6 +3,7 @@ use Rattle.html_dom_flat.specs.FlatTrees.{tree_nodes}
 use Rattle.html_dom_flat.specs.FlatViews.{flat_node_view}
 use Rattle.html_flow_whitespace.specs.Looks.{flat_look}
 use Rattle.html_flow_whitespace.proofs.Lines.{stands_next, stands_end}
+use Rattle.html_flow_whitespace.proofs.Turns.{turns_among}
 use Rattle.html_flow_whitespace.proofs.bareness.bare_spaces.Goals as goal
 
 pub loop-place-smaller : goal.loop-place-smaller
@@ -35,6 +36,9 @@ pub returns : goal.returns
 returns c =
     let tree = c.args.tree.now in
     let at = c.loop-place in
-    stands_end tree.names c.nodes-nodes.result.now (tree_nodes tree) at.place at.last at.bare.items
-    c.push_answer-2.new.bare.items at.turns c.loop-place-test.false c.in_ok-push_answer-2.ensures
-    at.invariant
+    let answers = stands_end tree.names c.nodes-nodes.result.now (tree_nodes tree) at.place at.last
+    at.bare.items c.push_answer-2.new.bare.items at.turns c.loop-place-test.false
+    c.in_ok-push_answer-2.ensures at.invariant in
+    let turns = answers.1 in
+    let few = turns_among (tree_nodes tree) in
+    record { answers = answers; few = omega (arith, turns, few) }

@@ -14,11 +14,14 @@ returns-in_ok-push c =
     let made : draft_shown c.text.result ≡ text_node (chars text) span =
     ap draft_node c.text.ensures ∙ ap (λ bs. text_node (chars bs) span) c.in_ok-from_str.ensures.ok in
     let filled = sym c.is_empty.ensures ∙ c.if-not-is_empty.true in
-    ap (map draft_shown) c.in_ok-push.ensures.items
-    ∙ (map-append draft_shown c.args.nodes.now.items (c.text.result ∷ [])
-    ∙ rw (made, stretch_of_text text c.utf8.text filled) refl)
+    record {
+      added = ap (map draft_shown) c.in_ok-push.ensures.items
+          ∙ (map-append draft_shown c.args.nodes.now.items (c.text.result ∷ [])
+          ∙ rw (made, stretch_of_text text c.utf8.text filled) refl);
+      kept = tt;
+    }
 
 pub returns-else-not-is_empty : goal.returns-else-not-is_empty
 returns-else-not-is_empty c =
     let none = no_length c.args.text.now (sym c.is_empty.ensures ∙ c.if-not-is_empty.false) in
-    rw (chars_of_empty c.args.text.now none, append-nil) refl
+    record { added = rw (chars_of_empty c.args.text.now none, append-nil) refl; kept = tt }

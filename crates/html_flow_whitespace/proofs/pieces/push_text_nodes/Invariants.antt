@@ -4,16 +4,19 @@ use denote.Shadow.{shadow}
 use Rattle.std.specs.Str.Iter.{chars_rest}
 use Rattle.html_flow_whitespace.specs.DraftViews.{draft_shown}
 use Rattle.html_flow_whitespace.specs.Pieces.{text_nodes}
+use Rattle.html_flow_whitespace.proofs.Beginnings.{Grows}
 use Rattle.html_flow_whitespace.proofs.Stretching.{Stretching}
 use Rattle.html_flow_whitespace.proofs.pieces.push_text_nodes.Given as goal
 
 abbrev pub invariant-loop-c : goal.invariant-loop-c
 invariant-loop-c l =
     let made = map draft_shown l.nodes.items in
-    let all = map draft_shown l.fn.nodes.items ++ text_nodes l.span.0 (chars l.fn.text) in
+    let old = map draft_shown l.fn.nodes.items in
+    let all = old ++ text_nodes l.span.0 (chars l.fn.text) in
     record {
       pending_is_text : shadow (Utf8 l.pending);
       rest_is_text : shadow (Utf8 l.rest);
       at : chars_rest l.left ≡ l.rest;
       held : Stretching l.span.0 l.before l.pending l.rest made all;
+      grown : Grows old made;
     }

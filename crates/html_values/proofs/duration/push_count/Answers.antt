@@ -8,4 +8,4 @@ returns c =
     let old = c.args.text.now in
     let count = spaced-count old c.args.unit.now c.args.count above c.ranges.count.fits in
     rw (sym count, sym c.in_ok-push_gap.ensures, sym c.in_ok-push_decimal.ensures)
-    c.push_ascii.ensures
+    c.push_ascii.ensures.added

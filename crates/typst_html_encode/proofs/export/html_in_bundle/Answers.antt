@@ -22,7 +22,7 @@ is_written g c =
     ∙ (c.in_ok-push_feed_if.ensures
     ∙ (ap (λ o. o ++ last) (c.in_ok-write_root.ensures.writes.appended
     ∙ ap (λ o. o ++ element) (c.in_ok-push_indent_if.ensures
-    ∙ ap (λ o. o ++ before) (c.in_ok-push_ascii.ensures ∙ ap (λ o. o ++ first) c.new-out.ensures)))
+    ∙ ap (λ o. o ++ before) (c.in_ok-push_ascii.ensures.added ∙ ap (λ o. o ++ first) c.new-out.ensures)))
     ∙ four_joined first before element last))
 
 both_read_back : (g : given.Over) (c : goal.After-into_string g) →

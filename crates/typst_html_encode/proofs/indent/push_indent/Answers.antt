@@ -6,5 +6,5 @@ pub returns : goal.returns
 returns c = on_ok_weaker c.push_spaces.result
     (indent_left c.args.out.now c.push_ascii.new.self c.short_indent.result.now
     c.push_spaces.new.out c.first_levels-levels.result c.args.level
-    c.first_levels-levels.ensures.within c.in_ok-push_ascii.ensures c.short_indent.ensures)
+    c.first_levels-levels.ensures.within c.in_ok-push_ascii.ensures.added c.short_indent.ensures)
     c.push_spaces.ensures

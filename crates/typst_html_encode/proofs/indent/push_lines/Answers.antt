@@ -21,7 +21,7 @@ loop-line-preserved c =
     map-append (λ x. chars x.now) c.loop-line.yielded (c.in-Some.line ∷ []) in
     let w = indent_where (b || begun ls) c.args.level in
     record {
-      told = c.in_ok-push_str.ensures
+      told = c.in_ok-push_str.ensures.added
           ∙ (ap (λ s. s ++ l) (c.in_ok-push_indent_if.ensures
           ∙ (ap (λ s. s ++ indent_where c.loop-line.indented c.args.level) held.told
           ∙ ap (λ d. (before ++ by_lines b i ls) ++ indent_where d c.args.level) held.later))

@@ -4,7 +4,9 @@ use Rattle.html_names.proofs.Texts.{chars_push}
 use Rattle.html_names.proofs.output.Output.push.Goals as goal
 
 pub returns : goal.returns
-returns c =
-    chars_push _ _ c.args.c (IsUtf8-string_bytes c.self.inside.text) c.ranges.c.0
-    c.in_ok-push.ensures.bytes
-    ∙ ap (λ l. l ++ c.args.c ∷ []) c.self.view_is
+returns c = record {
+  added = chars_push _ _ c.args.c (IsUtf8-string_bytes c.self.inside.text) c.ranges.c.0
+      c.in_ok-push.ensures.bytes
+      ∙ ap (λ l. l ++ c.args.c ∷ []) c.self.view_is;
+  kept = tt;
+}

@@ -4,7 +4,9 @@ use Rattle.html_names.proofs.Texts.{chars_add}
 use Rattle.html_names.proofs.output.Output.push_str.Goals as goal
 
 pub returns : goal.returns
-returns c =
-    chars_add _ _ c.args.text.now (IsUtf8-string_bytes c.self.inside.text)
-    c.in_ok-push_str.ensures.bytes
-    ∙ ap (λ l. l ++ chars c.args.text.now) c.self.view_is
+returns c = record {
+  added = chars_add _ _ c.args.text.now (IsUtf8-string_bytes c.self.inside.text)
+      c.in_ok-push_str.ensures.bytes
+      ∙ ap (λ l. l ++ chars c.args.text.now) c.self.view_is;
+  kept = tt;
+}
