@@ -7,8 +7,9 @@ pub use Rattle.html_flow_whitespace.specs.Protected
 pub use Rattle.html_flow_whitespace.specs.Runs
 pub use Rattle.html_flow_convert.specs.ConstructFaults
 pub use Rattle.html_flow_convert.specs.Converted
-pub use Rattle.html_flow_convert.specs.Converts
 pub use Rattle.html_flow_convert.specs.Depth
+pub use Rattle.html_flow_convert.specs.Endings
+pub use Rattle.html_flow_convert.specs.FlowFaults
 pub use Rattle.html_flow_convert.specs.Items
 pub use Rattle.html_flow_convert.specs.LoneNode
 pub use Rattle.html_flow_convert.specs.Views

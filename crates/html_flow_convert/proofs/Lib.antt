@@ -1,4 +1,5 @@
 pub mod ConstructFaults
+pub mod Items
 pub mod Levels
 pub mod LoneNodes
 pub mod Rows

@@ -1,7 +1,8 @@
 pub mod ConstructFaults
 pub mod Converted
-pub mod Converts
 pub mod Depth
+pub mod Endings
+pub mod FlowFaults
 pub mod Items
 pub mod LoneNode
 pub mod Rows

@@ -5,10 +5,10 @@ ghost use Rattle.std.specs.Prelude.{◌≡◌, ◌≤◌, ◌↔◌, ◌++◌, �
 ghost use Rattle.html_names.specs.Names.{is_ascii};
 ghost use Rattle.html_names.specs.Texts.{text_view};
 ghost use Rattle.html_dom_tree.specs.Tree.{tag_node, text_node, element_node};
-ghost use Rattle.html_dom_tree.specs.Views.{attrs_view, head_of, tag_view};
+ghost use Rattle.html_dom_tree.specs.Views.{attrs_view, head_of, nodes_view, tag_view};
 ghost use Rattle.html_flow_whitespace.specs.DraftViews.{draft_shown};
 ghost use Rattle.html_flow_convert.specs.Converted.{body_nodes, break_item_node, converted_nodes, element_head, frame_item_node, item_nodes, list_nodes, role_pairs, role_text, text_item_nodes};
-ghost use Rattle.html_flow_convert.specs.Converts.{Adds, Converts, Rows};
+ghost use Rattle.html_flow_convert.specs.Endings.{Adds, Gives};
 ghost use Rattle.html_flow_convert.specs.Depth.{body_too_deep, item_too_deep, items_too_deep};
 ghost use Rattle.html_flow_convert.specs.Items.{element_item};
 ghost use Rattle.html_flow_convert.specs.Rows.{is_lone, row_nodes, row_shown};
@@ -99,7 +99,7 @@ pub fn convert_to_nodes(
     requires within { depth ≤ limit }
     requires some_limit { 1 ≤ limit }
     requires low_limit { limit ≤ 10000 }
-    ensures { Converts result
+    ensures { Gives (λ made. nodes_view made.items) result
         (converted_nodes level whitespace (role_text role.entry) (items_view items.now))
         (items_too_deep depth limit (items_view items.now)) }
 {
@@ -123,7 +123,7 @@ fn convert_list(
 ) -> Result<Row, FlowFault>
     requires within { setting.depth ≤ setting.limit }
     requires low_limit { setting.limit ≤ 10000 }
-    ensures { Rows result
+    ensures { Gives row_nodes result
         (converted_nodes level setting.entry.whitespace (role_text setting.entry.role)
         (items_view items.now))
         (items_too_deep setting.entry.depth setting.entry.limit (items_view items.now)) }
@@ -146,7 +146,7 @@ fn convert_body(
 ) -> Result<Row, FlowFault>
     requires within { setting.depth ≤ setting.limit }
     requires low_limit { setting.limit ≤ 10000 }
-    ensures { Rows result
+    ensures { Gives row_nodes result
         (body_nodes level setting.entry.whitespace (role_text setting.entry.role)
         (body_view body.now))
         (body_too_deep setting.entry.depth setting.entry.limit span.0 (body_view body.now)) }

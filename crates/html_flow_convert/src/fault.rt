@@ -1,5 +1,5 @@
 ghost use Rattle.std.specs.Prelude.{◌≡◌};
-ghost use Rattle.html_flow_convert.specs.Converts.{flow_number_of};
+ghost use Rattle.html_flow_convert.specs.FlowFaults.{number_of};
 
 use html_dom_tree::Span;
 use html_names::Refused;
@@ -23,7 +23,7 @@ pub enum FlowFault {
 impl FlowFault {
     /// The fault's number: 0 for out of memory, 8 for a body that stands too deep.
     pub fn number(&self) -> u8
-        ensures { result ≡ flow_number_of self.now }
+        ensures { result ≡ number_of self.now }
     {
         match self {
             FlowFault::OutOfMemory => 0,

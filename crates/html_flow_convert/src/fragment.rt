@@ -1,9 +1,10 @@
 //! Items that stand in something of a known span.
 
 ghost use Rattle.std.specs.Prelude.{◌≤◌};
+ghost use Rattle.html_dom_tree.specs.Views.{nodes_view};
 ghost use Rattle.html_flow_convert.specs.Converted.{converted_nodes, role_text};
-ghost use Rattle.html_flow_convert.specs.Converts.{Converts};
 ghost use Rattle.html_flow_convert.specs.Depth.{fragment_too_deep};
+ghost use Rattle.html_flow_convert.specs.Endings.{Gives};
 ghost use Rattle.html_flow_convert.specs.Views.{items_view};
 ghost use Rattle.html_flow_convert.specs.declared.convert.ConversionLevel.TheVariants.{Block, Inline};
 
@@ -26,7 +27,7 @@ pub fn html_block_fragment(
 ) -> Result<Vec<HtmlNode>, FlowFault>
     requires some_limit { 1 ≤ limit }
     requires low_limit { limit ≤ 10000 }
-    ensures { Converts result
+    ensures { Gives (λ made. nodes_view made.items) result
         (converted_nodes Block whitespace (role_text role.entry) (items_view items.now))
         (fragment_too_deep depth limit span.0 (items_view items.now)) }
 {
@@ -57,7 +58,7 @@ pub fn html_inline_fragment(
 ) -> Result<Vec<HtmlNode>, FlowFault>
     requires some_limit { 1 ≤ limit }
     requires low_limit { limit ≤ 10000 }
-    ensures { Converts result
+    ensures { Gives (λ made. nodes_view made.items) result
         (converted_nodes Inline whitespace (role_text role.entry) (items_view items.now))
         (fragment_too_deep depth limit span.0 (items_view items.now)) }
 {
@@ -87,7 +88,7 @@ pub fn html_math_fragment(
 ) -> Result<Vec<HtmlNode>, FlowFault>
     requires some_limit { 1 ≤ limit }
     requires low_limit { limit ≤ 10000 }
-    ensures { Converts result
+    ensures { Gives (λ made. nodes_view made.items) result
         (converted_nodes Inline whitespace (role_text role.entry) (items_view items.now))
         (fragment_too_deep depth limit span.0 (items_view items.now)) }
 {

@@ -7,7 +7,9 @@ use Rattle.std.specs.List.{join_by, list_any}
 use Rattle.std.specs.declared.alloc.Global.{Global}
 use Rattle.html_names.specs.Names.{stands_in}
 use Rattle.html_names.specs.Texts.{text_view}
+use Rattle.html_values_css.specs.CastFaults.{IsFirst}
 use Rattle.html_values_css.specs.Colors.{color_text}
+use Rattle.html_values_css.specs.Endings.{Gives}
 use Rattle.html_values_css.specs.declared.direction.Dir.{Dir}
 use Rattle.html_values_css.specs.declared.direction.Dir.TheVariants.{LTR, RTL, TTB, BTT}
 use Rattle.html_values.specs.AttrTexts.{word_of, dir_text, has_year, moment_text, duration_text, size_text, candidate_text}
@@ -15,7 +17,7 @@ use Rattle.html_values.specs.Types.{texts_view, AttrTypeView, presence, native, 
 use Rattle.html_values.specs.Values.{ValueView, none_value, auto_value, bool_value, int_value, str_value, color_value, datetime_value, duration_value, dir_value, image_value, array_value, ValuesView, no_values, value}
 use Rattle.html_values.specs.declared.image.ImageCandidate.{ImageCandidate}
 use Rattle.html_values_css.specs.declared.cast_fault.CastFault.{CastFault}
-use Rattle.html_values_css.specs.declared.cast_fault.CastFault.TheVariants.{OutOfMemory, WrongKind, NotInStrings, NumberRange, NotOneChar, VerticalDir, BadImageSource, SeparatorInItem, YearRange}
+use Rattle.html_values_css.specs.declared.cast_fault.CastFault.TheVariants.{WrongKind, NotInStrings, NumberRange, NotOneChar, VerticalDir, BadImageSource, SeparatorInItem, YearRange}
 use Rattle.html_values.specs.declared.native_type.NativeType.{NativeType}
 
 -- what a value becomes as an attribute of a type
@@ -24,15 +26,15 @@ pub data CastAnswer : Type 0 where
   nothing : CastAnswer
   refuses : CastFault → CastAnswer
 
--- a refusal has the right fault, or is out of memory
-abbrev pub IsRefusal : CastAnswer → CastFault → Type 0
-IsRefusal answer OutOfMemory = Unit
-IsRefusal answer fault = answer ≡ refuses fault
+-- the fault that an answer is, where it is one
+abbrev pub answer_faults : CastAnswer → List CastFault
+answer_faults (gives t) = []
+answer_faults nothing = []
+answer_faults (refuses f) = f ∷ []
 
 -- how a call ends that casts: with what the answer gives, as a view shows it, else refused
 abbrev pub Casts : {A : Type 0} → (A → CastAnswer) → Result A CastFault → CastAnswer → Type 0
-Casts view (Ok made) answer = answer ≡ view made
-Casts view (Err fault) answer = IsRefusal answer fault
+Casts view r answer = Gives view r answer (answer_faults answer)
 
 -- how a call ends that finds one value: with it, else with that fault
 abbrev pub Finds : {A B : Type 0} → (A → B) → CastFault → Result A CastFault → Option B → Type 0
@@ -229,7 +231,8 @@ list_answer separator (Err f) = refuses f
 -- how a call ends that makes the texts of an array's items
 abbrev pub MakesTexts : Result (Vec (String Global) Global) CastFault → ℕ → Texts → Type 0
 MakesTexts (Ok made) separator texts = texts ≡ Ok (texts_view made.items)
-MakesTexts (Err fault) separator texts = IsRefusal (list_answer separator texts) fault
+MakesTexts (Err fault) separator texts =
+    IsFirst fault (answer_faults (list_answer separator texts))
 
 abbrev mutual
   pub cast : AttrTypeView → ValueView → CastAnswer

@@ -8,6 +8,7 @@ pub use Rattle.html_values_css.specs.Calc
 pub use Rattle.html_values_css.specs.Call
 pub use Rattle.html_values_css.specs.CastFaults
 pub use Rattle.html_values_css.specs.Colors
+pub use Rattle.html_values_css.specs.Endings
 pub use Rattle.html_values_css.specs.Lengths
 pub use Rattle.html_values_css.specs.Paints
 pub use Rattle.html_values_css.specs.Properties

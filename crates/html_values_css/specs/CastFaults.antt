@@ -1,5 +1,6 @@
--- Numbers of the faults of casts, and that it is decided whether two are equal.
-use Rattle.std.specs.Prelude.{◌≡◌, ℕ, ◌==◌, if◌then◌else◌, refl}
+-- Numbers of the faults of casts, when one is the first, and that it is decided whether two are
+-- equal.
+use Rattle.std.specs.Prelude.{◌≡◌, ℕ, ◌==◌, List, ◌∷◌, if◌then◌else◌, refl}
 use native.Mathlib.Decide.{ℕ_discrete}
 use Rattle.html_names.specs.Equal.{discrete_by}
 use Rattle.html_values_css.specs.declared.cast_fault.CastFault.{CastFault}
@@ -15,6 +16,11 @@ number_of VerticalDir = 20
 number_of BadImageSource = 21
 number_of SeparatorInItem = 22
 number_of YearRange = 23
+
+-- the fault that is answered is the first of the list, unless memory ran out
+abbrev pub IsFirst : CastFault → List CastFault → Type 0
+IsFirst OutOfMemory fs = Unit {0}
+IsFirst f fs = (rest : List CastFault) × (fs ≡ f ∷ rest)
 
 -- the fault of a number
 abbrev fault_of : ℕ → CastFault

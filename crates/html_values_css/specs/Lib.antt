@@ -2,6 +2,7 @@ pub mod Calc
 pub mod Call
 pub mod CastFaults
 pub mod Colors
+pub mod Endings
 pub mod Hashes
 pub mod Lengths
 pub mod Paints

@@ -1,9 +1,14 @@
 -- The first fault of a list is the first of a longer one, and of one after no fault. Of no fault at
 -- all none is the first.
-use Rattle.std.proofs.Common.{◌≡◌, List, [], ◌∷◌, ◌++◌, refl, ap, sym, ◌∙◌, subst, Result, Ok, Err, IfErr}
-use Rattle.typst_html_encode.specs.FaultViews.{ExportFaultView, IsFirstView}
+use Rattle.std.proofs.Common.{◌≡◌, ℕ, List, [], ◌∷◌, ◌++◌, map, refl, ap, sym, ◌∙◌, subst, Result, Ok, Err, IfErr}
+use Rattle.html_flow_convert.specs.FlowFaults.{IsFirst}
+use Rattle.html_flow_convert.specs.declared.fault.FlowFault.{FlowFault}
+use Rattle.html_flow_convert.specs.declared.fault.FlowFault.TheVariants as flow
+use Rattle.typst_html_encode.specs.Conversions.{of_flow}
+use Rattle.typst_html_encode.specs.FaultViews.{ExportFaultView, too_deep, IsFirstView}
 use Rattle.typst_html_encode.specs.declared.fault.ExportFault.{ExportFault}
 use Rattle.typst_html_encode.specs.declared.fault.ExportFault.TheVariants as fault
+use Rattle.typst_html_export.specs.Assembled.{depth_faults}
 use Rattle.typst_html_export.specs.Assembles.{FailsByMemoryAlone}
 
 abbrev more : {A : Type 0} {x : A} {fs : List A} (gs : List A)
@@ -18,6 +23,12 @@ first_of_more e fs gs h = more gs h
 pub first_after_none : (e : ExportFault) (fs gs : List ExportFaultView) → fs ≡ []
     → IsFirstView e gs → IsFirstView e (fs ++ gs)
 first_after_none e fs gs none h = subst (λ xs. IsFirstView e (xs ++ gs)) (sym none) h
+
+-- the first that stands too deep
+pub depth_first : (f : FlowFault) (spans : List ℕ) → IsFirst f spans
+    → IsFirstView (of_flow f) (depth_faults spans)
+depth_first flow.OutOfMemory spans h = tt
+depth_first (flow.TooDeep span) spans h = (map too_deep h.0, ap (map too_deep) h.1)
 
 -- out of memory may come before any
 pub memory_first : (e : ExportFault) (fs : List ExportFaultView) → e ≡ fault.OutOfMemory

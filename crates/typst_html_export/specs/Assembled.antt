@@ -1,6 +1,6 @@
 -- Documents made of items (this project's rules; `html`, `head` and `body` are those of HTML
 -- Standard 4.1 to 4.3): what stands around the nodes, and what is refused.
-use Rattle.std.specs.Prelude.{ℕ, ◌+◌, Bool, ◌||◌, ◌==◌, List, [], ◌∷◌, ◌++◌, codes, bytes_eq, if◌then◌else◌, Option, Some, None, option_map}
+use Rattle.std.specs.Prelude.{ℕ, ◌+◌, Bool, ◌||◌, ◌==◌, List, [], ◌∷◌, ◌++◌, codes, bytes_eq, if◌then◌else◌, Option, Some, None, option_map, map}
 use Rattle.html_dom_tree.specs.Attributes.{or_else}
 use Rattle.html_dom_tree.specs.Styled.{nodes_styled}
 use Rattle.html_dom_tree.specs.Tree.{Head, NodeView, tag_node, text_node, element_node, frame_node, NodesView, none, node}
@@ -117,9 +117,9 @@ outline_faults own_body notes = note_faults (item_spans notes)
 outline_faults nothing_own notes = []
 outline_faults (own_among_others name span) notes = not_alone name span ∷ []
 
-abbrev pub depth_faults : Option ℕ → List ExportFaultView
-depth_faults None = []
-depth_faults (Some span) = too_deep span ∷ []
+-- of the spans of what stands too deep
+abbrev pub depth_faults : (spans : List ℕ) → List ExportFaultView
+depth_faults = map too_deep
 
 -- the faults of a document that is assembled of nodes and of footnotes, whose list has the depth 1
 abbrev pub assembly_faults : (limit : ℕ) (content : NodesView) (notes : ItemsView)

@@ -1,5 +1,5 @@
 -- Documents of items in plain flow: what is seen of their text is exactly the items' text.
-use Rattle.std.specs.Prelude.{◌≡◌, ℕ, true, List, [], Some, None}
+use Rattle.std.specs.Prelude.{◌≡◌, ℕ, true, List, [], Some}
 use Rattle.html_dom_tree.specs.PlainTree.{element_normal}
 use Rattle.html_dom_tree.specs.Tree.{ElementView}
 use Rattle.typst_html_encode.specs.Faults as writing
@@ -22,7 +22,7 @@ use Rattle.typst_html_export.specs.Exported.{linked_root}
 -- items in plain flow without footnotes, none of which stands too deep
 pub record ArePlainItems (limit : ℕ) (items notes : ItemsView) : Type 0 where
   pub plain : is_plain_flow items ≡ true
-  pub within : items_too_deep 0 limit items ≡ None
+  pub within : items_too_deep 0 limit items ≡ []
   pub alone : notes ≡ no_items
 
 -- of them a document is made

@@ -13,7 +13,7 @@ invariant-convert_list-loop-pair l =
     record {
       told : row_shown l.nodes ++ items_nodes l.setting.whitespace role left
           ≡ items_nodes l.setting.whitespace role all;
-      shallow : items_too_deep l.setting.depth l.setting.limit left
+      clean : items_too_deep l.setting.depth l.setting.limit left
           ≡ items_too_deep l.setting.depth l.setting.limit all;
     }
 

@@ -8,6 +8,6 @@ returns c = record {
   made = c.in_ok-nodes_of.ensures
       ∙ (sym (shown_nodes c.in_ok-into_drafts.field-0.items)
       ∙ (ap nodes_of c.in_ok-into_drafts.ensures ∙ c.in_ok-row.ensures.made));
-  shallow = c.in_ok-row.ensures.shallow;
+  clean = c.in_ok-row.ensures.clean;
   fault = tt;
 }
