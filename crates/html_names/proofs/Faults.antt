@@ -1,5 +1,5 @@
 -- What is wrong with a text, from its bytes; a text with which nothing is wrong is a valid name.
-use Rattle.std.proofs.Common.{◌≡◌, ℕ, Bool, true, false, not, eqb, List, [], ◌∷◌, length, chars, refl, sym, ap, ◌∙◌, Option, Some, None, arith}
+use Rattle.std.proofs.Common.{◌≡◌, ℕ, Bool, true, false, not, eqb, List, [], ◌∷◌, length, chars, refl, sym, ap, ◌∙◌, Option, Some, None, option_to_list, arith}
 use Rattle.std.specs.List.{find}
 use Rattle.std.specs.Str.{IsUtf8}
 use Rattle.std.proofs.lemmas.Bool.{false≢true, eqb-true, and_parts, and_from}
@@ -11,6 +11,7 @@ use lib.Utf8.{encodes}
 use Rattle.html_names.specs.Characters.{all, IsOf, is_tag_char, is_attr_char}
 use Rattle.html_names.specs.Names.{is_ascii, tag_fault, fault_after, attr_fault, bad_attr_char}
 use Rattle.html_names.proofs.Lists.{chars_ascii}
+use Rattle.html_names.specs.declared.fault.NameFault.{NameFault}
 use Rattle.html_names.specs.declared.fault.NameFault.TheVariants.{EmptyTag, EmptyAttr}
 
 length_zero : (t : List ℕ) → eqb (length t) 0 ≡ true → t ≡ []
@@ -96,3 +97,9 @@ pub chars-tag : (t : List ℕ) → IsOf is_tag_char t → chars t ≡ t
 chars-tag t h = chars_ascii t (tag_ascii t h)
 
 pub ruleset constants = (chars-tag, chars_ascii)
+
+-- the first of at most one fault is that one
+pub some_first : (o : Option NameFault) (f : NameFault) (rest : List NameFault) →
+    option_to_list o ≡ f ∷ rest → o ≡ Some f
+some_first None f rest e = cc
+some_first (Some g) f rest e = cc

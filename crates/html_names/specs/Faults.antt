@@ -1,7 +1,9 @@
--- The number of each fault of a name, and that it is decided whether two are equal.
-use Rattle.std.specs.Prelude.{◌≡◌, ℕ, ◌==◌, if◌then◌else◌, refl}
+-- The number of each fault of a name, when one is the first, how calls end that may answer one, and
+-- that it is decided whether two are equal.
+use Rattle.std.specs.Prelude.{◌≡◌, ℕ, ◌==◌, List, ◌∷◌, if◌then◌else◌, Result, refl}
 use native.Mathlib.Decide.{ℕ_discrete}
 use mathlib.Core.HLevel.{×_discrete}
+use Rattle.html_names.specs.Endings.{GivesBy}
 use Rattle.html_names.specs.Equal.{discrete_by}
 use Rattle.html_names.specs.declared.fault.NameFault.{NameFault}
 use Rattle.html_names.specs.declared.fault.NameFault.TheVariants.{OutOfMemory, EmptyTag, BadTagChar, CustomStart, CustomCapital, Reserved, EmptyAttr, BadAttrChar}
@@ -15,6 +17,20 @@ number_of CustomCapital = 4
 number_of Reserved = 5
 number_of EmptyAttr = 6
 number_of (BadAttrChar c) = 7
+
+-- the fault that is answered is the first of the list, unless memory ran out
+abbrev pub IsFirst : NameFault → List NameFault → Type 0
+IsFirst OutOfMemory fs = Unit {0}
+IsFirst f fs = (rest : List NameFault) × (fs ≡ f ∷ rest)
+
+-- a name is given
+abbrev pub Gives : Result (List ℕ) NameFault → (name : List ℕ) → List NameFault → Type 0
+Gives = GivesBy IsFirst (λ name. name)
+
+-- that holds where memory ran out
+abbrev pub OnOutOfMemory : NameFault → Type 0 → Type 0
+OnOutOfMemory OutOfMemory told = told
+OnOutOfMemory f told = Unit {0}
 
 -- the character that a fault has, and 0 where it has none
 abbrev char_of : NameFault → ℕ

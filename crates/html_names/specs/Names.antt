@@ -1,12 +1,12 @@
 -- Lists of names, and what is wrong with a text as a name. Texts are lists of characters.
 use Rattle.std.specs.Cmp.Lexicographic.{slice_cmp}
 use Rattle.std.specs.Ordering.{nat_cmp, is_lt}
-use Rattle.std.specs.Prelude.{◌++◌, ◌≡◌, ◌<◌, ℕ, Bool, true, false, not, ◌||◌, ◌&&◌, ◌==◌, length, slice_index_or, nat_lt, List, [], ◌∷◌, bytes_eq, codes, map, slice_index, if◌then◌else◌, Option, Some, None, Result, Ok, Err}
+use Rattle.std.specs.Prelude.{◌++◌, ◌≡◌, ◌<◌, ℕ, Bool, true, false, not, ◌||◌, ◌&&◌, ◌==◌, length, slice_index_or, nat_lt, List, [], ◌∷◌, bytes_eq, codes, map, slice_index, if◌then◌else◌, Option, Some, None}
 use Rattle.std.specs.Borrow.{Bor}
 use Rattle.std.specs.List.{find, list_any, list_all}
 use Rattle.html_names.specs.Characters.{is_tag_char, is_attr_char, is_lower, is_capital, is_hyphen}
 use Rattle.html_names.specs.declared.fault.NameFault.{NameFault}
-use Rattle.html_names.specs.declared.fault.NameFault.TheVariants.{OutOfMemory, EmptyTag, BadTagChar, CustomStart, CustomCapital, Reserved, EmptyAttr, BadAttrChar}
+use Rattle.html_names.specs.declared.fault.NameFault.TheVariants.{EmptyTag, BadTagChar, CustomStart, CustomCapital, Reserved, EmptyAttr, BadAttrChar}
 
 abbrev pub put_first : ℕ → List (List ℕ) → List (List ℕ)
 put_first c [] = (c ∷ []) ∷ []
@@ -82,11 +82,3 @@ bad_attr_char None = None
 abbrev pub attr_fault : List ℕ → Option NameFault
 attr_fault [] = Some EmptyAttr
 attr_fault (c ∷ cs) = bad_attr_char (find (λ d. not (is_attr_char d)) (c ∷ cs))
-
--- a call makes the name of that text, or answers what is wrong with it, or that an allocation
--- failed for a name that is not known
-abbrev pub Interns : (fault : Option NameFault) (is_known : Bool) (name : List ℕ) →
-    Result (List ℕ) NameFault → Type 0
-Interns fault is_known name (Ok t) = (fault ≡ None) × (t ≡ name)
-Interns fault is_known name (Err OutOfMemory) = (fault ≡ None) × (is_known ≡ false)
-Interns fault is_known name (Err f) = fault ≡ Some f

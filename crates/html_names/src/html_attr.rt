@@ -1,6 +1,7 @@
-ghost use Rattle.std.specs.Prelude.{◌≡◌, bytes_eq, chars, IfOk, OnErr, IfSome, IsTrue, is_some, false, not, None};
+ghost use Rattle.std.specs.Prelude.{◌≡◌, bytes_eq, chars, IfOk, IfErr, OnErr, IfSome, IsTrue, is_some, false, not, option_to_list, None};
 ghost use Rattle.std.specs.List.{find, list_any};
-ghost use Rattle.html_names.specs.Names.{Interns, attr_fault, is_ascii};
+ghost use Rattle.html_names.specs.Faults.{Gives, OnOutOfMemory};
+ghost use Rattle.html_names.specs.Names.{attr_fault, is_ascii};
 ghost use Rattle.std.specs.Cmp as cmp;
 ghost use Rattle.std.specs.Cmp.{on_equiv, on_per};
 ghost use Rattle.std.specs.Cmp.Lexicographic.{nat_list_eq_equiv};
@@ -79,8 +80,12 @@ impl HtmlAttr {
     /// A known name takes no memory.
     #[tactic(auto, using(crate::proofs::Faults::valid_attr))]
     pub fn intern(alloc: Global, text: &str) -> Result<HtmlAttr, NameFault>
-        ensures { let name = chars text.now in
-            Interns (attr_fault name) (is_known_attr name) name result }
+        ensures name { let name = chars text.now in
+            Gives result name (option_to_list (attr_fault name)) }
+        // Memory is wanted only for a name that is valid and not known.
+        ensures memory { let name = chars text.now in
+            IfErr result (λ fault. OnOutOfMemory fault
+            ((attr_fault name ≡ None) × (is_known_attr name ≡ false))) }
     {
         if let Some(attr) = HtmlAttr::known(text) {
             return Ok(attr);

@@ -1,6 +1,7 @@
-ghost use Rattle.std.specs.Prelude.{◌≡◌, ◌<◌, bytes_eq, chars, IfOk, IfErr, OnErr, IfSome, is_some, false, not, slice_index, None};
+ghost use Rattle.std.specs.Prelude.{◌≡◌, ◌<◌, bytes_eq, chars, IfOk, IfErr, OnErr, IfSome, is_some, false, not, option_to_list, slice_index, None};
 ghost use Rattle.std.specs.List.{find, list_any};
-ghost use Rattle.html_names.specs.Names.{Interns, tag_fault, custom_fault, is_reserved};
+ghost use Rattle.html_names.specs.Faults.{Gives, OnOutOfMemory};
+ghost use Rattle.html_names.specs.Names.{tag_fault, custom_fault, is_reserved};
 ghost use Rattle.std.specs.Cmp as cmp;
 ghost use Rattle.std.specs.Cmp.{on_equiv, on_per};
 ghost use Rattle.std.specs.Cmp.Lexicographic.{nat_list_eq_equiv};
@@ -143,8 +144,12 @@ impl HtmlTag {
     /// A known name takes no memory.
     #[tactic(auto, using(crate::proofs::Faults::valid_tag))]
     pub fn intern(alloc: Global, text: &str) -> Result<HtmlTag, NameFault>
-        ensures { let name = chars text.now in
-            Interns (tag_fault name) (is_known_tag name) name result }
+        ensures name { let name = chars text.now in
+            Gives result name (option_to_list (tag_fault name)) }
+        // Memory is wanted only for a name that is valid and not known.
+        ensures memory { let name = chars text.now in
+            IfErr result (λ fault. OnOutOfMemory fault
+            ((tag_fault name ≡ None) × (is_known_tag name ≡ false))) }
     {
         if let Some(tag) = HtmlTag::known(text) {
             return Ok(tag);

@@ -122,6 +122,7 @@ pub use typst_html_encode::FrameWriter;
 pub use typst_html_encode::HtmlOptions;
 pub use typst_html_encode::html_in_bundle;
 pub use typst_html_export::export;
+pub use typst_html_export::export_linked;
 pub use typst_html_export::html;
 pub use typst_html_export::html_document;
 pub use typst_html_export::html_document_for_bundle;

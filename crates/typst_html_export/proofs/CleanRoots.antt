@@ -311,8 +311,8 @@ clean_body info items parts plain clean =
     let ns = document_nodes items in
     let root = linked_root_is info items plain in
     let anchored = body_anchored root.0 (made_root (lang_text info.locale) none none).0
-    (plain_made (codes "head") []) (plain_made (codes "body") []) (entries_of info) (nodes_styled ns)
-    (entries_quiet entries (all_entries info parts))
+    (plain_made (codes "head") []) (plain_made (codes "body") []) (entries_of info)
+    (nodes_styled ns) (entries_quiet entries (all_entries info parts))
     (clean_items_make_clean_nodes None items refl plain clean) in (
       anchored.0,
       root.1 ∙ (ap (element_anchored root.0) (root_is_made info ns) ∙ anchored.1),
@@ -325,8 +325,8 @@ body_linked : (info : InfoView) (root : ElementView) (anchor : Anchors) → Info
 unfolding nodes_with_links
 body_linked info root anchor parts b =
     let entries = charset_node ∷ viewport_node ∷ entry_nodes info in
-    let kept = quiet_unlinked anchor (entries_of info) [] (entries_quiet entries (all_entries info parts))
-    refl in (
+    let quiet = entries_quiet entries (all_entries info parts) in
+    let kept = quiet_unlinked anchor (entries_of info) [] quiet refl in (
       nodes_with_links anchor [] b.0,
       ap (root_with_links anchor) b.1 ∙ rw kept refl,
       anchors_keep_clean_nodes false b.0 (nodes_with_links anchor [] b.0)
@@ -369,5 +369,6 @@ pub clean_linked_exports : (frames : Frames) (options : HtmlOptions) (limit : �
     is_clean_info info ≡ true → (anchor : Anchors) →
     root_faults frames options (root_with_links anchor (linked_root info items notes)) ≡ []
 clean_linked_exports frames options limit info items notes are clean known anchor =
-    ap (λ n. root_faults frames options (root_with_links anchor (linked_root info items n))) are.alone
+    ap (λ n. root_faults frames options (root_with_links anchor (linked_root info items n)))
+    are.alone
     ∙ clean_linked_documents_are_written frames options info items are.plain clean known anchor

@@ -1,7 +1,7 @@
 -- The faults of writing come after those of making a document.
 use Rattle.std.proofs.Common.{◌≡◌, ℕ, List, [], ◌∷◌, ◌++◌, map, ap, subst, Result, Ok, Err, String, Global}
 use Rattle.html_dom_tree.specs.Views.{text_view}
-use Rattle.html_dom_document.specs.Documents.{InfoView, DocumentView, document_root}
+use Rattle.html_dom_document.specs.Documents.{DocumentView, document_root}
 use Rattle.typst_html_encode.specs.Faults.{BeginsWith, IsFirst}
 use Rattle.typst_html_encode.specs.Faults as writing
 use Rattle.typst_html_encode.specs.Frames.{Frames}
@@ -14,8 +14,7 @@ use Rattle.typst_html_encode.specs.declared.fault.ExportFault.TheVariants as fau
 use Rattle.html_flow_convert.specs.Items.{ItemsView}
 use Rattle.typst_html_export.specs.Assembled.{document_faults}
 use Rattle.typst_html_export.specs.Assembles.{Assembles}
-use Rattle.typst_html_export.specs.Exported.{export_text, root_faults, export_faults}
-use Rattle.typst_html_export.specs.Linked.{linked_document}
+use Rattle.typst_html_export.specs.Exported.{root_faults}
 use Rattle.typst_html_export.proofs.Firsts.{first_after_none, none_after_none}
 
 abbrev views : List ExportFault → List ExportFaultView
@@ -43,14 +42,14 @@ written (Ok s) wanted made fs none m =
 written (Err e) wanted made fs none m =
     record { made = tt; clean = tt; fault = first_written e made fs none m.fault }
 
-pub exported : (frames : Frames) (options : HtmlOptions) (limit : ℕ) (info : InfoView)
-    (items notes : ItemsView) (d : DocumentView) (r : Result (String Global) ExportFault)
-    → d ≡ linked_document info items notes → document_faults limit items notes ≡ []
+pub exported : (frames : Frames) (options : HtmlOptions) (limit : ℕ) (items notes : ItemsView)
+    (d expected : DocumentView) (r : Result (String Global) ExportFault) → d ≡ expected →
+    document_faults limit items notes ≡ []
     → Gives r (document_text frames options (document_root d))
     (writing.document_faults frames options (document_root d))
-    → Assembles text_view r (export_text frames options info items notes)
-    (export_faults limit frames options info items notes)
-exported frames options limit info items notes d r is none m =
+    → Assembles text_view r (document_text frames options (document_root expected))
+    (document_faults limit items notes ++ root_faults frames options (document_root expected))
+exported frames options limit items notes d expected r is none m =
     subst (λ v. Assembles text_view r (document_text frames options (document_root v))
     (document_faults limit items notes ++ root_faults frames options (document_root v))) is
     (written r (document_text frames options (document_root d)) (document_faults limit items notes)

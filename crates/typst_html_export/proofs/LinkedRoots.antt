@@ -1,5 +1,5 @@
--- The tree whose links lead is one to which an `href` was added at some elements. So the same is seen
--- of it, no frame comes or goes, and valid names stay valid.
+-- The tree whose links lead is one to which an `href` was added at some elements. So the same is
+-- seen of it, no frame comes or goes, and valid names stay valid.
 use Rattle.std.proofs.Common.{ℕ, List, [], ◌∷◌, Option, None, Some, refl}
 use Rattle.html_dom_tree.specs.Tree.{TextPair, Head, NodeView, tag_node, text_node, element_node, frame_node, NodesView, none, node}
 use Rattle.typst_html_encode.specs.ReadingBack.{PairsAreNamed, NodeIsNamed, NodesAreNamed}

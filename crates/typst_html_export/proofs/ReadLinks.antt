@@ -1,20 +1,25 @@
 -- Links that lead in a tree lead where its text is read.
-use Rattle.std.proofs.Common.{◌≡◌, ℕ, Bool, true, false, List, [], All, Some, refl, ap, sym, subst, ◌∙◌}
+use Rattle.std.proofs.Common.{◌≡◌, ℕ, Bool, true, false, List, [], All, Some, refl, ap, sym, subst, ◌∙◌, Result, Ok, Err, IfOk, OnOk, String, Global}
 use Rattle.html_dom_tree.specs.FrameFree.{ElementIsFrameFree}
 use Rattle.html_dom_tree.specs.PlainTree.{nodes_normal, element_normal}
 use Rattle.html_dom_tree.specs.Tree.{tag_node, text_node, element_node, frame_node, NodesView, none, node, ElementView}
+use Rattle.html_dom_tree.specs.Views.{text_view}
 use Rattle.html_dom_document.specs.Documents.{DocumentView, document_root}
 use Rattle.html_dom_link.specs.Answered.{first_ids, names_shown}
 use Rattle.html_dom_link.specs.Leads.{GivenLinksLead, LeadsAmong, document_given}
+use Rattle.html_dom_link.specs.Links.{document_with_links}
 use Rattle.html_dom_link.proofs.Consequences.{shown_first}
+use Rattle.typst_html_encode.specs.Endings.{Gives}
 use Rattle.typst_html_encode.specs.Faults as writing
 use Rattle.typst_html_encode.specs.Frames.{Frames}
-use Rattle.typst_html_encode.specs.Indented.{element_layout}
+use Rattle.typst_html_encode.specs.Indented.{element_layout, ElementEndsWell}
 use Rattle.typst_html_encode.specs.ReadIds.{plains_ids, read_ids}
 use Rattle.typst_html_encode.specs.Reader.{read}
+use Rattle.typst_html_encode.specs.Text.{document_text}
+use Rattle.typst_html_encode.specs.declared.fault.ExportFault.{ExportFault}
 use Rattle.typst_html_encode.specs.declared.options.HtmlOptions.{HtmlOptions}
 use Rattle.typst_html_encode.proofs.ReadIds.{layout_keeps_ids, past_words}
-use Rattle.typst_html_export.specs.ReadLinks.{GivenLinksLeadWhenRead}
+use Rattle.typst_html_export.specs.ReadLinks.{GivenLinksLeadWhenRead, IsReadable}
 
 -- the ids of a tree's normal form
 normal_ids : (ns : NodesView) → plains_ids (nodes_normal ns) ≡ first_ids ns
@@ -51,3 +56,38 @@ links_lead_when_read frames options old new text free clean plainly prettily lea
     subst (λ names. All (LeadsAmong new.introspector.anchor names) (document_given old new))
     (sym (read_by frames (document_root new) options text options.pretty refl free clean plainly
     prettily)) lead
+
+-- a document's links, as they were resolved in a document that is made
+pub given_as : {d e l : DocumentView} → d ≡ l → e ≡ document_with_links d → GivenLinksLead d e →
+    GivenLinksLead l (document_with_links l)
+given_as {d} {e} {l} d_is e_is lead =
+    subst (λ v. GivenLinksLead v (document_with_links v)) d_is (subst (GivenLinksLead d) e_is lead)
+
+pub lead_when_answered : {A : Type 0} (r : Result A ExportFault) (d e l : DocumentView) → d ≡ l →
+    e ≡ document_with_links d → GivenLinksLead d e →
+    OnOk r (GivenLinksLead l (document_with_links l))
+lead_when_answered (Ok a) d e l d_is e_is lead = given_as d_is e_is lead
+lead_when_answered (Err f) d e l d_is e_is lead = tt
+
+-- and as they are read of the text that is answered
+pub lead_when_read : (frames : Frames) (options : HtmlOptions)
+    (r : Result (String Global) ExportFault) (d e l : DocumentView) → d ≡ l →
+    e ≡ document_with_links d → GivenLinksLead d e →
+    Gives r (document_text frames options (document_root e))
+    (writing.document_faults frames options (document_root e)) →
+    (options.pretty ≡ false → ElementIsFrameFree (document_root e) →
+    IfOk r (λ t. read (text_view t) ≡ Some (element_normal (document_root e)))) →
+    (options.pretty ≡ true → ElementIsFrameFree (document_root e) →
+    ElementEndsWell true (document_root e) →
+    IfOk r (λ t. read (text_view t) ≡ Some (element_normal (element_layout (document_root e))))) →
+    IsReadable options (document_with_links l) →
+    IfOk r (λ t. GivenLinksLeadWhenRead l (document_with_links l) (text_view t))
+lead_when_read frames options (Err f) d e l d_is e_is lead makes plainly prettily can = tt
+lead_when_read frames options (Ok t) d e l d_is e_is lead makes plainly prettily can =
+    let is : e ≡ document_with_links l = e_is ∙ ap document_with_links d_is in
+    let here : IsReadable options e = subst (IsReadable options) (sym is) can in
+    let read_here : GivenLinksLeadWhenRead d e (text_view t) =
+    links_lead_when_read frames options d e (text_view t) here.frame_free makes.clean
+    (λ p. plainly p here.frame_free) (λ p. prettily p here.frame_free (here.ends_well p)) lead in
+    subst (λ v. GivenLinksLeadWhenRead v (document_with_links v) (text_view t)) d_is
+    (subst (λ v. GivenLinksLeadWhenRead d v (text_view t)) e_is read_here)

@@ -1,7 +1,8 @@
 -- The HTML text of items, and for what they have none: that of their document with anchors.
 use Rattle.std.specs.Prelude.{ℕ, List, ◌++◌, map}
 use Rattle.html_dom_tree.specs.Tree.{ElementView}
-use Rattle.html_dom_document.specs.Documents.{InfoView, document_root}
+use Rattle.html_dom_document.specs.Documents.{InfoView, DocumentView, document_root}
+use Rattle.html_dom_link.specs.Links.{document_with_links}
 use Rattle.typst_html_encode.specs.Faults as writing
 use Rattle.typst_html_encode.specs.FaultViews.{ExportFaultView, export_fault_view}
 use Rattle.typst_html_encode.specs.Frames.{Frames}
@@ -18,6 +19,18 @@ abbrev pub export_text : Frames → HtmlOptions → InfoView → (items notes : 
 export_text frames options info items notes =
     document_text frames options (linked_root info items notes)
 
+-- that document once its links are resolved
+abbrev pub resolved_document : InfoView → (items notes : ItemsView) → DocumentView
+resolved_document info items notes = document_with_links (linked_document info items notes)
+
+abbrev pub resolved_root : InfoView → (items notes : ItemsView) → ElementView
+resolved_root info items notes = document_root (resolved_document info items notes)
+
+abbrev pub export_linked_text :
+    Frames → HtmlOptions → InfoView → (items notes : ItemsView) → List ℕ
+export_linked_text frames options info items notes =
+    document_text frames options (resolved_root info items notes)
+
 -- the faults of writing a tree with this root
 abbrev pub root_faults : Frames → HtmlOptions → ElementView → List ExportFaultView
 root_faults frames options root =
@@ -29,3 +42,9 @@ abbrev pub export_faults : (limit : ℕ) → Frames → HtmlOptions → InfoView
     → List ExportFaultView
 export_faults limit frames options info items notes = document_faults limit items notes
     ++ root_faults frames options (linked_root info items notes)
+
+-- the same where links are resolved before it is written
+abbrev pub export_linked_faults : (limit : ℕ) → Frames → HtmlOptions → InfoView
+    → (items notes : ItemsView) → List ExportFaultView
+export_linked_faults limit frames options info items notes = document_faults limit items notes
+    ++ root_faults frames options (resolved_root info items notes)

@@ -30,8 +30,8 @@ abbrev pub PlainDocumentsAreMade : Type 0
 PlainDocumentsAreMade = (limit : ℕ) (items notes : ItemsView) → ArePlainItems limit items notes →
     document_faults limit items notes ≡ []
 
--- what is seen of the text of a document's root, plain or pretty, is the text of these items, if the
--- root has no fault
+-- what is seen of the text of a document's root, plain or pretty, is the text of these items, if
+-- the root has no fault
 abbrev pub IsSeenAs : ElementView → ItemsView → Type 0
 IsSeenAs root items = (frames : Frames) (options : HtmlOptions) → ElementIsNamed root →
     writing.document_faults frames options root ≡ [] →

@@ -1,6 +1,6 @@
 //! Writing documents.
 
-ghost use Rattle.std.specs.Prelude.{◌≡◌, ◌≤◌, true, false, Some, IfErr, IfOk};
+ghost use Rattle.std.specs.Prelude.{◌≡◌, ◌≤◌, true, false, Some, IfErr, IfOk, OnOk};
 ghost use Rattle.html_dom_tree.specs.PlainTree.{element_normal};
 ghost use Rattle.html_dom_tree.specs.Views.{text_view};
 ghost use Rattle.html_dom_document.specs.Views.{document_view, info_view};
@@ -12,15 +12,21 @@ ghost use Rattle.html_dom_tree.specs.FrameFree.{ElementIsFrameFree};
 ghost use Rattle.typst_html_encode.specs.Text.{document_text};
 ghost use Rattle.typst_html_encode.specs.Endings.{Gives};
 ghost use Rattle.html_dom_document.specs.Documents.{document_root};
+ghost use Rattle.html_dom_link.specs.Leads.{GivenLinksLead, links_without};
+ghost use Rattle.html_dom_link.specs.Links.{document_dead_links};
 ghost use Rattle.html_flow_convert.specs.Views.{items_view};
 ghost use Rattle.typst_html_spaces.specs.CleanItems.{are_clean_items};
 ghost use Rattle.typst_html_export.specs.Assembles.{Assembles, FailsByMemoryAlone};
 ghost use Rattle.typst_html_export.specs.CleanInfo.{is_clean_info};
-ghost use Rattle.typst_html_export.specs.Exported.{export_faults, export_text, linked_root, root_faults};
+ghost use Rattle.typst_html_export.specs.Exported.{export_faults, export_linked_faults, export_linked_text, export_text};
+ghost use Rattle.typst_html_export.specs.Exported.{linked_root, resolved_document, resolved_root, root_faults};
+ghost use Rattle.typst_html_export.specs.Linked.{linked_document};
+ghost use Rattle.typst_html_export.specs.ReadLinks.{GivenLinksLeadWhenRead, IsReadable};
 ghost use Rattle.typst_html_export.specs.SpacesInDocuments.{ArePlainItems, SpacesAreSeen};
 
 use crate::document::html_document;
 use html_dom_document::{DocumentInfo, HtmlDocument};
+use html_dom_link::with_resolved_links;
 use html_flow_convert::Pair;
 use std::alloc::Global;
 use typst_html_encode::{ExportFault, FrameWriter, HtmlOptions, html_in_bundle};
@@ -104,5 +110,72 @@ pub fn export<F: FrameWriter>(
         (items_view items.now) (items_view footnotes.now)) }
 {
     let document = html_document(alloc, items, info, footnotes, limit)?;
+    html(alloc, &document, options, frames)
+}
+
+/// The HTML text of items whose links lead: that of their document with anchors, once its links are
+/// resolved.
+///
+/// The document is made by [`html_document`], [`resolve_links`](html_dom_link::resolve_links) gives
+/// each `a` without an `href` that stands behind a start tag with a destination the `href` of that
+/// destination's anchor, and [`html`] writes it. It fails as [`export`] does.
+///
+/// Each link that got an `href` leads: its decoded name is that of the anchor of its destination, in
+/// the tree and in the text that is read. A link whose destination is nowhere, or has an empty name,
+/// stays without one, as [`dead_links`](html_dom_link::dead_links) tells of the document. Spaces stay
+/// and clean items are written, as by `export`.
+///
+/// ```
+/// let mut items = Vec::new(alloc);
+/// let dest = Some(Location(7));
+/// items.push(Pair::from(Item::Tag(Tag::Start { location: Location(1), label: None, dest })))?;
+/// items.push(Pair::from(Item::Element(HtmlElem::new(alloc, tag::a).with_body(text))))?;
+/// let text = export_linked(alloc, &items, &info, &[], 50, &HtmlOptions::default(), &frames)?;
+/// ```
+pub fn export_linked<F: FrameWriter>(
+    alloc: Global,
+    items: &[Pair],
+    info: &DocumentInfo,
+    footnotes: &[Pair],
+    limit: usize,
+    options: &HtmlOptions,
+    frames: &F,
+) -> Result<String, ExportFault>
+    requires some_limit { 1 ≤ limit }
+    requires low_limit { limit ≤ 10000 }
+    ensures makes { Assembles text_view result
+        (export_linked_text (F.drawing frames.now) options.now
+        (info_view info.now) (items_view items.now) (items_view footnotes.now))
+        (export_linked_faults limit (F.drawing frames.now) options.now
+        (info_view info.now) (items_view items.now) (items_view footnotes.now)) }
+
+    // Spaces stay, and clean items are written, as by `export`.
+    ensures plain { ArePlainItems limit (items_view items.now) (items_view footnotes.now) →
+        IfErr result (λ e. IsFirstView e (root_faults (F.drawing frames.now) options.now
+        (resolved_root (info_view info.now) (items_view items.now) (items_view footnotes.now)))) }
+    ensures clean { ArePlainItems limit (items_view items.now) (items_view footnotes.now) →
+        are_clean_items (items_view items.now) ≡ true → is_clean_info (info_view info.now) ≡ true →
+        FailsByMemoryAlone result }
+    ensures spaces { IfOk result (λ text. SpacesAreSeen (text_view text)
+        (items_view items.now) (items_view footnotes.now)) }
+
+    // Each link that got an `href` leads, in the tree and in the text as it is read; those that did
+    // not are dead.
+    ensures leads { let info = info_view info.now in
+        let items = items_view items.now in let notes = items_view footnotes.now in
+        OnOk result (GivenLinksLead (linked_document info items notes)
+        (resolved_document info items notes)) }
+    ensures read { let info = info_view info.now in
+        let items = items_view items.now in let notes = items_view footnotes.now in
+        IsReadable options.now (resolved_document info items notes) →
+        IfOk result (λ text. GivenLinksLeadWhenRead (linked_document info items notes)
+        (resolved_document info items notes) (text_view text)) }
+    ensures left { let info = info_view info.now in
+        let items = items_view items.now in let notes = items_view footnotes.now in
+        OnOk result (links_without (resolved_root info items notes).1
+        ≡ document_dead_links (linked_document info items notes)) }
+{
+    let made = html_document(alloc, items, info, footnotes, limit)?;
+    let document = with_resolved_links(alloc, made)?;
     html(alloc, &document, options, frames)
 }

@@ -1,4 +1,5 @@
-//! Laws of documents that are made of items. Each function has laws as its contract, and does nothing.
+//! Laws of documents that are made of items. Each function has laws as its contract, and does
+//! nothing.
 
 ghost use Rattle.typst_html_export.specs.CleanInfo.{CleanDocumentsAreWritten, CleanLinkedDocumentsAreWritten};
 ghost use Rattle.typst_html_export.specs.LinkedRoots.{AnchorsKeepAtoms, LinksKeepAtoms, LinksKeepFrames, LinksKeepNames};
@@ -14,17 +15,17 @@ pub fn plain_documents()
 {}
 
 /// The document of items in plain flow, without footnotes, with its anchors and with the `href` of
-/// its links, whatever names these lead to: the root shows exactly the items' text, plain or pretty,
-/// and so does the text where the root has valid names and no fault. If items and information are
-/// clean, there is no fault.
+/// its links, whatever names these lead to: the root shows exactly the items' text, plain or
+/// pretty, and so does its text where the root has valid names and no fault. If items and
+/// information are clean, there is no fault.
 pub fn plain_documents_with_links()
     ensures read { PlainLinkedDocumentsAreRead }
     ensures seen { PlainLinkedDocumentsAreSeen }
     ensures clean { CleanLinkedDocumentsAreWritten }
 {}
 
-/// Anchors, and the `href` of links, leave what is seen of any tree, once white space has collapsed.
-/// With the `href` of links no frame comes or goes, and valid names stay valid.
+/// Anchors, and the `href` of links, change nothing of what is seen of a tree, once white space has
+/// collapsed. With the `href` of links no frame comes or goes, and valid names stay valid.
 pub fn links_are_unseen()
     ensures anchors { AnchorsKeepAtoms }
     ensures links { LinksKeepAtoms }

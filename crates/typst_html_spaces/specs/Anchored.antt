@@ -1,5 +1,5 @@
--- Nodes with anchors, and with an `href` of links: what is seen of them is what is seen of the nodes
--- without.
+-- Nodes with anchors, and with an `href` of links: what is seen of them is what is seen of the
+-- nodes without.
 use Rattle.std.specs.Prelude.{◌≡◌, ℕ, Bool, true, false, List, [], ◌∷◌, codes, None}
 use Rattle.html_dom_tree.specs.Frames.{HtmlFrameView}
 use Rattle.html_dom_tree.specs.PlainTree.{nodes_normal}

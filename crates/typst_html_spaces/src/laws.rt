@@ -78,8 +78,8 @@ pub fn clean_items_are_written()
 {}
 
 /// Anchors are not seen, nor is where links lead: neither an `id` or an `href` in front of an
-/// element's attributes nor a `span` with nothing but an `id`, after a tag or around a text. What has
-/// indents stays a border, plain nodes stay plain, no frame comes or goes, there is no new raw
+/// element's attributes nor a `span` with nothing but an `id`, after a tag or around a text. What
+/// has indents stays a border, plain nodes stay plain, no frame comes or goes, there is no new raw
 /// element, and the first `body` stays the first.
 pub fn anchors_are_unseen()
     ensures seen { AnchorsAreUnseen }

@@ -88,6 +88,37 @@ fn all_faults_of_casts(rt: HostRuntime) {
     assert_link(&rt, rt.alloc(), &WRONG, "16 at 2;16 at 3; | 2 3 4");
 }
 
+/// A link with a whole number and a text.
+fn numbered_link(rt: &impl Abort, alloc: Global) -> ElementInfo {
+    let mut attrs = Vec::new(alloc);
+    add_type(
+        rt,
+        &mut attrs,
+        attr::tabindex,
+        AttrType::Native(NativeType::Int),
+    );
+    add_type(
+        rt,
+        &mut attrs,
+        attr::href,
+        AttrType::Native(NativeType::Str),
+    );
+    ElementInfo::new(tag::a, attrs)
+}
+
+static WRONG_NUMBER: [Row; 3] = [
+    ("tabindex", 2, Sample::Text("q")),
+    ("href", 3, Sample::Hole),
+    ("", 4, Sample::Text("t")),
+];
+
+#[test]
+fn a_text_for_a_number_and_a_body_for_a_text(rt: HostRuntime) {
+    let info = numbered_link(&rt, rt.alloc());
+    let wanted = "16 at 2;16 at 3; | 2 3 4";
+    assert_made(&rt, rt.alloc(), &info, &WRONG_NUMBER, wanted);
+}
+
 #[test]
 fn no_arguments(rt: HostRuntime) {
     assert_link(&rt, rt.alloc(), &[], "<a> at 0 |");

@@ -15,8 +15,8 @@ pub returns-clause-makes : goal.returns-clause-makes
 returns-clause-makes g c =
     let made = c.in_ok-document.ensures.made in
     exported (g.F.FrameWriter.drawing c.args.frames.now) c.args.options.now c.args.limit
-    (info_view c.args.info.now) (items_view c.args.items.now) (items_view c.args.footnotes.now)
-    (document_view c.in_ok-document.document) c.html.result made.made made.clean
+    (items_view c.args.items.now) (items_view c.args.footnotes.now)
+    (document_view c.in_ok-document.document) _ c.html.result made.made made.clean
     c.html.ensures.makes
 
 pub returns-in_err-document-clause-plain : goal.returns-in_err-document-clause-plain
