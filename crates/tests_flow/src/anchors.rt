@@ -194,23 +194,21 @@ fn frame(rt: &impl Abort, alloc: Global) -> FrameElem {
     }
 }
 
-fn add(rt: &impl Abort, items: &mut Vec<Pair>, item: Item) {
+pub(crate) fn add(rt: &impl Abort, items: &mut Vec<Pair>, item: Item) {
     let role = Role::Inherit;
     items
         .push(Pair { item, role })
         .expect(rt, "memory for an item");
 }
 
-/// A start tag of 6, and then the frame.
-fn framed(rt: &impl Abort, alloc: Global) -> Vec<Pair> {
-    let mut items = Vec::new(alloc);
-    add(rt, &mut items, Item::Tag(start(6)));
-    add(rt, &mut items, Item::Frame(frame(rt, alloc)));
-    items
+/// Adds a start tag of 6, and then a frame with one of 7.
+pub(crate) fn add_framed(rt: &impl Abort, alloc: Global, items: &mut Vec<Pair>) {
+    add(rt, items, Item::Tag(start(6)));
+    add(rt, items, Item::Frame(frame(rt, alloc)));
 }
 
 /// The children of that child.
-fn children_at(nodes: &[HtmlNode], place: usize) -> Option<&[HtmlNode]> {
+pub(crate) fn children_at(nodes: &[HtmlNode], place: usize) -> Option<&[HtmlNode]> {
     match nodes.get(place) {
         Some(HtmlNode::Element(element)) => Some(&element.children),
         _ => None,
@@ -242,7 +240,9 @@ fn assert_inside(rt: &impl Abort, frame: &HtmlFrame, wanted: &str) {
 /// A frame serves the start tag before it, and has an anchor of its own for one in it.
 #[test]
 fn anchors_in_frames(rt: HostRuntime) {
-    let document = document_of(&rt, rt.alloc(), &framed(&rt, rt.alloc()));
+    let mut items = Vec::new(rt.alloc());
+    add_framed(&rt, rt.alloc(), &mut items);
+    let document = document_of(&rt, rt.alloc(), &items);
     let frame = last_frame(&document).expect(&rt, "a frame");
     assert_id(&rt, frame, "loc-1");
     assert_inside(&rt, frame, "loc-2");

@@ -1,10 +1,12 @@
 //! Links that are given an `href`, and links that lead nowhere.
 
-use crate::anchors::{document_of, document_text, html_of};
+use crate::anchors::{add, add_framed, children_at, document_of, document_text, html_of};
 use crate::given::items_of;
 use html_dom_document::HtmlDocument;
 use html_dom_link::{dead_links, resolve_links};
-use html_dom_tree::{Location, Span};
+use html_dom_tree::{HtmlNode, Location, Span, Tag};
+use html_flow::{HtmlElem, Item, Pair};
+use html_names::{attr, tag};
 use std::alloc::Global;
 use std::process::Abort;
 
@@ -90,6 +92,40 @@ fn links_lead(rt: HostRuntime) {
             wanted.as_str()
         );
     }
+}
+
+/// Adds a link to that location.
+fn add_link(rt: &impl Abort, alloc: Global, items: &mut Vec<Pair>, location: u64, dest: u64) {
+    let start = Tag::Start {
+        location: Location(location),
+        label: None,
+        dest: Some(Location(dest)),
+    };
+    add(rt, items, Item::Tag(start));
+    add(rt, items, Item::Element(HtmlElem::new(alloc, tag::a)));
+}
+
+/// Asserts the `href` of the link at that place.
+fn assert_href(rt: &impl Abort, nodes: &[HtmlNode], place: usize, wanted: &str) {
+    let Some(HtmlNode::Element(link)) = nodes.get(place) else {
+        rt.abort();
+    };
+    let href = link.attrs.get(&attr::href).expect(rt, "an href");
+    assert_eq!(rt; href.as_str(), wanted);
+}
+
+/// To a frame, and to a place in it.
+#[test]
+fn links_lead_into_frames(rt: HostRuntime) {
+    let mut items = Vec::new(rt.alloc());
+    add_link(&rt, rt.alloc(), &mut items, 1, 6);
+    add_link(&rt, rt.alloc(), &mut items, 2, 7);
+    add_framed(&rt, rt.alloc(), &mut items);
+    let mut document = document_of(&rt, rt.alloc(), &items);
+    resolve_links(rt.alloc(), &mut document).expect(&rt, "memory for links");
+    let body = children_at(&document.root().children, 1).expect(&rt, "a body");
+    assert_href(&rt, body, 1, "#loc-1");
+    assert_href(&rt, body, 3, "#loc-2");
 }
 
 /// Items, and the spans and destinations of their dead links.

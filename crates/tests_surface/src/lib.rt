@@ -24,6 +24,8 @@ mod program;
 #[cfg(test)]
 mod readme;
 #[cfg(test)]
+mod site;
+#[cfg(test)]
 mod styles;
 #[cfg(test)]
 mod values;

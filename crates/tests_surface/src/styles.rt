@@ -190,6 +190,7 @@ macro_rules! items_are_exported {
     ($alloc:expr) => {{
         let (info, options) = (DocumentInfo::new($alloc), HtmlOptions::default());
         let _ = export($alloc, &[], &info, &[], 50, &options, &())?;
+        let _ = export_linked($alloc, &[], &info, &[], 50, &options, &())?;
         Ok(())
     }};
 }

@@ -12,7 +12,7 @@ use std::alloc::Global;
 use std::process::Abort;
 use tests_growth::{Answer, Growth, made, refused};
 use typst_html_encode::{ExportFault, HtmlOptions, html_in_bundle};
-use typst_html_export::{export, html, html_document, html_document_for_bundle};
+use typst_html_export::{export, export_linked, html, html_document, html_document_for_bundle};
 
 /// What a document is made of.
 #[derive(Debug, Drop)]
@@ -30,6 +30,7 @@ enum Source {
     Bundled(Content),
     Made(Content),
     Exported(Content),
+    Linked(Content),
 }
 
 /// A call on the source, which is shown by that text.
@@ -82,6 +83,18 @@ fn is_exported(alloc: Global, content: &Content, call: &TextCall) -> Result<bool
     Ok(!text.is_empty())
 }
 
+/// Whether the content gives a text, once its links are resolved.
+fn is_linked(alloc: Global, content: &Content, call: &TextCall) -> Result<bool, ExportFault> {
+    let Content {
+        items,
+        footnotes,
+        info,
+    } = content;
+    let (options, frames) = (&call.options, &call.frames);
+    let text = export_linked(alloc, items, info, footnotes, 9, options, frames)?;
+    Ok(!text.is_empty())
+}
+
 /// Whether the call gives what it is there for.
 fn is_right(alloc: Global, call: &TextCall) -> Result<bool, ExportFault> {
     let TextCall {
@@ -96,6 +109,7 @@ fn is_right(alloc: Global, call: &TextCall) -> Result<bool, ExportFault> {
         Source::Bundled(content) => is_bundled(alloc, content),
         Source::Made(content) => is_made(alloc, content),
         Source::Exported(content) => is_exported(alloc, content, call),
+        Source::Linked(content) => is_linked(alloc, content, call),
     }
 }
 
@@ -133,11 +147,12 @@ fn call(rt: &impl Abort, alloc: Global, source: Source, pretty: bool) -> TextCal
 }
 
 /// Each call that writes a text.
-fn writings(rt: &impl Abort, alloc: Global, pretty: bool) -> [TextCall; 3] {
+fn writings(rt: &impl Abort, alloc: Global, pretty: bool) -> [TextCall; 4] {
     [
         call(rt, alloc, Source::Tree(element_of(rt, alloc)), pretty),
         call(rt, alloc, Source::Document(document_of(rt, alloc)), pretty),
         call(rt, alloc, Source::Exported(sources_of(rt, alloc)), pretty),
+        call(rt, alloc, Source::Linked(sources_of(rt, alloc)), pretty),
     ]
 }
 
