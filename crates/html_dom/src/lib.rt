@@ -22,7 +22,7 @@ pub use html_dom_document::{DocumentInfo, HtmlDocument, HtmlOutput, Locale};
 pub use html_dom_flat::{FlatElement, FlatNode, FlatTree};
 pub use html_dom_introspect::{DomIndices, HtmlIntrospector, HtmlPosition, HtmlSliceExt};
 pub use html_dom_link::{
-    DeadLink, create_link_anchors, dead_links, resolve_links, with_resolved_links,
+    DeadLink, create_link_anchors, dead_links, ids_are_distinct, resolve_links, with_resolved_links,
 };
 pub use html_dom_tree::{
     Frame, FrameItem, HtmlAttrs, HtmlElement, HtmlFrame, HtmlNode, Location, Point, Span, Tag,

@@ -3,13 +3,15 @@ use Rattle.std.proofs.Common.{◌≡◌, ℕ, Bool, true, Option, ap, sym, ◌�
 use Rattle.html_dom_tree.specs.Tree.{ElementView}
 use Rattle.html_names.specs.Names.{stands_in}
 use Rattle.html_dom_document.specs.Documents.{DocumentView, document_root}
-use Rattle.html_dom_link.specs.NewNames.{Name}
+use Rattle.html_dom_link.specs.NewNames.{Name, element_names}
 use Rattle.html_dom_link.specs.UsedNames.{IsBounded}
 use Rattle.html_dom_link.specs.Answered.{names_shown}
+use Rattle.html_dom_link.specs.Distinct.{IdsAreDistinct, are_distinct}
 use Rattle.html_dom_link.specs.DocumentNames.{AnchorsAreNew, AnchorsAreShown}
 use Rattle.html_dom_link.specs.LinkAnchors.{document_targets, document_anchored, document_anchor}
 use Rattle.html_dom_link.specs.Serving.{AreServing, serving_name}
 use Rattle.html_dom_link.specs.Walk.{Walked, walked}
+use Rattle.html_dom_link.proofs.Counting.{anchors_stay_distinct}
 use Rattle.html_dom_link.proofs.Freshes.{made_in_walk}
 use Rattle.html_dom_link.proofs.ChangedRoots.{root_has_anchors}
 use Rattle.html_dom_link.proofs.Serving.{anchors_serve}
@@ -43,3 +45,12 @@ anchors_are_serving is_target d new anchor new_is anchor_is =
     ap (λ f. f l) anchor_is
     ∙ (anchors_serve x (document_root d) l
     ∙ ap (λ (r : ElementView). serving_name x r.1 l) (sym (root_has_anchors is_target d))))
+
+-- and all names differ where they did
+pub ids_stay_distinct : (is_target : ℕ → Bool) (d new : DocumentView) →
+    new ≡ document_anchored is_target d → AnchorsAreNew is_target d → IdsAreDistinct d →
+    IdsAreDistinct new
+ids_stay_distinct is_target d new new_is made_new distinct =
+    ap (λ (v : DocumentView). are_distinct (element_names (document_root v))) new_is
+    ∙ (ap (λ (e : ElementView). are_distinct (element_names e)) (root_has_anchors is_target d)
+    ∙ anchors_stay_distinct (document_targets is_target d) (document_root d) made_new distinct)

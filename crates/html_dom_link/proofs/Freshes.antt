@@ -10,16 +10,11 @@ use Rattle.html_dom_link.specs.Groups.{Cut, own_name, label_for, cuts}
 use Rattle.html_dom_link.specs.Namings.{made_for, starts_in, start_pairs, used_after_starts, with_made, made_at, naming, used_after, namings}
 use Rattle.html_dom_link.specs.Fresh.{AreNew, names_made, all_made, MadeAreNew, NamesAreNew}
 use Rattle.html_dom_link.specs.Walk.{walked}
-use Rattle.html_dom_link.proofs.Gathering.{with-none, with-one, with-append}
+use Rattle.html_dom_link.proofs.Gathering.{with-none, with-one, with-append, with-more}
 use Rattle.html_dom_link.proofs.Numbers.{new_is_new}
 use Rattle.html_dom_link.proofs.States.{Groups, step, finished}
 use Rattle.html_dom_link.proofs.UsedNames.{or_right}
 use Rattle.html_dom_link.proofs.Walks.{walk_is}
-
--- one name more, before others
-with-more : (n : Name) (ns : List Name) (used : Name → Bool) →
-    with_names (n ∷ ns) used ≡ with_names ns (with_name n used)
-with-more n ns used = with-append (n ∷ []) ns used ∙ ap (with_names ns) (with-one n used)
 
 -- before more were put in use there were no more
 bounded_before : (names : List Name) (used : Name → Bool) → IsBounded (with_names names used) →

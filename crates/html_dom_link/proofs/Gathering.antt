@@ -1,6 +1,6 @@
--- The names of a tree, put in use one after the other.
+-- The names of a tree, listed one after the other, and then put in use.
 use Rattle.std.proofs.Common.{◌≡◌, ℕ, suc, ◌+◌, ◌<◌, ◌≤◌, Bool, true, false, ◌||◌, List, [], ◌∷◌, ◌++◌, length, get_or, drop, refl, ap, sym, ◌∙◌, bytes_eq, append_assoc, add-one, drop-cons, String, Global, rules}
-use Rattle.std.specs.Prelude.{if◌then◌else◌, codes}
+use Rattle.std.specs.Prelude.{if◌then◌else◌, codes, option_to_list}
 use Rattle.std.proofs.Math.Path.{fun_ext}
 use Rattle.std.proofs.lemmas.List.{append-nil, drop_all}
 use Rattle.html_names.specs.Names.{stands_in}
@@ -12,7 +12,7 @@ use Rattle.html_dom_tree.specs.Views.{text_view, node_view}
 use Rattle.html_dom_tree.specs.declared.introspection.Tag.{Tag}
 use Rattle.html_dom_tree.specs.declared.node.HtmlNode.{HtmlNode}
 use Rattle.html_dom_tree.specs.declared.span.Span.{Span}
-use Rattle.html_dom_link.specs.NewNames.{Name, with_name, all_ids, frame_names, nodes_names}
+use Rattle.html_dom_link.specs.NewNames.{Name, with_name, all_ids, anchor_names, frame_names, nodes_names}
 use Rattle.html_dom_link.specs.UsedNames.{with_names}
 
 or-assoc : (a b c : Bool) → ((a || b) || c) ≡ (a || (b || c))
@@ -56,27 +56,31 @@ with-all names = fun_ext (λ n. or_false (stands_in names n))
     or_false true = refl
     or_false false = refl
 
+-- a name more
+pub with-more : (n : Name) (ns : List Name) (used : Name → Bool) →
+    with_names (n ∷ ns) used ≡ with_names ns (with_name n used)
+with-more n ns used = with-append (n ∷ []) ns used ∙ ap (with_names ns) (with-one n used)
+
 -- one thing more of a list, by the names of each
 module _ {A : Type 0} (names : List A → List Name)
     (splits : (x : A) (xs : List A) → names (x ∷ xs) ≡ names (x ∷ []) ++ names xs) where
-  pub gathered : (xs : List A) (i : ℕ) (d : A) (old new all : Name → Bool) → i < length xs →
-      with_names (names (drop i xs)) old ≡ all →
-      new ≡ with_names (names (get_or xs i d ∷ [])) old →
-      with_names (names (drop (i + 1) xs)) new ≡ all
+  pub gathered : (xs : List A) (i : ℕ) (d : A) (old new all : List Name) → i < length xs →
+      old ++ names (drop i xs) ≡ all → new ≡ old ++ names (get_or xs i d ∷ []) →
+      new ++ names (drop (i + 1) xs) ≡ all
   gathered xs i d old new all h so_far more =
       let x = get_or xs i d in
       let rest = drop (suc i) xs in
       rw (add-one, more)
-      (sym (with-append (names (x ∷ [])) (names rest) old)
-      ∙ (ap (λ ns. with_names ns old) (sym (splits x rest))
-      ∙ (ap (λ ys. with_names (names ys) old) (sym (drop-cons xs i d h)) ∙ so_far)))
+      (append_assoc old (names (x ∷ [])) (names rest)
+      ∙ (ap (λ ns. old ++ ns) (sym (splits x rest))
+      ∙ (ap (λ ys. old ++ names ys) (sym (drop-cons xs i d h)) ∙ so_far)))
 
-  pub gathered_all : names [] ≡ [] → (xs : List A) (i : ℕ) (used all : Name → Bool) →
-      length xs ≤ i → with_names (names (drop i xs)) used ≡ all → used ≡ all
-  gathered_all none_named xs i used all h e =
-      sym (with-none used)
-      ∙ (ap (λ ns. with_names ns used) (sym none_named)
-      ∙ (ap (λ ys. with_names (names ys) used) (sym (drop_all i xs h)) ∙ e))
+  pub gathered_all : names [] ≡ [] → (xs : List A) (i : ℕ) (old all : List Name) →
+      length xs ≤ i → old ++ names (drop i xs) ≡ all → old ≡ all
+  gathered_all none_named xs i old all h e =
+      sym (append-nil old)
+      ∙ (ap (λ ns. old ++ ns) (sym none_named)
+      ∙ (ap (λ ys. old ++ names ys) (sym (drop_all i xs h)) ∙ e))
 
 pub ids_split : (p : TextPair) (ps : List TextPair) →
     all_ids (p ∷ ps) ≡ all_ids (p ∷ []) ++ all_ids ps
@@ -86,16 +90,6 @@ ids_split p ps = by_name (bytes_eq p.0 (codes "id"))
         ≡ (if b then p.1 ∷ [] else []) ++ all_ids ps
     by_name true = refl
     by_name false = refl
-
-pub id_put : (b : Bool) (value : Name) (used : Name → Bool) → b ≡ true →
-    with_name value used ≡ with_names (if b then value ∷ [] else []) used
-id_put true value used e = sym (with-one value used)
-id_put false value used e = cc
-
-pub id_passed : (b : Bool) (value : Name) (used : Name → Bool) → b ≡ false →
-    used ≡ with_names (if b then value ∷ [] else []) used
-id_passed true value used e = cc
-id_passed false value used e = sym (with-none used)
 
 pub nodes_split : (n : NodeView) (ns : NodesView) →
     nodes_names (node n ns) ≡ nodes_names (node n none) ++ nodes_names ns
@@ -109,28 +103,37 @@ nodes_split (element_node h kids) ns =
 nodes_split (frame_node f) ns =
     ap (λ l. l ++ nodes_names ns) (sym (append-nil (frame_names f)))
 
-pub element_put : (h : Head) (kids : NodesView) (used : Name → Bool) →
-    with_names (nodes_names kids) (with_names (all_ids h.attrs) used)
-    ≡ with_names (nodes_names (node (element_node h kids) none)) used
+-- the names of an element are its own and those below it
+pub element_listed : (h : Head) (kids : NodesView) (old mid new : List Name) →
+    mid ≡ old ++ all_ids h.attrs → new ≡ mid ++ nodes_names kids →
+    new ≡ old ++ nodes_names (node (element_node h kids) none)
 unfolding nodes_names
-element_put h kids used =
-    sym (with-append (all_ids h.attrs) (nodes_names kids) used)
-    ∙ ap (λ ns. with_names (all_ids h.attrs ++ ns) used) (sym (append-nil (nodes_names kids)))
+element_listed h kids old mid new mid_is new_is =
+    new_is
+    ∙ (ap (λ l. l ++ nodes_names kids) mid_is
+    ∙ (append_assoc old (all_ids h.attrs) (nodes_names kids)
+    ∙ ap (λ ns. old ++ (all_ids h.attrs ++ ns)) (sym (append-nil (nodes_names kids)))))
 
-pub frame_put : (f : HtmlFrameView) (used : Name → Bool) →
-    with_names (frame_names f) used ≡ with_names (nodes_names (node (frame_node f) none)) used
+-- those of a frame are its `id` and its anchors
+pub frame_listed : (f : HtmlFrameView) (old mid new : List Name) →
+    mid ≡ old ++ option_to_list f.id → new ≡ mid ++ anchor_names f.anchors →
+    new ≡ old ++ nodes_names (node (frame_node f) none)
 unfolding nodes_names
-frame_put f used = ap (λ ns. with_names ns used) (sym (append-nil (frame_names f)))
+frame_listed f old mid new mid_is new_is =
+    new_is
+    ∙ (ap (λ l. l ++ anchor_names f.anchors) mid_is
+    ∙ (append_assoc old (option_to_list f.id) (anchor_names f.anchors)
+    ∙ ap (λ ns. old ++ ns) (sym (append-nil (frame_names f)))))
 
-pub tag_put : (t : TagView) (used : Name → Bool) →
-    used ≡ with_names (nodes_names (node (tag_node t) none)) used
+-- a tag and a text have none
+tag_listed : (t : TagView) (old : List Name) → old ≡ old ++ nodes_names (node (tag_node t) none)
 unfolding nodes_names
-tag_put t used = sym (with-none used)
+tag_listed t old = sym (append-nil old)
 
-pub text_put : (s : List ℕ) (span : ℕ) (used : Name → Bool) →
-    used ≡ with_names (nodes_names (node (text_node s span) none)) used
+text_listed : (s : List ℕ) (span : ℕ) (old : List Name) →
+    old ≡ old ++ nodes_names (node (text_node s span) none)
 unfolding nodes_names
-text_put s span used = sym (with-none used)
+text_listed s span old = sym (append-nil old)
 
 -- the views of nodes, case by case
 node_view-Tag : (t : Tag) → node_view (HtmlNode.Tag t) ≡ tag_node (tag_view t)
@@ -140,17 +143,14 @@ node_view-Text : (s : String Global) (span : Span) →
     node_view (HtmlNode.Text s span) ≡ text_node (text_view s) span.0
 node_view-Text s span = search (rules, the_lemmas)
 
--- a tag and a text have no names
-pub tag_passed : (n : HtmlNode) (t : Tag) (used : Name → Bool) → n ≡ HtmlNode.Tag t →
-    used ≡ with_names (nodes_names (node (node_view n) none)) used
-tag_passed n t used e =
-    tag_put (tag_view t) used
-    ∙ ap (λ m. with_names (nodes_names (node m none)) used)
-    (sym (ap node_view e ∙ node_view-Tag t))
+pub tag_passed : (n : HtmlNode) (t : Tag) (old : List Name) → n ≡ HtmlNode.Tag t →
+    old ≡ old ++ nodes_names (node (node_view n) none)
+tag_passed n t old e =
+    tag_listed (tag_view t) old
+    ∙ ap (λ m. old ++ nodes_names (node m none)) (sym (ap node_view e ∙ node_view-Tag t))
 
-pub text_passed : (n : HtmlNode) (s : String Global) (span : Span) (used : Name → Bool) →
-    n ≡ HtmlNode.Text s span → used ≡ with_names (nodes_names (node (node_view n) none)) used
-text_passed n s span used e =
-    text_put (text_view s) span.0 used
-    ∙ ap (λ m. with_names (nodes_names (node m none)) used)
-    (sym (ap node_view e ∙ node_view-Text s span))
+pub text_passed : (n : HtmlNode) (s : String Global) (span : Span) (old : List Name) →
+    n ≡ HtmlNode.Text s span → old ≡ old ++ nodes_names (node (node_view n) none)
+text_passed n s span old e =
+    text_listed (text_view s) span.0 old
+    ∙ ap (λ m. old ++ nodes_names (node m none)) (sym (ap node_view e ∙ node_view-Text s span))

@@ -4,7 +4,7 @@ use Rattle.std.specs.BTreeMap.{BTreeMap, get}
 use Rattle.std.specs.Prelude.{if◌then◌else◌, is_some, option_map}
 use Rattle.std.proofs.lemmas.Bool.{and_parts}
 use Rattle.std.proofs.lemmas.Bool.Decides.{nat_tests}
-use Rattle.std.proofs.lemmas.List.Elements.{All-nil, All-cons, All-append}
+use Rattle.std.proofs.lemmas.List.Elements.{All-nil, All-cons, All-append, All-weaker}
 use Rattle.std.proofs.lemmas.Str.{IsUtf8-string_bytes, chars-encodes}
 use lib.Utf8.{encode, encodes, scalar, scalars}
 use Rattle.percent_encoding.specs.Percent.{percent_encode}
@@ -20,12 +20,14 @@ use Rattle.html_dom_document.specs.Views.{document_view}
 use Rattle.html_dom_document.specs.declared.document.HtmlDocument.{HtmlDocument}
 use Rattle.html_dom_link.specs.Answered.{names_shown}
 use Rattle.html_dom_link.specs.DeadLinks.{dead_links_view}
+use Rattle.html_dom_link.specs.Distinct.{IdsAreDistinct, GivenLinksLeadToOne, LeadsToOne, are_distinct}
 use Rattle.html_dom_link.specs.Leads.{KnownAnchorsAreShown, AnchorsAreTexts, EveryLinkLeads, GivenLinksLead, LeadsAmong, LeadsTo, given_by, given_link, links_without, node_given, nodes_given}
 use Rattle.html_dom_link.specs.Links.{Anchors, attrs_with_href, dest_before, document_dead_links, document_with_links, head_with_link, href_to, is_open, name_of, node_with_links, nodes_with_links, some_name}
-use Rattle.html_dom_link.specs.NewNames.{Name}
+use Rattle.html_dom_link.specs.NewNames.{Name, element_names}
 use Rattle.html_dom_link.specs.declared.dead.DeadLink.{DeadLink}
 use Rattle.html_dom_link.specs.declared.links.TheConstants.{FRAGMENT}
 use Rattle.html_dom_link.proofs.ChangedRoots.{root_has_links}
+use Rattle.html_dom_link.proofs.Counting.{all_names_stay, shown_once}
 use Rattle.html_dom_link.proofs.LeadingLinks.{left_are_dead, names_stay}
 
 -- a character is written in bytes
@@ -160,6 +162,27 @@ pub document_links_lead : (old : HtmlDocument) (new : DocumentView) →
     GivenLinksLead (document_view old) new
 document_links_lead old new =
     given_links_lead (document_view old) new (texts_in old.introspector.anchors)
+
+-- names that differ do so with links too
+pub links_stay_distinct : (d new : DocumentView) → new ≡ document_with_links d → IdsAreDistinct d →
+    IdsAreDistinct new
+links_stay_distinct d new is distinct =
+    ap (λ (v : DocumentView). are_distinct (element_names (document_root v))) is
+    ∙ (ap (λ (e : ElementView). are_distinct (element_names e)) (root_has_links d)
+    ∙ (ap are_distinct (all_names_stay d.introspector.anchor (document_root d)) ∙ distinct))
+
+-- and then each link leads to one name
+pub links_lead_to_one : (old : HtmlDocument) (new : DocumentView) →
+    new ≡ document_with_links (document_view old) → KnownAnchorsAreShown (document_view old) →
+    IdsAreDistinct (document_view old) → GivenLinksLeadToOne (document_view old) new
+links_lead_to_one old new is shown was_distinct =
+    let root = document_root new in
+    let anchor = new.introspector.anchor in
+    let names = names_shown root.1 in
+    let distinct = links_stay_distinct (document_view old) new is was_distinct in
+    All-weaker (LeadsAmong anchor names) (LeadsToOne anchor names (element_names root))
+    (λ link leads. record { among = leads; once = shown_once leads.name root distinct leads.stands })
+    _ (document_links_lead old new is shown)
 
 -- what is left without an `href` is dead
 pub left_in_document : (d new : DocumentView) → new ≡ document_with_links d →

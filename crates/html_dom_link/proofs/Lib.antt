@@ -1,6 +1,8 @@
 pub mod Back
 pub mod ChangedRoots
 pub mod Consequences
+pub mod Counting
+pub mod Differing
 pub mod DocumentNames
 pub mod Freshes
 pub mod Gathering

@@ -25,7 +25,7 @@ use Rattle.html_names.proofs.Lists.{chars_ascii}
 use Rattle.html_dom_link.specs.NewNames.{Name, numbered, stem_of}
 use Rattle.html_dom_link.specs.UsedNames.{is_nothing, AreUsedBelow, IsCounted}
 
-bytes_eq-sym : (a b : List ℕ) → bytes_eq a b ≡ bytes_eq b a
+pub bytes_eq-sym : (a b : List ℕ) → bytes_eq a b ≡ bytes_eq b a
 bytes_eq-sym a b =
     one_answer (bytes_eq a b) (bytes_eq b a) (bytes_eq-Decides a b)
     (λ h. sym ((bytes_eq-Decides b a).0 h), λ e. (bytes_eq-Decides b a).1 (sym e))

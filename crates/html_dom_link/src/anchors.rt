@@ -2,6 +2,7 @@ ghost use Rattle.std.specs.Prelude.{◌≡◌, IfOk, OnOk, OnErr};
 ghost use Rattle.html_dom_tree.specs.Views.{nodes_view};
 ghost use Rattle.html_dom_document.specs.Views.{document_view};
 ghost use Rattle.html_dom_introspect.specs.Introspectors.{has, text_in};
+ghost use Rattle.html_dom_link.specs.Distinct.{IdsAreDistinct};
 ghost use Rattle.html_dom_link.specs.DocumentNames.{AnchorsAreNew, AnchorsAreShown};
 ghost use Rattle.html_dom_link.specs.LinkAnchors.{document_anchor, document_anchored};
 ghost use Rattle.html_dom_link.specs.Serving.{AreServing};
@@ -28,8 +29,9 @@ use std::mem;
 /// of the first label of that location. Where a location was recorded in a frame, each of its start
 /// tags in frames gets an anchor of its own, at the recorded point. New names differ from each
 /// other and from all that the tree has, and each name that is answered is that of what serves the
-/// location in the new tree. It fails only where an allocation does, and then the document is as it
-/// was.
+/// location in the new tree. Where all values of `id` differed, they still do
+/// ([`ids_are_distinct`](crate::ids_are_distinct)). It fails only where an allocation does, and then
+/// the document is as it was.
 ///
 /// The new tree is made beside the old one. [`with_link_anchors`] takes a document, and copies
 /// nothing.
@@ -47,6 +49,8 @@ pub fn create_link_anchors(
         AnchorsAreShown (text_in anchors) (document_view document.new)) }
     ensures serves { IfOk result (λ anchors.
         AreServing (has targets.now) (text_in anchors) (document_view document.new)) }
+    ensures distinct { IdsAreDistinct (document_view document.old) →
+        OnOk result (IdsAreDistinct (document_view document.new)) }
     ensures kept { OnErr result (document.new ≡ document.old) }
 {
     let names = element_names(alloc, document.root())?;
@@ -77,6 +81,8 @@ pub fn with_link_anchors(
         AnchorsAreShown (text_in made.1) (document_view made.0)) }
     ensures serves { IfOk result (λ made.
         AreServing (has targets.now) (text_in made.1) (document_view made.0)) }
+    ensures distinct { IdsAreDistinct (document_view document) →
+        IfOk result (λ made. IdsAreDistinct (document_view made.0)) }
 {
     let names = element_names(alloc, document.root())?;
     let children = mem::replace(&mut document.root_mut().children, Vec::new(alloc));

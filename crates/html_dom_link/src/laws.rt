@@ -1,6 +1,7 @@
 //! Laws of anchors. Each function has a law as its contract, and does nothing.
 
 ghost use Rattle.html_dom_link.specs.Answered.{AnswersAreShown, AnswersAreFirstIds, StaysFrameFree, NoTargetNoChange};
+ghost use Rattle.html_dom_link.specs.Distinct.{AnchorsStayDistinct, AllNamesStay};
 ghost use Rattle.html_dom_link.specs.Fresh.{NamesAreNew, IsFirstFree};
 ghost use Rattle.html_dom_link.specs.LinkLaws.{HrefsDecode, LeftAreDead, NamesStay};
 ghost use Rattle.html_dom_link.specs.Seen.{StaysSeen};
@@ -82,4 +83,12 @@ pub fn names_stay()
 #[tactic(auto, using(crate::proofs::LeadingLinks::left_are_dead))]
 pub fn left_are_dead()
     ensures { LeftAreDead }
+{}
+
+/// Anchors whose names are new, as each call that makes some says of them, leave a tree whose names
+/// differ such a tree; links that are given an `href` change none of these names.
+#[tactic(auto, using(crate::proofs::Counting::anchors_stay_distinct, crate::proofs::Counting::all_names_stay))]
+pub fn names_stay_distinct()
+    ensures anchors { AnchorsStayDistinct }
+    ensures links { AllNamesStay }
 {}

@@ -4,6 +4,7 @@
 mod anchors;
 mod changes;
 mod dead;
+mod distinct;
 mod elements;
 mod frames;
 pub mod laws;
@@ -17,4 +18,5 @@ mod state;
 
 pub use anchors::{create_link_anchors, with_link_anchors};
 pub use dead::{DeadLink, dead_links};
+pub use distinct::ids_are_distinct;
 pub use links::{resolve_links, with_resolved_links};

@@ -6,6 +6,7 @@ ghost use Rattle.html_dom_document.specs.Views.{document_view};
 ghost use Rattle.html_dom_tree.specs.Tree.{NodeView, element_node};
 ghost use Rattle.html_dom_tree.specs.Views.{attrs_view, element_view, node_view, nodes_view, text_view};
 ghost use Rattle.html_dom_introspect.specs.Introspectors.{introspector_view};
+ghost use Rattle.html_dom_link.specs.Distinct.{IdsAreDistinct, GivenLinksLeadToOne};
 ghost use Rattle.html_dom_link.specs.Leads.{KnownAnchorsAreShown, GivenLinksLead, links_without};
 ghost use Rattle.html_dom_link.specs.Links.{attrs_with_href, dest_before, document_dead_links, document_with_links, href_to, is_open, name_of, node_with_links, nodes_with_links, open_dest};
 ghost use Rattle.html_dom_link.specs.Serving.{KnownAnchorsServe};
@@ -41,7 +42,8 @@ pub(crate) const FRAGMENT: AsciiSet = ascii_set!(
 /// Each `href` that is given leads: where the anchors that the introspector knows stand in the tree,
 /// as they do in a document of `html_document`, the decoded name is the first `id` of an element below
 /// the root, the `id` of a frame, or one of a frame's anchors; it stays the name of what serves the
-/// destination there.
+/// destination there. Where all values of `id` differ ([`ids_are_distinct`](crate::ids_are_distinct)),
+/// they still do, and that name stands at one place alone.
 ///
 /// It fails only where an allocation does, and then the document is as it was. The new tree is made
 /// beside the old one.
@@ -61,6 +63,11 @@ pub fn resolve_links(alloc: Global, document: &mut HtmlDocument) -> Result<(), A
         ≡ document_dead_links (document_view document.old)) }
     ensures serves { KnownAnchorsServe (document_view document.old) →
         OnOk result (KnownAnchorsServe (document_view document.new)) }
+    ensures distinct { IdsAreDistinct (document_view document.old) →
+        OnOk result (IdsAreDistinct (document_view document.new)) }
+    ensures one { KnownAnchorsAreShown (document_view document.old) →
+        IdsAreDistinct (document_view document.old) → OnOk result
+        (GivenLinksLeadToOne (document_view document.old) (document_view document.new)) }
     ensures err { OnErr result (document.new ≡ document.old) }
 {
     let HtmlElement { children, .. } = document.root().try_clone()?;
@@ -83,6 +90,11 @@ pub fn with_resolved_links(
         ≡ document_dead_links (document_view document)) }
     ensures serves { KnownAnchorsServe (document_view document) →
         IfOk result (λ made. KnownAnchorsServe (document_view made)) }
+    ensures distinct { IdsAreDistinct (document_view document) →
+        IfOk result (λ made. IdsAreDistinct (document_view made)) }
+    ensures one { KnownAnchorsAreShown (document_view document) →
+        IdsAreDistinct (document_view document) → IfOk result (λ made.
+        GivenLinksLeadToOne (document_view document) (document_view made)) }
     ensures back { IfErr result (λ refused. refused.back ≡ document) }
 {
     match resolve_links(alloc, &mut document) {

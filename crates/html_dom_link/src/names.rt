@@ -48,14 +48,14 @@ fn first_free(
 }
 
 /// Whether a name is in use.
-fn is_used(used: &BTreeSet<String>, name: &String) -> bool
+pub(crate) fn is_used(used: &BTreeSet<String>, name: &String) -> bool
     ensures { result ≡ used_in used.now (text_view name.now) }
 {
     used.contains(name.as_str())
 }
 
 /// Puts a name in use.
-fn put_in_use(used: &mut BTreeSet<String>, name: String) -> Result<(), AllocError>
+pub(crate) fn put_in_use(used: &mut BTreeSet<String>, name: String) -> Result<(), AllocError>
     ensures ok { OnOk result (used_in used.new ≡ with_name (text_view name) (used_in used.old)) }
     ensures grows { (n : Name) → used_in used.old n ≡ true → used_in used.new n ≡ true }
 {

@@ -1,118 +1,134 @@
 //! The names that a tree holds.
 
-ghost use Rattle.std.specs.Prelude.{◌≡◌, [], ◌∷◌, OnOk, IfOk, option_to_list};
+ghost use Rattle.std.specs.Prelude.{◌≡◌, ◌++◌, [], ◌∷◌, OnOk, IfOk, option_to_list};
 ghost use Rattle.html_dom_tree.specs.FrameViews.{html_frame_view, anchors_view};
 ghost use Rattle.html_dom_tree.specs.Tree.{element_node, frame_node, node, none};
 ghost use Rattle.html_dom_tree.specs.Views.{pair_view, attrs_view, node_view, nodes_view, element_view, optional_text_view};
 ghost use Rattle.html_names.specs.Names.{stands_in};
+ghost use Rattle.html_dom_link.specs.Distinct.{names_view};
 ghost use Rattle.html_dom_link.specs.NewNames.{all_ids, anchor_names, nodes_names, element_names};
-ghost use Rattle.html_dom_link.specs.UsedNames.{used_in, with_names};
+ghost use Rattle.html_dom_link.specs.UsedNames.{used_in};
 
 use crate::names::AnchorNames;
 use html_dom_tree::{HtmlAttrs, HtmlElement, HtmlFrame, HtmlNode, Point};
 use html_names::{HtmlAttr, attr};
 use std::alloc::{AllocError, Global};
 
-/// The names of an element and of all below it.
+/// The names of an element and of all below it, in use.
 pub(crate) fn element_names(alloc: Global, element: &HtmlElement) -> Result<AnchorNames, AllocError>
     ensures { IfOk result (λ names. used_in names.used
         ≡ stands_in (element_names (element_view element.now))) }
 {
     let mut names = AnchorNames::new(alloc);
-    put_ids(&mut names, &element.attrs)?;
-    put_nodes(&mut names, &element.children)?;
+    for name in &listed_names(alloc, element)? {
+        names.put(name)?;
+    }
     Ok(names)
 }
 
-/// The value of a pair that is an `id`.
+/// The names of an element and of all below it, in document order.
+pub(crate) fn listed_names(alloc: Global, element: &HtmlElement) -> Result<Vec<&String>, AllocError>
+    ensures { IfOk result (λ names.
+        names_view names.items ≡ element_names (element_view element.now)) }
+{
+    let mut names = Vec::new(alloc);
+    add_ids(&element.attrs, &mut names)?;
+    add_nodes(&element.children, &mut names)?;
+    Ok(names)
+}
+
+/// Adds the value of a pair that is an `id`.
 #[tactic(auto, unfolding(html_names::specs::Tables::known_attrs))]
-fn put_id(names: &mut AnchorNames, pair: &(HtmlAttr, String)) -> Result<(), AllocError>
-    ensures { OnOk result (used_in names.new.used
-        ≡ with_names (all_ids (pair_view pair.now ∷ [])) (used_in names.old.used)) }
+fn add_id<'a>(pair: &'a (HtmlAttr, String), names: &mut Vec<&'a String>) -> Result<(), AllocError>
+    ensures { OnOk result (names_view names.new.items
+        ≡ names_view names.old.items ++ all_ids (pair_view pair.now ∷ [])) }
 {
     if pair.0 == attr::id {
-        names.put(&pair.1)?;
+        names.push(&pair.1)?;
     }
     Ok(())
 }
 
-/// All values of `id`.
-fn put_ids(names: &mut AnchorNames, attrs: &HtmlAttrs) -> Result<(), AllocError>
-    ensures { OnOk result (used_in names.new.used
-        ≡ with_names (all_ids (attrs_view attrs.now)) (used_in names.old.used)) }
+/// Adds all values of `id`.
+fn add_ids<'a>(attrs: &'a HtmlAttrs, names: &mut Vec<&'a String>) -> Result<(), AllocError>
+    ensures { OnOk result (names_view names.new.items
+        ≡ names_view names.old.items ++ all_ids (attrs_view attrs.now)) }
 {
     for pair in &attrs.0 {
-        put_id(names, pair)?;
+        add_id(pair, names)?;
     }
     Ok(())
 }
 
-/// The names of anchors.
-fn put_anchors(names: &mut AnchorNames, anchors: &[(Point, String)]) -> Result<(), AllocError>
-    ensures { OnOk result (used_in names.new.used
-        ≡ with_names (anchor_names (anchors_view anchors.now)) (used_in names.old.used)) }
+/// Adds the names of anchors.
+fn add_anchors<'a>(
+    anchors: &'a [(Point, String)],
+    names: &mut Vec<&'a String>,
+) -> Result<(), AllocError>
+    ensures { OnOk result (names_view names.new.items
+        ≡ names_view names.old.items ++ anchor_names (anchors_view anchors.now)) }
 {
     for anchor in anchors {
-        names.put(&anchor.1)?;
+        names.push(&anchor.1)?;
     }
     Ok(())
 }
 
-/// A frame's `id`, if it has one.
-fn put_frame_id(names: &mut AnchorNames, id: &Option<String>) -> Result<(), AllocError>
-    ensures { OnOk result (used_in names.new.used
-        ≡ with_names (option_to_list (optional_text_view id.now)) (used_in names.old.used)) }
+/// Adds a frame's `id`, if it has one.
+fn add_frame_id<'a>(id: &'a Option<String>, names: &mut Vec<&'a String>) -> Result<(), AllocError>
+    ensures { OnOk result (names_view names.new.items
+        ≡ names_view names.old.items ++ option_to_list (optional_text_view id.now)) }
 {
     if let Some(id) = id {
-        names.put(id)?;
+        names.push(id)?;
     }
     Ok(())
 }
 
-/// The `id` of a frame and its anchors.
-fn put_frame(names: &mut AnchorNames, frame: &HtmlFrame) -> Result<(), AllocError>
-    ensures { OnOk result (used_in names.new.used
-        ≡ with_names (nodes_names (node (frame_node (html_frame_view frame.now)) none))
-        (used_in names.old.used)) }
+/// Adds the `id` of a frame and its anchors.
+fn add_frame<'a>(frame: &'a HtmlFrame, names: &mut Vec<&'a String>) -> Result<(), AllocError>
+    ensures { OnOk result (names_view names.new.items ≡ names_view names.old.items
+        ++ nodes_names (node (frame_node (html_frame_view frame.now)) none)) }
 {
-    put_frame_id(names, &frame.id)?;
-    put_anchors(names, &frame.anchors)?;
+    add_frame_id(&frame.id, names)?;
+    add_anchors(&frame.anchors, names)?;
     Ok(())
 }
 
-/// The names of an element and of all below it.
+/// Adds the names of an element and of all below it.
 #[cycle(names)]
-fn put_element(names: &mut AnchorNames, element: &HtmlElement) -> Result<(), AllocError>
-    ensures { let e = element_view element.now in OnOk result (used_in names.new.used
-        ≡ with_names (nodes_names (node (element_node e.0 e.1) none)) (used_in names.old.used)) }
+fn add_element<'a>(element: &'a HtmlElement, names: &mut Vec<&'a String>) -> Result<(), AllocError>
+    ensures { let e = element_view element.now in
+        OnOk result (names_view names.new.items ≡ names_view names.old.items
+        ++ nodes_names (node (element_node e.0 e.1) none)) }
 {
-    put_ids(names, &element.attrs)?;
-    put_nodes(names, &element.children)?;
+    add_ids(&element.attrs, names)?;
+    add_nodes(&element.children, names)?;
     Ok(())
 }
 
-/// The names of a node and of all below it.
+/// Adds the names of a node and of all below it.
 #[cycle(names)]
-fn put_node(names: &mut AnchorNames, child: &HtmlNode) -> Result<(), AllocError>
-    ensures { OnOk result (used_in names.new.used
-        ≡ with_names (nodes_names (node (node_view child.now) none)) (used_in names.old.used)) }
+fn add_node<'a>(child: &'a HtmlNode, names: &mut Vec<&'a String>) -> Result<(), AllocError>
+    ensures { OnOk result (names_view names.new.items ≡ names_view names.old.items
+        ++ nodes_names (node (node_view child.now) none)) }
 {
     match child {
         HtmlNode::Tag(_) => Ok(()),
         HtmlNode::Text(_, _) => Ok(()),
-        HtmlNode::Element(element) => put_element(names, element),
-        HtmlNode::Frame(frame) => put_frame(names, frame),
+        HtmlNode::Element(element) => add_element(element, names),
+        HtmlNode::Frame(frame) => add_frame(frame, names),
     }
 }
 
-/// The names of nodes and of all below them.
+/// Adds the names of nodes and of all below them.
 #[cycle(names)]
-fn put_nodes(names: &mut AnchorNames, nodes: &[HtmlNode]) -> Result<(), AllocError>
-    ensures { OnOk result (used_in names.new.used
-        ≡ with_names (nodes_names (nodes_view nodes.now)) (used_in names.old.used)) }
+fn add_nodes<'a>(nodes: &'a [HtmlNode], names: &mut Vec<&'a String>) -> Result<(), AllocError>
+    ensures { OnOk result (names_view names.new.items
+        ≡ names_view names.old.items ++ nodes_names (nodes_view nodes.now)) }
 {
     for node in nodes {
-        put_node(names, node)?;
+        add_node(node, names)?;
     }
     Ok(())
 }

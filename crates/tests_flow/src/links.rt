@@ -1,12 +1,14 @@
 //! Links that are given an `href`, and links that lead nowhere.
 
 use crate::anchors::{add, add_framed, children_at, document_of, document_text, html_of};
+use crate::asserts::text_of;
 use crate::given::items_of;
 use html_dom_document::HtmlDocument;
-use html_dom_link::{dead_links, resolve_links};
-use html_dom_tree::{HtmlNode, Location, Span, Tag};
+use html_dom_link::{dead_links, ids_are_distinct, resolve_links};
+use html_dom_tree::{Frame, HtmlFrame, HtmlNode, Location, Point, Span, Tag};
 use html_flow::{HtmlElem, Item, Pair};
 use html_names::{attr, tag};
+use html_values_css::Abs;
 use std::alloc::Global;
 use std::process::Abort;
 
@@ -166,5 +168,93 @@ fn dead_links_are_listed(rt: HostRuntime) {
         let document = document_of(&rt, rt.alloc(), &items_of(&rt, rt.alloc(), json));
         assert_dead(&rt, rt.alloc(), &document, wanted);
         assert_dead(&rt, rt.alloc(), &resolved(&rt, rt.alloc(), json), wanted);
+    }
+}
+
+/// Items, and whether the names of their document differ.
+static DISTINCT: [(&str, bool); 9] = [
+    (r#"[["text","x"]]"#, true),
+    (
+        r#"[["el","p",[["id","a"]],[["el","em",[["id","b"]],[]]]],["el","p",[["id","A"]],[]]]"#,
+        true,
+    ),
+    // At two depths, side by side, and at one element.
+    (
+        r#"[["el","p",[["id","a"]],[["el","em",[["id","a"]],[]]]]]"#,
+        false,
+    ),
+    (
+        r#"[["el","p",[["id","a"]],[]],["el","p",[["id","b"]],[]],["el","p",[["id","a"]],[]]]"#,
+        false,
+    ),
+    (r#"[["el","p",[["id","a"],["id","a"]],[]]]"#, false),
+    (r#"[["el","p",[["id","a"],["id","b"]],[]]]"#, true),
+    // Empty ones, too; other attributes do not count.
+    (
+        r#"[["el","p",[["id",""]],[]],["el","p",[["id",""]],[]]]"#,
+        false,
+    ),
+    (
+        r#"[["el","p",[["id","a"],["class","a"]],[]],["el","p",[["title","a"]],[]]]"#,
+        true,
+    ),
+    // With anchors, and a link.
+    (
+        r#"[["el","p",[["id","loc-1"]],[]],["start",9,9],["text","x"],["start",1,9],["el","a",[],[]]]"#,
+        true,
+    ),
+];
+
+/// Asserts whether the names of a document differ.
+fn assert_distinct(rt: &impl Abort, alloc: Global, document: &HtmlDocument, wanted: bool) {
+    assert!(rt; ids_are_distinct(alloc, document).expect(rt, "memory for names") == wanted);
+}
+
+/// They do before and after links were given an `href`, or at neither time.
+#[test]
+fn ids_are_told_apart(rt: HostRuntime) {
+    for (json, wanted) in &DISTINCT {
+        let document = document_of(&rt, rt.alloc(), &items_of(&rt, rt.alloc(), json));
+        assert_distinct(&rt, rt.alloc(), &document, *wanted);
+        assert_distinct(&rt, rt.alloc(), &resolved(&rt, rt.alloc(), json), *wanted);
+    }
+}
+
+/// A frame with that `id`, and with an anchor of that name.
+fn frame_of(rt: &impl Abort, alloc: Global, id: &str, anchor: &str) -> HtmlFrame {
+    let inner = Frame {
+        picture: 1,
+        items: Vec::new(alloc),
+    };
+    let zero = Abs::from_millionths(0);
+    let mut frame = HtmlFrame::new(alloc, inner, zero, Span(1));
+    frame.id = Some(text_of(rt, alloc, id));
+    frame
+        .anchors
+        .push((Point { x: zero, y: zero }, text_of(rt, alloc, anchor)))
+        .expect(rt, "memory for an anchor");
+    frame
+}
+
+/// The `id` of a frame, its anchor, and whether these and the `id` `a` of an element differ.
+static FRAMES: [(&str, &str, bool); 4] = [
+    ("b", "c", true),
+    ("a", "c", false),
+    ("b", "a", false),
+    ("b", "b", false),
+];
+
+#[test]
+fn ids_of_frames_count(rt: HostRuntime) {
+    for (id, anchor, wanted) in &FRAMES {
+        let items = items_of(&rt, rt.alloc(), r#"[["el","p",[["id","a"]],[]]]"#);
+        let mut document = document_of(&rt, rt.alloc(), &items);
+        let frame = HtmlNode::Frame(frame_of(&rt, rt.alloc(), id, anchor));
+        document
+            .root_mut()
+            .children
+            .push(frame)
+            .expect(&rt, "memory for a frame");
+        assert_distinct(&rt, rt.alloc(), &document, *wanted);
     }
 }

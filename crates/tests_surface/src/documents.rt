@@ -4,7 +4,7 @@ use crate::asserts::{add, assert_number, assert_some, assert_text, only, text_of
 use html_dom::{
     DeadLink, DocumentInfo, Frame, FrameItem, HtmlDocument, HtmlElement, HtmlFrame,
     HtmlIntrospector, HtmlNode, HtmlOutput, HtmlPosition, Locale, Location, Point, Span, Tag,
-    create_link_anchors, dead_links, resolve_links, with_resolved_links,
+    create_link_anchors, dead_links, ids_are_distinct, resolve_links, with_resolved_links,
 };
 use html_names::{attr, tag};
 use html_values::Abs;
@@ -377,4 +377,28 @@ fn links_without_an_anchor_are_dead(rt: HostRuntime) {
     let dead = dead_links(rt.alloc(), &document).expect(&rt, "memory for the dead links");
     let (span, dest) = (Span(5), Location(7));
     assert!(rt; dead.as_slice() == [DeadLink { span, dest }].as_slice());
+}
+
+/// A document of an `html` with two children that have these texts as their `id`.
+fn with_ids(rt: &impl Abort, alloc: Global, ids: [&str; 2]) -> HtmlDocument {
+    let mut children = Vec::new(alloc);
+    for id in ids {
+        let child = HtmlElement::new(alloc, tag::p)
+            .with_attr(attr::id, text_of(rt, alloc, id))
+            .expect(rt, "memory for an id");
+        add(rt, &mut children, HtmlNode::from(child));
+    }
+    let root = html(alloc, 0).with_children(children);
+    let nodes = only(rt, alloc, HtmlNode::from(root));
+    assert!(rt; HtmlOutput::can_be_root(&nodes, 0));
+    let output = HtmlOutput::new(nodes, 0);
+    HtmlDocument::new(alloc, output, DocumentInfo::new(alloc)).expect(rt, "a document")
+}
+
+#[test]
+fn ids_that_differ_are_told(rt: HostRuntime) {
+    let differing = with_ids(&rt, rt.alloc(), ["a", "b"]);
+    assert!(rt; ids_are_distinct(rt.alloc(), &differing).expect(&rt, "memory for the ids"));
+    let equal = with_ids(&rt, rt.alloc(), ["a", "a"]);
+    assert!(rt; !ids_are_distinct(rt.alloc(), &equal).expect(&rt, "memory for the ids"));
 }

@@ -134,6 +134,7 @@ macro_rules! documents_get_anchors {
         resolve_links($alloc, &mut document)?;
         let document = with_resolved_links($alloc, document)?;
         let _ = dead_links($alloc, &document)?;
+        let _ = ids_are_distinct($alloc, &document)?;
         Ok(())
     }};
 }

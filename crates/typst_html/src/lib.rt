@@ -40,6 +40,7 @@ pub use html_dom::Span;
 pub use html_dom::Tag;
 pub use html_dom::create_link_anchors;
 pub use html_dom::dead_links;
+pub use html_dom::ids_are_distinct;
 pub use html_dom::resolve_inline_styles;
 pub use html_dom::resolve_links;
 pub use html_dom::with_resolved_links;

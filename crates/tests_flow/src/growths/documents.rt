@@ -5,7 +5,8 @@ use crate::growths::given::{add, assert_growths, list_of};
 use crate::growths::shown::{is_shown, shown_of};
 use html_dom_document::{DocumentInfo, HtmlDocument, HtmlOutput};
 use html_dom_link::{
-    create_link_anchors, dead_links, resolve_links, with_link_anchors, with_resolved_links,
+    create_link_anchors, dead_links, ids_are_distinct, resolve_links, with_link_anchors,
+    with_resolved_links,
 };
 use html_dom_tree::{HtmlElement, HtmlNode, Location, Span, Tag};
 use html_names::{Refused, tag};
@@ -23,6 +24,7 @@ enum DocumentCall {
     Resolve(HtmlDocument, String),
     WithResolved(HtmlDocument, String),
     Dead(HtmlDocument, String),
+    Distinct(HtmlDocument, String),
     WithAnchors(Vec<HtmlDocument>, BTreeSet<Location>),
 }
 
@@ -36,6 +38,7 @@ impl Growth for DocumentCall {
             DocumentCall::Resolve(document, shown) => resolved(alloc, document, shown),
             DocumentCall::WithResolved(document, shown) => with_resolved(alloc, document, shown),
             DocumentCall::Dead(document, shown) => dead(alloc, document, shown),
+            DocumentCall::Distinct(document, shown) => distinct(alloc, document, shown),
             DocumentCall::WithAnchors(spares, targets) => with_anchors(alloc, spares, targets),
         }
     }
@@ -106,6 +109,16 @@ fn dead(alloc: Global, document: HtmlDocument, shown: String) -> Answer<Document
         Err(AllocError) => {
             let is_kept = is_kept(&document, &shown);
             refused(is_kept, DocumentCall::Dead(document, shown))
+        }
+    }
+}
+
+fn distinct(alloc: Global, document: HtmlDocument, shown: String) -> Answer<DocumentCall> {
+    match ids_are_distinct(alloc, &document) {
+        Ok(distinct) => made(distinct),
+        Err(AllocError) => {
+            let is_kept = is_kept(&document, &shown);
+            refused(is_kept, DocumentCall::Distinct(document, shown))
         }
     }
 }
@@ -213,6 +226,8 @@ fn documents_with_links(rt: HostRuntime) {
     let resolve = DocumentCall::Resolve(document, shown);
     let (document, shown) = shown_document(&rt, alloc);
     let with_resolved = DocumentCall::WithResolved(document, shown);
-    let calls = [resolve, with_resolved, dead_call(&rt, alloc)];
+    let (document, shown) = shown_document(&rt, alloc);
+    let distinct = DocumentCall::Distinct(document, shown);
+    let calls = [resolve, with_resolved, dead_call(&rt, alloc), distinct];
     assert_growths(&rt, alloc, list_of(&rt, alloc, calls));
 }

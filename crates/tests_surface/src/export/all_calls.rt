@@ -7,8 +7,8 @@ use typst_html::{
     Args, AttrType, ConversionLevel, DocumentInfo, ElementInfo, FlatTree, FlowFault, HtmlDocument,
     HtmlElement, HtmlNode, HtmlOutput, Item, Location, Pair, Properties, Span, Tag, Whitespace,
     attr, bare_spaces, construct, convert_to_nodes, create_link_anchors, dead_links,
-    html_block_fragment, html_inline_fragment, html_math_fragment, is_depth_limit, push_located,
-    resolve_inline_styles, resolve_links, tag, with_resolved_links,
+    html_block_fragment, html_inline_fragment, html_math_fragment, ids_are_distinct,
+    is_depth_limit, push_located, resolve_inline_styles, resolve_links, tag, with_resolved_links,
 };
 
 /// A word and a space, which at the end of a block is kept.
@@ -119,4 +119,5 @@ fn links(rt: HostRuntime) {
     let linked = with_resolved_links(rt.alloc(), document).expect(&rt, "memory for links");
     let dead = dead_links(rt.alloc(), &linked).expect(&rt, "memory for the dead links");
     assert!(rt; dead.is_empty());
+    assert!(rt; ids_are_distinct(rt.alloc(), &linked).expect(&rt, "memory for the ids"));
 }

@@ -8,7 +8,7 @@ use Rattle.html_dom_link.specs.LinkAnchors.{targets_in, document_targets}
 use Rattle.html_dom_link.specs.UsedNames.{used_in}
 use Rattle.html_dom_link.specs.Walk.{Walked, at_first, walk, walked}
 use Rattle.html_dom_link.specs.WalkViews.{walk_view}
-use Rattle.html_dom_link.proofs.DocumentNames.{anchors_are_new, anchors_are_serving, anchors_are_shown}
+use Rattle.html_dom_link.proofs.DocumentNames.{anchors_are_new, anchors_are_serving, anchors_are_shown, ids_stay_distinct}
 use Rattle.html_dom_link.proofs.WholeWalk.{root_walked, root_written, answers_are}
 use Rattle.html_dom_link.proofs.anchors.create_link_anchors.Goals as goal
 
@@ -31,11 +31,13 @@ returns c =
     let tree = root_written is_target d _ (element_view root) (element_view last) w whole
     c.root_mut.ensures.value refl (c.root_mut.ensures.written last) in
     let anchors = answers_are is_target d w whole in
+    let fresh = anchors_are_new is_target d w whole c.in_ok-children-2.ensures.bounded in
     record {
       tree = tree;
       anchors = anchors;
-      fresh = anchors_are_new is_target d w whole c.in_ok-children-2.ensures.bounded;
+      fresh = fresh;
       shown = anchors_are_shown is_target d _ _ tree anchors;
       serves = anchors_are_serving is_target d _ _ tree anchors;
+      distinct = ids_stay_distinct is_target d _ tree fresh;
       kept = tt;
     }

@@ -10,7 +10,7 @@ use Rattle.html_dom_link.specs.LinkAnchors.{targets_in, document_targets}
 use Rattle.html_dom_link.specs.UsedNames.{used_in}
 use Rattle.html_dom_link.specs.Walk.{Walked, at_first, walk, walked}
 use Rattle.html_dom_link.specs.WalkViews.{walk_view}
-use Rattle.html_dom_link.proofs.DocumentNames.{anchors_are_new, anchors_are_serving, anchors_are_shown}
+use Rattle.html_dom_link.proofs.DocumentNames.{anchors_are_new, anchors_are_serving, anchors_are_shown, ids_stay_distinct}
 use Rattle.html_dom_link.proofs.MovedRoots.{moved_written}
 use Rattle.html_dom_link.proofs.WholeWalk.{root_walked, answers_are}
 use Rattle.html_dom_link.proofs.anchors.with_link_anchors.Goals as goal
@@ -44,10 +44,12 @@ returns c =
     (element_view again) (element_view last) w whole c.root_mut.ensures.value emptied
     c.root_mut-2.ensures.value refl (c.root_mut-2.ensures.written last) in
     let anchors = answers_are is_target d w whole in
+    let fresh = anchors_are_new is_target d w whole c.in_ok-children.ensures.bounded in
     record {
       tree = tree;
       anchors = anchors;
-      fresh = anchors_are_new is_target d w whole c.in_ok-children.ensures.bounded;
+      fresh = fresh;
       shown = anchors_are_shown is_target d _ _ tree anchors;
       serves = anchors_are_serving is_target d _ _ tree anchors;
+      distinct = ids_stay_distinct is_target d _ tree fresh;
     }

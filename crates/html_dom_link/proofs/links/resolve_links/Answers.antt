@@ -4,7 +4,7 @@ use Rattle.html_dom_tree.specs.declared.node.HtmlElement.{HtmlElement}
 use Rattle.html_dom_document.specs.Views.{document_view}
 use Rattle.html_dom_introspect.specs.Introspectors.{introspector_view}
 use Rattle.html_dom_link.specs.Links.{nodes_with_links}
-use Rattle.html_dom_link.proofs.Leads.{document_links_lead, left_in_document}
+use Rattle.html_dom_link.proofs.Leads.{document_links_lead, left_in_document, links_lead_to_one, links_stay_distinct}
 use Rattle.html_dom_link.proofs.Linking.{links_written}
 use Rattle.html_dom_link.proofs.Serving.{still_serves}
 use Rattle.html_dom_link.proofs.links.resolve_links.Goals as goal
@@ -28,3 +28,10 @@ returns-clause-left c = left_in_document (document_view c.args.document.now) _ (
 
 pub returns-clause-serves : goal.returns-clause-serves
 returns-clause-serves c = still_serves (document_view c.args.document.now) _ (returns-clause-ok c)
+
+pub returns-clause-distinct : goal.returns-clause-distinct
+returns-clause-distinct c =
+    links_stay_distinct (document_view c.args.document.now) _ (returns-clause-ok c)
+
+pub returns-clause-one : goal.returns-clause-one
+returns-clause-one c = links_lead_to_one c.args.document.now _ (returns-clause-ok c)

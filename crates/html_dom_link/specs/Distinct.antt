@@ -1,0 +1,56 @@
+-- Whether the names of a tree differ (HTML Standard 3.2.6: an `id` is unique in its tree), and that
+-- they still do once it has anchors and links.
+use Rattle.std.specs.Borrow.{Bor}
+use Rattle.std.specs.List.{count_by}
+use Rattle.std.specs.Prelude.{◌≡◌, ℕ, Bool, true, not, ◌&&◌, List, [], ◌∷◌, All, bytes_eq, map, String}
+use Rattle.std.specs.declared.alloc.Global.{Global}
+use Rattle.html_names.specs.Names.{stands_in}
+use Rattle.html_names.specs.Texts.{text_view}
+use Rattle.html_dom_tree.specs.Tree.{ElementView}
+use Rattle.html_dom_document.specs.Documents.{DocumentView, document_root}
+use Rattle.html_dom_link.specs.Anchors.{element_anchored}
+use Rattle.html_dom_link.specs.Answered.{names_shown}
+use Rattle.html_dom_link.specs.Events.{Targets}
+use Rattle.html_dom_link.specs.Fresh.{MadeAreNew}
+use Rattle.html_dom_link.specs.Leads.{GivenLink, LeadsAmong, document_given}
+use Rattle.html_dom_link.specs.Links.{Anchors, root_with_links}
+use Rattle.html_dom_link.specs.NewNames.{Name, element_names}
+
+-- no name comes twice
+unfoldable pub are_distinct : List Name → Bool
+are_distinct [] = true
+are_distinct (n ∷ ns) = not (stands_in ns n) && are_distinct ns
+
+-- how often a name comes
+unfoldable pub occurrences : List Name → Name → ℕ
+occurrences names n = count_by (λ m. bytes_eq m n) names
+
+-- the names that references lead to
+abbrev pub names_view : List (Bor (String Global)) → List Name
+names_view = map (λ name. text_view name.now)
+
+-- no two of the values of `id`, the ids of frames and the anchors of frames are the same
+abbrev pub IdsAreDistinct : DocumentView → Type 0
+IdsAreDistinct d = are_distinct (element_names (document_root d)) ≡ true
+
+-- a link leads to a name that comes once among all
+pub record LeadsToOne (anchor : Anchors) (shown names : List Name) (link : GivenLink) : Type 0 where
+  pub among : LeadsAmong anchor shown link
+  pub once : occurrences names among.name ≡ 1
+
+-- each link that got an `href` leads to such a name of the new tree
+abbrev pub GivenLinksLeadToOne : (old new : DocumentView) → Type 0
+GivenLinksLeadToOne old new = let root = document_root new in
+    All (LeadsToOne new.introspector.anchor (names_shown root.1) (element_names root))
+    (document_given old new)
+
+-- a tree whose names differ has such names with anchors too, where those that are made are new
+abbrev pub AnchorsStayDistinct : Type 0
+AnchorsStayDistinct = (x : Targets) (e : ElementView) → MadeAreNew x e →
+    are_distinct (element_names e) ≡ true →
+    are_distinct (element_names (element_anchored x e)) ≡ true
+
+-- links change none of these names
+abbrev pub AllNamesStay : Type 0
+AllNamesStay = (anchor : Anchors) (e : ElementView) →
+    element_names (root_with_links anchor e) ≡ element_names e

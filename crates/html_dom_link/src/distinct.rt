@@ -1,0 +1,45 @@
+//! Whether the names of a document differ.
+
+ghost use Rattle.std.specs.Prelude.{◌≡◌, IfOk};
+ghost use Rattle.html_dom_document.specs.Documents.{document_root};
+ghost use Rattle.html_dom_document.specs.Views.{document_view};
+ghost use Rattle.html_dom_link.specs.Distinct.{are_distinct, names_view};
+ghost use Rattle.html_dom_link.specs.NewNames.{element_names};
+
+use crate::names::{is_used, put_in_use};
+use crate::names_in_tree::listed_names;
+use html_dom_document::HtmlDocument;
+use std::alloc::{AllocError, Global};
+use std::collections::BTreeSet;
+
+/// Whether all values of `id` in a document's tree differ from each other, those of frames and of
+/// frames' anchors among them: the HTML Standard (3.2.6) wants each `id` unique in its tree, and a tree
+/// may hold one twice. Where they differ, each link that [`resolve_links`](crate::resolve_links) gives
+/// an `href` leads to one place. It takes time for each name by the logarithm of how many there are,
+/// and fails only where an allocation does.
+///
+/// ```
+/// if !ids_are_distinct(alloc, &document)? {
+///     println!(rt; "an id stands twice in the document")?;
+/// }
+/// ```
+pub fn ids_are_distinct(alloc: Global, document: &HtmlDocument) -> Result<bool, AllocError>
+    ensures { IfOk result (λ distinct.
+        distinct ≡ are_distinct (element_names (document_root (document_view document.now)))) }
+{
+    are_distinct(alloc, &listed_names(alloc, document.root())?)
+}
+
+/// Whether no name comes twice.
+fn are_distinct(alloc: Global, names: &[&String]) -> Result<bool, AllocError>
+    ensures { IfOk result (λ distinct. distinct ≡ are_distinct (names_view names.now)) }
+{
+    let mut used = BTreeSet::new(alloc);
+    for name in names {
+        if is_used(&used, name) {
+            return Ok(false);
+        }
+        put_in_use(&mut used, (*name).clone()?)?;
+    }
+    Ok(true)
+}
