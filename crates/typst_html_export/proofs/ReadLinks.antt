@@ -57,17 +57,13 @@ links_lead_when_read frames options old new text free clean plainly prettily lea
     (sym (read_by frames (document_root new) options text options.pretty refl free clean plainly
     prettily)) lead
 
--- a document's links, as they were resolved in a document that is made
-pub given_as : {d e l : DocumentView} → d ≡ l → e ≡ document_with_links d → GivenLinksLead d e →
-    GivenLinksLead l (document_with_links l)
-given_as {d} {e} {l} d_is e_is lead =
-    subst (λ v. GivenLinksLead v (document_with_links v)) d_is (subst (GivenLinksLead d) e_is lead)
-
-pub lead_when_answered : {A : Type 0} (r : Result A ExportFault) (d e l : DocumentView) → d ≡ l →
-    e ≡ document_with_links d → GivenLinksLead d e →
-    OnOk r (GivenLinksLead l (document_with_links l))
-lead_when_answered (Ok a) d e l d_is e_is lead = given_as d_is e_is lead
-lead_when_answered (Err f) d e l d_is e_is lead = tt
+-- what holds of a document that is made, and of the same once its links are resolved
+pub holds_as : {A : Type 0} (P : DocumentView → DocumentView → Type 0) (r : Result A ExportFault)
+    (d e l : DocumentView) → d ≡ l → e ≡ document_with_links d → P d e →
+    OnOk r (P l (document_with_links l))
+holds_as P (Ok a) d e l d_is e_is holds =
+    subst (λ v. P v (document_with_links v)) d_is (subst (P d) e_is holds)
+holds_as P (Err f) d e l d_is e_is holds = tt
 
 -- and as they are read of the text that is answered
 pub lead_when_read : (frames : Frames) (options : HtmlOptions)

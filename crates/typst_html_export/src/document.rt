@@ -1,6 +1,7 @@
 //! Documents made of items.
 
 ghost use Rattle.std.specs.Prelude.{◌≡◌, ◌≤◌, IfOk, option_map};
+ghost use Rattle.html_dom_link.specs.Distinct.{IdsAreDistinct};
 ghost use Rattle.html_dom_link.specs.Leads.{KnownAnchorsAreShown};
 ghost use Rattle.html_dom_link.specs.Serving.{KnownAnchorsServe};
 ghost use Rattle.html_dom_tree.specs.Tree.{none, node};
@@ -38,8 +39,8 @@ use typst_html_encode::ExportFault;
 /// It is that of [`html_document_for_bundle`], in which the targets of start tags and of links in
 /// frames then get anchors as by [`create_link_anchors`], where they stand in the tree; the
 /// document's introspector knows them: each is the name of what serves its location in the tree. The
-/// positions that it knows stay those of the tree without anchors. It fails as
-/// `html_document_for_bundle` does.
+/// positions that it knows stay those of the tree without anchors. Where all ids of the tree without
+/// anchors differ, those of the answered one do. It fails as `html_document_for_bundle` does.
 ///
 /// Of items in plain flow, without footnotes and none too deep, a document is always made, out of
 /// memory aside, and once white space has collapsed exactly their text is seen in its body.
@@ -70,6 +71,9 @@ pub fn html_document(
     ensures anchors { IfOk result (λ document. AnchorsAreFirstIds (document_view document)) }
     ensures shown { IfOk result (λ document. KnownAnchorsAreShown (document_view document)) }
     ensures serves { IfOk result (λ document. KnownAnchorsServe (document_view document)) }
+    ensures distinct { IdsAreDistinct (assembled_document (info_view info.now)
+        (items_view items.now) (items_view footnotes.now)) →
+        IfOk result (λ document. IdsAreDistinct (document_view document)) }
     // Items in plain flow, without footnotes and none too deep, become a document, out of memory
     // aside, and in its text exactly theirs is seen.
     ensures plain { ArePlainItems limit (items_view items.now) (items_view footnotes.now) →
@@ -83,8 +87,10 @@ pub fn html_document(
 
 /// The document with anchors for all locations to which links lead.
 fn with_anchors(alloc: Global, document: HtmlDocument) -> Result<HtmlDocument, AllocError>
-    ensures { IfOk result (λ made.
+    ensures made { IfOk result (λ made.
         document_view made ≡ document_with_anchors (document_view document)) }
+    ensures distinct { IdsAreDistinct (document_view document) →
+        IfOk result (λ made. IdsAreDistinct (document_view made)) }
 {
     let targets = document.introspector().link_targets()?;
     let (mut made, anchors) = with_link_anchors(alloc, document, &targets)?;

@@ -12,10 +12,12 @@ ghost use Rattle.html_dom_tree.specs.FrameFree.{ElementIsFrameFree};
 ghost use Rattle.typst_html_encode.specs.Text.{document_text};
 ghost use Rattle.typst_html_encode.specs.Endings.{Gives};
 ghost use Rattle.html_dom_document.specs.Documents.{document_root};
+ghost use Rattle.html_dom_link.specs.Distinct.{GivenLinksLeadToOne, IdsAreDistinct};
 ghost use Rattle.html_dom_link.specs.Leads.{GivenLinksLead, links_without};
 ghost use Rattle.html_dom_link.specs.Links.{document_dead_links};
 ghost use Rattle.html_flow_convert.specs.Views.{items_view};
 ghost use Rattle.typst_html_spaces.specs.CleanItems.{are_clean_items};
+ghost use Rattle.typst_html_export.specs.Assembled.{assembled_document};
 ghost use Rattle.typst_html_export.specs.Assembles.{Assembles, FailsByMemoryAlone};
 ghost use Rattle.typst_html_export.specs.CleanInfo.{is_clean_info};
 ghost use Rattle.typst_html_export.specs.Exported.{export_faults, export_linked_faults, export_linked_text, export_text};
@@ -121,7 +123,8 @@ pub fn export<F: FrameWriter>(
 /// destination's anchor, and [`html`] writes it. It fails as [`export`] does.
 ///
 /// Each link that got an `href` leads: its decoded name is that of the anchor of its destination, in
-/// the tree and in the text that is read. A link whose destination is nowhere, or has an empty name,
+/// the tree and in the text that is read; where the tree's own ids differ, it stands at one place
+/// alone. A link whose destination is nowhere, or has an empty name,
 /// stays without one, as [`dead_links`](html_dom_link::dead_links) tells of the document. Spaces stay
 /// and clean items are written, as by `export`.
 ///
@@ -174,6 +177,18 @@ pub fn export_linked<F: FrameWriter>(
         let items = items_view items.now in let notes = items_view footnotes.now in
         OnOk result (links_without (resolved_root info items notes).1
         ≡ document_dead_links (linked_document info items notes)) }
+
+    // Where the ids of the tree differ before it has anchors, all of the written tree do, and each of
+    // these links leads to a name that stands at one place alone.
+    ensures distinct { let info = info_view info.now in
+        let items = items_view items.now in let notes = items_view footnotes.now in
+        IdsAreDistinct (assembled_document info items notes) →
+        OnOk result (IdsAreDistinct (resolved_document info items notes)) }
+    ensures one { let info = info_view info.now in
+        let items = items_view items.now in let notes = items_view footnotes.now in
+        IdsAreDistinct (assembled_document info items notes) →
+        OnOk result (GivenLinksLeadToOne (linked_document info items notes)
+        (resolved_document info items notes)) }
 {
     let made = html_document(alloc, items, info, footnotes, limit)?;
     let document = with_resolved_links(alloc, made)?;

@@ -1,6 +1,7 @@
 use Rattle.std.proofs.Common.{◌∙◌, ap, sym, subst}
 use Rattle.std.proofs.lemmas.Result.{err_from_is_err_and}
 use Rattle.html_dom_document.specs.Views.{document_view, info_view}
+use Rattle.html_dom_link.specs.Distinct.{IdsAreDistinct}
 use Rattle.html_dom_link.specs.Leads.{KnownAnchorsAreShown}
 use Rattle.html_dom_link.specs.Serving.{KnownAnchorsServe}
 use Rattle.html_flow_convert.specs.Views.{items_view}
@@ -14,18 +15,22 @@ use Rattle.typst_html_export.proofs.document.html_document.Goals as goal
 
 pub returns-clause-anchors : goal.returns-clause-anchors
 returns-clause-anchors c =
-    subst (λ d. AnchorsAreFirstIds d) (sym c.in_ok-with_anchors.ensures)
+    subst (λ d. AnchorsAreFirstIds d) (sym c.in_ok-with_anchors.ensures.made)
     (anchors_are_first_ids (document_view c.in_ok-document.document))
 
 pub returns-clause-shown : goal.returns-clause-shown
 returns-clause-shown c =
-    subst KnownAnchorsAreShown (sym c.in_ok-with_anchors.ensures)
+    subst KnownAnchorsAreShown (sym c.in_ok-with_anchors.ensures.made)
     (known_anchors_are_shown (document_view c.in_ok-document.document))
 
 pub returns-clause-serves : goal.returns-clause-serves
 returns-clause-serves c =
-    subst KnownAnchorsServe (sym c.in_ok-with_anchors.ensures)
+    subst KnownAnchorsServe (sym c.in_ok-with_anchors.ensures.made)
     (known_anchors_serve (document_view c.in_ok-document.document))
+
+pub returns-clause-distinct : goal.returns-clause-distinct
+returns-clause-distinct c = λ distinct. c.in_ok-with_anchors.ensures.distinct
+    (subst IdsAreDistinct (sym c.in_ok-document.ensures.made.made) distinct)
 
 pub returns-in_err-document-clause-plain : goal.returns-in_err-document-clause-plain
 returns-in_err-document-clause-plain c = λ are.
@@ -39,4 +44,4 @@ pub returns-clause-spaces : goal.returns-clause-spaces
 returns-clause-spaces c =
     spaces_are_left (info_view c.args.info.now) (items_view c.args.items.now)
     (items_view c.args.footnotes.now) _
-    (c.in_ok-with_anchors.ensures ∙ ap document_with_anchors c.in_ok-document.ensures.made.made)
+    (c.in_ok-with_anchors.ensures.made ∙ ap document_with_anchors c.in_ok-document.ensures.made.made)

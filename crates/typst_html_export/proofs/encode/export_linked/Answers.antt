@@ -1,6 +1,8 @@
 use Rattle.std.proofs.Common.{ap, ◌∙◌}
 use Rattle.html_dom_document.specs.Documents.{DocumentView, document_root}
 use Rattle.html_dom_document.specs.Views.{document_view, info_view}
+use Rattle.html_dom_link.specs.Distinct.{GivenLinksLeadToOne, IdsAreDistinct}
+use Rattle.html_dom_link.specs.Leads.{GivenLinksLead}
 use Rattle.html_dom_link.specs.Links.{document_with_links}
 use Rattle.html_dom_link.proofs.ChangedRoots.{root_has_links}
 use Rattle.html_flow_convert.specs.Views.{items_view}
@@ -11,7 +13,7 @@ use Rattle.typst_html_export.proofs.CleanRoots.{clean_linked_exports}
 use Rattle.typst_html_export.proofs.FaultsInOrder.{exported}
 use Rattle.typst_html_export.proofs.Firsts.{first_past_none, fails_by_memory_alone}
 use Rattle.typst_html_export.proofs.PlainRoots.{plain_documents_are_made}
-use Rattle.typst_html_export.proofs.ReadLinks.{lead_when_answered, lead_when_read}
+use Rattle.typst_html_export.proofs.ReadLinks.{holds_as, lead_when_read}
 use Rattle.typst_html_export.proofs.SpacesInDocuments.{spaces_are_left_with_links}
 use Rattle.typst_html_export.proofs.SpacesInTexts.{spaces_are_seen}
 use Rattle.typst_html_export.proofs.encode.export_linked.Goals as goal
@@ -65,7 +67,7 @@ returns-clause-spaces g c =
 
 pub returns-clause-leads : goal.returns-clause-leads
 returns-clause-leads g c =
-    lead_when_answered c.html.result (document_view c.in_ok-made.made) _ _
+    holds_as GivenLinksLead c.html.result (document_view c.in_ok-made.made) _ _
     c.in_ok-made.ensures.made.made c.in_ok-document.ensures.ok
     (c.in_ok-document.ensures.leads c.in_ok-made.ensures.shown)
 
@@ -76,3 +78,16 @@ returns-clause-read g c =
     _ c.in_ok-made.ensures.made.made c.in_ok-document.ensures.ok
     (c.in_ok-document.ensures.leads c.in_ok-made.ensures.shown) c.html.ensures.makes
     c.html.ensures.reads_back c.html.ensures.reads_indented
+
+pub returns-clause-distinct : goal.returns-clause-distinct
+returns-clause-distinct g c = λ distinct.
+    holds_as (λ d e. IdsAreDistinct e) c.html.result (document_view c.in_ok-made.made) _ _
+    c.in_ok-made.ensures.made.made c.in_ok-document.ensures.ok
+    (c.in_ok-document.ensures.distinct (c.in_ok-made.ensures.distinct distinct))
+
+pub returns-clause-one : goal.returns-clause-one
+returns-clause-one g c = λ distinct.
+    holds_as GivenLinksLeadToOne c.html.result (document_view c.in_ok-made.made) _ _
+    c.in_ok-made.ensures.made.made c.in_ok-document.ensures.ok
+    (c.in_ok-document.ensures.one c.in_ok-made.ensures.shown
+    (c.in_ok-made.ensures.distinct distinct))
