@@ -1,2 +1,3 @@
+pub mod JoinedFaults
 pub mod Others
 pub mod Unnamed

@@ -4,10 +4,8 @@ use Rattle.std.specs.List.{remove}
 use Rattle.std.proofs.lemmas.Bool.{cases_Bool}
 use Rattle.std.proofs.lemmas.Option.{none-some, same_Some}
 use Rattle.html_names.specs.Kinds.{is_void, is_raw}
-use Rattle.html_flow_convert.specs.declared.construct_fault.ConstructFault.{ConstructFault}
-use Rattle.html_flow_convert.specs.declared.construct_fault.ConstructFault.TheVariants.{OutOfMemory, Casts, BodyKind}
-use Rattle.html_flow.specs.Construct.{ArgView, BodyChoice, arg_view, args_view, arg_body, fails, choice_after, body_choice, choice_from, first_choice, takes}
-use Rattle.html_flow.specs.Pieces.{IsBodyRefusal, IsChoiceRefusal, arg_at, unnamed_at}
+use Rattle.html_flow.specs.Construct.{ArgView, BodyChoice, arg_view, args_view, arg_body, choice_after, choice_faults, body_choice, choice_from, first_choice, takes}
+use Rattle.html_flow.specs.Pieces.{arg_at, body_faults, unnamed_at}
 use Rattle.html_flow_convert.specs.Items.{BodyView, absent}
 use Rattle.html_flow.specs.declared.args.Arg.{Arg}
 
@@ -15,6 +13,11 @@ after-from : (a : ArgView) (body : Option BodyView) (span : ℕ) (left : List Ar
     → choice_after a (choice_from body span left) ≡ choice_from body span (a ∷ left)
 after-from a None span left = refl
 after-from a (Some body) span left = refl
+
+faults-from : (body : Option BodyView) (span : ℕ) (left : List ArgView)
+    → choice_faults (choice_from body span left) ≡ body_faults body span
+faults-from None span left = refl
+faults-from (Some body) span left = refl
 
 pub arg_at_is : (args : List Arg) (k : ℕ) (d : Arg) → k < length args
     → arg_at (args_view args) k ≡ arg_view (get_or args k d)
@@ -98,9 +101,7 @@ module _ (name : List ℕ) (args : List ArgView) (plain : is_void name ≡ false
         → body_choice name args ≡ takes body (remove args k)
     a_body body h = by_body (Some body) h
 
-    pub a_refusal : (fault : ConstructFault)
-        → IsBodyRefusal (body_at (is_raw name) args k) (arg_at args k).span fault
-        → IsChoiceRefusal (body_choice name args) fault
-    a_refusal OutOfMemory h = tt
-    a_refusal (Casts fs) h = absurd h
-    a_refusal (BodyKind span) h = by_body None h.0 ∙ ap fails (sym h.1)
+    pub same_faults : choice_faults (body_choice name args)
+        ≡ body_faults (body_at (is_raw name) args k) (arg_at args k).span
+    same_faults = ap choice_faults first_is
+        ∙ faults-from (body_at (is_raw name) args k) (arg_at args k).span (remove args k)

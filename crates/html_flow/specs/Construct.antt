@@ -1,6 +1,6 @@
 -- An element that is constructed of arguments: attributes of its typed arguments, and a body of the
 -- first argument without a name.
-use Rattle.std.specs.Prelude.{ℕ, List, [], ◌∷◌, ◌++◌, map, Bool, false, if◌then◌else◌, Option, None, Some, option_map, is_some, bytes_eq, Result, Ok, Err, ◌≡◌}
+use Rattle.std.specs.Prelude.{ℕ, List, [], ◌∷◌, ◌++◌, map, Bool, false, if◌then◌else◌, Option, None, Some, option_map, is_some, bytes_eq}
 use Rattle.html_names.specs.Kinds.{is_void, is_raw}
 use Rattle.html_names.specs.Texts.{TextPair, text_view}
 use Rattle.html_names.specs.declared.html_attr.HtmlAttr.{HtmlAttr}
@@ -10,16 +10,13 @@ use Rattle.html_values.specs.Values.{ValueView, none_value, str_value, value_vie
 use Rattle.html_values.specs.declared.attr_type.AttrType.{AttrType}
 use Rattle.html_values_css.specs.declared.cast_fault.CastFault.{CastFault}
 use Rattle.html_values_css.specs.declared.cast_fault.CastFault.TheVariants.{WrongKind}
-use Rattle.html_flow_convert.specs.ConstructFaults.{faults_view}
+use Rattle.html_flow_convert.specs.ConstructFaults.{ConstructFaultView, cast_faults, body_kind}
 use Rattle.html_flow_convert.specs.Items.{ElemView, ItemsView, no_items, item, text_item, inherits, BodyView, absent, present, new_head}
-use Rattle.html_flow_convert.specs.Views.{elem_view, items_view}
-use Rattle.html_flow_convert.specs.declared.item.HtmlElem.{HtmlElem}
+use Rattle.html_flow_convert.specs.Views.{items_view}
 use Rattle.html_flow.specs.declared.args.ArgValue.{ArgValue}
 use Rattle.html_flow.specs.declared.args.ArgValue.TheVariants.{Plain, Body as Items}
 use Rattle.html_flow.specs.declared.args.Arg.{Arg}
 use Rattle.html_flow.specs.declared.args.ElementInfo.{ElementInfo}
-use Rattle.html_flow_convert.specs.declared.construct_fault.ConstructFault.{ConstructFault}
-use Rattle.html_flow_convert.specs.declared.construct_fault.ConstructFault.TheVariants.{OutOfMemory, Casts, BodyKind}
 
 -- what an argument has: a value, or items
 pub data ArgValueView : Type 0 where
@@ -141,37 +138,37 @@ first_choice raw (a ∷ more) =
 abbrev pub body_choice : List ℕ → List ArgView → BodyChoice
 body_choice name args = if is_void name then takes absent args else first_choice (is_raw name) args
 
-pub data Outcome : Type 0 where
-  makes : ElemView → List ArgView → Outcome
-  casts_fail : List (CastFault × ℕ) → Outcome
-  body_fails : (span : ℕ) → Outcome
+-- faults of casts, as the one fault of constructing that they are
+abbrev pub joined_faults : List (CastFault × ℕ) → List ConstructFaultView
+joined_faults [] = []
+joined_faults (f ∷ fs) = cast_faults (f ∷ fs) ∷ []
 
+-- the fault of a choice, where it is one
+abbrev pub choice_faults : BodyChoice → List ConstructFaultView
+choice_faults (takes body left) = []
+choice_faults (fails span) = body_kind span ∷ []
+
+-- an element with the arguments that it has not used
+abbrev pub Construction : Type 0
+Construction = ElemView × List ArgView
+
+-- the element of that name, with these attributes and that body
 abbrev pub element_of : List ℕ → List TextPair → BodyView → ElemView
 element_of name pairs body = (record (new_head name) { attrs = pairs }, body)
 
-abbrev pub with_body : List ℕ → List Entry → List TextPair → BodyChoice → Outcome
-with_body name es pairs (takes body left) = makes (element_of name pairs body) (other_args es left)
-with_body name es pairs (fails span) = body_fails span
+-- the element with the body that was chosen
+abbrev pub with_body : List ℕ → List Entry → List TextPair → BodyChoice → Option Construction
+with_body name es pairs (takes body left) = Some (element_of name pairs body, other_args es left)
+with_body name es pairs (fails span) = None
 
-abbrev pub unless_faults : List (CastFault × ℕ) → Outcome → Outcome
-unless_faults [] outcome = outcome
-unless_faults (f ∷ fs) outcome = casts_fail (f ∷ fs)
-
--- all faults of casts, else the wrong kind of body, else the element and the arguments that it has
--- not used
-abbrev pub construct_outcome : ElementInfo → List ArgView → Outcome
-construct_outcome info args =
+-- what arguments construct, where a body can be chosen
+abbrev pub construction : ElementInfo → List ArgView → Option Construction
+construction info args =
     let es = entries_view info.attrs.items in
-    unless_faults (faults es args)
-    (with_body info.tag es (attrs es args) (body_choice info.tag args))
+    with_body info.tag es (attrs es args) (body_choice info.tag args)
 
--- a refusal has the right faults, or is out of memory
-abbrev pub IsRefusal : Outcome → ConstructFault → Type 0
-IsRefusal outcome OutOfMemory = Unit
-IsRefusal outcome (Casts fs) = outcome ≡ casts_fail (faults_view fs.items)
-IsRefusal outcome (BodyKind span) = outcome ≡ body_fails span.0
-
--- how constructing ends: with the element and these arguments left, else refused
-abbrev pub Constructs : Result HtmlElem ConstructFault → List ArgView → Outcome → Type 0
-Constructs (Ok element) left outcome = outcome ≡ makes (elem_view element) left
-Constructs (Err fault) left outcome = IsRefusal outcome fault
+-- all faults of casts, then the wrong kind of body
+abbrev pub construct_faults : ElementInfo → List ArgView → List ConstructFaultView
+construct_faults info args =
+    joined_faults (faults (entries_view info.attrs.items) args)
+    ++ choice_faults (body_choice info.tag args)

@@ -1,4 +1,5 @@
 pub mod Construct
+pub mod Endings
 pub mod Pieces
 pub use Rattle.html_flow_whitespace.specs.BareSpaces
 pub use Rattle.html_flow_whitespace.specs.Nodes
@@ -8,7 +9,7 @@ pub use Rattle.html_flow_whitespace.specs.Runs
 pub use Rattle.html_flow_convert.specs.ConstructFaults
 pub use Rattle.html_flow_convert.specs.Converted
 pub use Rattle.html_flow_convert.specs.Depth
-pub use Rattle.html_flow_convert.specs.Endings
+pub use Rattle.html_flow_convert.specs.Endings as FlowEndings
 pub use Rattle.html_flow_convert.specs.FlowFaults
 pub use Rattle.html_flow_convert.specs.Items
 pub use Rattle.html_flow_convert.specs.LoneNode

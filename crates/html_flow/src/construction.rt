@@ -1,13 +1,13 @@
-ghost use Rattle.std.specs.Prelude.{◌≡◌, ◌<◌, [], length, IfSome, not, bytes_eq, chars, is_some, option_map, slice_index_or, IfOk, IfErr, OnOk, OnErr, Some, None};
+ghost use Rattle.std.specs.Prelude.{◌≡◌, ◌<◌, [], length, IfSome, not, bytes_eq, chars, is_some, option_map, slice_index_or, OnOk, OnErr, Some, None};
 ghost use Rattle.std.specs.List.{remove};
 ghost use Rattle.html_names.specs.Kinds.{is_raw};
 ghost use Rattle.html_names.specs.Texts.{text_view};
 ghost use Rattle.html_dom_tree.specs.Views.{attrs_view};
-ghost use Rattle.html_flow.specs.Construct.{Constructs, cast_answer, args_view, arg_body, attrs, construct_outcome, entries_view, entry_for, entry_view, faults, arg_value_view, makes, other_args, body_choice, takes, text_items};
-ghost use Rattle.html_flow.specs.Pieces.{CastsArgs, Chooses, MakesBody, arg_at, or_own, unnamed_at};
+ghost use Rattle.html_flow.specs.Construct.{cast_answer, args_view, arg_body, attrs, choice_faults, construct_faults, construction, entries_view, entry_for, entry_view, faults, joined_faults, arg_value_view, other_args, body_choice, takes, text_items};
+ghost use Rattle.html_flow.specs.Endings.{Gives};
+ghost use Rattle.html_flow.specs.Pieces.{arg_at, body_faults, or_own, unnamed_at};
 ghost use Rattle.html_values.specs.Casts.{Casts, option_answer};
 ghost use Rattle.html_values.specs.Types.{attr_type_view};
-ghost use Rattle.html_flow_convert.specs.declared.construct_fault.ConstructFault.TheVariants.{OutOfMemory};
 ghost use Rattle.html_flow_convert.specs.Items.{present};
 ghost use Rattle.html_flow_convert.specs.Views.{body_view, items_view, elem_view};
 
@@ -51,8 +51,9 @@ pub fn construct(
     info: &ElementInfo,
     args: &mut Args,
 ) -> Result<HtmlElem, ConstructFault>
-    ensures ends { Constructs result (args_view args.new.items.items)
-        (construct_outcome info.now (args_view args.old.items.items)) }
+    ensures ends { let given = args_view args.old.items.items in
+        Gives (λ made. Some (elem_view made, args_view args.new.items.items)) result
+        (construction info.now given) (construct_faults info.now given) }
     ensures stays { OnErr result (args.new ≡ args.old) }
 {
     let attrs = cast_args(alloc, &info.attrs, &args.items)?;
@@ -117,8 +118,9 @@ fn cast_args(
     entries: &[(HtmlAttr, AttrType)],
     args: &[Arg],
 ) -> Result<HtmlAttrs, ConstructFault>
-    ensures { CastsArgs result (attrs (entries_view entries.now) (args_view args.now))
-        (faults (entries_view entries.now) (args_view args.now)) }
+    ensures { let es = entries_view entries.now in
+        Gives attrs_view result (attrs es (args_view args.now))
+        (joined_faults (faults es (args_view args.now))) }
 {
     let mut made = HtmlAttrs::new(alloc);
     let mut wrong = Vec::new(alloc);
@@ -154,9 +156,8 @@ fn unnamed_at(args: &[Arg]) -> Option<usize>
 
 /// A body of one text.
 fn text_body(alloc: Global, text: &String, span: Span) -> Result<Vec<Pair>, ConstructFault>
-    ensures ok { IfOk result
-        (λ made. items_view made.items ≡ text_items (text_view text.now) span.0) }
-    ensures err { IfErr result (λ fault. fault ≡ OutOfMemory) }
+    ensures { Gives (λ made. items_view made.items) result
+        (text_items (text_view text.now) span.0) [] }
 {
     let mut body = Vec::new(alloc);
     body.push(Pair {
@@ -173,8 +174,9 @@ fn plain_body(
     value: &ArgValue,
     span: Span,
 ) -> Result<Vec<Pair>, ConstructFault>
-    ensures { MakesBody (or_own (arg_value_view value.now)) result span.0
-        (arg_body raw (arg_value_view value.now) span.0) }
+    ensures { let body = arg_body raw (arg_value_view value.now) span.0 in
+        Gives (λ made. Some (present (or_own (arg_value_view value.now) (items_view made.items))))
+        result body (body_faults body span.0) }
 {
     match value {
         ArgValue::Plain(Value::Str(text)) => text_body(alloc, text, span),
@@ -204,7 +206,9 @@ fn take_at(
 ) -> Result<Vec<Pair>, ConstructFault>
     requires { place < length args.old.items }
     ensures ends { let arg = arg_at (args_view args.old.items) place in
-        MakesBody (λ body. body) result arg.span (arg_body raw arg.value arg.span) }
+        let body = arg_body raw arg.value arg.span in
+        Gives (λ made. Some (present (items_view made.items))) result body
+        (body_faults body arg.span) }
     ensures removed { OnOk result (args.new.items ≡ remove args.old.items place) }
     ensures stays { OnErr result (args.new ≡ args.old) }
 {
@@ -219,8 +223,9 @@ fn take_body(
     tag: &HtmlTag,
     args: &mut Vec<Arg>,
 ) -> Result<Option<Vec<Pair>>, ConstructFault>
-    ensures ends { Chooses result (args_view args.new.items)
-        (body_choice tag.now (args_view args.old.items)) }
+    ensures ends { let choice = body_choice tag.now (args_view args.old.items) in
+        Gives (λ made. takes (body_view made) (args_view args.new.items)) result choice
+        (choice_faults choice) }
     ensures stays { OnErr result (args.new ≡ args.old) }
 {
     if tag::is_void(tag) {

@@ -1,5 +1,5 @@
 -- The refusal of the first fault of a name.
-use Rattle.std.proofs.Common.{List, [], ◌∷◌, Option, ap, option_to_list}
+use Rattle.std.proofs.Common.{[], Option, ap, option_to_list}
 use Rattle.html_names.proofs.Faults.{some_first}
 use Rattle.html_names.specs.Faults as name
 use Rattle.html_names.specs.declared.fault.NameFault.{NameFault}

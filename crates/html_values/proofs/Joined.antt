@@ -1,5 +1,5 @@
 -- The texts of a list's items, made one by one.
-use Rattle.std.proofs.Common.{◌≡◌, ℕ, List, [], ◌∷◌, ◌++◌, Result, Ok, Err, refl, ap, sym, subst, append_assoc}
+use Rattle.std.proofs.Common.{◌≡◌, ℕ, List, [], ◌∷◌, ◌++◌, Ok, Err, refl, ap, sym, subst, append_assoc}
 use Rattle.html_values_css.specs.CastFaults.{IsFirst}
 use Rattle.html_values.specs.Casts.{CastAnswer, gives, nothing, refuses, answer_faults, Texts, and_then, item_answer}
 use Rattle.html_values_css.specs.declared.cast_fault.CastFault.{CastFault}

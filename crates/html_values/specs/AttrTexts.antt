@@ -1,6 +1,6 @@
 -- The texts of typed values in attributes, each a list of characters (this project's table of
 -- values).
-use Rattle.std.specs.Prelude.{ℕ, ℤ, pos, negsuc, unsigned_abs, zero, suc, ltb, ◌&&◌, ◌/◌, ◌%◌, ◌+◌, ◌==◌, List, [], ◌∷◌, ◌++◌, codes, Bool, true, false, if◌then◌else◌, Option, None, Some, option_map}
+use Rattle.std.specs.Prelude.{ℕ, ℤ, pos, negsuc, unsigned_abs, zero, suc, ltb, ◌&&◌, ◌/◌, ◌%◌, ◌==◌, List, [], ◌∷◌, ◌++◌, codes, Bool, true, false, if◌then◌else◌, Option, None, Some, option_map}
 use Rattle.std.specs.Fmt.{decimal}
 use Rattle.std.specs.Int.NonZero.{non_zero_u64_get}
 use Rattle.html_names.specs.Texts.{text_view, two_digits}
