@@ -1,5 +1,5 @@
 -- The root of a document with anchors, and what its anchors are.
-use Rattle.std.proofs.Common.{◌≡◌, ℕ, Bool, true, refl, sym, subst}
+use Rattle.std.proofs.Common.{◌≡◌, ℕ, Bool, true, refl, sym, subst, ap, ◌∙◌}
 use Rattle.html_dom_tree.specs.FrameFree.{ElementIsFrameFree}
 use Rattle.html_dom_tree.specs.Tree.{ElementView}
 use Rattle.html_names.specs.Names.{stands_in}
@@ -15,6 +15,8 @@ use Rattle.html_dom_link.proofs.Consequences.{answers_are_first_ids}
 use Rattle.html_dom_link.proofs.DocumentNames.{anchors_are_serving, anchors_are_shown}
 use Rattle.typst_html_spaces.proofs.ReadableNodes.{anchors_keep_frame_free}
 use Rattle.typst_html_export.proofs.AnchoredRoots.{root_anchored}
+use Rattle.typst_html_export.proofs.LinkedRoots.{anchors_keep_atoms}
+use Rattle.typst_html_export.specs.LinkedRoots.{HaveSameAtoms}
 use Rattle.typst_html_export.specs.Linked.{document_linked, document_with_anchors, AnchorsAreFirstIds}
 
 -- anchors take no frame away
@@ -49,3 +51,12 @@ known_anchors_serve d =
     let is_target = d.introspector.is_link_target in
     anchors_are_serving is_target d (document_anchored is_target d) (document_anchor is_target d)
     refl refl
+
+-- anchors are not seen
+pub anchors_are_not_seen : (d new : DocumentView) → new ≡ document_with_anchors d →
+    HaveSameAtoms (document_root new) (document_root d)
+anchors_are_not_seen d new is =
+    let is_target = d.introspector.is_link_target in
+    subst (λ r. HaveSameAtoms r (document_root d))
+    (sym (ap document_root is ∙ root_has_anchors is_target d))
+    (anchors_keep_atoms (document_targets is_target d) (document_root d))

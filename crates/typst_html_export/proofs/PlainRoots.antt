@@ -144,6 +144,11 @@ root_readable info ns r =
       ((body_not_raw, r), tt),
     )
 
+pub assembled_root_is : (info : InfoView) (items : ItemsView) → is_plain_flow items ≡ true →
+    document_root (assembled_document info items no_items)
+    ≡ root_over info (document_nodes items)
+assembled_root_is info items e = ap (λ o. given_root (root_of o)) (output_is info items e)
+
 -- the root with anchors
 
 pub linked_root_is : (info : InfoView) (items : ItemsView) → is_plain_flow items ≡ true →

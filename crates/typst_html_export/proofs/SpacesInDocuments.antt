@@ -27,13 +27,13 @@ use Rattle.typst_html_spaces.specs.ReadableNodes.{AreReadable}
 use Rattle.typst_html_spaces.proofs.ReadableNodes.{readable_frame_free, readable_end_well, anchored_readable, anchored_body}
 use Rattle.typst_html_spaces.proofs.SeenBody.{plain_tree_seen, pretty_tree_seen}
 use Rattle.typst_html_spaces.proofs.SpacesStay.{spaces_stay}
-use Rattle.typst_html_export.specs.Assembled.{document_nodes}
+use Rattle.typst_html_export.specs.Assembled.{assembled_document, document_nodes}
 use Rattle.typst_html_export.specs.Exported.{linked_root}
 use Rattle.typst_html_export.specs.Linked.{linked_document}
 use Rattle.typst_html_export.specs.SpacesInDocuments.{PlainDocumentsAreSeen, PlainLinkedDocumentsAreSeen, IsReadAs, PlainDocumentsAreRead, PlainLinkedDocumentsAreRead, SpacesAreLeft}
 use Rattle.typst_html_export.proofs.AnchoredRoots.{root_anchored}
 use Rattle.typst_html_export.proofs.LinkedRoots.{nodes_linked}
-use Rattle.typst_html_export.proofs.PlainRoots.{root_over, body_is, html_not_raw, root_readable, linked_root_is}
+use Rattle.typst_html_export.proofs.PlainRoots.{assembled_root_is, root_over, body_is, html_not_raw, root_readable, linked_root_is}
 
 -- a root without a raw element and without a frame, in whose body exactly that text of items is
 -- seen, and what has indents is a border
@@ -129,6 +129,15 @@ pub plain_linked_documents_are_seen : PlainLinkedDocumentsAreSeen
 plain_linked_documents_are_seen info items e anchor frames options named clean =
     text_is_seen frames (root_with_links anchor (linked_root info items no_items)) items
     (plain_linked_documents_are_read info items e anchor) named options.pretty clean
+
+pub spaces_are_left_without_anchors : (info : InfoView) (items notes : ItemsView)
+    (d : DocumentView) → d ≡ assembled_document info items notes → SpacesAreLeft d items notes
+spaces_are_left_without_anchors info items notes d is e alone =
+    let root = root_over info (document_nodes items) in
+    let top : document_root d ≡ root =
+    ap document_root (is ∙ ap (assembled_document info items) alone)
+    ∙ assembled_root_is info items e in
+    subst (λ r. IsReadAs r items) (sym top) (shown_read root items (made_shown info items e))
 
 pub spaces_are_left : (info : InfoView) (items notes : ItemsView) (d : DocumentView) →
     d ≡ linked_document info items notes → SpacesAreLeft d items notes

@@ -6,6 +6,7 @@ ghost use Rattle.html_dom_link.specs.Leads.{KnownAnchorsAreShown};
 ghost use Rattle.html_dom_link.specs.Serving.{KnownAnchorsServe};
 ghost use Rattle.html_dom_tree.specs.Tree.{none, node};
 ghost use Rattle.html_dom_tree.specs.Views.{element_view, node_view, nodes_view};
+ghost use Rattle.html_dom_document.specs.Documents.{document_root};
 ghost use Rattle.html_dom_document.specs.Positions.{PositionsLead};
 ghost use Rattle.html_dom_document.specs.Views.{document_view, info_view, output_view};
 ghost use Rattle.typst_html_encode.specs.FaultViews.{spans_view};
@@ -19,6 +20,7 @@ ghost use Rattle.typst_html_export.specs.Assembled.{body_node, both_nodes, html_
 ghost use Rattle.typst_html_export.specs.Assembled.{assembly_faults, depth_faults, document_faults, item_spans, note_faults, outline_faults};
 ghost use Rattle.typst_html_export.specs.Assembles.{Assembles, FailsByMemoryAlone, Passes};
 ghost use Rattle.typst_html_export.specs.Linked.{document_with_anchors, linked_document, AnchorsAreFirstIds};
+ghost use Rattle.typst_html_export.specs.LinkedRoots.{HaveSameAtoms};
 ghost use Rattle.typst_html_export.specs.Outlines.{outline_view, own_view};
 ghost use Rattle.typst_html_export.specs.Roots.{root_styled};
 ghost use Rattle.typst_html_export.specs.SpacesInDocuments.{ArePlainItems, SpacesAreLeft};
@@ -40,7 +42,9 @@ use typst_html_encode::ExportFault;
 /// frames then get anchors as by [`create_link_anchors`], where they stand in the tree; the
 /// document's introspector knows them: each is the name of what serves its location in the tree. The
 /// positions that it knows stay those of the tree without anchors. Where all ids of the tree without
-/// anchors differ, those of the answered one do. It fails as `html_document_for_bundle` does.
+/// anchors differ, those of the answered one do. Anchors are not seen: what is seen of the document's
+/// nodes once white space has collapsed is what is seen of them without anchors. It fails as
+/// `html_document_for_bundle` does.
 ///
 /// Of items in plain flow, without footnotes and none too deep, a document is always made, out of
 /// memory aside, and once white space has collapsed exactly their text is seen in its body.
@@ -71,6 +75,9 @@ pub fn html_document(
     ensures anchors { IfOk result (λ document. AnchorsAreFirstIds (document_view document)) }
     ensures shown { IfOk result (λ document. KnownAnchorsAreShown (document_view document)) }
     ensures serves { IfOk result (λ document. KnownAnchorsServe (document_view document)) }
+    ensures unseen { let assembled = assembled_document (info_view info.now)
+        (items_view items.now) (items_view footnotes.now) in IfOk result (λ document.
+        HaveSameAtoms (document_root (document_view document)) (document_root assembled)) }
     ensures distinct { IdsAreDistinct (assembled_document (info_view info.now)
         (items_view items.now) (items_view footnotes.now)) →
         IfOk result (λ document. IdsAreDistinct (document_view document)) }
@@ -133,6 +140,9 @@ pub fn html_document_for_bundle(
         (assembled_document (info_view info.now) (items_view items.now) (items_view footnotes.now))
         (document_faults limit (items_view items.now) (items_view footnotes.now)) }
     ensures leads { IfOk result (λ document. PositionsLead (document_view document)) }
+    // Of items in plain flow, without footnotes, exactly their text is seen.
+    ensures spaces { IfOk result (λ document. SpacesAreLeft (document_view document)
+        (items_view items.now) (items_view footnotes.now)) }
 {
     let content = converted(alloc, items, 0, limit)?;
     let output = assembled(alloc, content, info, footnotes, limit)?;

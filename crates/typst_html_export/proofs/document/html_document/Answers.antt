@@ -1,5 +1,6 @@
 use Rattle.std.proofs.Common.{◌∙◌, ap, sym, subst}
 use Rattle.std.proofs.lemmas.Result.{err_from_is_err_and}
+use Rattle.html_dom_document.specs.Documents.{document_root}
 use Rattle.html_dom_document.specs.Views.{document_view, info_view}
 use Rattle.html_dom_link.specs.Distinct.{IdsAreDistinct}
 use Rattle.html_dom_link.specs.Leads.{KnownAnchorsAreShown}
@@ -7,7 +8,8 @@ use Rattle.html_dom_link.specs.Serving.{KnownAnchorsServe}
 use Rattle.html_flow_convert.specs.Views.{items_view}
 use Rattle.typst_html_export.specs.Assembled.{document_faults}
 use Rattle.typst_html_export.specs.Linked.{AnchorsAreFirstIds, document_with_anchors}
-use Rattle.typst_html_export.proofs.Anchors.{anchors_are_first_ids, known_anchors_are_shown, known_anchors_serve}
+use Rattle.typst_html_export.specs.LinkedRoots.{HaveSameAtoms}
+use Rattle.typst_html_export.proofs.Anchors.{anchors_are_first_ids, anchors_are_not_seen, known_anchors_are_shown, known_anchors_serve}
 use Rattle.typst_html_export.proofs.Firsts.{memory_alone}
 use Rattle.typst_html_export.proofs.PlainRoots.{plain_documents_are_made}
 use Rattle.typst_html_export.proofs.SpacesInDocuments.{spaces_are_left}
@@ -27,6 +29,13 @@ pub returns-clause-serves : goal.returns-clause-serves
 returns-clause-serves c =
     subst KnownAnchorsServe (sym c.in_ok-with_anchors.ensures.made)
     (known_anchors_serve (document_view c.in_ok-document.document))
+
+pub returns-clause-unseen : goal.returns-clause-unseen
+returns-clause-unseen c =
+    subst (λ d. HaveSameAtoms (document_root (document_view c.in_ok-with_anchors.field-0))
+    (document_root d)) c.in_ok-document.ensures.made.made
+    (anchors_are_not_seen (document_view c.in_ok-document.document) _
+    c.in_ok-with_anchors.ensures.made)
 
 pub returns-clause-distinct : goal.returns-clause-distinct
 returns-clause-distinct c = λ distinct. c.in_ok-with_anchors.ensures.distinct

@@ -7,6 +7,7 @@ use Rattle.typst_html_export.specs.Assembled.{document_nodes, assembled_output, 
 use Rattle.typst_html_export.specs.Roots.{root_styled}
 use Rattle.typst_html_export.proofs.Assembling.{assembled_styled}
 use Rattle.typst_html_export.proofs.Firsts.{none_after_none}
+use Rattle.typst_html_export.proofs.SpacesInDocuments.{spaces_are_left_without_anchors}
 use Rattle.typst_html_export.proofs.document.html_document_for_bundle.Goals as goal
 
 pub returns-clause-made : goal.returns-clause-made
@@ -33,3 +34,8 @@ returns-clause-made c =
       clean = none_after_none _ _ c.in_ok-content.ensures.clean clean;
       fault = tt;
     }
+
+pub returns-clause-spaces : goal.returns-clause-spaces
+returns-clause-spaces c =
+    spaces_are_left_without_anchors (info_view c.args.info.now) (items_view c.args.items.now)
+    (items_view c.args.footnotes.now) _ (returns-clause-made c).made
