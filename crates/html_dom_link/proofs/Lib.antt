@@ -6,9 +6,9 @@ pub mod Differing
 pub mod DocumentNames
 pub mod Freshes
 pub mod Gathering
+pub mod GivenLinks
 pub mod InFrames
 pub mod LeadingLinks
-pub mod Leads
 pub mod Linking
 pub mod LocationMaps
 pub mod MovedRoots

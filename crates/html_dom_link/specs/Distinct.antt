@@ -12,7 +12,7 @@ use Rattle.html_dom_link.specs.Anchors.{element_anchored}
 use Rattle.html_dom_link.specs.Answered.{names_shown}
 use Rattle.html_dom_link.specs.Events.{Targets}
 use Rattle.html_dom_link.specs.Fresh.{MadeAreNew}
-use Rattle.html_dom_link.specs.Leads.{GivenLink, LeadsAmong, document_given}
+use Rattle.html_dom_link.specs.GivenLinks.{GivenLink, LeadsAmong, document_given}
 use Rattle.html_dom_link.specs.Links.{Anchors, root_with_links}
 use Rattle.html_dom_link.specs.NewNames.{Name, element_names}
 

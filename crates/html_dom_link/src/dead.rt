@@ -6,7 +6,7 @@ ghost use Rattle.html_dom_tree.specs.Views.{element_view, node_view, nodes_view}
 ghost use Rattle.html_dom_document.specs.Views.{document_view};
 ghost use Rattle.html_dom_introspect.specs.Introspectors.{introspector_view};
 ghost use Rattle.html_dom_link.specs.DeadLinks.{dead_links_view};
-ghost use Rattle.html_dom_link.specs.Leads.{EveryLinkLeads};
+ghost use Rattle.html_dom_link.specs.GivenLinks.{EveryLinkLeads};
 ghost use Rattle.html_dom_link.specs.Links.{dead_link, document_dead_links, node_dead_links, nodes_dead_links};
 
 use crate::links::{dest_past, name_of, open_dest};

@@ -7,7 +7,7 @@ ghost use Rattle.html_dom_tree.specs.Tree.{NodeView, element_node};
 ghost use Rattle.html_dom_tree.specs.Views.{attrs_view, element_view, node_view, nodes_view, text_view};
 ghost use Rattle.html_dom_introspect.specs.Introspectors.{introspector_view};
 ghost use Rattle.html_dom_link.specs.Distinct.{IdsAreDistinct, GivenLinksLeadToOne};
-ghost use Rattle.html_dom_link.specs.Leads.{KnownAnchorsAreShown, GivenLinksLead, links_without};
+ghost use Rattle.html_dom_link.specs.GivenLinks.{KnownAnchorsAreShown, GivenLinksLead, links_without};
 ghost use Rattle.html_dom_link.specs.Links.{attrs_with_href, dest_before, document_dead_links, document_with_links, href_to, is_open, name_of, node_with_links, nodes_with_links, open_dest};
 ghost use Rattle.html_dom_link.specs.Serving.{KnownAnchorsServe};
 

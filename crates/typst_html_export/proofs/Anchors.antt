@@ -7,7 +7,7 @@ use Rattle.html_dom_document.specs.Documents.{DocumentView, document_root}
 use Rattle.html_dom_link.specs.Events.{Targets}
 use Rattle.html_dom_link.specs.Anchors.{element_anchored}
 use Rattle.html_dom_link.specs.Answered.{first_ids}
-use Rattle.html_dom_link.specs.Leads.{KnownAnchorsAreShown}
+use Rattle.html_dom_link.specs.GivenLinks.{KnownAnchorsAreShown}
 use Rattle.html_dom_link.specs.LinkAnchors.{document_anchor, document_anchored, document_targets}
 use Rattle.html_dom_link.specs.Serving.{KnownAnchorsServe}
 use Rattle.html_dom_link.proofs.ChangedRoots.{root_has_anchors}

@@ -6,7 +6,7 @@ use Rattle.html_dom_tree.specs.Tree.{tag_node, text_node, element_node, frame_no
 use Rattle.html_dom_tree.specs.Views.{text_view}
 use Rattle.html_dom_document.specs.Documents.{DocumentView, document_root}
 use Rattle.html_dom_link.specs.Answered.{first_ids, names_shown}
-use Rattle.html_dom_link.specs.Leads.{GivenLinksLead, LeadsAmong, document_given}
+use Rattle.html_dom_link.specs.GivenLinks.{GivenLinksLead, LeadsAmong, document_given}
 use Rattle.html_dom_link.specs.Links.{document_with_links}
 use Rattle.html_dom_link.proofs.Consequences.{shown_first}
 use Rattle.typst_html_encode.specs.Endings.{Gives}

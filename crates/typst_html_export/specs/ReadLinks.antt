@@ -2,7 +2,7 @@
 use Rattle.std.specs.Prelude.{◌≡◌, ℕ, true, List, All}
 use Rattle.html_dom_tree.specs.FrameFree.{ElementIsFrameFree}
 use Rattle.html_dom_document.specs.Documents.{DocumentView, document_root}
-use Rattle.html_dom_link.specs.Leads.{LeadsAmong, document_given}
+use Rattle.html_dom_link.specs.GivenLinks.{LeadsAmong, document_given}
 use Rattle.typst_html_encode.specs.Indented.{ElementEndsWell}
 use Rattle.typst_html_encode.specs.ReadIds.{read_ids}
 use Rattle.typst_html_encode.specs.Reader.{read}

@@ -2,7 +2,7 @@
 
 ghost use Rattle.std.specs.Prelude.{◌≡◌, ◌≤◌, IfOk, option_map};
 ghost use Rattle.html_dom_link.specs.Distinct.{IdsAreDistinct};
-ghost use Rattle.html_dom_link.specs.Leads.{KnownAnchorsAreShown};
+ghost use Rattle.html_dom_link.specs.GivenLinks.{KnownAnchorsAreShown};
 ghost use Rattle.html_dom_link.specs.Serving.{KnownAnchorsServe};
 ghost use Rattle.html_dom_tree.specs.Tree.{none, node};
 ghost use Rattle.html_dom_tree.specs.Views.{element_view, node_view, nodes_view};

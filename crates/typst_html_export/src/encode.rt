@@ -13,7 +13,7 @@ ghost use Rattle.typst_html_encode.specs.Text.{document_text};
 ghost use Rattle.typst_html_encode.specs.Endings.{Gives};
 ghost use Rattle.html_dom_document.specs.Documents.{document_root};
 ghost use Rattle.html_dom_link.specs.Distinct.{GivenLinksLeadToOne, IdsAreDistinct};
-ghost use Rattle.html_dom_link.specs.Leads.{GivenLinksLead, links_without};
+ghost use Rattle.html_dom_link.specs.GivenLinks.{GivenLinksLead, links_without};
 ghost use Rattle.html_dom_link.specs.Links.{document_dead_links};
 ghost use Rattle.html_flow_convert.specs.Views.{items_view};
 ghost use Rattle.typst_html_spaces.specs.CleanItems.{are_clean_items};

@@ -3,7 +3,7 @@ use Rattle.std.proofs.lemmas.Result.{err_from_is_err_and}
 use Rattle.html_dom_document.specs.Documents.{document_root}
 use Rattle.html_dom_document.specs.Views.{document_view, info_view}
 use Rattle.html_dom_link.specs.Distinct.{IdsAreDistinct}
-use Rattle.html_dom_link.specs.Leads.{KnownAnchorsAreShown}
+use Rattle.html_dom_link.specs.GivenLinks.{KnownAnchorsAreShown}
 use Rattle.html_dom_link.specs.Serving.{KnownAnchorsServe}
 use Rattle.html_flow_convert.specs.Views.{items_view}
 use Rattle.typst_html_export.specs.Assembled.{document_faults}

@@ -2,7 +2,7 @@ use Rattle.std.proofs.Common.{ap, ◌∙◌}
 use Rattle.html_dom_document.specs.Documents.{DocumentView, document_root}
 use Rattle.html_dom_document.specs.Views.{document_view, info_view}
 use Rattle.html_dom_link.specs.Distinct.{GivenLinksLeadToOne, IdsAreDistinct}
-use Rattle.html_dom_link.specs.Leads.{GivenLinksLead}
+use Rattle.html_dom_link.specs.GivenLinks.{GivenLinksLead}
 use Rattle.html_dom_link.specs.Links.{document_with_links}
 use Rattle.html_dom_link.proofs.ChangedRoots.{root_has_links}
 use Rattle.html_flow_convert.specs.Views.{items_view}

@@ -21,7 +21,7 @@ use Rattle.html_dom_document.specs.declared.document.HtmlDocument.{HtmlDocument}
 use Rattle.html_dom_link.specs.Answered.{names_shown}
 use Rattle.html_dom_link.specs.DeadLinks.{dead_links_view}
 use Rattle.html_dom_link.specs.Distinct.{IdsAreDistinct, GivenLinksLeadToOne, LeadsToOne, are_distinct}
-use Rattle.html_dom_link.specs.Leads.{KnownAnchorsAreShown, AnchorsAreTexts, EveryLinkLeads, GivenLinksLead, LeadsAmong, LeadsTo, given_by, given_link, links_without, node_given, nodes_given}
+use Rattle.html_dom_link.specs.GivenLinks.{KnownAnchorsAreShown, AnchorsAreTexts, EveryLinkLeads, GivenLinksLead, LeadsAmong, LeadsTo, given_by, given_link, links_without, node_given, nodes_given}
 use Rattle.html_dom_link.specs.Links.{Anchors, attrs_with_href, dest_before, document_dead_links, document_with_links, head_with_link, href_to, is_open, name_of, node_with_links, nodes_with_links, some_name}
 use Rattle.html_dom_link.specs.NewNames.{Name, element_names}
 use Rattle.html_dom_link.specs.declared.dead.DeadLink.{DeadLink}
