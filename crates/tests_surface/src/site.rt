@@ -106,13 +106,10 @@ fn assert_leads(rt: &impl Abort, alloc: Global, text: &str, name: &str) {
 fn links_of_a_site_lead(rt: HostRuntime) {
     let text = page(rt.alloc(), LINES).expect(&rt, "a page");
     assert!(rt; text.as_str().split_once(BODY).is_some());
-    let mut links = 0;
-    let mut rest = text.as_str();
-    while let Some((_, behind)) = rest.split_once("href=\"#") {
-        let (name, left) = behind.split_once('"').expect(&rt, "the end of an href");
-        assert_leads(&rt, rt.alloc(), &text, name);
-        links += 1;
-        rest = left;
+    for line in text.lines() {
+        if let Some((_, behind)) = line.split_once("href=\"#") {
+            let (name, _) = behind.split_once('"').expect(&rt, "the end of an href");
+            assert_leads(&rt, rt.alloc(), &text, name);
+        }
     }
-    assert_eq!(rt; links, 2);
 }
