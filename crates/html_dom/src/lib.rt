@@ -8,10 +8,13 @@
 //! use html_dom::{HtmlElement, HtmlNode, Span};
 //! use html_names::{attr, tag};
 //!
+//! let alloc = rt.alloc();
 //! let text = HtmlNode::text(String::from_str(alloc, "Hello")?, Span(1));
 //! let paragraph = HtmlElement::new(alloc, tag::p)
 //!     .with_attr(attr::class, String::from_str(alloc, "intro")?)?
 //!     .with_child(text)?;
+//! let class = paragraph.attrs.get(&attr::class).expect(&rt, "a class");
+//! assert_eq!(rt; class.as_str(), "intro");
 //! assert_eq!(rt; paragraph.children.len(), 1);
 //! ```
 #![tactic(auto)]
@@ -22,7 +25,8 @@ pub use html_dom_document::{DocumentInfo, HtmlDocument, HtmlOutput, Locale};
 pub use html_dom_flat::{FlatElement, FlatNode, FlatTree};
 pub use html_dom_introspect::{DomIndices, HtmlIntrospector, HtmlPosition, HtmlSliceExt};
 pub use html_dom_link::{
-    DeadLink, create_link_anchors, dead_links, ids_are_distinct, resolve_links, with_resolved_links,
+    DeadLink, create_link_anchors, dead_links, href_to, ids_are_distinct, resolve_links,
+    with_resolved_links,
 };
 pub use html_dom_tree::{
     Frame, FrameItem, HtmlAttrs, HtmlElement, HtmlFrame, HtmlNode, Location, Point, Span, Tag,

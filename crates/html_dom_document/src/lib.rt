@@ -2,13 +2,18 @@
 //! where its located elements stand.
 //!
 //! ```
-//! let mut nodes = Vec::new(alloc);
-//! nodes.push(HtmlNode::Element(HtmlElement::new(alloc, tag::html)))?;
-//! let output = HtmlOutput::new(nodes, 0); // proved: an element stands at 0
+//! use html_dom::{DocumentInfo, HtmlDocument, HtmlElement, HtmlNode, HtmlOutput, Span};
+//! use html_names::tag;
+//!
+//! let alloc = rt.alloc();
+//! let html = HtmlElement::new(alloc, tag::html);
+//! let nodes = vec![in alloc; HtmlNode::Element(html)]?;
+//! assert!(rt; HtmlOutput::can_be_root(&nodes, 0)); // an element stands there
+//! let output = HtmlOutput::new(nodes, 0);
 //! let mut document = HtmlDocument::new(alloc, output, DocumentInfo::new(alloc))?;
 //! document.info_mut().title = Some(String::from_str(alloc, "Tides")?);
 //! document.root_mut().span = Span(3);
-//! assert!(rt; document.root().tag == tag::html);
+//! assert!(rt; document.root().tag == tag::html && document.info().title.is_some());
 //! ```
 #![tactic(auto)]
 

@@ -35,8 +35,15 @@ impl HtmlOutput {
     /// Whether an element stands at that place of the nodes, which so can be the root.
     ///
     /// ```
-    /// if HtmlOutput::can_be_root(&nodes, place) {
-    ///     let output = HtmlOutput::new(nodes, place);
+    /// use html_dom::{HtmlElement, HtmlNode, HtmlOutput};
+    /// use html_names::tag;
+    ///
+    /// let html = HtmlElement::new(rt.alloc(), tag::html);
+    /// let nodes = vec![in rt.alloc(); HtmlNode::Element(html)]?;
+    /// assert!(rt; !HtmlOutput::can_be_root(&nodes, 1));
+    /// if HtmlOutput::can_be_root(&nodes, 0) {
+    ///     let output = HtmlOutput::new(nodes, 0);
+    ///     assert!(rt; output.root().tag == tag::html);
     /// }
     /// ```
     pub fn can_be_root(nodes: &[HtmlNode], place: usize) -> bool

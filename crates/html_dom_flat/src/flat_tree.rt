@@ -16,18 +16,19 @@ use std::fmt;
 /// says up to which place the nodes in it stand.
 ///
 /// ```
-/// use html_dom_tree::{HtmlElement, HtmlNode, Span};
-/// use html_dom_flat::{FlatNode, FlatTree};
+/// use html_dom::{FlatNode, FlatTree, HtmlElement, HtmlNode, Span};
 /// use html_names::tag;
 ///
-/// let mut children = Vec::new(alloc);
-/// children.push(HtmlNode::text(String::from_str(alloc, "Hello")?, Span(1)))?;
-/// let paragraph = HtmlElement::new(alloc, tag::p).with_children(children);
+/// let alloc = rt.alloc();
+/// let text = HtmlNode::text(String::from_str(alloc, "Hello")?, Span(1));
+/// let paragraph = HtmlElement::new(alloc, tag::p).with_child(text)?;
 /// let tree = FlatTree::from_element(alloc, &paragraph)?;
 /// assert_eq!(rt; tree.nodes().len(), 2);
-/// if let FlatNode::Element(element) = &tree.nodes()[0] {
-///     assert_eq!(rt; element.past, 2);
-///     assert!(rt; *tree.names().tag_at(element.tag) == tag::p);
+/// if let Some(FlatNode::Element(element)) = tree.nodes().first() {
+///     assert_eq!(rt; element.past, 2); // where the next node stands that is not in it
+///     let names = tree.names();
+///     assert!(rt; element.tag < names.tags());
+///     assert!(rt; *names.tag_at(element.tag) == tag::p);
 /// }
 /// ```
 #[derive(Drop)]

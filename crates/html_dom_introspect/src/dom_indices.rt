@@ -25,12 +25,17 @@ pub trait HtmlSliceExt<'a> {
     /// a frame has ended.
     ///
     /// ```
-    /// let text = HtmlNode::text(String::from_str(alloc, "Hello")?, Span(1));
+    /// use html_dom::{HtmlElement, HtmlNode, HtmlSliceExt, Span};
+    /// use html_names::tag;
+    ///
+    /// let alloc = rt.alloc();
     /// let mut nodes = Vec::new(alloc);
-    /// nodes.push(text)?;
+    /// nodes.push(HtmlNode::text(String::from_str(alloc, "Hello")?, Span(1)))?;
+    /// nodes.push(HtmlNode::text(String::from_str(alloc, " you")?, Span(2)))?;
     /// nodes.push(HtmlNode::from(HtmlElement::new(alloc, tag::br)))?;
-    /// for (place, (_, index)) in nodes.as_slice().iter_with_dom_indices().enumerate() {
-    ///     assert!(rt; index == place);
+    /// let indices = nodes.as_slice().iter_with_dom_indices();
+    /// for ((_, index), wanted) in indices.zip([0, 0, 1].iter()) {
+    ///     assert_eq!(rt; index, *wanted);
     /// }
     /// ```
     fn iter_with_dom_indices(self) -> DomIndices<'a>

@@ -16,16 +16,20 @@ use std::fmt;
 /// document has for them.
 ///
 /// ```
-/// let location = Location(7);
-/// let start = Tag::Start { location, label: None, dest: Some(Location(8)) };
-/// let mut nodes = Vec::new(alloc);
-/// nodes.push(HtmlNode::from(HtmlElement::new(alloc, tag::hr)))?;
+/// use html_dom::{HtmlElement, HtmlIntrospector, HtmlNode, Location, Tag};
+/// use html_names::tag;
+///
+/// let start = Tag::Start {
+///     location: Location(7),
+///     label: None,
+///     dest: Some(Location(8)),
+/// };
+/// let mut nodes = Vec::new(rt.alloc());
+/// nodes.push(HtmlNode::from(HtmlElement::new(rt.alloc(), tag::hr)))?;
 /// nodes.push(HtmlNode::from(start))?;
-/// let introspector = HtmlIntrospector::new(alloc, &nodes)?;
-/// let path: &[usize] = &[1];
-/// if let Some(position) = introspector.position(location) {
-///     assert!(rt; position.path() == path);
-/// }
+/// let introspector = HtmlIntrospector::new(rt.alloc(), &nodes)?;
+/// let position = introspector.position(Location(7)).expect(&rt, "a position");
+/// assert!(rt; position.path() == [1].as_slice());
 /// assert!(rt; introspector.link_targets()?.contains(&Location(8)));
 /// ```
 #[derive(Drop)]

@@ -35,6 +35,24 @@ use std::mem;
 ///
 /// The new tree is made beside the old one. [`with_link_anchors`] takes a document, and copies
 /// nothing.
+///
+/// ```
+/// use std::collections::BTreeSet;
+/// use typst_html::{DocumentInfo, HtmlElem, Item, Location, create_link_anchors};
+/// use typst_html::{html_document_for_bundle, push_located, tag};
+///
+/// let alloc = rt.alloc();
+/// let (mut items, info) = (Vec::new(alloc), DocumentInfo::new(alloc));
+/// let heading = Item::Element(HtmlElem::new(alloc, tag::h2));
+/// let label = Some(String::from_str(alloc, "cooling")?);
+/// push_located(&mut items, Location(7), label, None, heading)?;
+/// let mut document = html_document_for_bundle(alloc, &items, &info, &[], 50)?;
+/// let mut targets = BTreeSet::new(alloc);
+/// let _ = targets.insert(Location(7))?;
+/// let anchors = create_link_anchors(alloc, &mut document, &targets)?;
+/// let anchor = anchors.get(&Location(7)).expect(&rt, "an anchor");
+/// assert_eq!(rt; anchor.as_str(), "cooling"); // the heading is `<h2 id="cooling">` now
+/// ```
 pub fn create_link_anchors(
     alloc: Global,
     document: &mut HtmlDocument,

@@ -30,8 +30,18 @@ pub struct DeadLink {
 /// resolved. It fails only where an allocation does.
 ///
 /// ```
-/// for link in &dead_links(alloc, &document)? {
-///     println!(rt; "the link at {} leads nowhere", link.span.0)?;
+/// use typst_html::{DocumentInfo, HtmlElem, Item, Location, Span};
+/// use typst_html::{dead_links, html_document, push_located, tag};
+///
+/// let alloc = rt.alloc();
+/// let (mut items, info) = (Vec::new(alloc), DocumentInfo::new(alloc));
+/// let link = Item::Element(HtmlElem::new(alloc, tag::a).spanned(Span(12)));
+/// push_located(&mut items, Location(1), None, Some(Location(9)), link)?; // nothing starts 9
+/// let document = html_document(alloc, &items, &info, &[], 50)?;
+/// let dead = dead_links(alloc, &document)?;
+/// assert_eq!(rt; dead.len(), 1);
+/// for link in &dead {
+///     assert!(rt; link.span == Span(12) && link.dest == Location(9));
 /// }
 /// ```
 pub fn dead_links(alloc: Global, document: &HtmlDocument) -> Result<Vec<DeadLink>, AllocError>

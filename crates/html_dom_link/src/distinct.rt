@@ -19,9 +19,18 @@ use std::collections::BTreeSet;
 /// and fails only where an allocation does.
 ///
 /// ```
-/// if !ids_are_distinct(alloc, &document)? {
-///     println!(rt; "an id stands twice in the document")?;
+/// use typst_html::{DocumentInfo, HtmlElem, Item, Pair, attr, html_document};
+/// use typst_html::{ids_are_distinct, tag};
+///
+/// let alloc = rt.alloc();
+/// let (mut items, info) = (Vec::new(alloc), DocumentInfo::new(alloc));
+/// for tag in [tag::h2, tag::p] {
+///     let id = String::from_str(alloc, "tides")?;
+///     let element = HtmlElem::new(alloc, tag).with_attr(attr::id, id)?;
+///     items.push(Pair::from(Item::Element(element)))?;
 /// }
+/// let document = html_document(alloc, &items, &info, &[], 50)?;
+/// assert!(rt; !ids_are_distinct(alloc, &document)?);
 /// ```
 pub fn ids_are_distinct(alloc: Global, document: &HtmlDocument) -> Result<bool, AllocError>
     ensures { IfOk result (λ distinct.

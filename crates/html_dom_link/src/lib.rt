@@ -19,4 +19,4 @@ mod state;
 pub use anchors::{create_link_anchors, with_link_anchors};
 pub use dead::{DeadLink, dead_links};
 pub use distinct::ids_are_distinct;
-pub use links::{resolve_links, with_resolved_links};
+pub use links::{href_to, resolve_links, with_resolved_links};

@@ -1,6 +1,6 @@
 //! The `href` of links that have none.
 
-ghost use Rattle.std.specs.Prelude.{◌≡◌, ◌∷◌, [], List, option_map, IfErr, IfOk, OnErr, OnOk};
+ghost use Rattle.std.specs.Prelude.{◌≡◌, ◌∷◌, [], List, chars, option_map, IfErr, IfOk, OnErr, OnOk};
 ghost use Rattle.html_dom_document.specs.Documents.{document_root};
 ghost use Rattle.html_dom_document.specs.Views.{document_view};
 ghost use Rattle.html_dom_tree.specs.Tree.{NodeView, element_node};
@@ -49,10 +49,20 @@ pub(crate) const FRAGMENT: AsciiSet = ascii_set!(
 /// beside the old one.
 ///
 /// ```
-/// // Items: a start tag to location 7, an `a`; and a heading that location 7 starts before.
+/// use typst_html::{DocumentInfo, HtmlElem, HtmlOptions, Item, Location};
+/// use typst_html::{html, html_document, push_located, resolve_links, tag};
+///
+/// let alloc = rt.alloc();
+/// let (mut items, info) = (Vec::new(alloc), DocumentInfo::new(alloc));
+/// let link = Item::Element(HtmlElem::new(alloc, tag::a));
+/// let heading = Item::Element(HtmlElem::new(alloc, tag::h2));
+/// push_located(&mut items, Location(1), None, Some(Location(7)), link)?;
+/// push_located(&mut items, Location(7), None, None, heading)?;
 /// let mut document = html_document(alloc, &items, &info, &[], 50)?;
 /// resolve_links(alloc, &mut document)?;
-/// let html = html(alloc, &document, &HtmlOptions::default(), &())?; // .. <a href="#loc-1"> ..
+/// let text = html(alloc, &document, &HtmlOptions::default(), &())?;
+/// let body = r##"<body><a href="#loc-1"></a><h2 id="loc-1"></h2></body></html>"##;
+/// assert!(rt; text.as_str().ends_with(body));
 /// ```
 pub fn resolve_links(alloc: Global, document: &mut HtmlDocument) -> Result<(), AllocError>
     ensures ok { OnOk result
@@ -145,13 +155,22 @@ pub(crate) fn name_of(known: &HtmlIntrospector, dest: Option<Location>) -> Optio
     if name.is_empty() { None } else { Some(name) }
 }
 
-/// The `href` that leads to a name.
+/// The `href` that leads to an anchor of the same page: `#` and the anchor's name, percent-encoded as
+/// [`resolve_links`] encodes it, so that decoding gives the name. Behind the address of another page
+/// it leads to an anchor there. It fails only where an allocation does.
+///
+/// ```
+/// use html_dom::href_to;
+///
+/// let href = href_to(rt.alloc(), "5% salt")?;
+/// assert_eq!(rt; href.as_str(), "#5%25%20salt");
+/// ```
 #[tactic(auto, unfolding(crate::specs::Links::href_to))]
-fn href_to(alloc: Global, name: &String) -> Result<String, AllocError>
-    ensures { IfOk result (λ text. text_view text ≡ href_to (text_view name.now)) }
+pub fn href_to(alloc: Global, name: &str) -> Result<String, AllocError>
+    ensures { IfOk result (λ text. text_view text ≡ href_to (chars name.now)) }
 {
     let mut text = String::from_str(alloc, "#")?;
-    utf8_percent_encode(name.as_str(), FRAGMENT).append_to(&mut text)?;
+    utf8_percent_encode(name, FRAGMENT).append_to(&mut text)?;
     Ok(text)
 }
 
@@ -166,7 +185,7 @@ fn attrs_with_href(
         ≡ attrs_with_href (option_map (λ name. text_view name.now) name.entry) (attrs_view attrs)) }
 {
     if let Some(name) = name {
-        attrs.push_front(attr::href, href_to(alloc, name)?)?;
+        attrs.push_front(attr::href, href_to(alloc, name.as_str())?)?;
     }
     Ok(attrs)
 }

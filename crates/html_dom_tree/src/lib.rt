@@ -4,13 +4,17 @@
 //! A contract sees a tree as a pure value in which each text is a list of characters.
 //!
 //! ```
-//! let mut children = Vec::new(alloc);
-//! children.push(HtmlNode::text(String::from_str(alloc, "Hello")?, Span(1)))?;
+//! use html_dom::{HtmlElement, HtmlNode, Span};
+//! use html_names::{attr, tag};
+//!
+//! let alloc = rt.alloc();
+//! let text = HtmlNode::text(String::from_str(alloc, "Hello")?, Span(1));
 //! let paragraph = HtmlElement::new(alloc, tag::p)
-//!     .with_children(children)
-//!     .with_attr(attr::class, String::from_str(alloc, "intro")?)?;
-//! let class = paragraph.attrs.get(&attr::class).map(|value| value.as_str());
-//! assert_eq!(rt; class, Some("intro"));
+//!     .with_attr(attr::class, String::from_str(alloc, "intro")?)?
+//!     .with_child(text)?;
+//! let class = paragraph.attrs.get(&attr::class).expect(&rt, "a class");
+//! assert_eq!(rt; class.as_str(), "intro");
+//! assert_eq!(rt; paragraph.children.len(), 1);
 //! ```
 #![tactic(auto)]
 

@@ -1,4 +1,4 @@
-ghost use Rattle.std.specs.Prelude.{◌≡◌, ◌↔◌, ◌++◌, ◌∷◌, [], IsTrue, IfOk, IfErr};
+ghost use Rattle.std.specs.Prelude.{◌≡◌, ◌↔◌, ◌++◌, ◌∷◌, [], IsTrue, IfOk, IfErr, chars};
 ghost use Rattle.html_dom_tree.specs.Tree.{new_element, with_node, with_pair, node_span, text_node, tag_node, element_node, frame_node};
 ghost use Rattle.html_dom_tree.specs.FrameViews.{html_frame_view};
 ghost use Rattle.html_dom_tree.specs.Views.{text_view, tag_view, node_view, element_view, nodes_view};
@@ -35,7 +35,10 @@ pub struct HtmlElement {
     pub tag: HtmlTag,
     /// The attributes, in the order in which they are written.
     pub attrs: HtmlAttrs,
-    /// The css properties. `resolve_inline_styles` writes them into the attribute `style`.
+    /// The css properties. They are not written by `html` and `html_in_bundle`, unless
+    /// [`resolve_inline_styles`](crate::resolve_inline_styles) has put them into the attribute
+    /// `style` before. In a document that is made of items (`html_document`,
+    /// `html_document_for_bundle`) that is done.
     pub css: Properties,
     /// The children.
     pub children: Vec<HtmlNode>,
@@ -134,8 +137,11 @@ impl HtmlElement {
     /// The element with a node added as its last child. Where an allocation fails, both come back.
     ///
     /// ```
-    /// let text = HtmlNode::text(String::from_str(alloc, "Hello")?, Span(1));
-    /// let paragraph = HtmlElement::new(alloc, tag::p).with_child(text)?;
+    /// use html_dom::{HtmlElement, HtmlNode, Span};
+    /// use html_names::tag;
+    ///
+    /// let text = HtmlNode::text(String::from_str(rt.alloc(), "Hello")?, Span(1));
+    /// let paragraph = HtmlElement::new(rt.alloc(), tag::p).with_child(text)?;
     /// assert_eq!(rt; paragraph.children.len(), 1);
     /// ```
     #[tactic(auto, using(crate::proofs::Nodes::with_last_view))]
@@ -156,7 +162,37 @@ impl HtmlElement {
         }
     }
 
-    /// The element with these css properties in place of its own.
+    /// The element with a text added as its last child, which gets the span of the element. Where an
+    /// allocation fails, the element comes back.
+    ///
+    /// ```
+    /// use html_dom::{HtmlElement, HtmlNode, Span};
+    /// use html_names::tag;
+    ///
+    /// let heading = HtmlElement::new(rt.alloc(), tag::h1).spanned(Span(3));
+    /// let heading = heading.with_text(rt.alloc(), "Salt & vinegar")?;
+    /// assert!(rt; matches!(heading.children.first(), Some(HtmlNode::Text(_, Span(3)))));
+    /// ```
+    pub fn with_text(self, alloc: Global, text: &str) -> Result<HtmlElement, Refused<HtmlElement>>
+        ensures ok { IfOk result (λ element. element_view element
+            ≡ with_node (text_node (chars text.now) (element_view self).0.span) (element_view self)) }
+        ensures err { IfErr result (λ refused. element_view refused.back ≡ element_view self) }
+    {
+        let Ok(text) = String::from_str(alloc, text) else {
+            return Err(Refused { back: self });
+        };
+        let span = self.span;
+        match self.with_child(HtmlNode::text(text, span)) {
+            Ok(element) => Ok(element),
+            Err(refused) => Err(Refused {
+                back: refused.back.0,
+            }),
+        }
+    }
+
+    /// The element with these css properties in place of its own. They are written only if
+    /// [`resolve_inline_styles`](crate::resolve_inline_styles) puts them into the attribute
+    /// `style`.
     pub fn with_css(mut self, css: Properties) -> HtmlElement
         ensures { let view = element_view self in
             element_view result ≡ (record view.0 { css = css }, view.1) }

@@ -14,16 +14,24 @@ use std::alloc::{AllocError, Global};
 /// of that name, with `; ` between unless that value is empty, or as a last attribute. An element
 /// without css stays as it is. Where an allocation fails, nothing is changed.
 ///
+/// Elements keep their css, so a second call would write it once more. A document that was made of
+/// items has been through this call.
+///
 /// The new tree is made beside the old one. [`with_inline_styles`] takes a tree, and copies nothing.
 ///
 /// ```
+/// use html_dom::{HtmlElement, resolve_inline_styles};
+/// use html_names::{attr, tag};
+/// use html_values::Properties;
+///
+/// let alloc = rt.alloc();
 /// let css = Properties::new(alloc).with("display", String::from_str(alloc, "block")?)?;
 /// let mut element = HtmlElement::new(alloc, tag::p)
 ///     .with_css(css)
 ///     .with_attr(attr::style, String::from_str(alloc, "color: red")?)?;
 /// resolve_inline_styles(alloc, &mut element)?;
-/// let style = element.attrs.get(&attr::style).map(|value| value.as_str());
-/// assert_eq!(rt; style, Some("display: block; color: red"));
+/// let style = element.attrs.get(&attr::style).expect(&rt, "a style");
+/// assert_eq!(rt; style.as_str(), "display: block; color: red");
 /// ```
 pub fn resolve_inline_styles(alloc: Global, element: &mut HtmlElement) -> Result<(), AllocError>
     ensures ok { OnOk result
@@ -38,13 +46,6 @@ pub fn resolve_inline_styles(alloc: Global, element: &mut HtmlElement) -> Result
 /// The element with the css of each element, at any depth, in its attribute `style`, as
 /// [`resolve_inline_styles`] writes it. No node is copied. Where an allocation fails, the element is
 /// gone.
-///
-/// ```
-/// let css = Properties::new(alloc).with("display", String::from_str(alloc, "block")?)?;
-/// let element = with_inline_styles(alloc, HtmlElement::new(alloc, tag::p).with_css(css))?;
-/// let style = element.attrs.get(&attr::style).map(|value| value.as_str());
-/// assert_eq!(rt; style, Some("display: block"));
-/// ```
 #[cycle(style)]
 pub fn with_inline_styles(alloc: Global, element: HtmlElement) -> Result<HtmlElement, AllocError>
     ensures { IfOk result (λ made. element_view made ≡ element_styled (element_view element)) }

@@ -31,20 +31,23 @@ use std::alloc::{AllocError, Global};
 /// else with `BodyKind`. After a refusal all arguments are as they were.
 ///
 /// ```
-/// let mut attrs = Vec::new(alloc);
-/// attrs.push((attr::href, AttrType::Native(NativeType::Str)))?;
-/// let info = ElementInfo::new(tag::a, attrs);
-/// let mut items = Vec::new(alloc);
-/// items.push(Arg {
-///     name: Some(String::from_str(alloc, "href")?),
-///     span: Span(1),
-///     value: ArgValue::Plain(Value::Str(String::from_str(alloc, "x")?)),
-/// })?;
-/// let mut args = Args { items };
-/// let element = construct(alloc, &info, &mut args)?;
-/// assert_eq!(element.attrs.0.len(), 1);
-/// assert!(element.body.is_none());
-/// assert!(args.items.is_empty());
+/// use html_dom::Span;
+/// use html_flow::{Arg, ArgValue, Args, ElementInfo, construct};
+/// use html_names::{attr, tag};
+/// use html_values::{AttrType, NativeType, Value};
+///
+/// let alloc = rt.alloc();
+/// let href = (attr::href, AttrType::Native(NativeType::Str));
+/// let info = ElementInfo::new(tag::a, vec![in alloc; href]?);
+/// let (name, span) = (Some(String::from_str(alloc, "href")?), Span(1));
+/// let value = ArgValue::Plain(Value::Str(String::from_str(alloc, "/tides")?));
+/// let mut args = Args {
+///     items: vec![in alloc; Arg { name, span, value }]?,
+/// };
+/// let link = construct(alloc, &info, &mut args)?;
+/// let href = link.attrs.get(&attr::href).expect(&rt, "an href");
+/// assert_eq!(rt; href.as_str(), "/tides");
+/// assert!(rt; link.body.is_none() && args.items.is_empty());
 /// ```
 pub fn construct(
     alloc: Global,

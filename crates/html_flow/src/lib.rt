@@ -2,9 +2,14 @@
 //! that items become. Items and their conversion are html_flow_convert's.
 //!
 //! ```
-//! let link = HtmlElem::new(alloc, tag::a).with_attr(attr::href, String::from_str(alloc, "x")?)?;
-//! let item = Item::Element(link);
-//! assert_eq!(item.span(), Span(0));
+//! use html_dom::Span;
+//! use html_flow::{HtmlElem, Item};
+//! use html_names::{attr, tag};
+//!
+//! let href = String::from_str(rt.alloc(), "/tides")?;
+//! let link = HtmlElem::new(rt.alloc(), tag::a).with_attr(attr::href, href)?;
+//! let item = Item::Element(link.spanned(Span(4)));
+//! assert!(rt; item.span() == Span(4));
 //! ```
 #![tactic(auto)]
 

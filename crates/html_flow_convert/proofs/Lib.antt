@@ -1,3 +1,4 @@
+pub mod Bodies
 pub mod ConstructFaults
 pub mod Items
 pub mod Levels

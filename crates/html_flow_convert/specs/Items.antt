@@ -61,6 +61,20 @@ abbrev pub with_optional_pair : List ℕ → Option (List ℕ) → ElemView → 
 with_optional_pair name None e = e
 with_optional_pair name (Some value) e = with_pair (name, value) e
 
+-- items, and one more behind them
+abbrev pub with_last : ItemsView → ItemView × RoleView → ItemsView
+with_last no_items x = item x.0 x.1 no_items
+with_last (item i role is) x = item i role (with_last is x)
+
+-- an element with an item at the end of its body, which is made where there is none
+abbrev pub with_last_item : ItemView × RoleView → ElemView → ElemView
+with_last_item x (head, absent) = (head, present (item x.0 x.1 no_items))
+with_last_item x (head, present items) = (head, present (with_last items x))
+
+-- an element as an item
+abbrev pub element_as_item : ElemView → ItemView
+element_as_item e = element_item e.0 e.1
+
 -- with that body, with that css, with that span in place of its own
 abbrev pub with_items : ItemsView → ElemView → ElemView
 with_items items e = (e.0, present items)

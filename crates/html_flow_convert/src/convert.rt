@@ -47,7 +47,11 @@ pub enum Whitespace {
 /// Whether it is a limit on how deep items may stand that the calls take: from 1 to 10,000.
 ///
 /// ```
+/// use html_flow::is_depth_limit;
+///
+/// let wanted = 20_000; // what a user asks for
 /// let limit = if is_depth_limit(wanted) { wanted } else { 50 };
+/// assert_eq!(rt; limit, 50);
 /// ```
 pub fn is_depth_limit(limit: usize) -> bool
     ensures { IsTrue result ↔ ((1 ≤ limit) × (limit ≤ 10000)) }
@@ -76,15 +80,14 @@ pub fn is_depth_limit(limit: usize) -> bool
 ///
 /// ```
 /// use html_dom::Span;
-/// use html_flow::{ConversionLevel, Item, Pair, Role, Whitespace, convert_to_nodes};
+/// use html_flow::{ConversionLevel, Item, Pair, Whitespace, convert_to_nodes};
 ///
-/// let mut items = Vec::new(alloc);
+/// let mut items = Vec::new(rt.alloc());
 /// for text in ["a ", " b"] {
-///     let item = Item::Text(String::from_str(alloc, text)?, Span(1));
-///     items.push(Pair { item, role: Role::Inherit })?;
+///     items.push(Pair::from(Item::Text(String::from_str(rt.alloc(), text)?, Span(1))))?;
 /// }
-/// let (level, whitespace) = (ConversionLevel::Block, Whitespace::Normal);
-/// let nodes = convert_to_nodes(alloc, &items, level, whitespace, None, 0, 50)?;
+/// let (level, space) = (ConversionLevel::Block, Whitespace::Normal);
+/// let nodes = convert_to_nodes(rt.alloc(), &items, level, space, None, 0, 50)?;
 /// assert_eq!(rt; nodes.len(), 3); // a text, a `span` that keeps both spaces, a text
 /// ```
 pub fn convert_to_nodes(

@@ -1,13 +1,13 @@
-ghost use Rattle.std.specs.Prelude.{◌≡◌, ◌+◌, ◌<◌, ◌≤◌, ◌++◌, ◌∷◌, [], IfOk, IfErr, OnOk, OnErr, option_map, vec_len, vec_capacity};
+ghost use Rattle.std.specs.Prelude.{◌≡◌, ◌+◌, ◌<◌, ◌≤◌, ◌++◌, ◌∷◌, [], IfOk, IfErr, OnOk, OnErr, option_map, vec_len, vec_capacity, chars};
 ghost use Rattle.html_names.specs.Texts.{text_view};
-ghost use Rattle.html_flow_convert.specs.Items.{absent, inheriting, item_span, located, new_head, with_items, with_optional_pair, with_pair, with_properties, with_span};
+ghost use Rattle.html_flow_convert.specs.Items.{absent, inheriting, item_span, located, new_head, text_item, with_items, with_last_item, with_optional_pair, with_pair, with_properties, with_span};
 ghost use Rattle.html_flow_convert.specs.Views.{body_view, elem_view, item_view, items_view, pair_view, pairs_view, frame_elem_view, role_view};
 ghost use Rattle.html_dom_tree.specs.Views.{optional_text_view};
 
 use html_dom_tree::{Frame, HtmlAttrs, Location, Span, Tag};
 use html_names::{HtmlAttr, HtmlTag, Refused};
 use html_values_css::{Abs, Properties};
-use std::alloc::{AllocError, Global};
+use std::alloc::{AllocError, AllocFailed, Global};
 
 /// An item and its role.
 #[derive(Debug, Drop)]
@@ -55,6 +55,22 @@ pub enum Item {
 }
 
 /// An element of HTML with a body of items.
+///
+/// ```
+/// use typst_html::{DocumentInfo, HtmlElem, HtmlOptions, Item, Pair, Properties, Span};
+/// use typst_html::{export, tag};
+///
+/// let alloc = rt.alloc();
+/// let css = Properties::new(alloc).with("color", String::from_str(alloc, "red")?)?;
+/// let text = Item::Text(String::from_str(alloc, "Stop")?, Span(2));
+/// let body = vec![in alloc; Pair::from(text)]?;
+/// let paragraph = HtmlElem::new(alloc, tag::p).with_css(css).with_body(body);
+/// let items = vec![in alloc; Pair::from(Item::Element(paragraph))]?;
+/// let (info, options) = (DocumentInfo::new(alloc), HtmlOptions::default());
+/// let html = export(alloc, &items, &info, &[], 50, &options, &())?;
+/// let body = r#"<body><p style="color: red">Stop</p></body></html>"#;
+/// assert!(rt; html.as_str().ends_with(body));
+/// ```
 #[derive(Debug, Drop)]
 #[cycle(items)]
 pub struct HtmlElem {
@@ -62,7 +78,10 @@ pub struct HtmlElem {
     pub tag: HtmlTag,
     /// The attributes, in the order in which they are written.
     pub attrs: HtmlAttrs,
-    /// The css properties.
+    /// The css properties. The node that is made of the element has them too. In a document that is
+    /// made of items (`html_document`, `html_document_for_bundle`, `export`, `export_linked`) they are
+    /// put into the attribute `style`; in nodes alone (`convert_to_nodes`, fragments)
+    /// `resolve_inline_styles` does that.
     pub css: Properties,
     /// The items inside, where there is a body.
     pub body: Option<Vec<Pair>>,
@@ -97,16 +116,44 @@ impl From<Item> for Pair {
     }
 }
 
+/// The element as an item.
+impl From<HtmlElem> for Item {
+    ghost use Rattle.html_flow_convert.specs.Items.{element_as_item};
+
+    ghost from_gives = { λ element item. item_view item ≡ element_as_item (elem_view element) };
+
+    fn from(element: HtmlElem) -> Item {
+        Item::Element(element)
+    }
+}
+
+/// The element as an item with the role of its list.
+impl From<HtmlElem> for Pair {
+    ghost use Rattle.html_flow_convert.specs.Items.{element_as_item, inheriting};
+
+    ghost from_gives = { λ element pair.
+        pair_view pair ≡ inheriting (element_as_item (elem_view element)) };
+
+    fn from(element: HtmlElem) -> Pair {
+        Pair::from(Item::Element(element))
+    }
+}
+
 /// Adds an item between the two tags that locate it: a start tag with that label and that
 /// destination, the item, and the end tag, each with the role of its list. A destination is where the
 /// element is a link to; a location to which a link leads gets an anchor (see `html_document`). Where
 /// an allocation fails, the list stays, and label and item come back.
 ///
 /// ```
-/// // A heading that links lead to, and a link to it.
-/// let mut items = Vec::new(alloc);
-/// push_located(&mut items, Location(1), None, None, Item::Element(heading))?;
-/// push_located(&mut items, Location(2), None, Some(Location(1)), Item::Element(link))?;
+/// use html_dom::Location;
+/// use html_flow::{HtmlElem, Item, push_located};
+/// use html_names::tag;
+///
+/// let (mut items, place) = (Vec::new(rt.alloc()), Location(7));
+/// let heading = Item::Element(HtmlElem::new(rt.alloc(), tag::h2));
+/// let link = Item::Element(HtmlElem::new(rt.alloc(), tag::a));
+/// push_located(&mut items, place, None, None, heading)?; // links may lead there
+/// push_located(&mut items, Location(8), None, Some(place), link)?; // a link to it
 /// assert_eq!(rt; items.len(), 6);
 /// ```
 pub fn push_located(
@@ -265,7 +312,79 @@ impl HtmlElem {
         self
     }
 
-    /// The element with these css properties in place of its own.
+    /// The element with an item added at the end of its body, which is made where there is none.
+    /// Where an allocation fails, both come back.
+    ///
+    /// ```
+    /// use html_dom::Span;
+    /// use html_flow::{HtmlElem, Item, Pair};
+    /// use html_names::tag;
+    ///
+    /// let alloc = rt.alloc();
+    /// let line = HtmlElem::new(alloc, tag::p).with_text(alloc, "one")?;
+    /// let line = line.with_item(alloc, Pair::from(Item::LineBreak(Span(0))))?;
+    /// assert_eq!(rt; line.body.map(|items| items.len()), Some(2));
+    /// ```
+    pub fn with_item(
+        mut self,
+        alloc: Global,
+        item: Pair,
+    ) -> Result<HtmlElem, Refused<(HtmlElem, Pair)>>
+        ensures ok { IfOk result
+            (λ element. elem_view element ≡ with_last_item (pair_view item) (elem_view self)) }
+        ensures err { IfErr result (λ refused. (elem_view refused.back.0 ≡ elem_view self)
+            × (refused.back.1 ≡ item)) }
+    {
+        match &mut self.body {
+            Some(items) => match items.push(item) {
+                Ok(()) => Ok(self),
+                Err(AllocFailed { value }) => Err(Refused {
+                    back: (self, value),
+                }),
+            },
+            None => {
+                let mut items = Vec::new(alloc);
+                match items.push(item) {
+                    Ok(()) => Ok(self.with_body(items)),
+                    Err(AllocFailed { value }) => Err(Refused {
+                        back: (self, value),
+                    }),
+                }
+            }
+        }
+    }
+
+    /// The element with a text added at the end of its body, which is made where there is none. The
+    /// text gets the span of the element. Where an allocation fails, the element comes back.
+    ///
+    /// ```
+    /// use html_flow::HtmlElem;
+    /// use html_names::tag;
+    ///
+    /// let alloc = rt.alloc();
+    /// let title = HtmlElem::new(alloc, tag::h1).with_text(alloc, "Salt & vinegar")?;
+    /// assert_eq!(rt; title.body.map(|items| items.len()), Some(1));
+    /// ```
+    pub fn with_text(self, alloc: Global, text: &str) -> Result<HtmlElem, Refused<HtmlElem>>
+        ensures ok { IfOk result (λ element. elem_view element
+            ≡ with_last_item (inheriting (text_item (chars text.now) (elem_view self).0.span))
+            (elem_view self)) }
+        ensures err { IfErr result (λ refused. elem_view refused.back ≡ elem_view self) }
+    {
+        let Ok(text) = String::from_str(alloc, text) else {
+            return Err(Refused { back: self });
+        };
+        let span = self.span;
+        match self.with_item(alloc, Pair::from(Item::Text(text, span))) {
+            Ok(element) => Ok(element),
+            Err(refused) => Err(Refused {
+                back: refused.back.0,
+            }),
+        }
+    }
+
+    /// The element with these css properties in place of its own. They become the attribute `style`
+    /// in a document that is made of the element.
     pub fn with_css(mut self, css: Properties) -> HtmlElem
         ensures { elem_view result ≡ with_properties css (elem_view self) }
     {

@@ -75,16 +75,15 @@ fn next_place(node: &FlatNode, look: Look, place: usize) -> usize
 /// Cost: grows with `turns`, which is at most the number of nodes at all depths.
 ///
 /// ```
-/// use html_dom_tree::{HtmlNode, Span};
-/// use html_dom_flat::FlatTree;
-/// use html_flow_whitespace::bare_spaces;
+/// use html_dom::{FlatTree, HtmlNode, Span};
+/// use html_flow::bare_spaces;
 ///
-/// let mut nodes = Vec::new(alloc);
+/// let mut nodes = Vec::new(rt.alloc());
 /// for text in ["a", " ", "b", " "] {
-///     nodes.push(HtmlNode::text(String::from_str(alloc, text)?, Span(0)))?;
+///     nodes.push(HtmlNode::text(String::from_str(rt.alloc(), text)?, Span(0)))?;
 /// }
-/// let tree = FlatTree::from_nodes(alloc, &nodes)?;
-/// let found = bare_spaces(alloc, &tree)?;
+/// let tree = FlatTree::from_nodes(rt.alloc(), &nodes)?;
+/// let found = bare_spaces(rt.alloc(), &tree)?;
 /// assert!(rt; found.bare.as_slice() == [true, false].as_slice());
 /// assert_eq!(rt; found.turns, 4);
 /// ```

@@ -78,6 +78,16 @@ impl HtmlAttr {
     /// not valid in an attribute name (HTML Standard 13.1.2.3).
     ///
     /// A known name takes no memory.
+    ///
+    /// ```
+    /// use html_names::{HtmlAttr, NameFault, attr};
+    ///
+    /// let alloc = rt.alloc();
+    /// assert!(rt; HtmlAttr::intern(alloc, "href")? == attr::href);
+    /// assert_eq!(rt; HtmlAttr::intern(alloc, "data-x")?.resolve(), "data-x");
+    /// let fault = HtmlAttr::intern(alloc, "a b").err();
+    /// assert!(rt; fault == Some(NameFault::BadAttrChar(' ')));
+    /// ```
     #[tactic(auto, using(crate::proofs::Faults::valid_attr))]
     pub fn intern(alloc: Global, text: &str) -> Result<HtmlAttr, NameFault>
         ensures name { let name = chars text.now in

@@ -142,6 +142,17 @@ impl HtmlTag {
     /// small ASCII letter, has an ASCII capital or is reserved (HTML Standard 4.13.2).
     ///
     /// A known name takes no memory.
+    ///
+    /// ```
+    /// use html_names::{HtmlTag, NameFault};
+    ///
+    /// let alloc = rt.alloc();
+    /// assert_eq!(rt; HtmlTag::intern(alloc, "my-card")?.resolve(), "my-card");
+    /// let fault = HtmlTag::intern(alloc, "a_b").err();
+    /// assert!(rt; fault == Some(NameFault::BadTagChar('_')));
+    /// let fault = HtmlTag::intern(alloc, "My-card").err();
+    /// assert!(rt; fault == Some(NameFault::CustomStart));
+    /// ```
     #[tactic(auto, using(crate::proofs::Faults::valid_tag))]
     pub fn intern(alloc: Global, text: &str) -> Result<HtmlTag, NameFault>
         ensures name { let name = chars text.now in

@@ -4,14 +4,13 @@
 //! A contract sees a name as its text, a list of characters.
 //!
 //! ```
-//! use html_names::{HtmlTag, NameFault, attr, tag};
+//! use html_names::{HtmlTag, attr, tag};
 //!
-//! let heading = HtmlTag::intern(alloc, "h2")?;
+//! let heading = HtmlTag::intern(rt.alloc(), "h2")?;
 //! assert!(rt; heading == tag::h2);
 //! assert!(rt; tag::is_heading_content(&heading));
 //! assert_eq!(rt; heading.resolve(), "h2");
 //! assert_eq!(rt; attr::class.resolve(), "class");
-//! assert!(rt; matches!(HtmlTag::intern(alloc, "a_b"), Err(NameFault::BadTagChar('_'))));
 //! ```
 #![tactic(auto)]
 

@@ -29,8 +29,8 @@ use number_map::NumberMap;
 /// ```
 /// use html_names::{HtmlTag, NameTable, attr, tag};
 ///
-/// let mut names = NameTable::new(alloc);
-/// let own = HtmlTag::intern(alloc, "my-el")?;
+/// let mut names = NameTable::new(rt.alloc());
+/// let own = HtmlTag::intern(rt.alloc(), "my-el")?;
 /// assert_eq!(rt; names.tag(&tag::br)?, 0);
 /// assert_eq!(rt; names.tag(&own)?, 1);
 /// assert_eq!(rt; names.tag(&tag::br)?, 0);

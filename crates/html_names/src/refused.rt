@@ -10,11 +10,15 @@ use std::fmt;
 /// It is an error whatever comes back, so that `?` hands it on as any other.
 ///
 /// ```
-/// let color = String::from_str(alloc, "red")?;
-/// let color = match properties.push("color", color) {
-///     Ok(()) => return Ok(properties),
-///     Err(Refused { back }) => back, // the value that could not be stored
-/// };
+/// use html_names::Refused;
+/// use html_values::Properties;
+///
+/// let mut properties = Properties::new(rt.alloc());
+/// let color = String::from_str(rt.alloc(), "red")?;
+/// match properties.push("color", color) {
+///     Ok(()) => assert_eq!(rt; properties.as_slice().len(), 1),
+///     Err(Refused { back }) => assert_eq!(rt; back.as_str(), "red"), // to be stored later
+/// }
 /// ```
 #[derive(Drop, PartialEq, Eq)]
 pub struct Refused<T> {

@@ -229,11 +229,15 @@ fn tell_recorded<W: Write>(writer: &mut Recorded<W>, reply: &Reply) -> Status
 /// the whole answer was. [`run_recorded`] tells these two failures apart.
 ///
 /// ```
-/// let mut text = Vec::new(alloc);
+/// use html_tool_run::{Status, run};
+///
+/// let alloc = rt.alloc();
+/// let words = vec![in alloc; String::from_str(alloc, "tree")?]?;
 /// let mut input = r#"["el","p",[],[["text","a < b"]]]"#.as_bytes();
-/// let status = run(alloc, &mut input, &mut text, &words); // `words` holds "tree"
+/// let mut text = Vec::new(alloc);
+/// let status = run(alloc, &mut input, &mut text, &words);
 /// assert!(rt; status == Status::Done);
-/// assert!(rt; text.as_slice() == b"<!DOCTYPE html><p>a &lt; b</p>");
+/// assert!(rt; text.as_slice() == b"<!DOCTYPE html><p>a &lt; b</p>".as_slice());
 /// ```
 pub fn run<R: Read, W: Write>(
     alloc: Global,

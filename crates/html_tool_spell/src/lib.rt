@@ -1,11 +1,10 @@
 //! The tree, and the items, that a JSON value spells: a part of html_tool.
 //!
-//! ```
-//! let value = Value::from_str(alloc, r#"["el","p",[],[["text","a"]]]"#)?;
-//! let paragraph = element_in(alloc, &value)?;
-//! assert_eq!(paragraph.children.len(), 1);
-//! let value = Value::from_str(alloc, r#"[["text","a"],["space"],["text","b"]]"#)?;
-//! assert_eq!(items_in(alloc, &value)?.len(), 3);
+//! A tree is spelled by its root, and items by a list of them:
+//!
+//! ```json
+//! ["el", "p", [["class", "intro"]], [["text", "a"]]]
+//! [["text", "a"], ["space"], ["text", "b"]]
 //! ```
 #![tactic(auto)]
 

@@ -142,10 +142,15 @@ impl AttrType {
     /// value. A list joins the texts of its items.
     ///
     /// ```
-    /// let id = Value::Int(7);
-    /// assert_eq!(AttrType::Native(NativeType::Int).cast(alloc, &id)?.as_deref(), Some("7"));
-    /// assert!(AttrType::Presence.cast(alloc, &Value::Bool(false))?.is_none());
-    /// assert_eq!(AttrType::Presence.cast(alloc, &id).err(), Some(CastFault::WrongKind));
+    /// use html_values::{AttrType, CastFault, NativeType, Value};
+    ///
+    /// let (alloc, seven) = (rt.alloc(), Value::Int(7));
+    /// let text = AttrType::Native(NativeType::Int).cast(alloc, &seven)?;
+    /// assert_eq!(rt; text.expect(&rt, "a text").as_str(), "7");
+    /// let omitted = AttrType::Presence.cast(alloc, &Value::Bool(false))?;
+    /// assert!(rt; omitted.is_none());
+    /// let fault = AttrType::Presence.cast(alloc, &seven).err();
+    /// assert!(rt; fault == Some(CastFault::WrongKind));
     /// ```
     #[cycle(cast)]
     pub fn cast(&self, alloc: Global, value: &Value) -> Result<Option<String>, CastFault>

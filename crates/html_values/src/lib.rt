@@ -3,9 +3,13 @@
 //! times that a [`Moment`] is made of, as [`civil`].
 //!
 //! ```
-//! let day = Moment::Date(civil::date(2024, 2, 9));
-//! assert_eq!(Datetime::new(day)?.into_attr(alloc)?.as_str(), "2024-02-09");
-//! assert_eq!(Duration(694_861).into_attr(alloc)?.as_str(), "1w 1d 1h 1m 1s");
+//! use html_values::{Datetime, Duration, IntoAttr, Moment, civil};
+//!
+//! let alloc = rt.alloc();
+//! let day = Datetime::new(Moment::Date(civil::date(2024, 2, 9)))?;
+//! assert_eq!(rt; day.into_attr(alloc)?.as_str(), "2024-02-09");
+//! let time = Duration(694_861).into_attr(alloc)?;
+//! assert_eq!(rt; time.as_str(), "1w 1d 1h 1m 1s");
 //! ```
 //!
 //! A contract sees a text as a list of characters.

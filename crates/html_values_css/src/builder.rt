@@ -12,7 +12,8 @@ use std::alloc::{AllocError, Global};
 
 /// Properties that are being made of values. What a value warns of goes to the sink.
 ///
-/// A value that fails changes only the warnings: an earlier value of that name stays.
+/// A value that fails changes only the warnings: an earlier value of that name stays. See
+/// [`Properties::build`] for an example.
 #[derive(Drop)]
 pub struct PropertiesBuilder<S> {
     pub(crate) properties: Properties,
@@ -21,6 +22,21 @@ pub struct PropertiesBuilder<S> {
 
 impl Properties {
     /// Begins with no properties.
+    ///
+    /// ```
+    /// use html_values::{Abs, Paint, Properties, Rgba};
+    ///
+    /// let mut warnings = Vec::new(rt.alloc());
+    /// let mut builder = Properties::build(rt.alloc(), &mut warnings);
+    /// let (r, g, b, a) = (0, 128, 0, 255);
+    /// let green = Paint::Solid(Rgba { r, g, b, a });
+    /// builder.push("width", &Abs::from_millionths(2_500_000))?;
+    /// builder.push("color", &green)?;
+    /// builder.push("color", &Paint::Gradient)?; // has no css: it is left out, with a warning
+    /// let style = builder.finish().to_inline().to_string(rt.alloc())?;
+    /// assert_eq!(rt; style.as_str(), "color: #008000; width: 2.5pt");
+    /// assert_eq!(rt; warnings.len(), 1);
+    /// ```
     pub fn build<S: WarningSink>(alloc: Global, sink: S) -> PropertiesBuilder<S>
         ensures { result ≡ record { properties = []; sink = sink } }
     {

@@ -3,14 +3,16 @@
 //!
 //! A contract sees a text as a list of characters, and a quantity as a whole number of millionths.
 //!
-//! ```text
-//! let width = Length {
-//!     em: Em::from_millionths(1_500_000),
-//!     abs: Abs::from_millionths(-2_000_000),
-//! };
-//! let mut warnings = Vec::new(alloc);
-//! let css = width.to_css(alloc, &mut warnings)?; // calc(1.5em - 2pt)
-//! let none = Paint::Gradient.to_css(alloc, &mut warnings)?; // empty, and one warning
+//! ```
+//! use html_values::{Abs, Em, Length, Paint, ToCss, Warning};
+//!
+//! let em = Em::from_millionths(1_500_000);
+//! let abs = Abs::from_millionths(-2_000_000);
+//! let mut warnings = Vec::new(rt.alloc());
+//! let width = Length { em, abs }.to_css(rt.alloc(), &mut warnings)?;
+//! assert_eq!(rt; width.as_str(), "calc(1.5em - 2pt)");
+//! let none = Paint::Gradient.to_css(rt.alloc(), &mut warnings)?;
+//! assert!(rt; none.is_empty() && warnings.as_slice() == [Warning::Gradient].as_slice());
 //! ```
 #![tactic(auto)]
 

@@ -16,12 +16,16 @@ use std::marker::Model;
 ///
 /// A contract sees the list of names and values.
 ///
-/// ```text
+/// ```
+/// use html_values::Properties;
+///
+/// let alloc = rt.alloc();
 /// let mut properties = Properties::new(alloc);
 /// properties.push("width", String::from_str(alloc, "1pt")?)?;
 /// properties.push("color", String::from_str(alloc, "red")?)?;
 /// properties.push("width", String::from_str(alloc, "2pt")?)?;
-/// let style = properties.to_inline().to_string(alloc)?; // color: red; width: 2pt
+/// let style = properties.to_inline().to_string(alloc)?;
+/// assert_eq!(rt; style.as_str(), "color: red; width: 2pt");
 /// ```
 #[derive(Debug, Drop)]
 pub struct Properties {

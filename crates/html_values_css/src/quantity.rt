@@ -153,6 +153,8 @@ impl<U> Quantity<U> {
     /// n millionths of the unit, unless they are more than 10^15 in size.
     ///
     /// ```
+    /// use html_values::Abs;
+    ///
     /// let width = Abs::try_from_millionths(1_500_000); // 1.5 points
     /// assert!(rt; width.is_some());
     /// assert!(rt; Abs::try_from_millionths(i64::MAX).is_none());

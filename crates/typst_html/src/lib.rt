@@ -1,16 +1,22 @@
 //! Documents of items and their HTML text, and with them all that users of this project name: each
 //! public name of `html_names`, `html_values`, `html_dom` and `html_flow` stands here too.
 //!
+//! Examples here and in those crates are bodies of tests, which take `rt: HostRuntime` and answer
+//! `Result<(), Fail>`, with `Fail` of `std::test`, and end in `Ok(())`. Where an example implements a
+//! trait, it is a part of a file.
+//!
 //! ```
 //! use typst_html::{DocumentInfo, HtmlElem, HtmlOptions, Item, Pair, Span, export, tag};
 //!
+//! let alloc = rt.alloc();
 //! let text = Item::Text(String::from_str(alloc, "Salt & vinegar")?, Span(1));
 //! let body = vec![in alloc; Pair::from(text)]?;
 //! let heading = HtmlElem::new(alloc, tag::h1).with_body(body);
 //! let items = vec![in alloc; Pair::from(Item::Element(heading))]?;
 //! let info = DocumentInfo::new(alloc);
 //! let html = export(alloc, &items, &info, &[], 50, &HtmlOptions::default(), &())?;
-//! assert!(rt; html.as_str().ends_with("<body><h1>Salt &amp; vinegar</h1></body></html>"));
+//! let body = "<body><h1>Salt &amp; vinegar</h1></body></html>";
+//! assert!(rt; html.as_str().ends_with(body));
 //! ```
 #![tactic(auto)]
 
@@ -40,6 +46,7 @@ pub use html_dom::Span;
 pub use html_dom::Tag;
 pub use html_dom::create_link_anchors;
 pub use html_dom::dead_links;
+pub use html_dom::href_to;
 pub use html_dom::ids_are_distinct;
 pub use html_dom::resolve_inline_styles;
 pub use html_dom::resolve_links;

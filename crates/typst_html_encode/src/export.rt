@@ -24,6 +24,9 @@ use std::alloc::Global;
 /// out of memory may come before that. Frames are written by their writer, which is told whether
 /// pretty writing is on where the frame stands.
 ///
+/// The css of elements is not written. Where it is wanted, `resolve_inline_styles` comes first, and
+/// puts it into the attribute `style`, as below.
+///
 /// The plain text of a tree without frames reads back, by HTML Standard 13.1 without a browser's
 /// repairs, as the tree with its tags dropped and neighbouring texts joined. So does the pretty
 /// text, with texts where indents stand, unless a raw text on lines of its own ends in a closing
@@ -32,11 +35,21 @@ use std::alloc::Global;
 /// # Example
 ///
 /// ```
-/// let content = String::from_str(alloc, "a < b")?;
-/// let mut paragraph = HtmlElement::new(alloc, tag::p);
-/// paragraph.children.push(HtmlNode::text(content, Span(0)))?;
-/// let text = html_in_bundle(alloc, &paragraph, &HtmlOptions::default(), &())?;
-/// assert_eq!(rt; text.as_str(), "<!DOCTYPE html><p>a &lt; b</p>");
+/// use html_dom::{HtmlElement, HtmlNode, Span, resolve_inline_styles};
+/// use html_names::tag;
+/// use html_values::Properties;
+/// use typst_html::{HtmlOptions, html_in_bundle};
+///
+/// let alloc = rt.alloc();
+/// let css = Properties::new(alloc).with("color", String::from_str(alloc, "red")?)?;
+/// let text = HtmlNode::text(String::from_str(alloc, "a < b")?, Span(0));
+/// let mut root = HtmlElement::new(alloc, tag::p)
+///     .with_css(css)
+///     .with_child(text)?;
+/// resolve_inline_styles(alloc, &mut root)?; // without it, no css is written
+/// let html = html_in_bundle(alloc, &root, &HtmlOptions::default(), &())?;
+/// let wanted = r#"<!DOCTYPE html><p style="color: red">a &lt; b</p>"#;
+/// assert_eq!(rt; html.as_str(), wanted);
 /// ```
 pub fn html_in_bundle<F: FrameWriter>(
     alloc: Global,

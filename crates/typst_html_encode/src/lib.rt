@@ -9,17 +9,16 @@
 //! use html_names::tag;
 //! use typst_html::{HtmlOptions, html_in_bundle};
 //!
+//! let alloc = rt.alloc();
 //! let mut list = HtmlElement::new(alloc, tag::ul);
 //! for content in ["one", "two"] {
-//!     let mut item = HtmlElement::new(alloc, tag::li);
-//!     item.children.push(HtmlNode::text(String::from_str(alloc, content)?, Span(0)))?;
+//!     let text = HtmlNode::text(String::from_str(alloc, content)?, Span(0));
+//!     let item = HtmlElement::new(alloc, tag::li).with_child(text)?;
 //!     list.children.push(HtmlNode::from(item))?;
 //! }
-//! let text = html_in_bundle(alloc, &list, &HtmlOptions { pretty: true }, &())?;
-//! assert_eq!(rt;
-//!     text.as_str(),
-//!     "<!DOCTYPE html>\n<ul>\n  <li>one</li>\n  <li>two</li>\n</ul>\n"
-//! );
+//! let html = html_in_bundle(alloc, &list, &HtmlOptions { pretty: true }, &())?;
+//! let wanted = "<!DOCTYPE html>\n<ul>\n  <li>one</li>\n  <li>two</li>\n</ul>\n";
+//! assert_eq!(rt; html.as_str(), wanted);
 //! ```
 #![tactic(auto)]
 

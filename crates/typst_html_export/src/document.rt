@@ -50,15 +50,15 @@ use typst_html_encode::ExportFault;
 /// memory aside, and once white space has collapsed exactly their text is seen in its body.
 ///
 /// ```
-/// let mut items = Vec::new(alloc);
-/// let location = Location(7);
-/// let start = Tag::Start { location, label: None, dest: Some(location) };
-/// items.push(Pair { item: Item::Tag(start), role: Role::Inherit })?;
-/// items.push(Pair { item: Item::Tag(Tag::End { location }), role: Role::Inherit })?;
-/// let info = DocumentInfo::new(alloc);
-/// let document = html_document(alloc, &items, &info, &[], 50)?;
-/// let anchor = document.introspector().anchor(location)?;
-/// assert!(rt; anchor.as_str() == "loc-1"); // of an empty `span` between the tags
+/// use typst_html::{DocumentInfo, Item, Location, html_document, push_located};
+///
+/// let alloc = rt.alloc();
+/// let (mut items, place) = (Vec::new(alloc), Location(7));
+/// push_located(&mut items, place, None, Some(place), Item::Hole)?; // links to itself
+/// let document = html_document(alloc, &items, &DocumentInfo::new(alloc), &[], 50)?;
+/// let anchor = document.introspector().anchor(place);
+/// let anchor = anchor.expect(&rt, "an anchor");
+/// assert_eq!(rt; anchor.as_str(), "loc-1"); // of an empty `span` behind the end tag
 /// ```
 pub fn html_document(
     alloc: Global,
@@ -120,12 +120,15 @@ fn with_anchors(alloc: Global, document: HtmlDocument) -> Result<HtmlDocument, A
 /// The positions of tags lead to the elements that hold them, as in [`HtmlDocument::new`].
 ///
 /// ```
+/// use typst_html::{DocumentInfo, HtmlElem, Item, Pair, html_document_for_bundle, tag};
+///
+/// let alloc = rt.alloc();
 /// let paragraph = HtmlElem::new(alloc, tag::p);
-/// let mut items = Vec::new(alloc);
-/// items.push(Pair { item: Item::Element(paragraph), role: Role::Inherit })?;
+/// let items = vec![in alloc; Pair::from(Item::Element(paragraph))]?;
 /// let info = DocumentInfo::new(alloc);
 /// let document = html_document_for_bundle(alloc, &items, &info, &[], 50)?;
 /// assert!(rt; document.root().tag == tag::html);
+/// assert_eq!(rt; document.root().children.len(), 2); // a head, and a body with the paragraph
 /// ```
 pub fn html_document_for_bundle(
     alloc: Global,

@@ -39,8 +39,15 @@ use typst_html_encode::{ExportFault, FrameWriter, HtmlOptions, html_in_bundle};
 /// out of memory may come before that.
 ///
 /// ```
-/// let document = html_document_for_bundle(alloc, &items, &info, &[], 50)?;
-/// let text = html(alloc, &document, &HtmlOptions { pretty: true }, &frames)?;
+/// use typst_html::{DocumentInfo, HtmlElem, HtmlOptions, Item, Pair};
+/// use typst_html::{html, html_document, tag};
+///
+/// let alloc = rt.alloc();
+/// let own = Item::Element(HtmlElem::new(alloc, tag::html));
+/// let items = vec![in alloc; Pair::from(own)]?;
+/// let document = html_document(alloc, &items, &DocumentInfo::new(alloc), &[], 50)?;
+/// let text = html(alloc, &document, &HtmlOptions { pretty: true }, &())?;
+/// assert_eq!(rt; text.as_str(), "<!DOCTYPE html>\n<html></html>\n");
 /// ```
 pub fn html<F: FrameWriter>(
     alloc: Global,
@@ -77,10 +84,17 @@ pub fn html<F: FrameWriter>(
 /// characters alone, and no void element has a body, there is no fault.
 ///
 /// ```
-/// let mut items = Vec::new(alloc);
-/// items.push(Pair { item: Item::Text(text, Span(1)), role: Role::Inherit })?;
-/// let info = DocumentInfo::new(alloc);
-/// let text = export(alloc, &items, &info, &[], 50, &HtmlOptions { pretty: true }, &frames)?;
+/// use typst_html::{DocumentInfo, HtmlOptions, Item, Pair, Span, export};
+///
+/// let alloc = rt.alloc();
+/// let text = Item::Text(String::from_str(alloc, "High water")?, Span(1));
+/// let items = vec![in alloc; Pair::from(text)]?;
+/// let mut info = DocumentInfo::new(alloc);
+/// info.title = Some(String::from_str(alloc, "Tides")?);
+/// let options = HtmlOptions { pretty: true };
+/// let html = export(alloc, &items, &info, &[], 50, &options, &())?;
+/// assert!(rt; html.as_str().contains("\n    <title>Tides</title>\n"));
+/// assert!(rt; html.as_str().contains("<body>High water</body>"));
 /// ```
 pub fn export<F: FrameWriter>(
     alloc: Global,
@@ -129,11 +143,19 @@ pub fn export<F: FrameWriter>(
 /// and clean items are written, as by `export`.
 ///
 /// ```
-/// let mut items = Vec::new(alloc);
-/// let dest = Some(Location(7));
-/// items.push(Pair::from(Item::Tag(Tag::Start { location: Location(1), label: None, dest })))?;
-/// items.push(Pair::from(Item::Element(HtmlElem::new(alloc, tag::a).with_body(text))))?;
-/// let text = export_linked(alloc, &items, &info, &[], 50, &HtmlOptions::default(), &frames)?;
+/// use typst_html::{DocumentInfo, HtmlElem, HtmlOptions, Item, Location};
+/// use typst_html::{export_linked, push_located, tag};
+///
+/// let alloc = rt.alloc();
+/// let (mut items, info) = (Vec::new(alloc), DocumentInfo::new(alloc));
+/// let link = Item::Element(HtmlElem::new(alloc, tag::a));
+/// let heading = Item::Element(HtmlElem::new(alloc, tag::h2));
+/// let label = Some(String::from_str(alloc, "cool")?);
+/// push_located(&mut items, Location(1), None, Some(Location(7)), link)?;
+/// push_located(&mut items, Location(7), label, None, heading)?;
+/// let html = export_linked(alloc, &items, &info, &[], 50, &HtmlOptions::default(), &())?;
+/// let body = r##"<body><a href="#cool"></a><h2 id="cool"></h2></body></html>"##;
+/// assert!(rt; html.as_str().ends_with(body));
 /// ```
 pub fn export_linked<F: FrameWriter>(
     alloc: Global,

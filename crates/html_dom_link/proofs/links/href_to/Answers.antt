@@ -1,5 +1,4 @@
 use Rattle.std.proofs.Common.{◌≡◌, ◌++◌, codes, chars, string_bytes, ap, ◌∙◌, refl}
-use Rattle.std.proofs.lemmas.Str.{IsUtf8-string_bytes}
 use Rattle.percent_encoding.specs.Percent.{percent_encode}
 use Rattle.html_dom_link.specs.declared.links.TheConstants.{FRAGMENT}
 use Rattle.html_dom_link.proofs.Linking.{href_bytes}
@@ -7,12 +6,11 @@ use Rattle.html_dom_link.proofs.links.href_to.Goals as goal
 
 pub returns : goal.returns
 returns c =
-    let bytes = string_bytes c.args.name.now in
+    let bytes = c.args.name.now in
     let made : string_bytes c.append_to.new.out ≡ codes "#" ++ percent_encode FRAGMENT bytes =
     rw (
       c.in_ok-append_to.ensures.ok,
       c.in_ok-text.ensures.ok,
       c.utf8_percent_encode.ensures.text,
-      c.as_str.ensures.value,
     ) refl in
-    ap chars made ∙ href_bytes bytes (IsUtf8-string_bytes c.args.name.now)
+    ap chars made ∙ href_bytes bytes c.utf8.name
