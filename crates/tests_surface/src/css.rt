@@ -327,20 +327,6 @@ fn properties_are_compared(rt: HostRuntime) {
     assert!(rt; hash_of(&red) != hash_of(&other));
 }
 
-#[test]
-fn a_builder_leaves_a_gradient_out(rt: HostRuntime) {
-    let mut warnings = Vec::new(rt.alloc());
-    let mut builder = Properties::build(rt.alloc(), &mut warnings);
-    builder.push("width", &length()).expect(&rt, "memory");
-    builder.push("color", &OPAQUE).expect(&rt, "memory");
-    builder
-        .push("color", &Paint::Gradient)
-        .expect(&rt, "no memory");
-    let wanted = "color: #010203; width: calc(1.5em - 3pt)";
-    assert_inline(&rt, rt.alloc(), &builder.finish(), wanted);
-    assert_warned(&rt, &warnings, &[Warning::Gradient]);
-}
-
 /// The same builder with that value for a name.
 fn with_value(
     rt: &impl Abort,

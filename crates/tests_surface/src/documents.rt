@@ -4,7 +4,7 @@ use crate::asserts::{add, assert_number, assert_some, assert_text, only, text_of
 use html_dom::{
     DeadLink, DocumentInfo, Frame, FrameItem, HtmlDocument, HtmlElement, HtmlFrame,
     HtmlIntrospector, HtmlNode, HtmlOutput, HtmlPosition, Locale, Location, Point, Span, Tag,
-    create_link_anchors, dead_links, ids_are_distinct, resolve_links, with_resolved_links,
+    create_link_anchors, dead_links, href_to, ids_are_distinct, resolve_links, with_resolved_links,
 };
 use html_names::{attr, tag};
 use html_values::Abs;
@@ -377,6 +377,12 @@ fn links_without_an_anchor_are_dead(rt: HostRuntime) {
     let dead = dead_links(rt.alloc(), &document).expect(&rt, "memory for the dead links");
     let (span, dest) = (Span(5), Location(7));
     assert!(rt; dead.as_slice() == [DeadLink { span, dest }].as_slice());
+}
+
+#[test]
+fn an_href_leads_to_a_name(rt: HostRuntime) {
+    let href = href_to(rt.alloc(), "a%b \u{e9}").expect(&rt, "memory for a text");
+    assert_text(&rt, &href, "#a%25b%20%C3%A9");
 }
 
 /// A document of an `html` with two children that have these texts as their `id`.

@@ -3,7 +3,7 @@
 use crate::asserts::{add, assert_keys, assert_number, assert_some, assert_text, only, text_of};
 use html_dom::{
     DomIndices, FlatElement, FlatNode, FlatTree, Frame, FrameItem, HtmlAttrs, HtmlElement,
-    HtmlFrame, HtmlNode, HtmlSliceExt, Location, Point, Span, Tag, resolve_inline_styles,
+    HtmlFrame, HtmlNode, HtmlSliceExt, Location, Point, Span, Tag,
 };
 use html_names::{NameTable, attr, tag};
 use html_values::{Abs, Properties};
@@ -297,6 +297,13 @@ fn tags_and_texts_are_nodes(rt: HostRuntime) {
 }
 
 #[test]
+fn elements_get_texts(rt: HostRuntime) {
+    let element = paragraph(&rt, rt.alloc()).with_text(rt.alloc(), "b");
+    let element = element.expect(&rt, "memory for a text");
+    assert!(rt; matches!(element.children.last(), Some(HtmlNode::Text(_, Span(3)))));
+}
+
+#[test]
 fn elements_and_frames_are_nodes(rt: HostRuntime) {
     let node = HtmlNode::from(paragraph(&rt, rt.alloc()));
     assert_node(&rt, &node, "element", Span(3));
@@ -360,21 +367,6 @@ fn elements_are_copied(rt: HostRuntime) {
     let copy = element.try_clone().expect(&rt, "memory for the copy");
     assert!(rt; copy == element);
     assert!(rt; copy != paragraph(&rt, rt.alloc()));
-}
-
-#[test]
-fn styles_are_resolved(rt: HostRuntime) {
-    let alloc = rt.alloc();
-    let mut element = HtmlElement::new(alloc, tag::p)
-        .with_css(display(&rt, alloc))
-        .with_attr(attr::style, text_of(&rt, alloc, "color: red"))
-        .expect(&rt, "memory for an attribute");
-    resolve_inline_styles(alloc, &mut element).expect(&rt, "memory for the style");
-    assert_some(
-        &rt,
-        element.attrs.get(&attr::style),
-        "display: block; color: red",
-    );
 }
 
 /// A node for each word: `-` a start tag, `<` a `span`, any other a text.

@@ -12,9 +12,8 @@ use std::alloc::Global;
 use std::process::Abort;
 use typst_html::{
     Abs, DocumentInfo, ExportFault, Frame, FrameElem, FrameFault, FrameWriter, HtmlDocument,
-    HtmlElem, HtmlElement, HtmlFrame, HtmlNode, HtmlOptions, Item, Location, Pair, Span, export,
-    export_linked, html, html_document, html_document_for_bundle, html_in_bundle, push_located,
-    tag,
+    HtmlElement, HtmlFrame, HtmlNode, HtmlOptions, Item, Location, Pair, Span, export, html,
+    html_document, html_document_for_bundle, html_in_bundle, push_located, tag,
 };
 
 /// Writes the same text for each frame.
@@ -92,30 +91,6 @@ fn exports_have_anchors(rt: HostRuntime) {
     let text = export(rt.alloc(), &items, &info, &[], 50, &options, &());
     let wanted = whole(&rt, rt.alloc(), ANCHORED);
     assert_text(&rt, &text.expect(&rt, "a text"), &wanted);
-}
-
-/// A link to a heading behind it.
-fn led(rt: &impl Abort, alloc: Global) -> Vec<Pair> {
-    let mut items = Vec::new(alloc);
-    let link = Item::Element(HtmlElem::new(alloc, tag::a));
-    let heading = Item::Element(HtmlElem::new(alloc, tag::h2));
-    let dest = Some(Location(8));
-    push_located(&mut items, Location(7), None, dest, link).expect(rt, "memory for items");
-    push_located(&mut items, Location(8), None, None, heading).expect(rt, "memory for items");
-    items
-}
-
-#[test]
-fn linked_exports_lead(rt: HostRuntime) {
-    let (items, info) = (led(&rt, rt.alloc()), DocumentInfo::new(rt.alloc()));
-    let options = HtmlOptions { pretty: false };
-    let text = export_linked(rt.alloc(), &items, &info, &[], 50, &options, &());
-    let body = r##"<a href="#loc-1"></a><h2 id="loc-1"></h2>"##;
-    assert_text(
-        &rt,
-        &text.expect(&rt, "a text"),
-        &whole(&rt, rt.alloc(), body),
-    );
 }
 
 /// A frame of span 5.

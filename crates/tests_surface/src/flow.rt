@@ -4,11 +4,10 @@ mod construction;
 mod items;
 
 use crate::asserts::{add, assert_keys, assert_number, assert_some, assert_text, only, text_of};
-use html_dom::{FlatTree, HtmlNode, Location, Span, Tag};
+use html_dom::{HtmlNode, Location, Span, Tag};
 use html_flow::{
-    Bareness, ConversionLevel, FlowFault, HtmlElem, Item, Pair, Role, Whitespace, bare_spaces,
-    convert_to_nodes, html_block_fragment, html_inline_fragment, html_math_fragment,
-    is_depth_limit, push_located,
+    ConversionLevel, FlowFault, HtmlElem, Item, Pair, Role, Whitespace, convert_to_nodes,
+    html_block_fragment, html_inline_fragment, html_math_fragment, is_depth_limit, push_located,
 };
 use html_names::{attr, tag};
 use std::alloc::Global;
@@ -216,24 +215,6 @@ fn located_items_have_labels_and_destinations(rt: HostRuntime) {
     };
     let first = items.first().expect(&rt, "a start");
     assert!(rt; matches!(&first.item, Item::Tag(tag) if *tag == wanted));
-}
-
-/// Which spaces of a flat tree of these texts are bare.
-fn bareness(rt: &impl Abort, alloc: Global, texts: &[&str]) -> Bareness {
-    let mut nodes = Vec::new(alloc);
-    for content in texts {
-        let node = HtmlNode::text(text_of(rt, alloc, content), Span(0));
-        add(rt, &mut nodes, node);
-    }
-    let tree = FlatTree::from_nodes(alloc, &nodes).expect(rt, "memory for the tree");
-    bare_spaces(alloc, &tree).expect(rt, "memory for the answers")
-}
-
-#[test]
-fn spaces_between_words_are_bare(rt: HostRuntime) {
-    let found = bareness(&rt, rt.alloc(), &["a", " ", "b", " "]);
-    assert!(rt; found.bare.as_slice() == [true, false].as_slice());
-    assert_number(&rt, found.turns, 4);
 }
 
 /// Asserts the number and the text of a fault.

@@ -78,7 +78,8 @@ macro_rules! elements_are_built {
         let text = HtmlNode::text(String::from_str($alloc, "Hello")?, Span(1));
         let _ = HtmlElement::new($alloc, tag::p)
             .with_attr(attr::id, String::from_str($alloc, "x")?)?
-            .with_child(text)?;
+            .with_child(text)?
+            .with_text($alloc, "b")?;
         Ok(())
     }};
 }
@@ -135,6 +136,7 @@ macro_rules! documents_get_anchors {
         let document = with_resolved_links($alloc, document)?;
         let _ = dead_links($alloc, &document)?;
         let _ = ids_are_distinct($alloc, &document)?;
+        let _ = href_to($alloc, "sec")?;
         Ok(())
     }};
 }
@@ -152,7 +154,9 @@ macro_rules! items_are_elements {
     ($alloc:expr) => {{
         let element = HtmlElem::new($alloc, tag::p)
             .with_attr(attr::id, String::from_str($alloc, "x")?)?
-            .with_optional_attr(attr::lang, None)?;
+            .with_optional_attr(attr::lang, None)?
+            .with_text($alloc, "a")?
+            .with_item($alloc, Pair::from(Item::Hole))?;
         let _ = element.try_clone()?;
         Ok(())
     }};

@@ -5,7 +5,7 @@ use crate::growths::given::{add, assert_growths, list_of};
 use crate::growths::shown::{is_shown, shown_of};
 use html_dom_document::{DocumentInfo, HtmlDocument, HtmlOutput};
 use html_dom_link::{
-    create_link_anchors, dead_links, ids_are_distinct, resolve_links, with_link_anchors,
+    create_link_anchors, dead_links, href_to, ids_are_distinct, resolve_links, with_link_anchors,
     with_resolved_links,
 };
 use html_dom_tree::{HtmlElement, HtmlNode, Location, Span, Tag};
@@ -25,6 +25,7 @@ enum DocumentCall {
     WithResolved(HtmlDocument, String),
     Dead(HtmlDocument, String),
     Distinct(HtmlDocument, String),
+    Href,
     WithAnchors(Vec<HtmlDocument>, BTreeSet<Location>),
 }
 
@@ -39,6 +40,7 @@ impl Growth for DocumentCall {
             DocumentCall::WithResolved(document, shown) => with_resolved(alloc, document, shown),
             DocumentCall::Dead(document, shown) => dead(alloc, document, shown),
             DocumentCall::Distinct(document, shown) => distinct(alloc, document, shown),
+            DocumentCall::Href => href(alloc),
             DocumentCall::WithAnchors(spares, targets) => with_anchors(alloc, spares, targets),
         }
     }
@@ -206,6 +208,13 @@ fn with_anchors_call(rt: &impl Abort, alloc: Global) -> DocumentCall {
     DocumentCall::WithAnchors(spares, targets_of(rt, alloc))
 }
 
+fn href(alloc: Global) -> Answer<DocumentCall> {
+    match href_to(alloc, "a place") {
+        Ok(href) => made(href.as_str() == "#a%20place"),
+        Err(AllocError) => refused(true, DocumentCall::Href),
+    }
+}
+
 #[test]
 fn made_documents(rt: HostRuntime) {
     let call = new_call(&rt, rt.alloc());
@@ -228,6 +237,7 @@ fn documents_with_links(rt: HostRuntime) {
     let with_resolved = DocumentCall::WithResolved(document, shown);
     let (document, shown) = shown_document(&rt, alloc);
     let distinct = DocumentCall::Distinct(document, shown);
-    let calls = [resolve, with_resolved, dead_call(&rt, alloc), distinct];
+    let dead = dead_call(&rt, alloc);
+    let calls = [resolve, with_resolved, dead, distinct, DocumentCall::Href];
     assert_growths(&rt, alloc, list_of(&rt, alloc, calls));
 }

@@ -30,6 +30,8 @@ enum Form {
 enum ItemCall {
     WithAttr(HtmlElem, String, String),
     WithOptionalAttr(HtmlElem, String, String),
+    WithItem(HtmlElem, Item, String),
+    WithText(HtmlElem, String),
     Locate(Vec<Pair>, String, Item, String),
     Convert(Form, Vec<Pair>, String),
     Construct(ElementInfo, Args, String),
@@ -42,6 +44,8 @@ impl Growth for ItemCall {
             ItemCall::WithOptionalAttr(element, value, shown) => {
                 with_optional_attr(element, value, shown)
             }
+            ItemCall::WithItem(element, item, shown) => with_item(alloc, element, item, shown),
+            ItemCall::WithText(element, shown) => with_text(alloc, element, shown),
             ItemCall::Locate(items, label, item, shown) => located(items, label, item, shown),
             ItemCall::Convert(form, items, shown) => converted(alloc, form, items, shown),
             ItemCall::Construct(info, args, shown) => constructed(alloc, info, args, shown),
@@ -82,6 +86,29 @@ fn with_optional_attr(element: HtmlElem, value: String, shown: String) -> Answer
                 is_back && is_shown(&element, &shown),
                 ItemCall::WithOptionalAttr(element, value, shown),
             )
+        }
+    }
+}
+
+fn with_item(alloc: Global, element: HtmlElem, item: Item, shown: String) -> Answer<ItemCall> {
+    match element.with_item(alloc, Pair::from(item)) {
+        Ok(element) => made(element.body.is_some_and(|items| items.len() == 1)),
+        Err(
+            Refused {
+                back: (element, Pair { item, .. }),
+            },
+        ) => {
+            let is_back = element.body.is_none() && is_shown(&item, &shown);
+            refused(is_back, ItemCall::WithItem(element, item, shown))
+        }
+    }
+}
+
+fn with_text(alloc: Global, element: HtmlElem, shown: String) -> Answer<ItemCall> {
+    match element.with_text(alloc, "a text") {
+        Ok(element) => made(element.body.is_some_and(|items| items.len() == 1)),
+        Err(Refused { back }) => {
+            refused(is_shown(&back, &shown), ItemCall::WithText(back, shown))
         }
     }
 }
@@ -217,6 +244,16 @@ fn locate_call(rt: &impl Abort, alloc: Global) -> ItemCall {
     ItemCall::Locate(Vec::new(alloc), text_of(rt, alloc, "held"), item, shown)
 }
 
+/// A text is put into an element without a body, as an item and as a text.
+fn body_calls(rt: &impl Abort, alloc: Global) -> [ItemCall; 2] {
+    let item = text_item_of(rt, alloc);
+    let shown = shown_of(rt, alloc, &item);
+    let with_item = ItemCall::WithItem(HtmlElem::new(alloc, tag::p), item, shown);
+    let element = HtmlElem::new(alloc, tag::p);
+    let shown = shown_of(rt, alloc, &element);
+    [with_item, ItemCall::WithText(element, shown)]
+}
+
 /// Each way in which items become nodes.
 const FORMS: [Form; 5] = [
     Form::Nodes(ConversionLevel::Block),
@@ -247,6 +284,7 @@ fn changed_items(rt: HostRuntime) {
         alloc,
         list_of(&rt, alloc, [with_attr, with_optional_attr]),
     );
+    assert_growths(&rt, alloc, list_of(&rt, alloc, body_calls(&rt, alloc)));
     let (locate, construct) = (locate_call(&rt, alloc), construct_call(&rt, alloc));
     assert_growths(&rt, alloc, list_of(&rt, alloc, [locate, construct]));
 }

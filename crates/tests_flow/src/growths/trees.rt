@@ -15,6 +15,7 @@ enum TreeCall {
     Fold(HtmlAttrs, HtmlAttrs),
     WithAttr(HtmlElement, HtmlElement, String),
     WithChild(HtmlElement, HtmlNode),
+    WithText(HtmlElement),
     Resolve(HtmlElement, HtmlElement),
 }
 
@@ -26,6 +27,7 @@ impl Growth for TreeCall {
             TreeCall::Fold(inner, outer) => fold(inner, outer),
             TreeCall::WithAttr(element, copy, value) => with_attr(element, copy, value),
             TreeCall::WithChild(element, child) => with_child(element, child),
+            TreeCall::WithText(element) => with_text(alloc, element),
             TreeCall::Resolve(element, copy) => resolve(alloc, element, copy),
         }
     }
@@ -119,6 +121,18 @@ fn with_child(element: HtmlElement, child: HtmlNode) -> Answer<TreeCall> {
     }
 }
 
+fn with_text(alloc: Global, element: HtmlElement) -> Answer<TreeCall> {
+    match element.with_text(alloc, "a text") {
+        Ok(element) => made(element.children.len() == 1),
+        Err(Refused { back }) => {
+            refused(
+                back.tag == tag::p && back.children.is_empty(),
+                TreeCall::WithText(back),
+            )
+        }
+    }
+}
+
 fn resolve(alloc: Global, mut element: HtmlElement, copy: HtmlElement) -> Answer<TreeCall> {
     match resolve_inline_styles(alloc, &mut element) {
         Ok(()) => made(element != copy),
@@ -145,9 +159,10 @@ fn changed_elements(rt: HostRuntime) {
     let resolve = TreeCall::Resolve(element_of(&rt, alloc), element_of(&rt, alloc));
     let child = HtmlNode::text(text_of(&rt, alloc, "held"), Span(7));
     let with_child = TreeCall::WithChild(HtmlElement::new(alloc, tag::p), child);
+    let with_text = TreeCall::WithText(HtmlElement::new(alloc, tag::p));
     assert_growths(
         &rt,
         alloc,
-        list_of(&rt, alloc, [with_attr, with_child, resolve]),
+        list_of(&rt, alloc, [with_attr, with_child, with_text, resolve]),
     );
 }

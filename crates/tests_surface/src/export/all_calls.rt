@@ -6,7 +6,7 @@ use std::process::Abort;
 use typst_html::{
     Args, AttrType, ConversionLevel, DocumentInfo, ElementInfo, FlatTree, FlowFault, HtmlDocument,
     HtmlElement, HtmlNode, HtmlOutput, Item, Location, Pair, Properties, Span, Tag, Whitespace,
-    attr, bare_spaces, construct, convert_to_nodes, create_link_anchors, dead_links,
+    attr, bare_spaces, construct, convert_to_nodes, create_link_anchors, dead_links, href_to,
     html_block_fragment, html_inline_fragment, html_math_fragment, ids_are_distinct,
     is_depth_limit, push_located, resolve_inline_styles, resolve_links, tag, with_resolved_links,
 };
@@ -120,4 +120,6 @@ fn links(rt: HostRuntime) {
     let dead = dead_links(rt.alloc(), &linked).expect(&rt, "memory for the dead links");
     assert!(rt; dead.is_empty());
     assert!(rt; ids_are_distinct(rt.alloc(), &linked).expect(&rt, "memory for the ids"));
+    let href = href_to(rt.alloc(), "sec").expect(&rt, "memory for a text");
+    assert_text(&rt, &href, "#sec");
 }

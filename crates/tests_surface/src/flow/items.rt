@@ -143,6 +143,38 @@ fn assert_paragraph(rt: &impl Abort, alloc: Global, element: &HtmlElem) {
 }
 
 #[test]
+fn elements_get_texts_and_items(rt: HostRuntime) {
+    let alloc = rt.alloc();
+    let element = HtmlElem::new(alloc, tag::p).spanned(Span(3));
+    let element = element
+        .with_text(alloc, "a")
+        .expect(&rt, "memory for a text");
+    let line_break = Pair::from(Item::LineBreak(Span(4)));
+    let element = element
+        .with_item(alloc, line_break)
+        .expect(&rt, "memory for an item");
+    let items = element.body.as_ref().expect(&rt, "a body").as_slice();
+    assert!(rt;
+        matches!(
+            items,
+            [
+                Pair {
+                    item: Item::Text(_, Span(3)),
+                    ..
+                },
+                Pair {
+                    item: Item::LineBreak(Span(4)),
+                    ..
+                },
+            ]
+        )
+    );
+    assert!(rt; matches!(Pair::from(element).item, Item::Element(_)));
+    let other = HtmlElem::new(alloc, tag::p);
+    assert!(rt; matches!(Item::from(other), Item::Element(_)));
+}
+
+#[test]
 fn elements_are_built_and_copied(rt: HostRuntime) {
     let mut element = paragraph(&rt, rt.alloc());
     element.parent = Some(Location(8));

@@ -1,0 +1,9 @@
+//! The examples in the doc comments of the libraries, word for word: a file for each layer, and in
+//! it a test for each example. Those that implement a trait stand in the module `own`.
+
+mod dom;
+mod export;
+mod flow;
+mod names;
+mod program;
+mod values;
