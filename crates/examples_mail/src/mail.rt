@@ -1,0 +1,123 @@
+//! The mail of a record.
+
+use anyhow::{Context, Error, Result, ensure};
+use serde_json::{Map, Value};
+use std::alloc::Global;
+use typst_html::property::Display;
+use typst_html::{
+    Abs, DocumentInfo, Em, ExportFault, HtmlElem, HtmlOptions, Item, Locale, Pair, Properties,
+    Rgba, Span, attr, export, tag,
+};
+
+/// How deep items may stand in one another. In a mail they are three deep.
+const DEPTH_LIMIT: usize = 50;
+
+const INK: Rgba = Rgba {
+    r: 32,
+    g: 32,
+    b: 40,
+    a: 255,
+};
+
+const PAPER: Rgba = Rgba {
+    r: 250,
+    g: 248,
+    b: 240,
+    a: 255,
+};
+
+/// What comes in the place of holes, by their names.
+type Fields = Map<String, Value>;
+
+/// The mail that the template and a record in JSON make, on one line.
+///
+/// A line break in a field becomes a `br` in paragraphs and on buttons. In the subject and in an
+/// address it would be written as it is, and would break the line: such a record has no mail.
+pub(crate) fn mail(alloc: Global, template: &str, record: &[u8], lang: &str) -> Result<String> {
+    let record = Value::from_slice(alloc, record).context("no JSON")?;
+    let fields = record.as_object().context("no JSON object")?;
+    let subject = template.lines().next().context("no subject")?;
+    let mut info = DocumentInfo::new(alloc);
+    info.title = Some(fill(alloc, subject, fields).context("subject")?);
+    info.locale = Some(Locale::new(String::from_str(alloc, lang)?));
+    let items = vec![in alloc; Pair::from(card(alloc, template, fields)?)]?;
+    let options = HtmlOptions { pretty: false };
+    let html = export(alloc, &items, &info, &[], DEPTH_LIMIT, &options, &());
+    let html = html.map_err(with_line)?;
+    ensure!(
+        !html.contains(['\n', '\r']),
+        "a line break in the subject or in an address"
+    );
+    Ok(html)
+}
+
+/// All that is seen of a mail: dark letters on light ground, with some room around.
+fn card(alloc: Global, template: &str, fields: &Fields) -> Result<HtmlElem> {
+    let mut css = Properties::build(alloc, ());
+    css.push("background-color", &PAPER)?;
+    css.push("color", &INK)?;
+    css.push("font-family", &"sans-serif")?;
+    css.push("max-width", &Abs::from_millionths(450_000_000))?;
+    css.push("padding", &Em::from_millionths(1_500_000))?;
+    let mut body = Vec::new(alloc);
+    let mut number = 1u64;
+    for line in template.lines().skip(1) {
+        number = number.saturating_add(1);
+        if !line.trim().is_empty() {
+            let content = content(alloc, line, fields, Span(number));
+            let content = content.context(format_args!("template's line {number}"))?;
+            let paragraph = HtmlElem::new(alloc, tag::p);
+            body.push(Pair::from(paragraph.with_item(alloc, content)?))?;
+        }
+    }
+    let card = HtmlElem::new(alloc, tag::div).with_css(css.finish());
+    Ok(card.with_body(body))
+}
+
+/// What stands in the paragraph that a line of the template makes.
+fn content(alloc: Global, line: &str, fields: &Fields, span: Span) -> Result<Pair> {
+    let Some(line) = line.strip_prefix("> ") else {
+        return Ok(Pair::from(Item::Text(fill(alloc, line, fields)?, span)));
+    };
+    let (label, address) = line
+        .rsplit_once(' ')
+        .context("a button without an address")?;
+    let button = button(alloc)?
+        .spanned(span)
+        .with_attr(attr::href, fill(alloc, address, fields)?)?
+        .with_text(alloc, &fill(alloc, label, fields)?)?;
+    Ok(Pair::from(button))
+}
+
+/// A link that looks like a button.
+fn button(alloc: Global) -> Result<HtmlElem> {
+    let mut css = Properties::build(alloc, ());
+    css.push("background-color", &INK)?;
+    css.push("color", &PAPER)?;
+    css.push("display", &Display::InlineBlock)?;
+    css.push("padding", &Em::from_millionths(500_000))?;
+    css.push("text-decoration", &"none")?;
+    Ok(HtmlElem::new(alloc, tag::a).with_css(css.finish()))
+}
+
+/// A text of the template with fields in place of its holes.
+fn fill(alloc: Global, text: &str, fields: &Fields) -> Result<String> {
+    let mut parts = text.split('{');
+    let mut filled = String::from_str(alloc, parts.next().unwrap_or_default())?;
+    for part in parts {
+        let (name, behind) = part.split_once('}').context("a hole without a `}`")?;
+        let field = fields.get(name).and_then(Value::as_str);
+        filled.push_str(field.context(format_args!("no text for {{{name}}}"))?)?;
+        filled.push_str(behind)?;
+    }
+    Ok(filled)
+}
+
+/// The fault, and the line of the template in which it lies.
+fn with_line(fault: ExportFault) -> Error {
+    match (fault.number(), fault.span()) {
+        (0, _) => Error::from(fault),
+        (_, Span(0)) => Error::from(fault).context("subject or language"),
+        (_, Span(line)) => Error::from(fault).context(format_args!("template's line {line}")),
+    }
+}

@@ -1,0 +1,89 @@
+//! Mails: a template and records in JSON become HTML mails, one on each line of standard output.
+//!
+//! ```text
+//! cd crates/examples_mail && rt try -- data/template.txt < stdin
+//! ```
+//!
+//! The first line of a template is the subject, each other that is not blank a paragraph. A paragraph
+//! that begins with `> ` is a button; its last word is the address to which it leads. Anywhere in a
+//! template `{name}` is a hole, in whose place the field of that name comes. It is escaped; but where
+//! an address leads is not looked at.
+//!
+//! Each line of standard input is a record, an object whose fields are texts. A record without a mail
+//! is told on standard error with its line, and the mails of the others are written. The status is 0
+//! where all were, 2 where the words are wrong, and else 1.
+#![tactic(auto)]
+
+mod mail;
+#[cfg(test)]
+mod tests;
+
+use anyhow::{Context, Result};
+use clap::{Arg, Command};
+use mail::mail;
+use std::alloc::Global;
+use std::io::{BufRead, BufReader};
+use std::process::ExitCode;
+use std::{env, fs};
+
+fn main(rt: HostRuntime) -> ExitCode {
+    match run(&rt) {
+        Ok(code) => code,
+        Err(error) => {
+            let _ = eprintln!(rt; "examples_mail: {error:#}");
+            ExitCode::FAILURE
+        }
+    }
+}
+
+/// Reads the words and the template, and writes the mails. The answer is the status.
+fn run(rt: &HostRuntime) -> Result<ExitCode> {
+    let words: Vec<String> = env::args(rt)?.collect(rt.alloc())?;
+    let matches = match command(rt.alloc())?.try_get_matches_from(&words) {
+        Ok(matches) => matches,
+        Err(error) => {
+            error.print(rt)?;
+            return Ok(ExitCode::from(u8::try_from(error.exit_code())?));
+        }
+    };
+    let path = matches.get_str("template").context("no template")?;
+    let lang = matches.get_str("lang").context("no language")?;
+    let template = fs::read_to_string(rt, path).context(path)?;
+    write_mails(rt, &template, lang)
+}
+
+/// The words that the program takes.
+fn command<'a>(alloc: Global) -> Result<Command<'a>> {
+    let template = Arg::new(alloc, "template")
+        .value_name("TEMPLATE")
+        .required(true)
+        .help("The file of the template");
+    let lang = Arg::new(alloc, "lang")
+        .long("lang")
+        .value_name("TAG")
+        .default_value("en")
+        .help("The language of the mails");
+    let command = Command::new(alloc, "examples_mail")
+        .about("Makes an HTML mail of each record in JSON on standard input")
+        .arg(template)?
+        .arg(lang)?;
+    Ok(command)
+}
+
+/// Writes the mail of each record, or tells why there is none. The answer is the status.
+fn write_mails(rt: &HostRuntime, template: &str, lang: &str) -> Result<ExitCode> {
+    let mut code = ExitCode::SUCCESS;
+    let mut number = 0u64;
+    let input = BufReader::new(rt.alloc(), rt.stdin())?;
+    for record in input.split(rt.alloc(), b'\n') {
+        number = number.saturating_add(1);
+        match mail(rt.alloc(), template, &record?, lang) {
+            Ok(html) => println!(rt; "{html}").context("standard output")?,
+            Err(error) => {
+                code = ExitCode::FAILURE;
+                eprintln!(rt; "line {number}: {error:#}")?;
+            }
+        }
+    }
+    Ok(code)
+}

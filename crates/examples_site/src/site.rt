@@ -1,0 +1,172 @@
+//! The pages of a site as HTML: each with a navigation, and with links that lead.
+
+use crate::page::Page;
+use anyhow::{Context, Result, anyhow};
+use percent_encoding::{AsciiSet, NON_ALPHANUMERIC, ascii_set, utf8_percent_encode};
+use std::alloc::Global;
+use std::collections::BTreeMap;
+use std::mem;
+use typst_html::{
+    DocumentInfo, HtmlDocument, HtmlElem, HtmlElement, HtmlNode, HtmlOptions, Item, Location, Pair,
+    Span, Tag, attr, create_link_anchors, dead_links, href_to, html, html_document_for_bundle,
+    push_located, resolve_links, tag,
+};
+
+/// The location of links, to which none leads.
+pub const LINK: Location = Location(0);
+
+/// How deep elements may stand in one another.
+const DEEPEST: usize = 50;
+
+/// What is percent-encoded in the names of pages.
+const RESERVED: AsciiSet = ascii_set!(
+    NON_ALPHANUMERIC
+        .remove(b'-')
+        .remove(b'.')
+        .remove(b'_')
+        .remove(b'~')
+);
+
+/// Where locations are, as links in other pages name them.
+pub type Hrefs = BTreeMap<Location, String>;
+
+/// A site.
+#[derive(Drop)]
+pub struct Site<'a> {
+    /// What memory is taken from.
+    pub alloc: Global,
+    /// Its title.
+    pub title: Option<&'a str>,
+    /// Its pages, by their names in order.
+    pub pages: Vec<Page>,
+    /// The locations of what links name, `page#label` or `page`.
+    pub places: BTreeMap<String, Location>,
+}
+
+impl Site<'_> {
+    /// The document of a page, whose headings have anchors.
+    pub fn document(&self, page: &Page) -> Result<HtmlDocument> {
+        let alloc = self.alloc;
+        let items = page.items.iter().map(|item| item.try_clone());
+        let main = HtmlElem::new(alloc, tag::main).with_body(items.try_collect(alloc)?);
+        let items = vec![in alloc; Pair::from(self.navigation(page)?), Pair::from(main)]?;
+        let mut info = DocumentInfo::new(alloc);
+        info.title = Some(match self.title {
+            Some(title) => format!(in alloc; "{} - {title}", page.title)?,
+            None => page.title.clone()?,
+        });
+        let mut document = html_document_for_bundle(alloc, &items, &info, &[], DEEPEST)?;
+        let anchors = create_link_anchors(alloc, &mut document, &page.headings)?;
+        document.introspector_mut().set_anchors(anchors);
+        Ok(document)
+    }
+
+    /// Links to all pages, that to the current one marked.
+    fn navigation(&self, current: &Page) -> Result<HtmlElem> {
+        let alloc = self.alloc;
+        let mut entries = Vec::new(alloc);
+        for page in &self.pages {
+            let mut link = HtmlElem::new(alloc, tag::a).with_text(alloc, &page.title)?;
+            if page.location == current.location {
+                link = link.with_attr(attr::aria_current, "page".to_string(alloc)?)?;
+            }
+            let mut entry = Vec::new(alloc);
+            push_located(
+                &mut entry,
+                LINK,
+                None,
+                Some(page.location),
+                Item::from(link),
+            )?;
+            let entry = HtmlElem::new(alloc, tag::li).with_body(entry);
+            entries.push(Pair::from(entry))?;
+        }
+        let list = HtmlElem::new(alloc, tag::ul).with_body(entries);
+        Ok(HtmlElem::new(alloc, tag::nav).with_item(alloc, Pair::from(list))?)
+    }
+
+    /// Adds where a page is, and where its headings are, by their anchors in its document.
+    pub fn add_hrefs(&self, hrefs: &mut Hrefs, page: &Page, document: &HtmlDocument) -> Result<()> {
+        let alloc = self.alloc;
+        let name = utf8_percent_encode(&page.name, RESERVED);
+        let _ = hrefs.insert(page.location, format!(in alloc; "{name}.html")?)?;
+        for heading in &page.headings {
+            if let Some(anchor) = document.introspector().anchor(*heading) {
+                let fragment = href_to(alloc, anchor)?;
+                let _ = hrefs.insert(*heading, format!(in alloc; "{name}.html{fragment}")?)?;
+            }
+        }
+        Ok(())
+    }
+
+    /// The HTML text of the document of a page, all of whose links lead.
+    pub fn text(
+        &self,
+        page: &Page,
+        mut document: HtmlDocument,
+        hrefs: &Hrefs,
+        options: &HtmlOptions,
+    ) -> Result<String> {
+        resolve_links(self.alloc, &mut document)?;
+        let root = document.root_mut();
+        let children = mem::replace(&mut root.children, Vec::new(self.alloc));
+        root.children = nodes_with_hrefs(self.alloc, children, hrefs)?;
+        if let Some(link) = dead_links(self.alloc, &document)?.first() {
+            let target = self.places.iter().find(|place| *place.1 == link.dest);
+            let target = target.map_or("", |place| place.0.as_str());
+            let error = anyhow!("no heading or page is named {target:?}");
+            return Err(error.context(page.place(self.alloc, link.span)?));
+        }
+        let made = html(self.alloc, &document, options, &());
+        let span = made.as_ref().err().map_or(Span(0), |fault| fault.span());
+        made.with_context(|| page.place(self.alloc, span))
+    }
+}
+
+/// The nodes, in which each link that has no `href` gets that of its destination.
+#[cycle(hrefs)]
+fn nodes_with_hrefs(alloc: Global, nodes: Vec<HtmlNode>, hrefs: &Hrefs) -> Result<Vec<HtmlNode>> {
+    let mut made = Vec::with_capacity(alloc, nodes.len())?;
+    let mut dest = None;
+    for node in nodes {
+        let next = dest_behind(dest, &node);
+        made.push(node_with_href(alloc, node, dest, hrefs)?)?;
+        dest = next;
+    }
+    Ok(made)
+}
+
+/// A node behind a start tag with that destination, if there is one.
+#[cycle(hrefs)]
+fn node_with_href(
+    alloc: Global,
+    node: HtmlNode,
+    dest: Option<Location>,
+    hrefs: &Hrefs,
+) -> Result<HtmlNode> {
+    match node {
+        HtmlNode::Element(element) => {
+            let mut attrs = element.attrs;
+            if let Some(href) = dest.and_then(|to| hrefs.get(&to))
+                && attrs.get(&attr::href).is_none()
+            {
+                attrs.push_front(attr::href, href.clone()?)?;
+            }
+            Ok(HtmlNode::Element(HtmlElement {
+                attrs,
+                children: nodes_with_hrefs(alloc, element.children, hrefs)?,
+                ..element
+            }))
+        }
+        HtmlNode::Tag(_) | HtmlNode::Text(_, _) | HtmlNode::Frame(_) => Ok(node),
+    }
+}
+
+/// The destination of the nearest start tag before what follows this node, with tags alone between.
+fn dest_behind(dest: Option<Location>, node: &HtmlNode) -> Option<Location> {
+    match node {
+        HtmlNode::Tag(Tag::Start { dest: Some(to), .. }) => Some(*to),
+        HtmlNode::Tag(_) => dest,
+        _ => None,
+    }
+}

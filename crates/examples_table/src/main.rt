@@ -1,0 +1,78 @@
+//! A table: CSV from standard input becomes an HTML page with a table on standard output.
+//!
+//! ```text
+//! cd crates/examples_table && rt try -- --title Pantry --pretty < stdin
+//! ```
+//!
+//! The status is 0 where the page was written, 2 where the words are wrong, and 1 for all else. What
+//! was wrong then stands on standard error, with the row that it lies in.
+#![tactic(auto)]
+
+mod table;
+#[cfg(test)]
+mod tests;
+
+use anyhow::{Context, Result};
+use clap::{Arg, ArgAction, ArgMatches, Command};
+use std::alloc::Global;
+use std::env;
+use std::process::ExitCode;
+use table::{Settings, page};
+
+fn main(rt: HostRuntime) -> ExitCode {
+    match run(&rt) {
+        Ok(code) => code,
+        Err(error) => {
+            let _ = eprintln!(rt; "examples_table: {error:#}");
+            ExitCode::FAILURE
+        }
+    }
+}
+
+/// Reads words and records, and writes the page. The answer is the status.
+fn run(rt: &HostRuntime) -> Result<ExitCode> {
+    let words: Vec<String> = env::args(rt)?.collect(rt.alloc())?;
+    let matches = match command(rt.alloc())?.try_get_matches_from(&words) {
+        Ok(matches) => matches,
+        Err(error) => {
+            error.print(rt)?;
+            return Ok(ExitCode::from(u8::try_from(error.exit_code())?));
+        }
+    };
+    let html = page(rt.alloc(), rt.stdin(), &settings(&matches)?)?;
+    print!(rt; "{html}").context("standard output")?;
+    Ok(ExitCode::SUCCESS)
+}
+
+/// The words that the program takes.
+fn command<'a>(alloc: Global) -> Result<Command<'a>> {
+    let title = Arg::new(alloc, "title")
+        .long("title")
+        .value_name("TEXT")
+        .required(true)
+        .help("The page's title, which is the table's caption too");
+    let lang = Arg::new(alloc, "lang")
+        .long("lang")
+        .value_name("TAG")
+        .default_value("en")
+        .help("The language of the table");
+    let pretty = Arg::new(alloc, "pretty")
+        .long("pretty")
+        .action(ArgAction::SetTrue)
+        .help("Write each element on a line of its own");
+    let command = Command::new(alloc, "examples_table")
+        .about("Makes an HTML page with a table of the CSV on standard input")
+        .arg(title)?
+        .arg(lang)?
+        .arg(pretty)?;
+    Ok(command)
+}
+
+/// What the words say of the page.
+fn settings<'a>(matches: &ArgMatches<'a>) -> Result<Settings<'a>> {
+    Ok(Settings {
+        title: matches.get_str("title").context("no title")?,
+        lang: matches.get_str("lang").context("no language")?,
+        pretty: matches.get_flag("pretty"),
+    })
+}

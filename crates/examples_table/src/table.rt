@@ -1,0 +1,93 @@
+//! The page of a table, from the records of its rows.
+
+use anyhow::{Error, Result, ensure};
+use csv::{Reader, StringRecord};
+use std::alloc::Global;
+use std::io::Read;
+use typst_html::{
+    DocumentInfo, ExportFault, HtmlElem, HtmlOptions, HtmlTag, Locale, Pair, Properties, Span,
+    export, tag,
+};
+
+/// How deep items may stand in one another. In a table they are four deep.
+const DEPTH_LIMIT: usize = 50;
+
+/// The span of a text that is in no row. A text in a row has the row's number: the head is row 1.
+const NO_ROW: Span = Span(0);
+
+/// What is known of the page besides its records.
+#[derive(Clone, Copy)]
+pub(crate) struct Settings<'a> {
+    /// The title of the page, and the caption of the table.
+    pub(crate) title: &'a str,
+    /// The language of all texts.
+    pub(crate) lang: &'a str,
+    /// Whether the HTML text is pretty.
+    pub(crate) pretty: bool,
+}
+
+/// The HTML text of a page with a table: its head is the first record, its body all others.
+pub(crate) fn page<R: Read + Drop>(
+    alloc: Global,
+    input: R,
+    settings: &Settings<'_>,
+) -> Result<String> {
+    let mut reader = Reader::from_reader(alloc, input);
+    let items = vec![in alloc; Pair::from(table(alloc, &mut reader, settings.title)?)]?;
+    let mut info = DocumentInfo::new(alloc);
+    info.title = Some(String::from_str(alloc, settings.title)?);
+    info.locale = Some(Locale::new(String::from_str(alloc, settings.lang)?));
+    let options = HtmlOptions {
+        pretty: settings.pretty,
+    };
+    export(alloc, &items, &info, &[], DEPTH_LIMIT, &options, &()).map_err(with_row)
+}
+
+/// The table with its caption, its head and its body.
+fn table<R: Read>(alloc: Global, reader: &mut Reader<R>, title: &str) -> Result<HtmlElem> {
+    let caption = HtmlElem::new(alloc, tag::caption).with_text(alloc, title)?;
+    let head = reader.headers()?;
+    ensure!(!head.is_empty(), "no record: the first is the table's head");
+    let head = row(alloc, head, &tag::th)?;
+    let mut body = Vec::new(alloc);
+    for record in reader.records() {
+        body.push(Pair::from(row(alloc, &record?, &tag::td)?))?;
+    }
+    let head = HtmlElem::new(alloc, tag::thead).with_item(alloc, Pair::from(head))?;
+    let body = HtmlElem::new(alloc, tag::tbody).with_body(body);
+    let parts = vec![in alloc; Pair::from(caption), Pair::from(head), Pair::from(body)]?;
+    Ok(HtmlElem::new(alloc, tag::table).with_body(parts))
+}
+
+/// A row, whose cells are elements of that name.
+fn row(alloc: Global, record: &StringRecord, name: &HtmlTag) -> Result<HtmlElem> {
+    let position = record.position();
+    let row = position.map_or(NO_ROW, |at| Span(at.record.saturating_add(1)));
+    let mut cells = Vec::new(alloc);
+    for field in record.iter() {
+        let cell = HtmlElem::new(alloc, name.try_clone()?)
+            .spanned(row)
+            .with_css(alignment(alloc, field)?)
+            .with_text(alloc, field)?;
+        cells.push(Pair::from(cell))?;
+    }
+    Ok(HtmlElem::new(alloc, tag::tr).with_body(cells))
+}
+
+/// Where a field stands in its cell: a number at the right, all else as the browser has it.
+fn alignment(alloc: Global, field: &str) -> Result<Properties> {
+    let mut css = Properties::build(alloc, ());
+    if field.parse::<f64>().is_ok_and(f64::is_finite) {
+        css.push("text-align", &"right")?;
+    }
+    Ok(css.finish())
+}
+
+/// The fault, and the row in which it lies.
+fn with_row(fault: ExportFault) -> Error {
+    match (fault.number(), fault.span()) {
+        (0, _) => Error::from(fault),
+        (_, NO_ROW) => Error::from(fault).context("title or language"),
+        (_, Span(row)) => Error::from(fault).context(format_args!("row {row}")),
+    }
+}
