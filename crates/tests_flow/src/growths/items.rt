@@ -93,11 +93,9 @@ fn with_optional_attr(element: HtmlElem, value: String, shown: String) -> Answer
 fn with_item(alloc: Global, element: HtmlElem, item: Item, shown: String) -> Answer<ItemCall> {
     match element.with_item(alloc, Pair::from(item)) {
         Ok(element) => made(element.body.is_some_and(|items| items.len() == 1)),
-        Err(
-            Refused {
-                back: (element, Pair { item, .. }),
-            },
-        ) => {
+        Err(Refused { back }) => {
+            let (element, pair) = back;
+            let Pair { item, .. } = pair;
             let is_back = element.body.is_none() && is_shown(&item, &shown);
             refused(is_back, ItemCall::WithItem(element, item, shown))
         }
