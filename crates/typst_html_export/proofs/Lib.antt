@@ -16,3 +16,4 @@ pub mod ReadLinks
 pub mod SpacesInDocuments
 pub mod SpacesInTexts
 pub mod StyledRoots
+pub mod Untargeted

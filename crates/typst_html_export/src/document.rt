@@ -32,6 +32,7 @@ use html_dom_tree::{HtmlElement, HtmlNode, Span, with_inline_styles};
 use html_flow_convert::{ConversionLevel, Pair, Whitespace, convert_to_nodes};
 use html_names::{attr, tag};
 use std::alloc::{AllocError, Global};
+use std::collections::BTreeMap;
 use std::mem;
 use typst_html_encode::ExportFault;
 
@@ -92,14 +93,21 @@ pub fn html_document(
     Ok(with_anchors(alloc, document)?)
 }
 
-/// The document with anchors for all locations to which links lead.
-fn with_anchors(alloc: Global, document: HtmlDocument) -> Result<HtmlDocument, AllocError>
+/// The document with anchors for all locations to which links lead. Where none does, its tree is not
+/// looked at.
+fn with_anchors(alloc: Global, mut document: HtmlDocument) -> Result<HtmlDocument, AllocError>
     ensures made { IfOk result (λ made.
         document_view made ≡ document_with_anchors (document_view document)) }
     ensures distinct { IdsAreDistinct (document_view document) →
         IfOk result (λ made. IdsAreDistinct (document_view made)) }
 {
     let targets = document.introspector().link_targets()?;
+    if targets.is_empty() {
+        document
+            .introspector_mut()
+            .set_anchors(BTreeMap::new(alloc));
+        return Ok(document);
+    }
     let (mut made, anchors) = with_link_anchors(alloc, document, &targets)?;
     made.introspector_mut().set_anchors(anchors);
     Ok(made)

@@ -1,0 +1,54 @@
+-- A document to which no link leads stays as it is.
+use Rattle.std.proofs.Common.{◌≡◌, ℕ, zero, suc, Bool, true, false, Some, None, refl, ap, sym, ◌∙◌}
+use Rattle.std.proofs.Math.Path.{fun_ext}
+use Rattle.std.proofs.lemmas.List.{nil_from_length}
+use Rattle.std.specs.BTreeMap.{BTreeMap, IsEmpty}
+use Rattle.std.specs.BTreeSet.{BTreeSet, btree_set_len}
+use Rattle.std.specs.Prelude.{String}
+use Rattle.std.specs.declared.alloc.Global.{Global}
+use Rattle.html_dom_tree.specs.Tree.{tag_node, text_node, element_node, frame_node, NodesView, none, node, ElementView}
+use Rattle.html_dom_tree.specs.declared.introspection.Location.{Location}
+use Rattle.html_dom_introspect.specs.Introspectors.{has, text_in}
+use Rattle.html_dom_document.specs.Documents.{DocumentView, document_root, element_at, given_root, is_element_at, with_element}
+use Rattle.html_dom_link.specs.LinkAnchors.{document_anchor, document_targets}
+use Rattle.html_dom_link.proofs.Consequences.{no_target_no_change}
+use Rattle.typst_html_export.specs.Linked.{document_with_anchors}
+
+-- an element put where it stands changes nothing
+put_again : (ns : NodesView) (i : ℕ) → is_element_at ns i ≡ true →
+    with_element ns i (given_root (element_at ns i)) ≡ ns
+put_again none i there = refl
+put_again (node (tag_node t) ns) zero there = cc
+put_again (node (text_node s span) ns) zero there = cc
+put_again (node (element_node h kids) ns) zero there = refl
+put_again (node (frame_node f) ns) zero there = cc
+put_again (node n ns) (suc i) there = ap (node n) (put_again ns i there)
+
+-- nothing is in a set without members
+pub nothing_in : (set : BTreeSet Location) → btree_set_len set ≡ 0 → (l : ℕ) → has set l ≡ false
+nothing_in set short l = let no_keys = nil_from_length set.keys short in rw no_keys refl
+
+-- nor is a text of any location in a map without entries
+pub no_text_in : (map : BTreeMap Location (String Global)) → IsEmpty map →
+    text_in map ≡ (λ l. None)
+no_text_in map empty = fun_ext (λ l. rw empty refl)
+
+pub without_targets : (d : DocumentView) →
+    is_element_at d.output.nodes d.output.root ≡ true →
+    ((l : ℕ) → d.introspector.is_link_target l ≡ false) →
+    record d { introspector = record d.introspector { anchor = λ l. None } }
+    ≡ document_with_anchors d
+without_targets d stands nowhere =
+    let is_target = d.introspector.is_link_target in
+    let idle = no_target_no_change (document_targets is_target d) (document_root d) nowhere in
+    let anchors : document_anchor is_target d ≡ (λ l. None) = fun_ext idle.1 in
+    let nodes =
+    ap (λ e. with_element d.output.nodes d.output.root e) idle.0
+    ∙ put_again d.output.nodes d.output.root stands in
+    sym (
+    ap (λ ns. record d {
+      output = record d.output { nodes = ns };
+      introspector = record d.introspector { anchor = document_anchor is_target d };
+    }) nodes
+    ∙ ap (λ a. record d { introspector = record d.introspector { anchor = a } }) anchors
+    )
