@@ -3,4 +3,3 @@ pub mod ConstructFaults
 pub mod Items
 pub mod Levels
 pub mod LoneNodes
-pub mod Rows

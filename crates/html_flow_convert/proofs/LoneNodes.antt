@@ -8,18 +8,13 @@ use Rattle.html_names.specs.Names.{is_ascii}
 use Rattle.html_names.specs.Texts.{TextPair}
 use Rattle.html_names.proofs.Lists.{chars_ascii, bytes_eq-chars}
 use Rattle.html_values_css.specs.Properties.{with_value, without}
-use Rattle.html_dom_tree.specs.Tree.{Head, NodeView, NodesView, element_node, node}
-use Rattle.html_dom_tree.specs.Views.{nodes_of}
-use Rattle.html_flow_whitespace.specs.DraftViews.{draft_shown}
-use Rattle.html_flow_whitespace.specs.declared.draft.Draft.{Draft}
+use Rattle.html_dom_tree.specs.Tree.{Head, NodeView, element_node, node}
+use Rattle.html_dom_tree.specs.Views.{node_view, nodes_of, nodes_view}
+use Rattle.html_dom_tree.specs.declared.node.HtmlNode.{HtmlNode}
 use Rattle.html_flow_whitespace.specs.Nodes.{is_tag}
 use Rattle.html_flow_convert.specs.declared.lone.DisplayChange.{DisplayChange}
 use Rattle.html_flow_convert.specs.declared.lone.DisplayChange.TheVariants.{Removed, SetTo}
 use Rattle.html_flow_convert.specs.LoneNode.{DisplayChangeView, change_view, css_displayed, node_displayed, node_list, are_tags, lone_alone, lone_node, changed_or_in}
-
--- the nodes that drafts stand for, as a list is told
-abbrev pub shown_of : List Draft → NodesView
-shown_of ds = nodes_of (map draft_shown ds)
 
 pub node_list_of : (ns : List NodeView) → node_list (nodes_of ns) ≡ ns
 unfolding node_list
@@ -34,7 +29,7 @@ drop_whole : {A : Type 0} (k : ℕ) (xs : List A) → take (length xs - k) (drop
 drop_whole k xs = ap (λ m. take m (drop k xs)) (sym (length-drop k xs)) ∙ take-length (drop k xs)
 
 -- the nodes from a place on, with the node at it
-module _ (nodes : List Draft) (k : ℕ) (n : Draft) (below : k < length nodes)
+module _ (nodes : List HtmlNode) (k : ℕ) (n : HtmlNode) (below : k < length nodes)
     (is : n ≡ get_or nodes k n) where
   from_place : drop k nodes ≡ n ∷ drop (k + 1) nodes
   from_place =
@@ -42,38 +37,38 @@ module _ (nodes : List Draft) (k : ℕ) (n : Draft) (below : k < length nodes)
       ∙ ap (λ j. n ∷ drop j nodes) (sym (add-one k)))
 
   -- a tag is passed
-  pub tag_passed : is_tag (draft_shown n) ≡ true
-      → lone_node (shown_of (drop k nodes)) ≡ lone_node (shown_of nodes)
-      → lone_node (shown_of (drop (k + 1) nodes)) ≡ lone_node (shown_of nodes)
+  pub tag_passed : is_tag (node_view n) ≡ true
+      → lone_node (nodes_view (drop k nodes)) ≡ lone_node (nodes_view nodes)
+      → lone_node (nodes_view (drop (k + 1) nodes)) ≡ lone_node (nodes_view nodes)
   unfolding lone_node
   tag_passed tag same =
-      let on : lone_node (node (draft_shown n) (shown_of (drop (k + 1) nodes)))
-      ≡ lone_node (shown_of (drop (k + 1) nodes)) = rw tag refl in
-      sym on ∙ (ap (λ ns. lone_node (shown_of ns)) (sym from_place) ∙ same)
+      let on : lone_node (node (node_view n) (nodes_view (drop (k + 1) nodes)))
+      ≡ lone_node (nodes_view (drop (k + 1) nodes)) = rw tag refl in
+      sym on ∙ (ap (λ ns. lone_node (nodes_view ns)) (sym from_place) ∙ same)
 
   -- the first other node decides, with what stands behind it
-  pub decided : (tags : Bool) → is_tag (draft_shown n) ≡ false
-      → list_all (λ m. is_tag (draft_shown m))
+  pub decided : (tags : Bool) → is_tag (node_view n) ≡ false
+      → list_all (λ m. is_tag (node_view m))
       (take (length nodes - (k + 1)) (drop (k + 1) nodes)) ≡ tags
-      → lone_node (shown_of (drop k nodes)) ≡ lone_node (shown_of nodes)
-      → lone_node (shown_of nodes) ≡ (if tags then lone_alone (draft_shown n) else None)
+      → lone_node (nodes_view (drop k nodes)) ≡ lone_node (nodes_view nodes)
+      → lone_node (nodes_view nodes) ≡ (if tags then lone_alone (node_view n) else None)
   unfolding lone_node
   decided tags other behind same =
       let rest = drop (k + 1) nodes in
-      let all : are_tags (shown_of rest) ≡ tags =
-      are_tags_of (map draft_shown rest) ∙ (list_all-map is_tag draft_shown rest
-      ∙ (ap (list_all (λ m. is_tag (draft_shown m))) (sym (drop_whole (k + 1) nodes)) ∙ behind)) in
-      let here : lone_node (node (draft_shown n) (shown_of rest))
-      ≡ (if tags then lone_alone (draft_shown n) else None) = rw (other, all) refl in
-      sym same ∙ (ap (λ ns. lone_node (shown_of ns)) from_place ∙ here)
+      let all : are_tags (nodes_view rest) ≡ tags =
+      are_tags_of (map node_view rest) ∙ (list_all-map is_tag node_view rest
+      ∙ (ap (list_all (λ m. is_tag (node_view m))) (sym (drop_whole (k + 1) nodes)) ∙ behind)) in
+      let here : lone_node (node (node_view n) (nodes_view rest))
+      ≡ (if tags then lone_alone (node_view n) else None) = rw (other, all) refl in
+      sym same ∙ (ap (λ ns. lone_node (nodes_view ns)) from_place ∙ here)
 
 -- tags alone are passed to the end
-pub none_left : (nodes : List Draft) (k : ℕ) → length nodes ≤ k
-    → lone_node (shown_of (drop k nodes)) ≡ lone_node (shown_of nodes)
-    → lone_node (shown_of nodes) ≡ None
+pub none_left : (nodes : List HtmlNode) (k : ℕ) → length nodes ≤ k
+    → lone_node (nodes_view (drop k nodes)) ≡ lone_node (nodes_view nodes)
+    → lone_node (nodes_view nodes) ≡ None
 unfolding lone_node
 none_left nodes k past same =
-    sym same ∙ at_drop_all (λ ns. lone_node (shown_of ns)) nodes k past
+    sym same ∙ at_drop_all (λ ns. lone_node (nodes_view ns)) nodes k past
 
 pub display_name : chars (codes "display") ≡ codes "display"
 display_name = chars_ascii (codes "display") refl

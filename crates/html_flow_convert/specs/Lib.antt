@@ -5,5 +5,4 @@ pub mod Endings
 pub mod FlowFaults
 pub mod Items
 pub mod LoneNode
-pub mod Rows
 pub mod Views

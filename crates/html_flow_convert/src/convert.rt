@@ -5,23 +5,20 @@ ghost use Rattle.std.specs.Prelude.{◌≡◌, ◌≤◌, ◌↔◌, ◌++◌, �
 ghost use Rattle.html_names.specs.Names.{is_ascii};
 ghost use Rattle.html_names.specs.Texts.{text_view};
 ghost use Rattle.html_dom_tree.specs.Tree.{tag_node, text_node, element_node};
-ghost use Rattle.html_dom_tree.specs.Views.{attrs_view, head_of, nodes_view, tag_view};
-ghost use Rattle.html_flow_whitespace.specs.DraftViews.{draft_shown};
+ghost use Rattle.html_dom_tree.specs.Views.{attrs_view, head_of, node_view, nodes_view, tag_view};
 ghost use Rattle.html_flow_convert.specs.Converted.{body_nodes, break_item_node, converted_nodes, element_head, frame_item_node, item_nodes, list_nodes, role_pairs, role_text, text_item_nodes};
 ghost use Rattle.html_flow_convert.specs.Endings.{Adds, Gives};
 ghost use Rattle.html_flow_convert.specs.Depth.{body_too_deep, item_too_deep, items_too_deep};
 ghost use Rattle.html_flow_convert.specs.Items.{element_item};
-ghost use Rattle.html_flow_convert.specs.Rows.{is_lone, row_nodes, row_shown};
 ghost use Rattle.html_flow_convert.specs.declared.convert.Whitespace.TheVariants.{Normal};
 ghost use Rattle.html_flow_convert.specs.Views.{body_view, elem_view, frame_elem_view, item_view, items_view};
 
 use crate::fault::FlowFault;
 use crate::item::{FrameElem, HtmlElem, Item, Pair};
-use crate::lone::{lone_node, push_block, push_box};
-use crate::row::Row;
+use crate::lone::{push_around, push_block, push_box};
 use crate::setting::{Setting, body_level, passes_role};
 use html_dom_tree::{HtmlAttrs, HtmlElement, HtmlFrame, HtmlNode, Span, Tag};
-use html_flow_whitespace::{Draft, break_element, keep_runs, nodes_of, protect_spaces};
+use html_flow_whitespace::{break_element, keep_runs, protect_spaces, push_text_nodes};
 use html_names::attr;
 use html_values_css::Properties;
 use std::alloc::{AllocError, Global};
@@ -76,7 +73,9 @@ pub fn is_depth_limit(limit: usize) -> bool
 /// with the span of the first item, in document order, that has a body, even an empty one, deeper
 /// than `limit`.
 ///
-/// Cost: grows with the number of items at all depths and the length of their texts.
+/// Cost: grows with the number of items at all depths and the length of their texts. Where an element
+/// alone, tags aside, stands in boxes and blocks that stand in one another, what is in it is looked
+/// at, and these tags are moved, once for each of them.
 ///
 /// ```
 /// use html_dom::Span;
@@ -112,8 +111,7 @@ pub fn convert_to_nodes(
         depth,
         limit,
     };
-    let row = convert_list(alloc, items, level, setting)?;
-    Ok(nodes_of(alloc, row.into_drafts(alloc)?)?)
+    convert_list(alloc, items, level, setting)
 }
 
 /// The nodes of a list.
@@ -123,15 +121,15 @@ fn convert_list(
     items: &[Pair],
     level: ConversionLevel,
     setting: Setting<'_>,
-) -> Result<Row, FlowFault>
+) -> Result<Vec<HtmlNode>, FlowFault>
     requires within { setting.depth ≤ setting.limit }
     requires low_limit { setting.limit ≤ 10000 }
-    ensures { Gives row_nodes result
+    ensures { Gives (λ made. nodes_view made.items) result
         (converted_nodes level setting.entry.whitespace (role_text setting.entry.role)
         (items_view items.now))
         (items_too_deep setting.entry.depth setting.entry.limit (items_view items.now)) }
 {
-    let mut nodes = Row::new(alloc);
+    let mut nodes = Vec::new(alloc);
     for pair in items {
         push_item(alloc, &pair.item, setting.with_role(&pair.role), &mut nodes)?;
     }
@@ -146,16 +144,16 @@ fn convert_body(
     span: Span,
     level: ConversionLevel,
     setting: Setting<'_>,
-) -> Result<Row, FlowFault>
+) -> Result<Vec<HtmlNode>, FlowFault>
     requires within { setting.depth ≤ setting.limit }
     requires low_limit { setting.limit ≤ 10000 }
-    ensures { Gives row_nodes result
+    ensures { Gives (λ made. nodes_view made.items) result
         (body_nodes level setting.entry.whitespace (role_text setting.entry.role)
         (body_view body.now))
         (body_too_deep setting.entry.depth setting.entry.limit span.0 (body_view body.now)) }
 {
     let Some(items) = body else {
-        return Ok(Row::new(alloc));
+        return Ok(Vec::new(alloc));
     };
     if setting.is_deepest() {
         return Err(FlowFault::TooDeep { span });
@@ -169,11 +167,11 @@ fn push_item(
     alloc: Global,
     item: &Item,
     setting: Setting<'_>,
-    nodes: &mut Row,
+    nodes: &mut Vec<HtmlNode>,
 ) -> Result<(), FlowFault>
     requires within { setting.depth ≤ setting.limit }
     requires low_limit { setting.limit ≤ 10000 }
-    ensures { Adds result (row_shown nodes.old) (row_shown nodes.new)
+    ensures { Adds result (map node_view nodes.old.items) (map node_view nodes.new.items)
         (item_nodes setting.entry.whitespace (role_text setting.entry.role) (item_view item.now))
         (item_too_deep setting.entry.depth setting.entry.limit (item_view item.now)) }
 {
@@ -186,11 +184,11 @@ fn push_item(
         Item::LineBreak(span) => Ok(push_break(alloc, nodes, *span, setting.whitespace)?),
         Item::Box(body, span) => {
             let inside = convert_body(alloc, body, *span, ConversionLevel::Inline, setting)?;
-            Ok(push_box(alloc, nodes, inside, setting.whitespace, *span)?)
+            Ok(push_box(alloc, nodes, inside, *span)?)
         }
         Item::Block(body, span) => {
             let inside = convert_body(alloc, body, *span, ConversionLevel::Block, setting)?;
-            Ok(push_block(alloc, nodes, inside, setting.whitespace, *span)?)
+            Ok(push_block(alloc, nodes, inside, *span)?)
         }
         Item::Frame(frame) => Ok(push_frame(alloc, nodes, frame)?),
     }
@@ -202,12 +200,12 @@ fn push_element(
     alloc: Global,
     element: &HtmlElem,
     setting: Setting<'_>,
-    nodes: &mut Row,
+    nodes: &mut Vec<HtmlNode>,
 ) -> Result<(), FlowFault>
     requires within { setting.depth ≤ setting.limit }
     requires low_limit { setting.limit ≤ 10000 }
     ensures { let view = elem_view element.now in let item = element_item view.0 view.1 in
-        Adds result (row_shown nodes.old) (row_shown nodes.new)
+        Adds result (map node_view nodes.old.items) (map node_view nodes.new.items)
         (item_nodes setting.entry.whitespace (role_text setting.entry.role) item)
         (item_too_deep setting.entry.depth setting.entry.limit item) }
 {
@@ -218,23 +216,23 @@ fn push_element(
         body_level(element),
         setting.inside(element),
     )?;
-    Ok(push_around(alloc, nodes, element, setting.role, children)?)
+    Ok(push_with_role(alloc, nodes, element, setting.role, children)?)
 }
 
 /// Adds an element with the role of its item and with these children.
-fn push_around(
+fn push_with_role(
     alloc: Global,
-    nodes: &mut Row,
+    nodes: &mut Vec<HtmlNode>,
     element: &HtmlElem,
     role: Option<&str>,
-    children: Row,
+    children: Vec<HtmlNode>,
 ) -> Result<(), AllocError>
-    ensures { OnOk result (row_shown nodes.new ≡ row_shown nodes.old
+    ensures { OnOk result (map node_view nodes.new.items ≡ map node_view nodes.old.items
         ++ element_node (element_head (role_text role.entry) (elem_view element.now).0)
-        (row_nodes children) ∷ []) }
+        (nodes_view children.items) ∷ []) }
 {
     let made = element_with_role(alloc, element, role)?;
-    nodes.push_around(alloc, made, children)
+    push_around(nodes, made, children)
 }
 
 /// The element with the role of its item, without children.
@@ -286,76 +284,82 @@ fn push_role(alloc: Global, attrs: &mut HtmlAttrs, role: Option<&str>) -> Result
 }
 
 /// Adds the node of a tag.
-fn push_tag(nodes: &mut Row, tag: &Tag) -> Result<(), AllocError>
+fn push_tag(nodes: &mut Vec<HtmlNode>, tag: &Tag) -> Result<(), AllocError>
     ensures { OnOk result
-        (row_shown nodes.new ≡ row_shown nodes.old ++ tag_node (tag_view tag.now) ∷ []) }
+        (map node_view nodes.new.items ≡ map node_view nodes.old.items ++ tag_node (tag_view tag.now) ∷ []) }
 {
-    nodes.push_tag(tag.try_clone()?)
+    nodes.push(HtmlNode::Tag(tag.try_clone()?))?;
+    Ok(())
 }
 
 /// Adds a text.
-fn push_string(alloc: Global, nodes: &mut Row, text: String, span: Span) -> Result<(), AllocError>
-    ensures { OnOk result (row_shown nodes.new ≡ row_shown nodes.old
+fn push_string(nodes: &mut Vec<HtmlNode>, text: String, span: Span) -> Result<(), AllocError>
+    ensures { OnOk result (map node_view nodes.new.items ≡ map node_view nodes.old.items
         ++ text_node (text_view text) span.0 ∷ []) }
 {
-    nodes.push(alloc, Draft::text(text, span))
+    nodes.push(HtmlNode::text(text, span))?;
+    Ok(())
 }
 
 /// Adds a text of ASCII.
-fn push_literal(alloc: Global, nodes: &mut Row, text: &str, span: Span) -> Result<(), AllocError>
+fn push_literal(
+    alloc: Global,
+    nodes: &mut Vec<HtmlNode>,
+    text: &str,
+    span: Span,
+) -> Result<(), AllocError>
     requires { IsTrue (is_ascii text.now) }
-    ensures { OnOk result (row_shown nodes.new ≡ row_shown nodes.old
+    ensures { OnOk result (map node_view nodes.new.items ≡ map node_view nodes.old.items
         ++ text_node text.now span.0 ∷ []) }
 {
-    push_string(alloc, nodes, String::from_str(alloc, text)?, span)
+    push_string(nodes, String::from_str(alloc, text)?, span)
 }
 
 /// Adds the nodes of a text item.
 fn push_text(
     alloc: Global,
-    nodes: &mut Row,
+    nodes: &mut Vec<HtmlNode>,
     text: &String,
     span: Span,
     whitespace: Whitespace,
 ) -> Result<(), AllocError>
-    ensures { OnOk result (row_shown nodes.new ≡ row_shown nodes.old
+    ensures { OnOk result (map node_view nodes.new.items ≡ map node_view nodes.old.items
         ++ text_item_nodes whitespace (text_view text.now) span.0) }
 {
     match whitespace {
-        Whitespace::Normal => nodes.push_text(alloc, text.as_str(), span),
-        Whitespace::Pre => push_string(alloc, nodes, text.clone()?, span),
+        Whitespace::Normal => push_text_nodes(alloc, nodes, text.as_str(), span),
+        Whitespace::Pre => push_string(nodes, text.clone()?, span),
     }
 }
 
 /// Adds the node of a line break.
 fn push_break(
     alloc: Global,
-    nodes: &mut Row,
+    nodes: &mut Vec<HtmlNode>,
     span: Span,
     whitespace: Whitespace,
 ) -> Result<(), AllocError>
-    ensures { OnOk result (row_shown nodes.new ≡ row_shown nodes.old
+    ensures { OnOk result (map node_view nodes.new.items ≡ map node_view nodes.old.items
         ++ break_item_node whitespace span.0 ∷ []) }
 {
     match whitespace {
         Whitespace::Normal => {
-            nodes.push(
-                alloc,
-                Draft::open(break_element(alloc, span), Vec::new(alloc)),
-            )
+            nodes.push(HtmlNode::from(break_element(alloc, span)))?;
+            Ok(())
         }
         Whitespace::Pre => push_literal(alloc, nodes, "\n", span),
     }
 }
 
 /// Adds the node of a frame item.
-fn push_frame(alloc: Global, nodes: &mut Row, frame: &FrameElem) -> Result<(), AllocError>
-    ensures { OnOk result (row_shown nodes.new ≡ row_shown nodes.old
+fn push_frame(alloc: Global, nodes: &mut Vec<HtmlNode>, frame: &FrameElem) -> Result<(), AllocError>
+    ensures { OnOk result (map node_view nodes.new.items ≡ map node_view nodes.old.items
         ++ frame_item_node (frame_elem_view frame.now) ∷ []) }
 {
     let mut made = HtmlFrame::new(alloc, frame.frame.try_clone()?, frame.text_size, frame.span);
     made.css = block_css(alloc)?;
-    nodes.push(alloc, Draft::Frame(made))
+    nodes.push(HtmlNode::Frame(made))?;
+    Ok(())
 }
 
 /// The css of what is laid out as a block.
@@ -370,66 +374,31 @@ fn block_css(alloc: Global) -> Result<Properties, AllocError>
 /// stay is protected.
 fn finish(
     alloc: Global,
-    nodes: Row,
+    nodes: Vec<HtmlNode>,
     level: ConversionLevel,
     whitespace: Whitespace,
-) -> Result<Row, AllocError>
-    ensures { IfOk result (λ made.
-        row_nodes made ≡ list_nodes level whitespace (row_shown nodes)) }
+) -> Result<Vec<HtmlNode>, AllocError>
+    ensures { IfOk result (λ made. nodes_view made.items
+        ≡ list_nodes level whitespace (map node_view nodes.items)) }
 {
     match whitespace {
         Whitespace::Pre => Ok(nodes),
-        Whitespace::Normal => {
-            if nodes.is_lone() {
-                finish_lone(alloc, nodes, level)
-            } else {
-                finish_list(alloc, nodes, level)
-            }
-        }
+        Whitespace::Normal => finish_list(alloc, nodes, level),
     }
 }
 
-/// The same of one element or frame between tags, where white space collapses: no run of blanks
-/// stands there, and no lone space but in the one.
-fn finish_lone(alloc: Global, nodes: Row, level: ConversionLevel) -> Result<Row, AllocError>
-    requires { IsTrue (is_lone (map draft_shown nodes.middle.items)) }
-    ensures { IfOk result (λ made. row_nodes made ≡ list_nodes level Normal (row_shown nodes)) }
+/// The same where white space collapses.
+fn finish_list(
+    alloc: Global,
+    nodes: Vec<HtmlNode>,
+    level: ConversionLevel,
+) -> Result<Vec<HtmlNode>, AllocError>
+    ensures { IfOk result (λ made. nodes_view made.items
+        ≡ list_nodes level Normal (map node_view nodes.items)) }
 {
+    let nodes = keep_runs(alloc, nodes)?;
     match level {
         ConversionLevel::Inline => Ok(nodes),
-        ConversionLevel::Block => {
-            let Row {
-                before,
-                middle,
-                after,
-            } = nodes;
-            let middle = protect_spaces(alloc, middle)?;
-            Ok(Row {
-                before,
-                middle,
-                after,
-            })
-        }
+        ConversionLevel::Block => protect_spaces(alloc, nodes),
     }
-}
-
-/// The same of any nodes.
-fn finish_list(alloc: Global, nodes: Row, level: ConversionLevel) -> Result<Row, AllocError>
-    ensures { IfOk result (λ made. row_nodes made ≡ list_nodes level Normal (row_shown nodes)) }
-{
-    let nodes = keep_runs(alloc, nodes.into_drafts(alloc)?)?;
-    match level {
-        ConversionLevel::Inline => row_of(alloc, nodes),
-        ConversionLevel::Block => row_of(alloc, protect_spaces(alloc, nodes)?),
-    }
-}
-
-/// The nodes as a row. Only if one may stand for a box or block do tags stand apart.
-fn row_of(alloc: Global, nodes: Vec<Draft>) -> Result<Row, AllocError>
-    ensures { IfOk result (λ row. row_shown row ≡ map draft_shown nodes.items) }
-{
-    if lone_node(&nodes).is_none() {
-        return Ok(Row::between(alloc, nodes));
-    }
-    Row::of(alloc, nodes)
 }

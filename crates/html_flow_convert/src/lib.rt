@@ -19,7 +19,6 @@ mod fragment;
 mod item;
 pub mod laws;
 mod lone;
-mod row;
 mod setting;
 
 pub use construct_fault::ConstructFault;

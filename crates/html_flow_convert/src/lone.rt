@@ -3,19 +3,14 @@
 ghost use Rattle.std.specs.Prelude.{◌≡◌, ◌++◌, ◌∷◌, [], IfOk, OnOk, bytes_eq, codes, map, option_map};
 ghost use Rattle.std.specs.List.{list_all};
 ghost use Rattle.html_dom_tree.specs.Tree.{element_node, none};
-ghost use Rattle.html_dom_tree.specs.Views.{head_of, nodes_of, text_view};
-ghost use Rattle.html_flow_whitespace.specs.DraftViews.{draft_shown, drafts_shown};
+ghost use Rattle.html_dom_tree.specs.Views.{element_view, head_of, node_view, nodes_view, text_view};
 ghost use Rattle.html_flow_whitespace.specs.Nodes.{is_tag};
 ghost use Rattle.html_flow_convert.specs.LoneNode.{change_view, css_displayed, node_displayed};
 ghost use Rattle.html_flow_convert.specs.LoneNode.{lone_alone, lone_node, is_math, is_shown_as_block};
 ghost use Rattle.html_flow_convert.specs.LoneNode.{box_change, change_by_display, block_change};
 ghost use Rattle.html_flow_convert.specs.LoneNode.{box_change_of, block_change_of, box_head, block_head, box_nodes, block_nodes};
-ghost use Rattle.html_flow_convert.specs.Rows.{row_nodes, row_shown};
 
-use crate::convert::Whitespace;
-use crate::row::Row;
-use html_dom_tree::{HtmlElement, Span};
-use html_flow_whitespace::{Draft, is_entered, settled};
+use html_dom_tree::{HtmlElement, HtmlNode, Span};
 use html_names::property::Display;
 use html_names::{attr, tag};
 use html_values_css::Properties;
@@ -44,33 +39,32 @@ impl DisplayChange {
 }
 
 /// Whether the node is a tag.
-fn is_tag(node: &Draft) -> bool
-    ensures { result ≡ is_tag (draft_shown node.now) }
+fn is_tag(node: &HtmlNode) -> bool
+    ensures { result ≡ is_tag (node_view node.now) }
 {
-    matches!(node, Draft::Tag(_))
+    matches!(node, HtmlNode::Tag(_))
 }
 
 /// Whether all nodes are tags.
-fn are_tags(nodes: &[Draft]) -> bool
-    ensures { result ≡ list_all (λ node. is_tag (draft_shown node)) nodes.now }
+fn are_tags(nodes: &[HtmlNode]) -> bool
+    ensures { result ≡ list_all (λ node. is_tag (node_view node)) nodes.now }
 {
     nodes.iter().all(|node| is_tag(node))
 }
 
 /// The node, if it is an element or frame.
-fn element_or_frame(node: &Draft) -> Option<&Draft>
-    ensures { option_map (λ lone. draft_shown lone.now) result ≡ lone_alone (draft_shown node.now) }
+fn element_or_frame(node: &HtmlNode) -> Option<&HtmlNode>
+    ensures { option_map (λ lone. node_view lone.now) result ≡ lone_alone (node_view node.now) }
 {
     match node {
-        Draft::Tag(_) | Draft::Text(_, _) => None,
-        Draft::Open(_, _) | Draft::Settled(_, _) | Draft::Frame(_) => Some(node),
+        HtmlNode::Tag(_) | HtmlNode::Text(_, _) => None,
+        HtmlNode::Element(_) | HtmlNode::Frame(_) => Some(node),
     }
 }
 
 /// The one node that is left when tags at both ends are cut off, if it is an element or frame.
-pub(crate) fn lone_node(nodes: &[Draft]) -> Option<&Draft>
-    ensures { option_map (λ lone. draft_shown lone.now) result
-        ≡ lone_node (nodes_of (map draft_shown nodes.now)) }
+fn lone_node(nodes: &[HtmlNode]) -> Option<&HtmlNode>
+    ensures { option_map (λ lone. node_view lone.now) result ≡ lone_node (nodes_view nodes.now) }
 {
     for (place, node) in nodes.iter().enumerate() {
         if is_tag(node) {
@@ -82,13 +76,6 @@ pub(crate) fn lone_node(nodes: &[Draft]) -> Option<&Draft>
         return None;
     }
     None
-}
-
-/// The same of a row.
-fn lone_in_row(row: &Row) -> Option<&Draft>
-    ensures { option_map (λ lone. draft_shown lone.now) result ≡ lone_node (row_nodes row.now) }
-{
-    lone_node(&row.middle)
 }
 
 /// Whether the element is a formula.
@@ -130,20 +117,20 @@ fn element_box_change(element: &HtmlElement) -> DisplayChange
 }
 
 /// The change of a lone node of a box.
-fn box_change(node: &Draft) -> DisplayChange
-    ensures { change_view result ≡ box_change (draft_shown node.now) }
+fn box_change(node: &HtmlNode) -> DisplayChange
+    ensures { change_view result ≡ box_change (node_view node.now) }
 {
     match node {
-        Draft::Open(element, _) | Draft::Settled(element, _) => element_box_change(element),
-        Draft::Tag(_) | Draft::Text(_, _) | Draft::Frame(_) => DisplayChange::Removed,
+        HtmlNode::Element(element) => element_box_change(element),
+        HtmlNode::Tag(_) | HtmlNode::Text(_, _) | HtmlNode::Frame(_) => DisplayChange::Removed,
     }
 }
 
 /// The change of the lone node of a box's body, if it has one.
-fn change_in_box(body: &Row) -> Option<DisplayChange>
-    ensures { option_map change_view result ≡ box_change_of (lone_node (row_nodes body.now)) }
+fn change_in_box(body: &[HtmlNode]) -> Option<DisplayChange>
+    ensures { option_map change_view result ≡ box_change_of (lone_node (nodes_view body.now)) }
 {
-    let lone = lone_in_row(body)?;
+    let lone = lone_node(body)?;
     Some(box_change(lone))
 }
 
@@ -178,21 +165,21 @@ fn element_block_change(element: &HtmlElement) -> Option<DisplayChange>
 }
 
 /// The change of a lone node of a block, if it can stand for the block.
-fn block_change(node: &Draft) -> Option<DisplayChange>
-    ensures { option_map change_view result ≡ block_change (draft_shown node.now) }
+fn block_change(node: &HtmlNode) -> Option<DisplayChange>
+    ensures { option_map change_view result ≡ block_change (node_view node.now) }
 {
     match node {
-        Draft::Tag(_) | Draft::Text(_, _) => None,
-        Draft::Open(element, _) | Draft::Settled(element, _) => element_block_change(element),
-        Draft::Frame(_) => Some(DisplayChange::SetTo("block")),
+        HtmlNode::Tag(_) | HtmlNode::Text(_, _) => None,
+        HtmlNode::Element(element) => element_block_change(element),
+        HtmlNode::Frame(_) => Some(DisplayChange::SetTo("block")),
     }
 }
 
 /// The change of the lone node of a block's body, if it has one that can stand for the block.
-fn change_in_block(body: &Row) -> Option<DisplayChange>
-    ensures { option_map change_view result ≡ block_change_of (lone_node (row_nodes body.now)) }
+fn change_in_block(body: &[HtmlNode]) -> Option<DisplayChange>
+    ensures { option_map change_view result ≡ block_change_of (lone_node (nodes_view body.now)) }
 {
-    block_change(lone_in_row(body)?)
+    block_change(lone_node(body)?)
 }
 
 /// The element with its css changed.
@@ -201,136 +188,61 @@ fn element_displayed(
     mut element: HtmlElement,
     change: DisplayChange,
 ) -> Result<HtmlElement, AllocError>
-    ensures { let head = head_of element in IfOk result (λ changed. head_of changed
-        ≡ record head { css = css_displayed (change_view change) head.css }) }
+    ensures { let view = element_view element in IfOk result (λ changed. element_view changed
+        ≡ (record view.0 { css = css_displayed (change_view change) view.0.css }, view.1)) }
 {
     change.apply(alloc, &mut element.css)?;
     Ok(element)
 }
 
-/// Which lone spaces in a lone element were judged before it takes the place of a box or block.
-#[derive(Clone, Copy)]
-enum Judged {
-    /// None, since white space stays.
-    Nothing,
-    /// All.
-    Body,
-    /// Those in an element that had lines of its own.
-    Lines,
-}
-
-impl Judged {
-    /// Those of a box's body.
-    fn of_box(whitespace: Whitespace) -> Judged {
-        match whitespace {
-            Whitespace::Normal => Judged::Lines,
-            Whitespace::Pre => Judged::Nothing,
-        }
-    }
-
-    /// Those of a block's body.
-    fn of_block(whitespace: Whitespace) -> Judged {
-        match whitespace {
-            Whitespace::Normal => Judged::Body,
-            Whitespace::Pre => Judged::Nothing,
-        }
-    }
-
-    /// Whether those in the element were, as long as its css is not changed.
-    fn is_within(self, element: &HtmlElement) -> bool {
-        match self {
-            Judged::Nothing => false,
-            Judged::Body => true,
-            Judged::Lines => !is_entered(element),
-        }
-    }
-}
-
-/// The element with its css changed, and what stands in it. If that was judged and is looked at from
-/// now on together with what stands around the element, it is settled, so that this is done once.
-fn open_displayed(
-    alloc: Global,
-    element: HtmlElement,
-    children: Vec<Draft>,
-    change: DisplayChange,
-    judged: Judged,
-) -> Result<Draft, AllocError>
-    ensures { let head = head_of element in IfOk result (λ changed. draft_shown changed
-        ≡ element_node (record head { css = css_displayed (change_view change) head.css })
-        (drafts_shown children.items)) }
-{
-    let is_judged = judged.is_within(&element);
-    let element = element_displayed(alloc, element, change)?;
-    if is_judged && is_entered(&element) {
-        return settled(alloc, element, children);
-    }
-    Ok(Draft::open(element, children))
-}
-
 /// The node with its css changed; a tag or text has none.
 fn node_displayed(
     alloc: Global,
-    node: Draft,
+    node: HtmlNode,
     change: DisplayChange,
-    judged: Judged,
-) -> Result<Draft, AllocError>
+) -> Result<HtmlNode, AllocError>
     ensures { IfOk result
-        (λ changed. draft_shown changed ≡ node_displayed (change_view change) (draft_shown node)) }
+        (λ changed. node_view changed ≡ node_displayed (change_view change) (node_view node)) }
 {
     match node {
-        Draft::Open(element, children) => open_displayed(alloc, element, children, change, judged),
-        Draft::Settled(element, children) => {
-            let element = element_displayed(alloc, element, change)?;
-            Ok(Draft::Settled(element, children))
+        HtmlNode::Element(element) => {
+            Ok(HtmlNode::Element(element_displayed(alloc, element, change)?))
         }
-        Draft::Frame(mut frame) => {
+        HtmlNode::Frame(mut frame) => {
             change.apply(alloc, &mut frame.css)?;
-            Ok(Draft::Frame(frame))
+            Ok(HtmlNode::Frame(frame))
         }
         node => Ok(node),
     }
 }
 
-/// The nodes with their css changed.
-fn displayed(
-    alloc: Global,
-    nodes: Vec<Draft>,
-    change: DisplayChange,
-    judged: Judged,
-) -> Result<Vec<Draft>, AllocError>
-    ensures { IfOk result (λ made. map draft_shown made.items
-        ≡ map (node_displayed (change_view change)) (map draft_shown nodes.items)) }
-{
-    let mut made = Vec::with_capacity(alloc, nodes.len())?;
-    for node in nodes {
-        made.push(node_displayed(alloc, node, change, judged)?)?;
-    }
-    Ok(made)
-}
-
-/// Adds the nodes of a row, with their css changed. Its tags have none and are not moved.
+/// Adds nodes with their css changed.
 fn push_displayed(
     alloc: Global,
-    nodes: &mut Row,
-    body: Row,
+    nodes: &mut Vec<HtmlNode>,
+    body: Vec<HtmlNode>,
     change: DisplayChange,
-    judged: Judged,
 ) -> Result<(), AllocError>
-    ensures { OnOk result (row_shown nodes.new
-        ≡ row_shown nodes.old ++ map (node_displayed (change_view change)) (row_shown body)) }
+    ensures { OnOk result (map node_view nodes.new.items ≡ map node_view nodes.old.items
+        ++ map (node_displayed (change_view change)) (map node_view body.items)) }
 {
-    let Row {
-        before,
-        middle,
-        after,
-    } = body;
-    let middle = displayed(alloc, middle, change, judged)?;
-    let changed = Row {
-        before,
-        middle,
-        after,
-    };
-    nodes.append(alloc, changed)
+    for node in body {
+        nodes.push(node_displayed(alloc, node, change)?)?;
+    }
+    Ok(())
+}
+
+/// Adds an element with these nodes in it.
+pub(crate) fn push_around(
+    nodes: &mut Vec<HtmlNode>,
+    element: HtmlElement,
+    children: Vec<HtmlNode>,
+) -> Result<(), AllocError>
+    ensures { OnOk result (map node_view nodes.new.items ≡ map node_view nodes.old.items
+        ++ element_node (head_of element) (nodes_view children.items) ∷ []) }
+{
+    nodes.push(HtmlNode::from(element.with_children(children)))?;
+    Ok(())
 }
 
 /// The css `display: inline-block`.
@@ -362,40 +274,37 @@ fn block_element(alloc: Global, span: Span) -> HtmlElement
     HtmlElement::new(alloc, tag::div).spanned(span)
 }
 
-/// Adds the nodes of a box, by those of its body, in which white space becomes that: the one element
-/// or frame in it, tags at both ends aside, whose css then leaves `display` out, or is `inline math`
-/// on a formula that would be a block, else a `span`.
+/// Adds the nodes of a box, by those of its body: the one element or frame in it, tags at both ends
+/// aside, whose css then leaves `display` out, or is `inline math` on a formula that would be a
+/// block, else a `span`.
 pub(crate) fn push_box(
     alloc: Global,
-    nodes: &mut Row,
-    body: Row,
-    whitespace: Whitespace,
+    nodes: &mut Vec<HtmlNode>,
+    body: Vec<HtmlNode>,
     span: Span,
 ) -> Result<(), AllocError>
-    ensures { OnOk result
-        (row_shown nodes.new ≡ row_shown nodes.old ++ box_nodes span.0 (row_nodes body)) }
+    ensures { OnOk result (map node_view nodes.new.items
+        ≡ map node_view nodes.old.items ++ box_nodes span.0 (nodes_view body.items)) }
 {
     match change_in_box(&body) {
-        Some(change) => push_displayed(alloc, nodes, body, change, Judged::of_box(whitespace)),
-        None => nodes.push_around(alloc, box_element(alloc, span)?, body),
+        Some(change) => push_displayed(alloc, nodes, body, change),
+        None => push_around(nodes, box_element(alloc, span)?, body),
     }
 }
 
-/// Adds the nodes of a block, by those of its body, in which white space becomes that: the one
-/// element or frame in it, tags at both ends aside, with css that makes it a block where it is none,
-/// else a `div`.
+/// Adds the nodes of a block, by those of its body: the one element or frame in it, tags at both
+/// ends aside, with css that makes it a block where it is none, else a `div`.
 pub(crate) fn push_block(
     alloc: Global,
-    nodes: &mut Row,
-    body: Row,
-    whitespace: Whitespace,
+    nodes: &mut Vec<HtmlNode>,
+    body: Vec<HtmlNode>,
     span: Span,
 ) -> Result<(), AllocError>
-    ensures { OnOk result
-        (row_shown nodes.new ≡ row_shown nodes.old ++ block_nodes span.0 (row_nodes body)) }
+    ensures { OnOk result (map node_view nodes.new.items
+        ≡ map node_view nodes.old.items ++ block_nodes span.0 (nodes_view body.items)) }
 {
     match change_in_block(&body) {
-        Some(change) => push_displayed(alloc, nodes, body, change, Judged::of_block(whitespace)),
-        None => nodes.push_around(alloc, block_element(alloc, span), body),
+        Some(change) => push_displayed(alloc, nodes, body, change),
+        None => push_around(nodes, block_element(alloc, span), body),
     }
 }

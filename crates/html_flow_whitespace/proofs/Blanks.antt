@@ -1,12 +1,12 @@
 -- Runs of blanks, as they are found.
-use Rattle.std.proofs.Common.{◌≡◌, Bool, true, false, ◌||◌, List, [], ◌∷◌, ◌++◌, refl, append_assoc, append-nil}
-use Rattle.std.proofs.lemmas.Bool.{false≢true, or_from}
+use Rattle.std.proofs.Common.{◌≡◌, Bool, true, false, ◌||◌, List, [], ◌∷◌, ◌++◌, inl, inr, refl, ap, append_assoc, append-nil}
+use Rattle.std.proofs.lemmas.Bool.{cases_Bool, false≢true, true≢false, or_from}
 use Rattle.html_dom_tree.specs.Tree.{NodeView, tag_node, text_node, element_node, frame_node}
 use Rattle.std.specs.List.{filter}
 use Rattle.html_dom_tree.specs.Views.{nodes_of}
-use Rattle.html_flow_whitespace.specs.Nodes.{is_tag, pre_wrap_head}
-use Rattle.html_flow_whitespace.specs.OpenRuns.{goes_on}
-use Rattle.html_flow_whitespace.specs.Runs.{is_blank_node, are_kept, first_span, run_nodes, front_nodes, front, after_front}
+use Rattle.html_flow_whitespace.specs.Nodes.{is_one, is_tag, pre_wrap_head}
+use Rattle.html_flow_whitespace.specs.OpenRuns.{goes_on, has_kept_run}
+use Rattle.html_flow_whitespace.specs.Runs.{is_blank_node, are_kept, first_span, run_nodes, front_nodes, front, after_front, nodes_with_runs}
 
 -- whether blanks are kept, after a space or at the start
 abbrev pub kept_after : (space : Bool) (blanks : List NodeView) → Bool
@@ -94,3 +94,42 @@ runs_end made run h = rw (append-nil run, run_is run h, append-nil) refl
 pub kept_run : (ns : List NodeView) → are_kept (filter is_blank_node ns) ≡ true →
     run_nodes ns ≡ element_node (pre_wrap_head (first_span ns)) (nodes_of ns) ∷ []
 kept_run ns e = rw e refl
+
+-- nodes without a run of kept blanks stay
+mutual
+  unfolding front after_front
+
+  pub runs_stay : (ns : List NodeView) → has_kept_run false ns ≡ false → ns ≡ nodes_with_runs ns
+  runs_stay [] e = refl
+  runs_stay (tag_node t ∷ ns) e = ap (λ l. tag_node t ∷ l) (runs_stay ns e)
+  runs_stay (text_node s span ∷ ns) e = elim (cases_Bool (is_one 9 s)) [
+    | inl tab ↦ absurd (true≢false (rw tab at e))
+    | inr other ↦ elim (cases_Bool (is_one 32 s)) [
+      | inl blank ↦
+          let left = run_stays ns (rw (other, blank) at e) in
+          rw (blank, left.0, blank, other) (ap (λ l. text_node s span ∷ l) left.1)
+      | inr shown ↦
+          rw (shown, other) (ap (λ l. text_node s span ∷ l) (runs_stay ns (rw (other, shown) at e)))
+    ]
+  ]
+  runs_stay (element_node h ks ∷ ns) e = ap (λ l. element_node h ks ∷ l) (runs_stay ns e)
+  runs_stay (frame_node f ∷ ns) e = ap (λ l. frame_node f ∷ l) (runs_stay ns e)
+
+  -- the run that goes on has one space
+  run_stays : (ns : List NodeView) → has_kept_run true ns ≡ false →
+      (filter is_blank_node (front ns) ≡ []) × (ns ≡ front ns ++ after_front ns)
+  run_stays [] e = (refl, refl)
+  run_stays (tag_node t ∷ ns) e =
+      let left = run_stays ns e in (left.0, ap (λ l. tag_node t ∷ l) left.1)
+  run_stays (text_node s span ∷ ns) e = elim (cases_Bool (is_one 9 s)) [
+    | inl tab ↦ absurd (true≢false (rw tab at e))
+    | inr other ↦ elim (cases_Bool (is_one 32 s)) [
+      | inl blank ↦ absurd (true≢false (rw (other, blank) at e))
+      | inr shown ↦
+          let left = runs_stay ns (rw (other, shown) at e) in
+          (rw (shown, other) refl, rw (shown, other) (ap (λ l. text_node s span ∷ l) left))
+    ]
+  ]
+  run_stays (element_node h ks ∷ ns) e =
+      (refl, ap (λ l. element_node h ks ∷ l) (runs_stay ns e))
+  run_stays (frame_node f ∷ ns) e = (refl, ap (λ l. frame_node f ∷ l) (runs_stay ns e))

@@ -4,13 +4,8 @@ pub mod SingleChars
 pub mod Stretching
 pub mod Looks
 pub mod Lines
+pub mod Walking
 pub mod NodeViews
 pub mod Protecting
-pub mod BareThings
-pub mod Leads
-pub mod Settling
-pub mod LeadWalks
-pub mod Drafting
-pub mod DraftViewing
 pub mod Turns
 pub mod Beginnings

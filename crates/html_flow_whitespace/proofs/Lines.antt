@@ -17,9 +17,6 @@ use Rattle.html_flow_whitespace.specs.Looks.{look_things, head_look, flat_look, 
 use Rattle.html_flow_whitespace.specs.Lines.{last_after, answer_before, answers_left, next_place, Stands}
 use Rattle.html_flow_whitespace.specs.declared.look.Look.{Look}
 use Rattle.html_flow_whitespace.specs.declared.look.Look.TheVariants as look
-use Rattle.html_flow_whitespace.specs.declared.thing.Thing.{Thing as Seen}
-use Rattle.html_flow_whitespace.specs.declared.thing.Thing.TheVariants as thing
-use Rattle.html_flow_whitespace.specs.Things.{thing_look, thing_view, things_view}
 use Rattle.html_flow_whitespace.specs.declared.line.Last.{Last}
 use Rattle.html_flow_whitespace.specs.declared.line.Last.TheVariants as last
 use Rattle.html_flow_whitespace.proofs.Looks.{element_seen, is_entered_by}
@@ -67,34 +64,6 @@ unfolding bare_after
 answers_end last.Border = refl
 answers_end last.Visible = refl
 answers_end (last.Space in_line) = refl
-
--- one thing after the other
-
-thing_seen : (t : Seen) (ts : List Thing) → seen (thing_look t) ts ≡ thing_view t ∷ ts
-thing_seen thing.Border ts = refl
-thing_seen thing.Visible ts = refl
-thing_seen thing.Space ts = refl
-
-pub thing_judged : (all before after : List Bool) (things : List Seen) (i : ℕ) (t : Seen) (l : Last)
-    (next : Look) → i < length things → t ≡ get_or things i t → next ≡ thing_look t →
-    before ++ answers_left l (things_view (drop i things)) ≡ all →
-    after ≡ before ++ answer_before l next →
-    after ++ answers_left (last_after l next) (things_view (drop (i + 1) things)) ≡ all
-thing_judged all before after things i t l next below is looks so_far pushed =
-    let left = things_view (drop (i + 1) things) in
-    let from : seen next left ≡ things_view (drop i things) =
-    ap (λ x. seen x left) looks ∙ (thing_seen t left
-    ∙ (ap (λ (m : Seen). thing_view m ∷ left) is ∙ ap things_view (sym (drop_more things i t below)))) in
-    ap (λ bs. bs ++ answers_left (last_after l next) left) pushed
-    ∙ (append_assoc before (answer_before l next) (answers_left (last_after l next) left)
-    ∙ (ap (λ bs. before ++ bs) (answers_step l next left ∙ ap (answers_left l) from) ∙ so_far))
-
-pub things_judged : (all before after : List Bool) (things : List Seen) (i : ℕ) (l : Last) →
-    length things ≤ i → before ++ answers_left l (things_view (drop i things)) ≡ all →
-    after ≡ before ++ answer_before l look.Border → after ≡ all
-things_judged all before after things i l beyond so_far pushed =
-    pushed ∙ (ap (λ bs. before ++ bs) (answers_end l
-    ∙ ap (λ ts. answers_left l (things_view ts)) (sym (drop_all i things beyond))) ∙ so_far)
 
 -- one node after the other
 

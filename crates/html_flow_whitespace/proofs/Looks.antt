@@ -1,13 +1,9 @@
 -- What nodes look like where lines are made of them.
-use Rattle.std.proofs.Common.{◌≡◌, ℕ, Bool, true, false, ◌||◌, ◌&&◌, not, if◌then◌else◌, List, [], ◌∷◌, ◌++◌, map, length, get_or, drop, ◌+◌, ◌<◌, ◌≤◌, refl, sym, ap, ◌∙◌, append_assoc, append-nil}
-use Rattle.std.proofs.lemmas.List.{drop_all, drop_more}
+use Rattle.std.proofs.Common.{◌≡◌, ℕ, Bool, true, false, ◌||◌, ◌&&◌, not, if◌then◌else◌, List, [], ◌∷◌, map, refl, sym, ap, ◌∙◌}
 use Rattle.std.specs.List.{list_any, list_all}
 use Rattle.html_dom_tree.specs.Tree.{Head}
 use Rattle.html_flow_whitespace.specs.Nodes.{is_one}
 use Rattle.html_flow_whitespace.specs.BareSpaces.{Thing, border, visible, space, text_things, is_border, is_entered, element_things, makes_block}
-use Rattle.html_flow_whitespace.specs.Drafts.{draft, draft_look, drafts_look}
-use Rattle.html_flow_whitespace.specs.DraftViews.{draft_view, drafts_view}
-use Rattle.html_flow_whitespace.specs.declared.draft.Draft.{Draft}
 use Rattle.html_flow_whitespace.specs.Looks.{look_things, head_look, text_look, is_inside}
 use Rattle.html_flow_whitespace.specs.declared.look.Look.{Look}
 use Rattle.html_flow_whitespace.specs.declared.look.Look.TheVariants.{Border, Visible, Space, Nothing, Inside}
@@ -83,29 +79,3 @@ text_by false false = refl
 
 pub text_seen : (s : List ℕ) → text_things s ≡ look_things (text_look s) []
 text_seen s = text_by (is_one 32 s) (list_all is_ignorable s)
-
--- drafts in a row
-
-pub drafts_first : (drafts : List Draft) (i : ℕ) (d : Draft) → i < length drafts →
-    d ≡ get_or drafts i d →
-    drafts_view (drop i drafts) ≡ draft (draft_view d) (drafts_view (drop (i + 1) drafts))
-drafts_first drafts i d below is =
-    ap drafts_view (drop_more drafts i d below)
-    ∙ ap (λ m. draft (draft_view m) (drafts_view (drop (i + 1) drafts))) (sym is)
-
-pub looks_step : (start old new : List Thing) (drafts : List Draft) (i : ℕ) (d : Draft) →
-    i < length drafts → d ≡ get_or drafts i d →
-    old ++ drafts_look (drafts_view (drop i drafts)) ≡ start → new ≡ old ++ draft_look (draft_view d) →
-    new ++ drafts_look (drafts_view (drop (i + 1) drafts)) ≡ start
-unfolding draft_look
-looks_step start old new drafts i d below is before pushed =
-    ap (λ ts. ts ++ drafts_look (drafts_view (drop (i + 1) drafts))) pushed
-    ∙ (append_assoc old (draft_look (draft_view d)) (drafts_look (drafts_view (drop (i + 1) drafts)))
-    ∙ (ap (λ ds. old ++ drafts_look ds) (sym (drafts_first drafts i d below is)) ∙ before))
-
-pub looks_end : (start old : List Thing) (drafts : List Draft) (i : ℕ) → length drafts ≤ i →
-    old ++ drafts_look (drafts_view (drop i drafts)) ≡ start → old ≡ start
-unfolding draft_look
-looks_end start old drafts i beyond before =
-    sym (append-nil old) ∙ (ap (λ ds. old ++ drafts_look (drafts_view ds)) (sym (drop_all i drafts beyond))
-    ∙ before)

@@ -5,12 +5,8 @@ pub mod Runs
 pub mod BareSpaces
 pub mod Looks
 pub mod Lines
+pub mod Walks
 pub mod Protected
 pub mod Stretches
 pub mod OpenRuns
 pub mod AnswerLists
-pub mod Things
-pub mod Settled
-pub mod Leads
-pub mod Drafts
-pub mod DraftViews

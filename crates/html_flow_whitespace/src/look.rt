@@ -85,7 +85,7 @@ pub(crate) fn element_look(name: &HtmlTag, css: &Properties, pre_span: bool) -> 
 
 /// Whether an element is looked into.
 #[tactic(auto, using(crate::proofs::Looks::is_entered_by))]
-pub fn is_entered(element: &HtmlElement) -> bool
+pub(crate) fn is_entered(element: &HtmlElement) -> bool
     ensures { result ≡ is_entered (head_of element.now) }
 {
     element_look(&element.tag, &element.css, element.pre_span).is_inside()

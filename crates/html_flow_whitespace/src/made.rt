@@ -1,11 +1,11 @@
 //! Elements that are made where white space is processed.
 
 ghost use Rattle.std.specs.Prelude.{◌≡◌, [], ◌∷◌, IfOk, codes};
-ghost use Rattle.html_dom_tree.specs.Tree.{none};
-ghost use Rattle.html_dom_tree.specs.Views.{element_view, head_of};
+ghost use Rattle.html_dom_tree.specs.Tree.{element_node, none};
+ghost use Rattle.html_dom_tree.specs.Views.{element_view, head_of, node_view, nodes_view};
 ghost use Rattle.html_flow_whitespace.specs.Nodes.{plain_head, pre_wrap_head};
 
-use html_dom_tree::{HtmlElement, Span};
+use html_dom_tree::{HtmlElement, HtmlNode, Span};
 use html_names::tag;
 use html_values_css::Properties;
 use std::alloc::{AllocError, Global};
@@ -37,4 +37,12 @@ pub(crate) fn pre_wrap_span(alloc: Global, span: Span) -> Result<HtmlElement, Al
         .spanned(span);
     element.pre_span = true;
     Ok(element)
+}
+
+/// The element with these children in place of its own.
+pub(crate) fn element_of(mut element: HtmlElement, children: Vec<HtmlNode>) -> HtmlNode
+    ensures { node_view result ≡ element_node (head_of element) (nodes_view children.items) }
+{
+    element.children = children;
+    HtmlNode::from(element)
 }

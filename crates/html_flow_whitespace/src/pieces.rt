@@ -1,15 +1,13 @@
 //! Texts where white space collapses.
 
 ghost use Rattle.std.specs.Prelude.{◌≡◌, ◌++◌, [], ◌∷◌, OnOk, OnErr, IfOk, chars, map};
-ghost use Rattle.html_dom_tree.specs.Views.{text_view};
+ghost use Rattle.html_dom_tree.specs.Views.{node_view, text_view};
 ghost use Rattle.html_flow_whitespace.specs.Beginnings.{AddsBeginning};
-ghost use Rattle.html_flow_whitespace.specs.DraftViews.{draft_shown};
 ghost use Rattle.html_flow_whitespace.specs.Pieces.{first_char, is_in_stretch, is_normal, is_normal_there, outside_stretch, piece_node, text_nodes};
 ghost use Rattle.html_flow_whitespace.specs.Stretches.{with_stretch};
 
-use crate::draft::Draft;
 use crate::made::break_element;
-use html_dom_tree::Span;
+use html_dom_tree::{HtmlNode, Span};
 use html_names::charsets::is_default_ignorable;
 use std::alloc::{AllocError, Global};
 
@@ -53,16 +51,16 @@ fn is_in_stretch(before: Option<char>, c: char, after: &str) -> bool
 /// it was.
 fn push_stretch(
     alloc: Global,
-    nodes: &mut Vec<Draft>,
+    nodes: &mut Vec<HtmlNode>,
     text: &str,
     span: Span,
 ) -> Result<(), AllocError>
-    ensures added { OnOk result (map draft_shown nodes.new.items ≡ map draft_shown nodes.old.items
+    ensures added { OnOk result (map node_view nodes.new.items ≡ map node_view nodes.old.items
         ++ map (piece_node span.0) (with_stretch (chars text.now) [])) }
     ensures kept { OnErr result (nodes.new.items ≡ nodes.old.items) }
 {
     if !text.is_empty() {
-        nodes.push(Draft::text(String::from_str(alloc, text)?, span))?;
+        nodes.push(HtmlNode::text(String::from_str(alloc, text)?, span))?;
     }
     Ok(())
 }
@@ -80,19 +78,19 @@ fn one_char(alloc: Global, c: char) -> Result<String, AllocError>
 /// return has none. Where an allocation fails, the list stays as it was.
 fn push_outside(
     alloc: Global,
-    nodes: &mut Vec<Draft>,
+    nodes: &mut Vec<HtmlNode>,
     before: Option<char>,
     c: char,
     span: Span,
 ) -> Result<(), AllocError>
-    ensures added { OnOk result (map draft_shown nodes.new.items ≡ map draft_shown nodes.old.items
+    ensures added { OnOk result (map node_view nodes.new.items ≡ map node_view nodes.old.items
         ++ map (piece_node span.0) (outside_stretch before c [])) }
     ensures kept { OnErr result (nodes.new.items ≡ nodes.old.items) }
 {
     let node = match c {
         '\n' if before == Some('\r') => return Ok(()),
-        '\r' | '\n' => Draft::open(break_element(alloc, span), Vec::new(alloc)),
-        _ => Draft::text(one_char(alloc, c)?, span),
+        '\r' | '\n' => HtmlNode::from(break_element(alloc, span)),
+        _ => HtmlNode::text(one_char(alloc, c)?, span),
     };
     nodes.push(node)?;
     Ok(())
@@ -107,14 +105,14 @@ fn push_outside(
 /// Cost: grows with the length of the text.
 pub fn push_text_nodes(
     alloc: Global,
-    nodes: &mut Vec<Draft>,
+    nodes: &mut Vec<HtmlNode>,
     text: &str,
     span: Span,
 ) -> Result<(), AllocError>
-    ensures added { OnOk result (map draft_shown nodes.new.items
-        ≡ map draft_shown nodes.old.items ++ text_nodes span.0 (chars text.now)) }
-    ensures begun { OnErr result (AddsBeginning (map draft_shown nodes.old.items)
-        (map draft_shown nodes.new.items) (text_nodes span.0 (chars text.now))) }
+    ensures added { OnOk result (map node_view nodes.new.items
+        ≡ map node_view nodes.old.items ++ text_nodes span.0 (chars text.now)) }
+    ensures begun { OnErr result (AddsBeginning (map node_view nodes.old.items)
+        (map node_view nodes.new.items) (text_nodes span.0 (chars text.now))) }
 {
     let mut pending = text;
     let mut rest = text;

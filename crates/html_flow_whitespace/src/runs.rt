@@ -1,62 +1,61 @@
 //! Runs of blanks.
 
-ghost use Rattle.std.specs.Prelude.{◌≡◌, ◌++◌, OnOk, IfOk, map};
+ghost use Rattle.std.specs.Prelude.{◌≡◌, ◌++◌, false, OnOk, IfOk, map};
 ghost use Rattle.std.specs.List.{filter};
-ghost use Rattle.html_flow_whitespace.specs.DraftViews.{draft_shown};
+ghost use Rattle.html_dom_tree.specs.Views.{node_view};
 ghost use Rattle.html_flow_whitespace.specs.Nodes.{is_tag};
-ghost use Rattle.html_flow_whitespace.specs.OpenRuns.{goes_on};
+ghost use Rattle.html_flow_whitespace.specs.OpenRuns.{goes_on, has_kept_run};
 ghost use Rattle.html_flow_whitespace.specs.Runs.{is_space, is_tab, is_blank_node, are_kept, first_span, run_nodes, nodes_with_runs};
 
-use crate::draft::Draft;
-use crate::made::pre_wrap_span;
+use crate::made::{element_of, pre_wrap_span};
 use crate::one::is_one;
-use html_dom_tree::Span;
+use html_dom_tree::{HtmlNode, Span};
 use std::alloc::{AllocError, Global};
 
 /// Whether the node is a text of exactly one space.
-fn is_space(node: &Draft) -> bool
-    ensures { result ≡ is_space (draft_shown node.now) }
+fn is_space(node: &HtmlNode) -> bool
+    ensures { result ≡ is_space (node_view node.now) }
 {
     match node {
-        Draft::Text(text, _) => is_one(' ', text),
+        HtmlNode::Text(text, _) => is_one(' ', text),
         _ => false,
     }
 }
 
 /// Whether the node is a text of exactly one tab.
-fn is_tab(node: &Draft) -> bool
-    ensures { result ≡ is_tab (draft_shown node.now) }
+fn is_tab(node: &HtmlNode) -> bool
+    ensures { result ≡ is_tab (node_view node.now) }
 {
     match node {
-        Draft::Text(text, _) => is_one('\t', text),
+        HtmlNode::Text(text, _) => is_one('\t', text),
         _ => false,
     }
 }
 
 /// Whether the node is a text of exactly one space or tab.
-fn is_blank(node: &Draft) -> bool
-    ensures { result ≡ is_blank_node (draft_shown node.now) }
+fn is_blank(node: &HtmlNode) -> bool
+    ensures { result ≡ is_blank_node (node_view node.now) }
 {
     is_space(node) || is_tab(node)
 }
 
 /// Whether the node is a tag.
-fn is_tag(node: &Draft) -> bool
-    ensures { result ≡ is_tag (draft_shown node.now) }
+fn is_tag(node: &HtmlNode) -> bool
+    ensures { result ≡ is_tag (node_view node.now) }
 {
-    matches!(node, Draft::Tag(_))
+    matches!(node, HtmlNode::Tag(_))
 }
 
 /// Whether the node belongs to the run before it, which may be empty.
-fn goes_on(run: &[Draft], node: &Draft) -> bool
-    ensures { result ≡ goes_on (map draft_shown run.now) (draft_shown node.now) }
+fn goes_on(run: &[HtmlNode], node: &HtmlNode) -> bool
+    ensures { result ≡ goes_on (map node_view run.now) (node_view node.now) }
 {
     is_blank(node) || (is_tag(node) && !run.is_empty())
 }
 
 /// Whether the blanks of a run are kept: two or more, or a tab as the only one.
-fn are_kept(run: &[Draft]) -> bool
-    ensures { result ≡ are_kept (filter is_blank_node (map draft_shown run.now)) }
+fn are_kept(run: &[HtmlNode]) -> bool
+    ensures { result ≡ are_kept (filter is_blank_node (map node_view run.now)) }
 {
     let mut has_space = false;
     for node in run {
@@ -69,8 +68,8 @@ fn are_kept(run: &[Draft]) -> bool
 }
 
 /// The first span of these nodes that is not 0, or 0.
-fn first_span(nodes: &[Draft]) -> Span
-    ensures { result.0 ≡ first_span (map draft_shown nodes.now) }
+fn first_span(nodes: &[HtmlNode]) -> Span
+    ensures { result.0 ≡ first_span (map node_view nodes.now) }
 {
     for node in nodes {
         if node.span() != Span(0) {
@@ -81,16 +80,34 @@ fn first_span(nodes: &[Draft]) -> Span
 }
 
 /// Adds the nodes of a run: in a `span` that keeps them, if its blanks are kept.
-fn push_run(alloc: Global, made: &mut Vec<Draft>, mut run: Vec<Draft>) -> Result<(), AllocError>
-    ensures { OnOk result (map draft_shown made.new.items
-        ≡ map draft_shown made.old.items ++ run_nodes (map draft_shown run.items)) }
+fn push_run(
+    alloc: Global,
+    made: &mut Vec<HtmlNode>,
+    mut run: Vec<HtmlNode>,
+) -> Result<(), AllocError>
+    ensures { OnOk result (map node_view made.new.items
+        ≡ map node_view made.old.items ++ run_nodes (map node_view run.items)) }
 {
     if !are_kept(&run) {
         return made.append(&mut run);
     }
     let span = first_span(&run);
-    made.push(Draft::open(pre_wrap_span(alloc, span)?, run))?;
+    made.push(element_of(pre_wrap_span(alloc, span)?, run))?;
     Ok(())
+}
+
+/// Whether the blanks of a run are kept.
+fn has_kept_run(nodes: &[HtmlNode]) -> bool
+    ensures { result ≡ has_kept_run false (map node_view nodes.now) }
+{
+    let mut has_space = false;
+    for node in nodes {
+        if is_tab(node) || (has_space && is_space(node)) {
+            return true;
+        }
+        has_space = is_space(node) || (has_space && is_tag(node));
+    }
+    false
 }
 
 /// The nodes, in which each run of two blanks or more, or of one tab, stands in a `span` that keeps
@@ -98,11 +115,14 @@ fn push_run(alloc: Global, made: &mut Vec<Draft>, mut run: Vec<Draft>) -> Result
 /// up to another node. The `span` has the first span of its nodes that is not 0. It fails only where
 /// an allocation does.
 ///
-/// Cost: grows with the number of nodes; each is moved twice at most.
-pub fn keep_runs(alloc: Global, nodes: Vec<Draft>) -> Result<Vec<Draft>, AllocError>
+/// Cost: grows with the number of nodes; each is moved twice at most, and none where no run is kept.
+pub fn keep_runs(alloc: Global, nodes: Vec<HtmlNode>) -> Result<Vec<HtmlNode>, AllocError>
     ensures { IfOk result (λ made.
-        map draft_shown made.items ≡ nodes_with_runs (map draft_shown nodes.items)) }
+        map node_view made.items ≡ nodes_with_runs (map node_view nodes.items)) }
 {
+    if !has_kept_run(&nodes) {
+        return Ok(nodes);
+    }
     let mut made = Vec::new(alloc);
     let mut run = Vec::new(alloc);
     for node in nodes {

@@ -1,7 +1,7 @@
-use Rattle.std.proofs.Common.{◌≡◌, ◌+◌, ◌*◌, ◌++◌, drop}
+use Rattle.std.proofs.Common.{◌≡◌, ◌+◌, ◌*◌, ◌++◌, drop, map}
+use Rattle.html_dom_tree.specs.Views.{node_view}
 use Rattle.html_flow_convert.specs.Converted.{items_nodes, role_text}
 use Rattle.html_flow_convert.specs.Depth.{items_too_deep}
-use Rattle.html_flow_convert.specs.Rows.{row_shown}
 use Rattle.html_flow_convert.specs.Views.{items_view}
 use Rattle.html_flow_convert.proofs.convert.+convert.Given as goal
 
@@ -11,7 +11,7 @@ invariant-convert_list-loop-pair l =
     let left = items_view (drop l.pair-index l.items) in
     let all = items_view l.items in
     record {
-      told : row_shown l.nodes ++ items_nodes l.setting.whitespace role left
+      told : map node_view l.nodes.items ++ items_nodes l.setting.whitespace role left
           ≡ items_nodes l.setting.whitespace role all;
       clean : items_too_deep l.setting.depth l.setting.limit left
           ≡ items_too_deep l.setting.depth l.setting.limit all;

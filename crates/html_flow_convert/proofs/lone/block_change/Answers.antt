@@ -1,5 +1,5 @@
 use Rattle.std.proofs.Common.{rules}
-use Rattle.html_flow_whitespace.specs.declared.draft.Draft.{the_lemmas}
+use Rattle.html_dom_tree.specs.declared.node.HtmlNode.{the_lemmas}
 use Rattle.html_flow_convert.proofs.LoneNodes.{block_word}
 use Rattle.html_flow_convert.proofs.lone.block_change.Goals as goal
 

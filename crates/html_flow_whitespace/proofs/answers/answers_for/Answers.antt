@@ -1,17 +1,14 @@
-use Rattle.std.proofs.Common.{rules}
-use Rattle.html_flow_whitespace.proofs.Lines.{thing_judged, things_judged}
+use Rattle.std.proofs.Common.{List, Bool, ap}
+use Rattle.html_dom_tree.specs.Views.{nodes_view}
+use Rattle.html_flow_whitespace.specs.BareSpaces.{nodes_things}
+use Rattle.html_flow_whitespace.specs.Walks.{walk_view}
+use Rattle.html_flow_whitespace.specs.declared.line.Last.TheVariants as last
+use Rattle.html_flow_whitespace.proofs.Walking.{all_answered}
 use Rattle.html_flow_whitespace.proofs.answers.answers_for.Goals as goal
-
-pub loop-thing-preserved : goal.loop-thing-preserved
-loop-thing-preserved c =
-    let at = c.loop-thing in
-    rw c.after-last.ensures
-    (thing_judged _ at.bare.items c.push_answer.new.bare.items c.args.things.now at.thing-index
-    _ at.last c.look-look.result c.loop-thing-test.true (search rules)
-    c.look-look.ensures at.invariant c.in_ok-push_answer.ensures)
 
 pub returns : goal.returns
 returns c =
-    let at = c.loop-thing in
-    things_judged _ at.bare.items c.push_answer-2.new.bare.items c.args.things.now at.thing-index
-    at.last c.loop-thing-test.false at.invariant c.in_ok-push_answer-2.ensures
+    all_answered (c.new.result.items, last.Border) (walk_view c.see_nodes.new.self)
+    (walk_view c.see.new.self) (nodes_things (nodes_view c.args.nodes.now))
+    (ap (λ (bs : List Bool). (bs, last.Border)) c.new.ensures.items) c.in_ok-see_nodes.ensures
+    c.in_ok-see.ensures

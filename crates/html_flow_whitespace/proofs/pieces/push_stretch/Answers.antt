@@ -2,8 +2,7 @@ use Rattle.std.proofs.Common.{◌≡◌, [], ◌∷◌, chars, map, refl, sym, a
 use Rattle.std.proofs.lemmas.List.{map-append}
 use Rattle.std.proofs.StrCases.{chars_of_empty}
 use Rattle.html_dom_tree.specs.Tree.{text_node}
-use Rattle.html_flow_whitespace.specs.DraftViews.{draft_shown}
-use Rattle.html_flow_whitespace.specs.Drafts.{draft_node}
+use Rattle.html_dom_tree.specs.Views.{node_view}
 use Rattle.html_flow_whitespace.proofs.Stretching.{stretch_of_text, no_length}
 use Rattle.html_flow_whitespace.proofs.pieces.push_stretch.Goals as goal
 
@@ -11,12 +10,12 @@ pub returns-in_ok-push : goal.returns-in_ok-push
 returns-in_ok-push c =
     let text = c.args.text.now in
     let span = c.args.span.0 in
-    let made : draft_shown c.text.result ≡ text_node (chars text) span =
-    ap draft_node c.text.ensures ∙ ap (λ bs. text_node (chars bs) span) c.in_ok-from_str.ensures.ok in
+    let made : node_view c.text.result ≡ text_node (chars text) span =
+    c.text.ensures ∙ ap (λ bs. text_node (chars bs) span) c.in_ok-from_str.ensures.ok in
     let filled = sym c.is_empty.ensures ∙ c.if-not-is_empty.true in
     record {
-      added = ap (map draft_shown) c.in_ok-push.ensures.items
-          ∙ (map-append draft_shown c.args.nodes.now.items (c.text.result ∷ [])
+      added = ap (map node_view) c.in_ok-push.ensures.items
+          ∙ (map-append node_view c.args.nodes.now.items (c.text.result ∷ [])
           ∙ rw (made, stretch_of_text text c.utf8.text filled) refl);
       kept = tt;
     }

@@ -5,7 +5,7 @@ use Rattle.std.proofs.lemmas.Result.{on_err_weaker}
 use Rattle.std.proofs.lemmas.Str.{IsCharBoundary-at_seam}
 use Rattle.html_names.proofs.Held.{on_err}
 use Rattle.html_flow_whitespace.specs.Beginnings.{AddsBeginning}
-use Rattle.html_flow_whitespace.specs.DraftViews.{draft_shown}
+use Rattle.html_dom_tree.specs.Views.{node_view}
 use Rattle.html_flow_whitespace.specs.Pieces.{outside_stretch, piece_node, text_nodes}
 use Rattle.html_flow_whitespace.specs.Stretches.{with_stretch}
 use Rattle.html_flow_whitespace.proofs.Beginnings.{grows_by_none, grows_more, begins, begins_between, begins_as}
@@ -19,8 +19,8 @@ loop-c-init c = record {
   pending_is_text = c.utf8.text;
   rest_is_text = c.utf8.text;
   at = c.chars-left.ensures.rest;
-  held = nothing_passed c.args.span.0 c.args.text.now (map draft_shown c.args.nodes.now.items) c.utf8.text;
-  grown = grows_by_none (map draft_shown c.args.nodes.now.items);
+  held = nothing_passed c.args.span.0 c.args.text.now (map node_view c.args.nodes.now.items) c.utf8.text;
+  grown = grows_by_none (map node_view c.args.nodes.now.items);
 }
 
 pub range-requires-clause-end_boundary : goal.range-requires-clause-end_boundary
@@ -39,8 +39,8 @@ loop-c-preserved-in_ok-push_outside c =
     let rest = at.rest.now in
     let after = c.as_str-after.result.now in
     let f = piece_node c.args.span.0 in
-    let made = map draft_shown at.nodes.items in
-    let old = map draft_shown c.args.nodes.now.items in
+    let made = map node_view at.nodes.items in
+    let old = map node_view c.args.nodes.now.items in
     let between = map f (outside_stretch at.before char []) in
     let parts : rest ≡ encode char ++ after =
     sym at.invariant.at ∙ (c.in-Some.ensures.steps.0
@@ -75,7 +75,7 @@ loop-c-preserved c =
       rest_is_text = c.as_str-after.utf8;
       at = sym c.as_str-after.ensures;
       held = char_inside c.args.span.0 at.before at.pending.now rest after
-          (map draft_shown at.nodes.items) _ char at.invariant.held parts c.as_str-after.utf8
+          (map node_view at.nodes.items) _ char at.invariant.held parts c.as_str-after.utf8
           (sym c.is_in_stretch.ensures ∙ c.if-not-is_in_stretch.false);
       grown = at.invariant.grown;
     }
@@ -83,12 +83,12 @@ loop-c-preserved c =
 pub returns-in_err-push_stretch-clause-begun : goal.returns-in_err-push_stretch-clause-begun
 returns-in_err-push_stretch-clause-begun c =
     let at = c.loop-c in
-    let made = map draft_shown at.nodes.items in
-    let old = map draft_shown c.args.nodes.now.items in
-    let new = map draft_shown c.push_stretch.new.nodes.items in
+    let made = map node_view at.nodes.items in
+    let old = map node_view c.args.nodes.now.items in
+    let new = map node_view c.push_stretch.new.nodes.items in
     let all = text_nodes c.args.span.0 (chars c.args.text.now) in
     on_err c.from_residual.result (AddsBeginning old new all)
-    (begins_as old made new all (ap (map draft_shown) c.in_err-push_stretch.ensures.kept)
+    (begins_as old made new all (ap (map node_view) c.in_err-push_stretch.ensures.kept)
     (begins old made _ all at.invariant.grown at.invariant.held.told))
 
 pub returns-in_err-push_outside-clause-begun : goal.returns-in_err-push_outside-clause-begun
@@ -99,9 +99,9 @@ returns-in_err-push_outside-clause-begun c =
     let rest = at.rest.now in
     let after = c.as_str-after.result.now in
     let f = piece_node c.args.span.0 in
-    let made = map draft_shown at.nodes.items in
-    let old = map draft_shown c.args.nodes.now.items in
-    let new = map draft_shown c.push_outside.new.nodes.items in
+    let made = map node_view at.nodes.items in
+    let old = map node_view c.args.nodes.now.items in
+    let new = map node_view c.push_outside.new.nodes.items in
     let all = text_nodes c.args.span.0 (chars c.args.text.now) in
     let own = map f (with_stretch (chars (take (length text - length rest) text)) []) in
     let between = map f (outside_stretch at.before char []) in
@@ -117,24 +117,24 @@ returns-in_err-push_outside-clause-begun c =
     (sym c.is_in_stretch.ensures ∙ c.if-not-is_in_stretch.true) refl in
     on_err c.from_residual-in_err-push_outside.result (AddsBeginning old new all)
     (begins_as old (made ++ own) new all
-    (ap (map draft_shown) c.in_err-push_outside.ensures.kept ∙ stretched)
+    (ap (map node_view) c.in_err-push_outside.ensures.kept ∙ stretched)
     (begins_between old made own between _ all at.invariant.grown whole.told))
 
 pub returns : goal.returns
 returns c =
     let at = c.loop-c in
-    let made = map draft_shown at.nodes.items in
-    let old = map draft_shown c.args.nodes.now.items in
+    let made = map node_view at.nodes.items in
+    let old = map node_view c.args.nodes.now.items in
     let none : length at.rest.now ≡ 0 =
     ap length (sym at.invariant.at) ∙ c.in_default.ensures.steps.0.0 in
-    let new = map draft_shown c.push_stretch-2.new.nodes.items in
+    let new = map node_view c.push_stretch-2.new.nodes.items in
     let all = text_nodes c.args.span.0 (chars c.args.text.now) in
     record {
       added = subst (λ all. OnOk c.push_stretch-2.result (new ≡ all))
           (text_ended c.args.span.0 at.before at.pending.now at.rest.now made _ at.invariant.held none)
           c.push_stretch-2.ensures.added;
       begun = on_err_weaker c.push_stretch-2.result
-          (λ kept. begins_as old made new all (ap (map draft_shown) kept)
+          (λ kept. begins_as old made new all (ap (map node_view) kept)
           (begins old made _ all at.invariant.grown at.invariant.held.told))
           c.push_stretch-2.ensures.kept;
     }

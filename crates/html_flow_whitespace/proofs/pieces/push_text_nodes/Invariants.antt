@@ -2,7 +2,7 @@ use Rattle.std.proofs.Common.{◌≡◌, ◌++◌, chars, map}
 use denote.Text.{Utf8}
 use denote.Shadow.{shadow}
 use Rattle.std.specs.Str.Iter.{chars_rest}
-use Rattle.html_flow_whitespace.specs.DraftViews.{draft_shown}
+use Rattle.html_dom_tree.specs.Views.{node_view}
 use Rattle.html_flow_whitespace.specs.Pieces.{text_nodes}
 use Rattle.html_flow_whitespace.proofs.Beginnings.{Grows}
 use Rattle.html_flow_whitespace.proofs.Stretching.{Stretching}
@@ -10,8 +10,8 @@ use Rattle.html_flow_whitespace.proofs.pieces.push_text_nodes.Given as goal
 
 abbrev pub invariant-loop-c : goal.invariant-loop-c
 invariant-loop-c l =
-    let made = map draft_shown l.nodes.items in
-    let old = map draft_shown l.fn.nodes.items in
+    let made = map node_view l.nodes.items in
+    let old = map node_view l.fn.nodes.items in
     let all = old ++ text_nodes l.span.0 (chars l.fn.text) in
     record {
       pending_is_text : shadow (Utf8 l.pending);

@@ -1,20 +1,20 @@
 use Rattle.std.proofs.Common.{◌≡◌, drop, length}
 use Rattle.std.specs.Vec.Iter.{into_iter_items, into_iter_len}
-use Rattle.html_flow_whitespace.specs.AnswerLists.{answers_view}
+use Rattle.html_dom_tree.specs.Views.{nodes_view}
 use Rattle.html_dom_flat.proofs.Flats.{joined}
-use Rattle.html_flow_whitespace.specs.DraftViews.{drafts_shown, drafts_view}
-use Rattle.html_flow_whitespace.specs.Drafts.{drafts_look, drafts_protected}
-use Rattle.html_flow_whitespace.specs.Protected.{space_count}
+use Rattle.html_flow_whitespace.specs.AnswerLists.{answers_view}
+use Rattle.html_flow_whitespace.specs.BareSpaces.{nodes_things}
+use Rattle.html_flow_whitespace.specs.Protected.{space_count, nodes_protected}
 use Rattle.html_flow_whitespace.proofs.protect.+protect.Given as goal
 
-abbrev pub invariant-drafts_protected-loop-draft : goal.invariant-drafts_protected-loop-draft
-invariant-drafts_protected-loop-draft l =
-    let left = drafts_view (into_iter_items l.draft-iterator) in
-    let all = drafts_view l.fn.drafts.items in
+abbrev pub invariant-nodes_protected-loop-node : goal.invariant-nodes_protected-loop-node
+invariant-nodes_protected-loop-node l =
+    let left = nodes_view (into_iter_items l.node-iterator) in
+    let all = nodes_view l.fn.nodes.items in
     record {
-      told : joined (drafts_shown l.made.items) (drafts_protected (answers_view l.answers) left)
-          ≡ drafts_protected (answers_view l.fn.answers) all;
-      rest : drop (space_count (drafts_look left)) (answers_view l.answers)
-          ≡ drop (space_count (drafts_look all)) (answers_view l.fn.answers);
-      long : into_iter_len l.draft-iterator ≡ length (into_iter_items l.draft-iterator);
+      told : joined (nodes_view l.made.items) (nodes_protected (answers_view l.answers) left)
+          ≡ nodes_protected (answers_view l.fn.answers) all;
+      rest : drop (space_count (nodes_things left)) (answers_view l.answers)
+          ≡ drop (space_count (nodes_things all)) (answers_view l.fn.answers);
+      long : into_iter_len l.node-iterator ≡ length (into_iter_items l.node-iterator);
     }
