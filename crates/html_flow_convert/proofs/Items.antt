@@ -1,6 +1,5 @@
 -- A list of items, one after the other: their nodes, and what of them stands too deep.
-use Rattle.std.proofs.Common.{◌≡◌, ℕ, ◌+◌, ◌<◌, List, [], ◌∷◌, ◌++◌, sym, ap, ◌∙◌, append_assoc, drop, get_or, length, subst}
-use Rattle.std.proofs.lemmas.List.{drop_more}
+use Rattle.std.proofs.Common.{◌≡◌, ℕ, List, [], ◌∷◌, ◌++◌, sym, ap, ◌∙◌, append_assoc, subst}
 use Rattle.html_dom_tree.specs.Tree.{NodeView}
 use Rattle.html_flow_convert.specs.Converted.{RoleText, item_role, item_nodes, items_nodes}
 use Rattle.html_flow_convert.specs.Depth.{item_too_deep, items_too_deep}
@@ -20,18 +19,15 @@ first_of_more (TooDeep span) xs ys h = (h.0 ++ ys, ap (λ l. l ++ ys) h.1)
 pair_seen : (p : Pair) → pair_view p ≡ (item_view p.item, role_view p.role)
 pair_seen p = fold_out-Pair ItemView ElemView (ItemView × RoleView) item_step elem_step pair_step p
 
-module _ (pairs : List Pair) (index : ℕ) (p d : Pair) (below : index < length pairs)
-    (is : p ≡ get_or pairs index d) where
+module _ (pairs later : List Pair) (p : Pair) (is : pairs ≡ p ∷ later) where
   abbrev left : ItemsView
-  left = items_view (drop index pairs)
+  left = items_view pairs
 
   abbrev others : ItemsView
-  others = items_view (drop (index + 1) pairs)
+  others = items_view later
 
   split : left ≡ item (item_view p.item) (role_view p.role) others
-  split =
-      ap items_view (drop_more pairs index d below ∙ ap (λ q. q ∷ drop (index + 1) pairs) (sym is))
-      ∙ ap (λ v. items_of (v ∷ pairs_view (drop (index + 1) pairs))) (pair_seen p)
+  split = ap items_view is ∙ ap (λ v. items_of (v ∷ pairs_view later)) (pair_seen p)
 
   -- the nodes of an item come before those of the others
   pub nodes_added : (ws own_ws : Whitespace) (role own : RoleText) (out new all : List NodeView) →

@@ -1,12 +1,12 @@
 //! From items to nodes.
 #![tactic(auto, unfolding(crate::specs::Converted::item_nodes, crate::specs::Depth::item_too_deep))]
 
-ghost use Rattle.std.specs.Prelude.{◌≡◌, ◌≤◌, ◌↔◌, ◌++◌, ◌∷◌, [], IfOk, IsTrue, OnOk, codes, map};
+ghost use Rattle.std.specs.Prelude.{◌≡◌, ◌≤◌, ◌↔◌, ◌++◌, ◌∷◌, [], if◌then◌else◌, IfOk, IsTrue, OnOk, codes, map};
 ghost use Rattle.html_names.specs.Names.{is_ascii};
 ghost use Rattle.html_names.specs.Texts.{text_view};
-ghost use Rattle.html_dom_tree.specs.Tree.{tag_node, text_node, element_node};
-ghost use Rattle.html_dom_tree.specs.Views.{attrs_view, head_of, node_view, nodes_view, tag_view};
-ghost use Rattle.html_flow_convert.specs.Converted.{body_nodes, break_item_node, converted_nodes, element_head, frame_item_node, item_nodes, list_nodes, role_pairs, role_text, text_item_nodes};
+ghost use Rattle.html_dom_tree.specs.Tree.{tag_node, text_node};
+ghost use Rattle.html_dom_tree.specs.Views.{attrs_view, node_view, nodes_view, tag_view};
+ghost use Rattle.html_flow_convert.specs.Converted.{body_nodes, break_item_node, converted_nodes, frame_item_node, item_nodes, list_nodes, passes_role, role_pairs, role_text, text_item_nodes};
 ghost use Rattle.html_flow_convert.specs.Endings.{Adds, Gives};
 ghost use Rattle.html_flow_convert.specs.Depth.{body_too_deep, item_too_deep, items_too_deep};
 ghost use Rattle.html_flow_convert.specs.Items.{element_item};
@@ -14,12 +14,12 @@ ghost use Rattle.html_flow_convert.specs.declared.convert.Whitespace.TheVariants
 ghost use Rattle.html_flow_convert.specs.Views.{body_view, elem_view, frame_elem_view, item_view, items_view};
 
 use crate::fault::FlowFault;
-use crate::item::{FrameElem, HtmlElem, Item, Pair};
+use crate::item::{FrameElem, HtmlElem, Item, Pair, copied_pairs};
 use crate::lone::{push_around, push_block, push_box};
 use crate::setting::{Setting, body_level, passes_role};
 use html_dom_tree::{HtmlAttrs, HtmlElement, HtmlFrame, HtmlNode, Span, Tag};
 use html_flow_whitespace::{break_element, keep_runs, protect_spaces, push_text_nodes};
-use html_names::attr;
+use html_names::{HtmlTag, attr};
 use html_values_css::Properties;
 use std::alloc::{AllocError, Global};
 
@@ -75,7 +75,7 @@ pub fn is_depth_limit(limit: usize) -> bool
 ///
 /// Cost: grows with the number of items at all depths and the length of their texts. Where an element
 /// alone, tags aside, stands in boxes and blocks that stand in one another, what is in it is looked
-/// at, and these tags are moved, once for each of them.
+/// at, and these tags are moved, once for each of them. The items are copied first.
 ///
 /// ```
 /// use html_dom::Span;
@@ -105,6 +105,30 @@ pub fn convert_to_nodes(
         (converted_nodes level whitespace (role_text role.entry) (items_view items.now))
         (items_too_deep depth limit (items_view items.now)) }
 {
+    let copies = copied_pairs(alloc, items)?;
+    convert_items(alloc, copies, level, whitespace, role, depth, limit)
+}
+
+/// The nodes that items become, as those of [`convert_to_nodes`]. Texts, attributes and css are moved
+/// into them.
+///
+/// Cost: as that of [`convert_to_nodes`], without its copies.
+pub fn convert_items(
+    alloc: Global,
+    items: Vec<Pair>,
+    level: ConversionLevel,
+    whitespace: Whitespace,
+    role: Option<&str>,
+    depth: usize,
+    limit: usize,
+) -> Result<Vec<HtmlNode>, FlowFault>
+    requires within { depth ≤ limit }
+    requires some_limit { 1 ≤ limit }
+    requires low_limit { limit ≤ 10000 }
+    ensures { Gives (λ made. nodes_view made.items) result
+        (converted_nodes level whitespace (role_text role.entry) (items_view items.items))
+        (items_too_deep depth limit (items_view items.items)) }
+{
     let setting = Setting {
         whitespace,
         role,
@@ -118,7 +142,7 @@ pub fn convert_to_nodes(
 #[cycle(convert)]
 fn convert_list(
     alloc: Global,
-    items: &[Pair],
+    items: Vec<Pair>,
     level: ConversionLevel,
     setting: Setting<'_>,
 ) -> Result<Vec<HtmlNode>, FlowFault>
@@ -126,12 +150,13 @@ fn convert_list(
     requires low_limit { setting.limit ≤ 10000 }
     ensures { Gives (λ made. nodes_view made.items) result
         (converted_nodes level setting.entry.whitespace (role_text setting.entry.role)
-        (items_view items.now))
-        (items_too_deep setting.entry.depth setting.entry.limit (items_view items.now)) }
+        (items_view items.items))
+        (items_too_deep setting.entry.depth setting.entry.limit (items_view items.items)) }
 {
     let mut nodes = Vec::new(alloc);
     for pair in items {
-        push_item(alloc, &pair.item, setting.with_role(&pair.role), &mut nodes)?;
+        let Pair { item, role } = pair;
+        push_item(alloc, item, setting.with_role(&role), &mut nodes)?;
     }
     Ok(finish(alloc, nodes, level, setting.whitespace)?)
 }
@@ -140,7 +165,7 @@ fn convert_list(
 #[cycle(convert)]
 fn convert_body(
     alloc: Global,
-    body: &Option<Vec<Pair>>,
+    body: Option<Vec<Pair>>,
     span: Span,
     level: ConversionLevel,
     setting: Setting<'_>,
@@ -149,8 +174,8 @@ fn convert_body(
     requires low_limit { setting.limit ≤ 10000 }
     ensures { Gives (λ made. nodes_view made.items) result
         (body_nodes level setting.entry.whitespace (role_text setting.entry.role)
-        (body_view body.now))
-        (body_too_deep setting.entry.depth setting.entry.limit span.0 (body_view body.now)) }
+        (body_view body))
+        (body_too_deep setting.entry.depth setting.entry.limit span.0 (body_view body)) }
 {
     let Some(items) = body else {
         return Ok(Vec::new(alloc));
@@ -165,30 +190,30 @@ fn convert_body(
 #[cycle(convert)]
 fn push_item(
     alloc: Global,
-    item: &Item,
+    item: Item,
     setting: Setting<'_>,
     nodes: &mut Vec<HtmlNode>,
 ) -> Result<(), FlowFault>
     requires within { setting.depth ≤ setting.limit }
     requires low_limit { setting.limit ≤ 10000 }
     ensures { Adds result (map node_view nodes.old.items) (map node_view nodes.new.items)
-        (item_nodes setting.entry.whitespace (role_text setting.entry.role) (item_view item.now))
-        (item_too_deep setting.entry.depth setting.entry.limit (item_view item.now)) }
+        (item_nodes setting.entry.whitespace (role_text setting.entry.role) (item_view item))
+        (item_too_deep setting.entry.depth setting.entry.limit (item_view item)) }
 {
     match item {
         Item::Tag(tag) => Ok(push_tag(nodes, tag)?),
         Item::Element(element) => push_element(alloc, element, setting, nodes),
-        Item::Space(span) => Ok(push_literal(alloc, nodes, " ", *span)?),
-        Item::Text(text, span) => Ok(push_text(alloc, nodes, text, *span, setting.whitespace)?),
+        Item::Space(span) => Ok(push_literal(alloc, nodes, " ", span)?),
+        Item::Text(text, span) => Ok(push_text(alloc, nodes, text, span, setting.whitespace)?),
         Item::Hole => Ok(()),
-        Item::LineBreak(span) => Ok(push_break(alloc, nodes, *span, setting.whitespace)?),
+        Item::LineBreak(span) => Ok(push_break(alloc, nodes, span, setting.whitespace)?),
         Item::Box(body, span) => {
-            let inside = convert_body(alloc, body, *span, ConversionLevel::Inline, setting)?;
-            Ok(push_box(alloc, nodes, inside, *span)?)
+            let inside = convert_body(alloc, body, span, ConversionLevel::Inline, setting)?;
+            Ok(push_box(alloc, nodes, inside, span)?)
         }
         Item::Block(body, span) => {
-            let inside = convert_body(alloc, body, *span, ConversionLevel::Block, setting)?;
-            Ok(push_block(alloc, nodes, inside, *span)?)
+            let inside = convert_body(alloc, body, span, ConversionLevel::Block, setting)?;
+            Ok(push_block(alloc, nodes, inside, span)?)
         }
         Item::Frame(frame) => Ok(push_frame(alloc, nodes, frame)?),
     }
@@ -198,74 +223,51 @@ fn push_item(
 #[cycle(convert)]
 fn push_element(
     alloc: Global,
-    element: &HtmlElem,
+    element: HtmlElem,
     setting: Setting<'_>,
     nodes: &mut Vec<HtmlNode>,
 ) -> Result<(), FlowFault>
     requires within { setting.depth ≤ setting.limit }
     requires low_limit { setting.limit ≤ 10000 }
-    ensures { let view = elem_view element.now in let item = element_item view.0 view.1 in
+    ensures { let view = elem_view element in let item = element_item view.0 view.1 in
         Adds result (map node_view nodes.old.items) (map node_view nodes.new.items)
         (item_nodes setting.entry.whitespace (role_text setting.entry.role) item)
         (item_too_deep setting.entry.depth setting.entry.limit item) }
 {
-    let children = convert_body(
-        alloc,
-        &element.body,
-        element.span,
-        body_level(element),
-        setting.inside(element),
-    )?;
-    Ok(push_with_role(alloc, nodes, element, setting.role, children)?)
-}
-
-/// Adds an element with the role of its item and with these children.
-fn push_with_role(
-    alloc: Global,
-    nodes: &mut Vec<HtmlNode>,
-    element: &HtmlElem,
-    role: Option<&str>,
-    children: Vec<HtmlNode>,
-) -> Result<(), AllocError>
-    ensures { OnOk result (map node_view nodes.new.items ≡ map node_view nodes.old.items
-        ++ element_node (element_head (role_text role.entry) (elem_view element.now).0)
-        (nodes_view children.items) ∷ []) }
-{
-    let made = element_with_role(alloc, element, role)?;
-    push_around(nodes, made, children)
-}
-
-/// The element with the role of its item, without children.
-fn element_with_role(
-    alloc: Global,
-    element: &HtmlElem,
-    role: Option<&str>,
-) -> Result<HtmlElement, AllocError>
-    ensures { IfOk result (λ made.
-        head_of made ≡ element_head (role_text role.entry) (elem_view element.now).0) }
-{
-    Ok(HtmlElement {
-        tag: element.tag.try_clone()?,
-        attrs: attrs_with_role(alloc, element, role)?,
-        css: element.css.try_clone()?,
+    let level = body_level(&element);
+    let inside = setting.inside(&element);
+    let HtmlElem {
+        tag,
+        attrs,
+        css,
+        body,
+        parent,
+        span,
+    } = element;
+    let children = convert_body(alloc, body, span, level, inside)?;
+    let made = HtmlElement {
+        attrs: attrs_with_role(alloc, &tag, attrs, setting.role)?,
+        tag,
+        css,
         children: Vec::new(alloc),
-        parent: element.parent,
-        span: element.span,
+        parent,
+        span,
         pre_span: false,
-    })
+    };
+    Ok(push_around(nodes, made, children)?)
 }
 
-/// The attributes of an element item with its role.
+/// The attributes of an element of that name, with a role.
 fn attrs_with_role(
     alloc: Global,
-    element: &HtmlElem,
+    tag: &HtmlTag,
+    mut attrs: HtmlAttrs,
     role: Option<&str>,
 ) -> Result<HtmlAttrs, AllocError>
-    ensures { IfOk result (λ attrs. attrs_view attrs
-        ≡ (element_head (role_text role.entry) (elem_view element.now).0).attrs) }
+    ensures { IfOk result (λ made. attrs_view made ≡ (if passes_role tag.now then attrs_view attrs
+        else attrs_view attrs ++ role_pairs (role_text role.entry))) }
 {
-    let mut attrs = element.attrs.try_clone()?;
-    if !passes_role(&element.tag) {
+    if !passes_role(tag) {
         push_role(alloc, &mut attrs, role)?;
     }
     Ok(attrs)
@@ -284,11 +286,11 @@ fn push_role(alloc: Global, attrs: &mut HtmlAttrs, role: Option<&str>) -> Result
 }
 
 /// Adds the node of a tag.
-fn push_tag(nodes: &mut Vec<HtmlNode>, tag: &Tag) -> Result<(), AllocError>
+fn push_tag(nodes: &mut Vec<HtmlNode>, tag: Tag) -> Result<(), AllocError>
     ensures { OnOk result
-        (map node_view nodes.new.items ≡ map node_view nodes.old.items ++ tag_node (tag_view tag.now) ∷ []) }
+        (map node_view nodes.new.items ≡ map node_view nodes.old.items ++ tag_node (tag_view tag) ∷ []) }
 {
-    nodes.push(HtmlNode::Tag(tag.try_clone()?))?;
+    nodes.push(HtmlNode::Tag(tag))?;
     Ok(())
 }
 
@@ -319,16 +321,16 @@ fn push_literal(
 fn push_text(
     alloc: Global,
     nodes: &mut Vec<HtmlNode>,
-    text: &String,
+    text: String,
     span: Span,
     whitespace: Whitespace,
 ) -> Result<(), AllocError>
     ensures { OnOk result (map node_view nodes.new.items ≡ map node_view nodes.old.items
-        ++ text_item_nodes whitespace (text_view text.now) span.0) }
+        ++ text_item_nodes whitespace (text_view text) span.0) }
 {
     match whitespace {
-        Whitespace::Normal => push_text_nodes(alloc, nodes, text.as_str(), span),
-        Whitespace::Pre => push_string(nodes, text.clone()?, span),
+        Whitespace::Normal => push_text_nodes(alloc, nodes, text, span),
+        Whitespace::Pre => push_string(nodes, text, span),
     }
 }
 
@@ -352,11 +354,11 @@ fn push_break(
 }
 
 /// Adds the node of a frame item.
-fn push_frame(alloc: Global, nodes: &mut Vec<HtmlNode>, frame: &FrameElem) -> Result<(), AllocError>
+fn push_frame(alloc: Global, nodes: &mut Vec<HtmlNode>, frame: FrameElem) -> Result<(), AllocError>
     ensures { OnOk result (map node_view nodes.new.items ≡ map node_view nodes.old.items
-        ++ frame_item_node (frame_elem_view frame.now) ∷ []) }
+        ++ frame_item_node (frame_elem_view frame) ∷ []) }
 {
-    let mut made = HtmlFrame::new(alloc, frame.frame.try_clone()?, frame.text_size, frame.span);
+    let mut made = HtmlFrame::new(alloc, frame.frame, frame.text_size, frame.span);
     made.css = block_css(alloc)?;
     nodes.push(HtmlNode::Frame(made))?;
     Ok(())

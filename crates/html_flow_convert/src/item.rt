@@ -458,9 +458,17 @@ fn copy_body(body: &Option<Vec<Pair>>) -> Result<Option<Vec<Pair>>, AllocError>
     let Some(pairs) = body else {
         return Ok(None);
     };
-    let mut copies = Vec::new(*pairs.allocator());
+    Ok(Some(copied_pairs(*pairs.allocator(), pairs)?))
+}
+
+/// A copy of items and all inside.
+#[cycle(copy)]
+pub(crate) fn copied_pairs(alloc: Global, pairs: &[Pair]) -> Result<Vec<Pair>, AllocError>
+    ensures { IfOk result (λ copies. pairs_view copies.items ≡ pairs_view pairs.now) }
+{
+    let mut copies = Vec::with_capacity(alloc, pairs.len())?;
     for pair in pairs {
         copies.push(pair.try_clone()?)?;
     }
-    Ok(Some(copies))
+    Ok(copies)
 }

@@ -22,7 +22,7 @@ mod lone;
 mod setting;
 
 pub use construct_fault::ConstructFault;
-pub use convert::{ConversionLevel, Whitespace, convert_to_nodes, is_depth_limit};
+pub use convert::{ConversionLevel, Whitespace, convert_items, convert_to_nodes, is_depth_limit};
 pub use fault::FlowFault;
 pub use fragment::{html_block_fragment, html_inline_fragment, html_math_fragment};
 pub use html_flow_whitespace::{Bareness, bare_spaces};

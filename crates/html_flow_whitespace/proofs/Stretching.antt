@@ -9,8 +9,8 @@ use Rattle.std.proofs.Math.Seq.{take-append_seam}
 use Rattle.std.specs.Str.{IsUtf8}
 use Rattle.html_names.specs.Characters.{is_ignorable}
 use Rattle.html_dom_tree.specs.Tree.{NodeView}
-use Rattle.html_flow_whitespace.specs.Pieces.{PieceView, stretch, alone, line_break, is_in_stretch, in_stretch, is_carriage_return, outside_stretch, pieces_after, piece_node, text_nodes}
-use Rattle.html_flow_whitespace.specs.Stretches.{with_stretch}
+use Rattle.html_flow_whitespace.specs.Pieces.{PieceView, stretch, alone, line_break, is_in_stretch, in_stretch, is_carriage_return, outside_stretch, pieces_after, pieces, piece_node, text_nodes}
+use Rattle.html_flow_whitespace.specs.Stretches.{are_in_stretch, with_stretch}
 use lib.Utf8.{scalar, scalars, encode, encodes}
 
 -- each ASCII character is shown
@@ -38,6 +38,37 @@ stretch_by text (c ∷ cs) e u h = stretch_alone c cs
 pub stretch_of_text : (text : List ℕ) → IsUtf8 text → (length text == 0) ≡ false →
     with_stretch (chars text) [] ≡ stretch (chars text) ∷ []
 stretch_of_text text u h = stretch_by text (chars text) refl u h
+
+within_stretch : (before : Option ℕ) (cs : List ℕ) → are_in_stretch before cs ≡ true →
+    pieces_after before cs ≡ with_stretch cs []
+unfolding pieces_after
+within_stretch before [] e = refl
+within_stretch before (c ∷ cs) e =
+    let parts = and_parts (is_in_stretch before c cs) (are_in_stretch (Some c) cs) e in
+    rw parts.0 (ap (in_stretch c) (within_stretch (Some c) cs parts.1))
+
+pub one_stretch : (text : List ℕ) → IsUtf8 text → (length text == 0) ≡ false →
+    are_in_stretch None (chars text) ≡ true → pieces (chars text) ≡ stretch (chars text) ∷ []
+one_stretch text u filled e =
+    within_stretch None (chars text) e ∙ stretch_of_text text u filled
+
+-- a character more, or the end
+pub stretch_goes_on : (before : Option ℕ) (rest after : List ℕ) (c : ℕ) (all : Bool) → IsUtf8 rest →
+    rest ≡ encode c ++ after → is_in_stretch before c (chars after) ≡ true →
+    are_in_stretch before (chars rest) ≡ all → are_in_stretch (Some c) (chars after) ≡ all
+stretch_goes_on before rest after c all u parts on held =
+    rw (chars_past_char rest after c u parts, on) at held
+
+pub stretch_breaks : (before : Option ℕ) (rest after : List ℕ) (c : ℕ) (all : Bool) → IsUtf8 rest →
+    rest ≡ encode c ++ after → is_in_stretch before c (chars after) ≡ false →
+    are_in_stretch before (chars rest) ≡ all → false ≡ all
+stretch_breaks before rest after c all u parts off held =
+    rw (chars_past_char rest after c u parts, off) at held
+
+pub stretch_ends : (before : Option ℕ) (rest : List ℕ) (all : Bool) → length rest ≡ 0 →
+    are_in_stretch before (chars rest) ≡ all → true ≡ all
+stretch_ends before rest all none held =
+    let empty = nil_from_length rest none in rw (empty, chars-nil) at held
 
 -- a piece of another kind ends a stretch
 before_alone : (cs : List ℕ) (d : ℕ) (ps : List PieceView) →

@@ -1,10 +1,11 @@
 //! Texts where white space collapses.
 
-ghost use Rattle.std.specs.Prelude.{◌≡◌, ◌++◌, [], ◌∷◌, OnOk, OnErr, IfOk, chars, map};
+ghost use Rattle.std.specs.Prelude.{◌≡◌, ◌++◌, [], ◌∷◌, None, IsTrue, OnOk, OnErr, IfOk, chars, map};
+ghost use Rattle.html_dom_tree.specs.Tree.{text_node};
 ghost use Rattle.html_dom_tree.specs.Views.{node_view, text_view};
 ghost use Rattle.html_flow_whitespace.specs.Beginnings.{AddsBeginning};
-ghost use Rattle.html_flow_whitespace.specs.Pieces.{first_char, is_in_stretch, is_normal, is_normal_there, outside_stretch, piece_node, text_nodes};
-ghost use Rattle.html_flow_whitespace.specs.Stretches.{with_stretch};
+ghost use Rattle.html_flow_whitespace.specs.Pieces.{first_char, is_in_stretch, is_normal, is_normal_there, outside_stretch, piece_node, pieces, stretch, text_nodes};
+ghost use Rattle.html_flow_whitespace.specs.Stretches.{are_in_stretch, with_stretch};
 
 use crate::made::break_element;
 use html_dom_tree::{HtmlNode, Span};
@@ -45,6 +46,38 @@ fn is_in_stretch(before: Option<char>, c: char, after: &str) -> bool
     ensures { result ≡ is_in_stretch before c (chars after.now) }
 {
     is_normal(c) || (c == ' ' && is_normal_there(before) && begins_normal(after))
+}
+
+/// Whether each character of the text stands in a stretch.
+fn are_in_stretch(text: &str) -> bool
+    ensures { result ≡ are_in_stretch None (chars text.now) }
+{
+    let mut before = None;
+    let mut left = text.chars();
+    while let Some(c) = left.next() {
+        if !is_in_stretch(before, c, left.as_str()) {
+            return false;
+        }
+        before = Some(c);
+    }
+    true
+}
+
+/// Whether the text is one stretch.
+fn is_stretch(text: &str) -> bool
+    ensures { IsTrue result → pieces (chars text.now) ≡ stretch (chars text.now) ∷ [] }
+{
+    !text.is_empty() && are_in_stretch(text)
+}
+
+/// Adds a text. Where an allocation fails, the list stays as it was.
+fn push_text(nodes: &mut Vec<HtmlNode>, text: String, span: Span) -> Result<(), AllocError>
+    ensures added { OnOk result (map node_view nodes.new.items
+        ≡ map node_view nodes.old.items ++ text_node (text_view text) span.0 ∷ []) }
+    ensures kept { OnErr result (nodes.new.items ≡ nodes.old.items) }
+{
+    nodes.push(HtmlNode::text(text, span))?;
+    Ok(())
 }
 
 /// Adds the text of a stretch, if it has any character. Where an allocation fails, the list stays as
@@ -96,14 +129,9 @@ fn push_outside(
     Ok(())
 }
 
-/// Adds the nodes of a text where white space collapses, each with that span. A space between two
-/// characters that are neither blanks nor hidden by default stays in its text; any other space, each
-/// tab and each character that is hidden by default is a text of its own; a carriage return with a
-/// line feed, and each of them alone, is a `br`. The stretches between are texts. It fails only
-/// where an allocation does; the list then has what it had, and after it a beginning of the nodes.
-///
-/// Cost: grows with the length of the text.
-pub fn push_text_nodes(
+/// Adds the nodes of a text where white space collapses, by its pieces. Where an allocation fails, the
+/// list has what it had, and after it a beginning of the nodes.
+fn push_pieces(
     alloc: Global,
     nodes: &mut Vec<HtmlNode>,
     text: &str,
@@ -129,4 +157,28 @@ pub fn push_text_nodes(
         rest = after;
     }
     push_stretch(alloc, nodes, pending, span)
+}
+
+/// Adds the nodes of a text where white space collapses, each with that span. A space between two
+/// characters that are neither blanks nor hidden by default stays in its text; any other space, each
+/// tab and each character that is hidden by default is a text of its own; a carriage return with a
+/// line feed, and each of them alone, is a `br`. The stretches between are texts. It fails only
+/// where an allocation does; the list then has what it had, and after it a beginning of the nodes.
+///
+/// Cost: grows with the length of the text. One that is a single stretch is moved.
+pub fn push_text_nodes(
+    alloc: Global,
+    nodes: &mut Vec<HtmlNode>,
+    text: String,
+    span: Span,
+) -> Result<(), AllocError>
+    ensures added { OnOk result (map node_view nodes.new.items
+        ≡ map node_view nodes.old.items ++ text_nodes span.0 (text_view text)) }
+    ensures begun { OnErr result (AddsBeginning (map node_view nodes.old.items)
+        (map node_view nodes.new.items) (text_nodes span.0 (text_view text))) }
+{
+    if is_stretch(text.as_str()) {
+        return push_text(nodes, text, span);
+    }
+    push_pieces(alloc, nodes, text.as_str(), span)
 }

@@ -1,4 +1,5 @@
-use Rattle.std.proofs.Common.{◌≡◌, ◌+◌, ◌*◌, ◌++◌, drop, map}
+use Rattle.std.proofs.Common.{◌≡◌, ◌+◌, ◌*◌, ◌++◌, length, map}
+use Rattle.std.specs.Vec.Iter.{into_iter_items, into_iter_len}
 use Rattle.html_dom_tree.specs.Views.{node_view}
 use Rattle.html_flow_convert.specs.Converted.{items_nodes, role_text}
 use Rattle.html_flow_convert.specs.Depth.{items_too_deep}
@@ -8,13 +9,14 @@ use Rattle.html_flow_convert.proofs.convert.+convert.Given as goal
 abbrev pub invariant-convert_list-loop-pair : goal.invariant-convert_list-loop-pair
 invariant-convert_list-loop-pair l =
     let role = role_text l.setting.role in
-    let left = items_view (drop l.pair-index l.items) in
-    let all = items_view l.items in
+    let left = items_view (into_iter_items l.pair-iterator) in
+    let all = items_view l.fn.items.items in
     record {
       told : map node_view l.nodes.items ++ items_nodes l.setting.whitespace role left
           ≡ items_nodes l.setting.whitespace role all;
       clean : items_too_deep l.setting.depth l.setting.limit left
           ≡ items_too_deep l.setting.depth l.setting.limit all;
+      long : into_iter_len l.pair-iterator ≡ length (into_iter_items l.pair-iterator);
     }
 
 -- a body is as deep as its list, so it counts one more

@@ -6,7 +6,7 @@ use Rattle.html_dom_tree.specs.Views.{node_view}
 use Rattle.html_flow_whitespace.specs.Pieces.{text_nodes}
 use Rattle.html_flow_whitespace.proofs.Beginnings.{Grows}
 use Rattle.html_flow_whitespace.proofs.Stretching.{Stretching}
-use Rattle.html_flow_whitespace.proofs.pieces.push_text_nodes.Given as goal
+use Rattle.html_flow_whitespace.proofs.pieces.push_pieces.Given as goal
 
 abbrev pub invariant-loop-c : goal.invariant-loop-c
 invariant-loop-c l =

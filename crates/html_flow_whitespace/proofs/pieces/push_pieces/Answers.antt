@@ -10,7 +10,7 @@ use Rattle.html_flow_whitespace.specs.Pieces.{outside_stretch, piece_node, text_
 use Rattle.html_flow_whitespace.specs.Stretches.{with_stretch}
 use Rattle.html_flow_whitespace.proofs.Beginnings.{grows_by_none, grows_more, begins, begins_between, begins_as}
 use Rattle.html_flow_whitespace.proofs.Stretching.{front_length, nothing_passed, char_inside, char_outside, text_ended}
-use Rattle.html_flow_whitespace.proofs.pieces.push_text_nodes.Goals as goal
+use Rattle.html_flow_whitespace.proofs.pieces.push_pieces.Goals as goal
 use native.Mathlib.Numerals.{unary_clauses}
 use lib.Utf8.{encode}
 
