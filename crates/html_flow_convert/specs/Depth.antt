@@ -1,5 +1,5 @@
 -- What stands too deep: the spans of the items, in document order, whose bodies do.
-use Rattle.std.specs.Prelude.{ℕ, ◌+◌, nat_lt, if◌then◌else◌, List, [], ◌∷◌, ◌++◌}
+use Rattle.std.specs.Prelude.{ℕ, ◌+◌, nat_lt, if◌then◌else◌, List, [], ◌∷◌, ◌++◌, Option, None, Some}
 use Rattle.html_flow_convert.specs.Items.{ItemView, tag_item, element_item, space_item, text_item, hole_item, break_item, box_item, block_item, frame_item, ItemsView, no_items, item, BodyView, absent, present}
 
 -- among items that stand at a depth, a body in which is one deeper; what is in a body that stands
@@ -30,3 +30,8 @@ unfoldable mutual
 abbrev pub fragment_too_deep : (depth limit span : ℕ) → ItemsView → List ℕ
 fragment_too_deep depth limit span items =
     if nat_lt limit depth then span ∷ [] else items_too_deep depth limit items
+
+-- the first of these spans
+abbrev pub first_span : List ℕ → Option ℕ
+first_span [] = None
+first_span (span ∷ spans) = Some span

@@ -13,6 +13,7 @@ ghost use Rattle.html_flow_convert.specs.Items.{element_item};
 ghost use Rattle.html_flow_convert.specs.declared.convert.Whitespace.TheVariants.{Normal};
 ghost use Rattle.html_flow_convert.specs.Views.{body_view, elem_view, frame_elem_view, item_view, items_view};
 
+use crate::depth::items_too_deep;
 use crate::fault::FlowFault;
 use crate::item::{FrameElem, HtmlElem, Item, Pair, copied_pairs};
 use crate::lone::{push_around, push_block, push_box};
@@ -75,7 +76,8 @@ pub fn is_depth_limit(limit: usize) -> bool
 ///
 /// Cost: grows with the number of items at all depths and the length of their texts. Where an element
 /// alone, tags aside, stands in boxes and blocks that stand in one another, what is in it is looked
-/// at, and these tags are moved, once for each of them. The items are copied first.
+/// at, and these tags are moved, once for each of them. The items are copied first, if
+/// none stands too deep.
 ///
 /// ```
 /// use html_dom::Span;
@@ -105,6 +107,9 @@ pub fn convert_to_nodes(
         (converted_nodes level whitespace (role_text role.entry) (items_view items.now))
         (items_too_deep depth limit (items_view items.now)) }
 {
+    if let Some(span) = items_too_deep(items, depth, limit) {
+        return Err(FlowFault::TooDeep { span });
+    }
     let copies = copied_pairs(alloc, items)?;
     convert_items(alloc, copies, level, whitespace, role, depth, limit)
 }

@@ -14,6 +14,7 @@
 
 mod construct_fault;
 mod convert;
+mod depth;
 mod fault;
 mod fragment;
 mod item;

@@ -1,16 +1,16 @@
 -- Stretches of a text where white space collapses, as they grow.
-use Rattle.std.proofs.Common.{◌≡◌, ℕ, ◌-◌, ◌<◌, Bool, true, false, ◌==◌, List, [], ◌∷◌, ◌++◌, Option, None, Some, chars, length, map, take, refl, sym, ap, ◌∙◌, arith, append-nil, append_assoc}
+use Rattle.std.proofs.Common.{◌≡◌, ℕ, ◌-◌, ◌<◌, Bool, true, false, ◌&&◌, ◌||◌, ◌==◌, List, [], ◌∷◌, ◌++◌, IsTrue, Option, None, Some, chars, length, map, take, refl, sym, ap, ◌∙◌, arith, append-nil, append_assoc}
 use Rattle.std.proofs.lemmas.Bool.{agree_below_at, false≢true, true≢false}
 use Rattle.std.proofs.lemmas.Bool.Decides.{nat_tests}
 use Rattle.std.proofs.lemmas.List.{length-append, map-append, nil_from_length}
 use Rattle.std.proofs.lemmas.Str.{IsUtf8-nil, IsUtf8-append, IsUtf8-encode, chars-append, chars-nil, chars_past_char, scalars-chars, encodes-chars}
-use Rattle.std.proofs.lemmas.Bool.{and_parts}
+use Rattle.std.proofs.lemmas.Bool.{and_parts, and_from}
 use Rattle.std.proofs.Math.Seq.{take-append_seam}
 use Rattle.std.specs.Str.{IsUtf8}
 use Rattle.html_names.specs.Characters.{is_ignorable}
 use Rattle.html_dom_tree.specs.Tree.{NodeView}
-use Rattle.html_flow_whitespace.specs.Pieces.{PieceView, stretch, alone, line_break, is_in_stretch, in_stretch, is_carriage_return, outside_stretch, pieces_after, pieces, piece_node, text_nodes}
-use Rattle.html_flow_whitespace.specs.Stretches.{are_in_stretch, with_stretch}
+use Rattle.html_flow_whitespace.specs.Pieces.{PieceView, stretch, alone, line_break, first_char, is_normal, is_normal_there, is_in_stretch, in_stretch, is_carriage_return, outside_stretch, pieces_after, pieces, piece_node, text_nodes}
+use Rattle.html_flow_whitespace.specs.Stretches.{with_stretch}
 use lib.Utf8.{scalar, scalars, encode, encodes}
 
 -- each ASCII character is shown
@@ -39,6 +39,13 @@ pub stretch_of_text : (text : List ℕ) → IsUtf8 text → (length text == 0) �
     with_stretch (chars text) [] ≡ stretch (chars text) ∷ []
 stretch_of_text text u h = stretch_by text (chars text) refl u h
 
+-- a text that is one stretch
+
+-- each character of a text that stands after one stands in a stretch
+abbrev are_in_stretch : (before : Option ℕ) → (text : List ℕ) → Bool
+are_in_stretch before [] = true
+are_in_stretch before (c ∷ cs) = is_in_stretch before c cs && are_in_stretch (Some c) cs
+
 within_stretch : (before : Option ℕ) (cs : List ℕ) → are_in_stretch before cs ≡ true →
     pieces_after before cs ≡ with_stretch cs []
 unfolding pieces_after
@@ -47,28 +54,59 @@ within_stretch before (c ∷ cs) e =
     let parts = and_parts (is_in_stretch before c cs) (are_in_stretch (Some c) cs) e in
     rw parts.0 (ap (in_stretch c) (within_stretch (Some c) cs parts.1))
 
-pub one_stretch : (text : List ℕ) → IsUtf8 text → (length text == 0) ≡ false →
-    are_in_stretch None (chars text) ≡ true → pieces (chars text) ≡ stretch (chars text) ∷ []
-one_stretch text u filled e =
-    within_stretch None (chars text) e ∙ stretch_of_text text u filled
+-- a text that ends in a normal character, and what stands between those is single spaces, where a
+-- normal character stands before it or not
+abbrev pub is_stretch : (after_normal : Bool) → (text : List ℕ) → Bool
+is_stretch after_normal [] = after_normal
+is_stretch after_normal (c ∷ cs) =
+    (is_normal c || ((c == 32) && after_normal)) && is_stretch (is_normal c) cs
 
--- a character more, or the end
-pub stretch_goes_on : (before : Option ℕ) (rest after : List ℕ) (c : ℕ) (all : Bool) → IsUtf8 rest →
-    rest ≡ encode c ++ after → is_in_stretch before c (chars after) ≡ true →
-    are_in_stretch before (chars rest) ≡ all → are_in_stretch (Some c) (chars after) ≡ all
-stretch_goes_on before rest after c all u parts on held =
-    rw (chars_past_char rest after c u parts, on) at held
+begins_normal : (cs : List ℕ) → is_stretch false cs ≡ true → is_normal_there (first_char cs) ≡ true
+begins_normal [] e = absurd (false≢true e)
+begins_normal (c ∷ cs) e = by (is_normal c) (c == 32) (is_stretch (is_normal c) cs) e
+  where
+    by : (normal blank rest : Bool) → ((normal || (blank && false)) && rest) ≡ true → normal ≡ true
+    by true blank rest e = refl
+    by false true rest e = absurd (false≢true e)
+    by false false rest e = absurd (false≢true e)
 
-pub stretch_breaks : (before : Option ℕ) (rest after : List ℕ) (c : ℕ) (all : Bool) → IsUtf8 rest →
-    rest ≡ encode c ++ after → is_in_stretch before c (chars after) ≡ false →
-    are_in_stretch before (chars rest) ≡ all → false ≡ all
-stretch_breaks before rest after c all u parts off held =
-    rw (chars_past_char rest after c u parts, off) at held
+one_within : (normal blank after there rest : Bool) → (normal || (blank && after)) ≡ true →
+    (normal ≡ false → there ≡ true) → (normal || (blank && after && there)) ≡ true
+one_within true blank after there rest e f = refl
+one_within false blank after there rest e f =
+    let parts = and_parts blank after e in
+    rw (parts.0, parts.1, f refl) refl
 
-pub stretch_ends : (before : Option ℕ) (rest : List ℕ) (all : Bool) → length rest ≡ 0 →
-    are_in_stretch before (chars rest) ≡ all → true ≡ all
-stretch_ends before rest all none held =
-    let empty = nil_from_length rest none in rw (empty, chars-nil) at held
+all_within : (before : Option ℕ) (cs : List ℕ) → is_stretch (is_normal_there before) cs ≡ true →
+    are_in_stretch before cs ≡ true
+all_within before [] e = refl
+all_within before (c ∷ cs) e =
+    let after = is_normal_there before in
+    let parts = and_parts (is_normal c || ((c == 32) && after)) (is_stretch (is_normal c) cs) e in
+    and_from _ _ (one_within (is_normal c) (c == 32) after (is_normal_there (first_char cs)) true
+    parts.0 (λ none. begins_normal cs (ap (λ n. is_stretch n cs) (sym none) ∙ parts.1)))
+    (all_within (Some c) cs parts.1)
+
+pub one_stretch : (cs : List ℕ) → is_stretch false cs ≡ true → pieces cs ≡ stretch cs ∷ []
+one_stretch [] e = absurd (false≢true e)
+one_stretch (c ∷ cs) e = within_stretch None (c ∷ cs) (all_within None (c ∷ cs) e) ∙ stretch_alone c cs
+
+-- a character more, and the end
+pub stretch_goes_on : (ends normal : Bool) (rest later : List ℕ) (c : ℕ) (all : Bool) → IsUtf8 rest →
+    rest ≡ encode c ++ later → normal ≡ is_normal c → (normal || ((c == 32) && ends)) ≡ true →
+    is_stretch ends (chars rest) ≡ all → is_stretch normal (chars later) ≡ all
+stretch_goes_on ends normal rest later c all u parts is on held =
+    let opened = ap (is_stretch ends) (sym (chars_past_char rest later c u parts)) ∙ held in
+    let test : (is_normal c || ((c == 32) && ends)) ≡ true = rw is at on in
+    ap (λ n. is_stretch n (chars later)) is
+    ∙ (ap (λ b. b && is_stretch (is_normal c) (chars later)) (sym test) ∙ opened)
+
+pub stretch_ends : (ends : Bool) (rest text : List ℕ) → length rest ≡ 0 →
+    is_stretch ends (chars rest) ≡ is_stretch false (chars text) → IsTrue ends →
+    pieces (chars text) ≡ stretch (chars text) ∷ []
+stretch_ends ends rest text none held h =
+    let empty = nil_from_length rest none in
+    one_stretch (chars text) (sym (rw (empty, chars-nil) at held) ∙ h)
 
 -- a piece of another kind ends a stretch
 before_alone : (cs : List ℕ) (d : ℕ) (ps : List PieceView) →

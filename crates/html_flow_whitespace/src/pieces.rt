@@ -1,11 +1,11 @@
 //! Texts where white space collapses.
 
-ghost use Rattle.std.specs.Prelude.{◌≡◌, ◌++◌, [], ◌∷◌, None, IsTrue, OnOk, OnErr, IfOk, chars, map};
+ghost use Rattle.std.specs.Prelude.{◌≡◌, ◌==◌, ◌&&◌, ◌||◌, ◌++◌, [], ◌∷◌, IsTrue, OnOk, OnErr, IfOk, chars, map};
 ghost use Rattle.html_dom_tree.specs.Tree.{text_node};
 ghost use Rattle.html_dom_tree.specs.Views.{node_view, text_view};
 ghost use Rattle.html_flow_whitespace.specs.Beginnings.{AddsBeginning};
 ghost use Rattle.html_flow_whitespace.specs.Pieces.{first_char, is_in_stretch, is_normal, is_normal_there, outside_stretch, piece_node, pieces, stretch, text_nodes};
-ghost use Rattle.html_flow_whitespace.specs.Stretches.{are_in_stretch, with_stretch};
+ghost use Rattle.html_flow_whitespace.specs.Stretches.{with_stretch};
 
 use crate::made::break_element;
 use html_dom_tree::{HtmlNode, Span};
@@ -48,26 +48,26 @@ fn is_in_stretch(before: Option<char>, c: char, after: &str) -> bool
     is_normal(c) || (c == ' ' && is_normal_there(before) && begins_normal(after))
 }
 
-/// Whether each character of the text stands in a stretch.
-fn are_in_stretch(text: &str) -> bool
-    ensures { result ≡ are_in_stretch None (chars text.now) }
+/// Whether a character, normal or not, goes on with a text that ends in a normal one or not.
+fn goes_on(is_normal: bool, c: char, ends_normal: bool) -> bool
+    ensures { result ≡ (is_normal || ((c == 32) && ends_normal)) }
 {
-    let mut before = None;
-    let mut left = text.chars();
-    while let Some(c) = left.next() {
-        if !is_in_stretch(before, c, left.as_str()) {
-            return false;
-        }
-        before = Some(c);
-    }
-    true
+    is_normal || (c == ' ' && ends_normal)
 }
 
-/// Whether the text is one stretch.
+/// Whether the text is one stretch: normal characters, and single spaces between them.
 fn is_stretch(text: &str) -> bool
     ensures { IsTrue result → pieces (chars text.now) ≡ stretch (chars text.now) ∷ [] }
 {
-    !text.is_empty() && are_in_stretch(text)
+    let mut ends_normal = false;
+    for c in text.chars() {
+        let is_normal = is_normal(c);
+        if !goes_on(is_normal, c, ends_normal) {
+            return false;
+        }
+        ends_normal = is_normal;
+    }
+    ends_normal
 }
 
 /// Adds a text. Where an allocation fails, the list stays as it was.
