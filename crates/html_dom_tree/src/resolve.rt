@@ -44,56 +44,57 @@ pub fn resolve_inline_styles(alloc: Global, element: &mut HtmlElement) -> Result
 }
 
 /// The element with the css of each element, at any depth, in its attribute `style`, as
-/// [`resolve_inline_styles`] writes it. No node is copied. Where an allocation fails, the element is
-/// gone.
-#[cycle(style)]
-pub fn with_inline_styles(alloc: Global, element: HtmlElement) -> Result<HtmlElement, AllocError>
+/// [`resolve_inline_styles`] writes it. The element is changed in place, and no node is copied. Where
+/// an allocation fails, the element is gone.
+pub fn with_inline_styles(
+    alloc: Global,
+    mut element: HtmlElement,
+) -> Result<HtmlElement, AllocError>
     ensures { IfOk result (λ made. element_view made ≡ element_styled (element_view element)) }
 {
-    let attrs = element.attrs;
-    Ok(HtmlElement {
-        attrs: attrs_styled(alloc, &element.css, attrs)?,
-        children: nodes_styled(alloc, element.children)?,
-        ..element
-    })
+    style_element(alloc, &mut element)?;
+    Ok(element)
+}
+
+/// Styles the nodes below an element, and then its own attributes.
+#[cycle(style)]
+fn style_element(alloc: Global, element: &mut HtmlElement) -> Result<(), AllocError>
+    ensures { OnOk result
+        (element_view element.new ≡ element_styled (element_view element.old)) }
+{
+    style_nodes(alloc, &mut element.children)?;
+    style_attrs(alloc, &element.css, &mut element.attrs)
 }
 
 #[cycle(style)]
 #[tactic(auto, unfolding(crate::specs::Styled::node_styled))]
-fn node_styled(alloc: Global, node: HtmlNode) -> Result<HtmlNode, AllocError>
-    ensures { IfOk result (λ made. node_view made ≡ node_styled (node_view node)) }
+fn style_node(alloc: Global, node: &mut HtmlNode) -> Result<(), AllocError>
+    ensures { OnOk result (node_view node.new ≡ node_styled (node_view node.old)) }
 {
     match node {
-        HtmlNode::Element(element) => Ok(HtmlNode::Element(with_inline_styles(alloc, element)?)),
-        HtmlNode::Tag(_) | HtmlNode::Text(_, _) | HtmlNode::Frame(_) => Ok(node),
+        HtmlNode::Element(element) => style_element(alloc, element),
+        HtmlNode::Tag(_) | HtmlNode::Text(_, _) | HtmlNode::Frame(_) => Ok(()),
     }
 }
 
 #[cycle(style)]
-#[tactic(auto, unfolding(crate::specs::Styled::node_styled))]
-fn nodes_styled(alloc: Global, nodes: Vec<HtmlNode>) -> Result<Vec<HtmlNode>, AllocError>
-    ensures { IfOk result (λ made. nodes_view made.items ≡ nodes_styled (nodes_view nodes.items)) }
+fn style_nodes(alloc: Global, nodes: &mut [HtmlNode]) -> Result<(), AllocError>
+    ensures { OnOk result (nodes_view nodes.new ≡ nodes_styled (nodes_view nodes.old)) }
 {
-    let mut made = Vec::with_capacity(alloc, nodes.len())?;
-    for node in nodes {
-        made.push(node_styled(alloc, node)?)?;
+    for node in nodes.iter_mut() {
+        style_node(alloc, node)?;
     }
-    Ok(made)
+    Ok(())
 }
 
-/// The attributes with the css in them.
-fn attrs_styled(
-    alloc: Global,
-    css: &Properties,
-    mut attrs: HtmlAttrs,
-) -> Result<HtmlAttrs, AllocError>
-    ensures { IfOk result (λ made. attrs_view made ≡ attrs_styled css.now (attrs_view attrs)) }
+/// Puts the css into the attributes, if there is any.
+fn style_attrs(alloc: Global, css: &Properties, attrs: &mut HtmlAttrs) -> Result<(), AllocError>
+    ensures { OnOk result (attrs_view attrs.new ≡ attrs_styled css.now (attrs_view attrs.old)) }
 {
     if css.as_slice().is_empty() {
-        return Ok(attrs);
+        return Ok(());
     }
-    put_style(&mut attrs, inline_text(alloc, css)?)?;
-    Ok(attrs)
+    put_style(attrs, inline_text(alloc, css)?)
 }
 
 /// The css as the text of a `style` attribute.
