@@ -8,7 +8,9 @@ use Rattle.std.specs.declared.alloc.AllocError.{AllocError}
 use Rattle.std.specs.declared.alloc.Global.{Global}
 use Rattle.html_names.specs.Texts.{text_view, TextPair}
 use Rattle.html_names.specs.NameTables.{NamesView, Numbers, name_at, with_name, with_tag, with_attr}
+use Rattle.html_names.specs.declared.html_attr.HtmlAttr.{HtmlAttr}
 use Rattle.html_names.proofs.NameTables.{with_name-long, name_at-with_name, name_at-told}
+use Rattle.html_dom_tree.specs.Views.{pair_view}
 use Rattle.html_dom_flat.specs.FlatViews.{FlatPair, flat_pair, flat_head, flat_node_view, flat_nodes_view, is_pair_given, is_given, is_node_given, are_given}
 use Rattle.html_dom_flat.specs.Numbering.{AreKept, Grows, ArePairsOf}
 use Rattle.html_dom_flat.specs.declared.flat_node.FlatElement.{FlatElement}
@@ -75,8 +77,7 @@ pairs_stay old new (p ∷ ps) attrs grows made =
       given = and_from (is_pair_given new p) _ (lt-ltb _ _ here.0) others.given;
     }
 
--- with one more pair
-pub pairs_more :
+pairs_more :
     (old new : NamesView) (pairs : List FlatPair) (attrs : List TextPair) (attr : List ℕ)
     (number : ℕ) (value : String Global) →
     ArePairsOf old pairs attrs →
@@ -92,6 +93,16 @@ pairs_more old new pairs attrs attr number value made asked =
           (and_from (is_pair_given new (number, value)) true
           (lt-ltb _ _ asked.below) refl);
     }
+
+-- with one more pair
+pub numbered_more :
+    (old new : NamesView) (pairs : List FlatPair) (seen : List (HtmlAttr × String Global))
+    (attr : HtmlAttr) (number : ℕ) (value : String Global) →
+    ArePairsOf old pairs (map pair_view seen) →
+    Numbers (Ok number) old.attrs new.attrs attr old new (with_attr old attr) →
+    ArePairsOf new (pairs ++ (number, value) ∷ []) (map pair_view (seen ++ (attr, value) ∷ []))
+numbered_more old new pairs seen attr number value made asked =
+    rw map-append (pairs_more old new pairs (map pair_view seen) attr number value made asked)
 
 head_stays : (old new : NamesView) (e : FlatElement) → Grows old new → is_given old e ≡ true →
     (flat_head new e ≡ flat_head old e) × (is_given new e ≡ true)

@@ -4,7 +4,7 @@ ghost use Rattle.std.specs.Prelude.{◌≡◌, true};
 ghost use Rattle.html_dom_flat.specs.FlatViews.{are_given};
 
 use crate::flat_node::FlatNode;
-use crate::numbering::{opened, set_past};
+use crate::numbering::{head_copy, opened, set_past};
 use html_dom_tree::{HtmlElement, HtmlNode};
 use html_names::NameTable;
 use std::alloc::{AllocError, Global};
@@ -48,9 +48,9 @@ impl Builder {
     }
 
     /// Adds an element without its children.
-    fn open_element(&mut self, alloc: Global, element: &HtmlElement) -> Result<(), AllocError>
+    fn open_element(&mut self, alloc: Global, element: HtmlElement) -> Result<(), AllocError>
         ensures list { OnOk result (builder_view self.new
-            ≡ builder_view self.old ++ flat_element (element_view element.now).0 0 ∷ []) }
+            ≡ builder_view self.old ++ flat_element (element_view element).0 0 ∷ []) }
         ensures count { OnOk result (vec_len self.new.nodes ≡ vec_len self.old.nodes + 1) }
     {
         let element = opened(alloc, &mut self.names, element)?;
@@ -69,7 +69,7 @@ impl Builder {
         set_past(&mut self.nodes[place], past);
     }
 
-    /// Adds a node and all below it.
+    /// Adds a copy of a node and of all below it.
     #[cycle(flatten)]
     #[tactic(auto, unfolding(crate::specs::Flat::node_flat, crate::specs::Flat::node_count))]
     fn push_node(&mut self, alloc: Global, node: &HtmlNode) -> Result<(), AllocError>
@@ -86,7 +86,7 @@ impl Builder {
         }
     }
 
-    /// Adds an element and all below it.
+    /// Adds a copy of an element and of all below it.
     #[cycle(flatten)]
     pub(crate) fn push_element(
         &mut self,
@@ -99,13 +99,13 @@ impl Builder {
             ≡ vec_len self.old.nodes + 1 + nodes_count (element_view element.now).1) }
     {
         let place = self.nodes.len();
-        self.open_element(alloc, element)?;
+        self.open_element(alloc, head_copy(alloc, element)?)?;
         self.push_nodes(alloc, &element.children)?;
         self.close_element(place);
         Ok(())
     }
 
-    /// Adds nodes and all below them.
+    /// Adds copies of nodes and of all below them.
     #[cycle(flatten)]
     #[tactic(auto, unfolding(crate::specs::Flat::nodes_flat, crate::specs::Flat::nodes_count))]
     pub(crate) fn push_nodes(&mut self, alloc: Global, nodes: &[HtmlNode]) -> Result<(), AllocError>
@@ -116,6 +116,64 @@ impl Builder {
     {
         for node in nodes {
             self.push_node(alloc, node)?;
+        }
+        Ok(())
+    }
+
+    /// Adds a node and all below it, which are moved.
+    #[cycle(flatten_moved)]
+    #[tactic(auto, unfolding(crate::specs::Flat::node_flat, crate::specs::Flat::node_count))]
+    fn move_node(&mut self, alloc: Global, node: HtmlNode) -> Result<(), AllocError>
+        ensures list { OnOk result (builder_view self.new
+            ≡ builder_view self.old ++ node_flat (vec_len self.old.nodes) (node_view node)) }
+        ensures count { OnOk result (vec_len self.new.nodes
+            ≡ vec_len self.old.nodes + node_count (node_view node)) }
+    {
+        match node {
+            HtmlNode::Tag(tag) => self.push(FlatNode::Tag(tag)),
+            HtmlNode::Text(text, span) => self.push(FlatNode::Text(text, span)),
+            HtmlNode::Frame(frame) => self.push(FlatNode::Frame(frame)),
+            HtmlNode::Element(element) => self.move_element(alloc, element),
+        }
+    }
+
+    /// Adds an element and all below it, which are moved.
+    #[cycle(flatten_moved)]
+    pub(crate) fn move_element(
+        &mut self,
+        alloc: Global,
+        element: HtmlElement,
+    ) -> Result<(), AllocError>
+        ensures list { OnOk result (builder_view self.new ≡ builder_view self.old
+            ++ element_flat (vec_len self.old.nodes) (element_view element)) }
+        ensures count { OnOk result (vec_len self.new.nodes
+            ≡ vec_len self.old.nodes + 1 + nodes_count (element_view element).1) }
+    {
+        let place = self.nodes.len();
+        let children = element.children;
+        self.open_element(
+            alloc,
+            HtmlElement {
+                children: Vec::new(alloc),
+                ..element
+            },
+        )?;
+        self.move_nodes(alloc, children)?;
+        self.close_element(place);
+        Ok(())
+    }
+
+    /// Adds nodes and all below them, which are moved.
+    #[cycle(flatten_moved)]
+    #[tactic(auto, unfolding(crate::specs::Flat::nodes_flat, crate::specs::Flat::nodes_count))]
+    fn move_nodes(&mut self, alloc: Global, nodes: Vec<HtmlNode>) -> Result<(), AllocError>
+        ensures list { OnOk result (builder_view self.new
+            ≡ builder_view self.old ++ nodes_flat (vec_len self.old.nodes) (nodes_view nodes.items)) }
+        ensures count { OnOk result (vec_len self.new.nodes
+            ≡ vec_len self.old.nodes + nodes_count (nodes_view nodes.items)) }
+    {
+        for node in nodes {
+            self.move_node(alloc, node)?;
         }
         Ok(())
     }

@@ -33,8 +33,8 @@ use std::fmt;
 /// ```
 #[derive(Drop)]
 pub struct FlatTree {
-    nodes: Vec<FlatNode>,
-    names: NameTable,
+    pub(crate) nodes: Vec<FlatNode>,
+    pub(crate) names: NameTable,
     ghost given: { are_given names nodes.items ≡ true },
     ghost spells: { let list = flat_nodes_view names nodes.items in
         nodes_flat 0 (spelled_nodes 0 list) ≡ list } by { Prim.hlevel (props, flat_node_is_set) },

@@ -7,8 +7,10 @@
 mod builder;
 mod flat_node;
 mod flat_tree;
+mod moving;
 mod numbering;
 mod spelling;
 
 pub use flat_node::{FlatElement, FlatNode};
 pub use flat_tree::FlatTree;
+pub use moving::flat_tree_of;

@@ -13,14 +13,14 @@ use std::alloc::{AllocError, Global};
 fn numbered_attrs(
     alloc: Global,
     names: &mut NameTable,
-    attrs: &HtmlAttrs,
+    attrs: HtmlAttrs,
 ) -> Result<Vec<(usize, String)>, AllocError>
     ensures grows { Grows names.old names.new }
-    ensures pairs { IfOk result (λ pairs. ArePairsOf names.new pairs.items (attrs_view attrs.now)) }
+    ensures pairs { IfOk result (λ pairs. ArePairsOf names.new pairs.items (attrs_view attrs)) }
 {
     let mut pairs = Vec::with_capacity(alloc, attrs.0.len())?;
-    for (attr, value) in &attrs.0 {
-        pairs.push((names.attr(attr)?, value.clone()?))?;
+    for (attr, value) in attrs.0 {
+        pairs.push((names.attr(&attr)?, value))?;
     }
     Ok(pairs)
 }
@@ -29,19 +29,34 @@ fn numbered_attrs(
 pub(crate) fn opened(
     alloc: Global,
     names: &mut NameTable,
-    element: &HtmlElement,
+    element: HtmlElement,
 ) -> Result<FlatElement, AllocError>
     ensures grows { Grows names.old names.new }
-    ensures opened { IfOk result (λ flat. IsOpened names.new flat (element_view element.now).0) }
+    ensures opened { IfOk result (λ flat. IsOpened names.new flat (element_view element).0) }
 {
     Ok(FlatElement {
         tag: names.tag(&element.tag)?,
-        attrs: numbered_attrs(alloc, names, &element.attrs)?,
-        css: element.css.try_clone()?,
+        attrs: numbered_attrs(alloc, names, element.attrs)?,
+        css: element.css,
         parent: element.parent,
         span: element.span,
         pre_span: element.pre_span,
         past: 0,
+    })
+}
+
+/// A copy of the element without its children.
+pub(crate) fn head_copy(alloc: Global, element: &HtmlElement) -> Result<HtmlElement, AllocError>
+    ensures { IfOk result (λ copy. (element_view copy).0 ≡ (element_view element.now).0) }
+{
+    Ok(HtmlElement {
+        tag: element.tag.try_clone()?,
+        attrs: element.attrs.try_clone()?,
+        css: element.css.try_clone()?,
+        children: Vec::new(alloc),
+        parent: element.parent,
+        span: element.span,
+        pre_span: element.pre_span,
     })
 }
 

@@ -1,8 +1,8 @@
-use Rattle.std.proofs.Common.{◌≡◌, ◌+◌, ◌++◌, sym, ◌∙◌, arith, vec_len}
+use Rattle.std.proofs.Common.{◌≡◌, ◌+◌, [], ◌∷◌, ◌++◌, sym, ap, ◌∙◌, arith, vec_len}
 use Rattle.std.proofs.lemmas.Grind.{common_steps}
 use Rattle.std.proofs.lemmas.List.{length-map}
 use Rattle.html_dom_tree.specs.Views.{element_view}
-use Rattle.html_dom_flat.specs.Flat.{nodes_count, nodes_flat}
+use Rattle.html_dom_flat.specs.Flat.{flat_element, nodes_count, nodes_flat}
 use Rattle.html_dom_flat.specs.FlatViews.{flat_node_view}
 use Rattle.html_dom_flat.specs.Builders.{builder_view}
 use Rattle.html_dom_flat.specs.Closing.{closed_at}
@@ -26,4 +26,6 @@ push_element-returns-clause-list t c =
     closed_element (builder_view old) (builder_view opened) (builder_view filled)
     (builder_view c.close_element.new.self) e.0 e.1 (vec_len old.nodes) (vec_len filled.nodes)
     (old.nodes.ok.0 ∙ sym (length-map old.nodes.items (flat_node_view old.names)))
-    c.in_ok-open_element.ensures.list fills ends closes
+    (c.in_ok-open_element.ensures.list
+    ∙ ap (λ h. builder_view old ++ flat_element h 0 ∷ []) c.in_ok-head_copy.ensures)
+    fills ends closes

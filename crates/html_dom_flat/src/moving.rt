@@ -1,0 +1,25 @@
+//! The list of a tree that is not needed any more.
+
+ghost use Rattle.std.specs.Prelude.{◌≡◌, IfOk};
+ghost use Rattle.html_dom_tree.specs.Tree.{node, none, element_node};
+ghost use Rattle.html_dom_tree.specs.Views.{element_view};
+ghost use Rattle.html_dom_flat.specs.FlatTrees.{tree_nodes};
+
+use crate::builder::Builder;
+use crate::flat_tree::FlatTree;
+use html_dom_tree::HtmlElement;
+use std::alloc::{AllocError, Global};
+
+/// The list of this element and of all nodes below it, which are moved into it. It fails only where
+/// an allocation does; the tree is then gone.
+///
+/// Cost: grows with the number of nodes and of their attributes. No text is copied.
+pub fn flat_tree_of(alloc: Global, element: HtmlElement) -> Result<FlatTree, AllocError>
+    ensures { let e = element_view element in
+        IfOk result (λ tree. tree_nodes tree ≡ node (element_node e.0 e.1) none) }
+{
+    let mut builder = Builder::new(alloc);
+    builder.move_element(alloc, element)?;
+    let Builder { nodes, names } = builder;
+    Ok(FlatTree { nodes, names })
+}
