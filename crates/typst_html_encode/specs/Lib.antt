@@ -6,6 +6,7 @@ pub mod Endings
 pub mod FaultViews
 pub mod Faults
 pub mod Frames
+pub mod HtmlTexts
 pub mod Indented
 pub mod IndentsCollapse
 pub mod Layout

@@ -1,19 +1,23 @@
 ghost use Rattle.std.specs.Prelude.{◌≡◌, true, false, Some, IfOk};
 ghost use Rattle.html_dom_tree.specs.PlainTree.{element_normal};
+ghost use Rattle.html_dom_tree.specs.Tree.{ElementView, node, none, element_node};
 ghost use Rattle.html_dom_tree.specs.Views.{text_view, element_view};
+ghost use Rattle.html_dom_flat.specs.FlatTrees.{tree_nodes};
 ghost use Rattle.typst_html_encode.specs.Faults.{document_faults};
 ghost use Rattle.typst_html_encode.specs.Indented.{element_layout, ElementEndsWell};
 ghost use Rattle.typst_html_encode.specs.Reader.{read};
 ghost use Rattle.html_dom_tree.specs.FrameFree.{ElementIsFrameFree};
 ghost use Rattle.typst_html_encode.specs.Text.{document_text};
 ghost use Rattle.typst_html_encode.specs.Endings.{Gives};
+ghost use Rattle.typst_html_encode.specs.HtmlTexts.{IsHtmlOf};
 
 use crate::fault::ExportFault;
 use crate::frame::FrameWriter;
 use crate::indent::{push_feed_if, push_indent_if};
 use crate::layout::Margin;
 use crate::options::HtmlOptions;
-use crate::write::write_root;
+use crate::write::write_tree;
+use html_dom_flat::{FlatTree, flat_tree_of};
 use html_dom_tree::HtmlElement;
 use html_names::output::Output;
 use std::alloc::Global;
@@ -71,6 +75,50 @@ pub fn html_in_bundle<F: FrameWriter>(
         IfOk result (λ text.
         read (text_view text) ≡ Some (element_normal (element_layout (element_view root.now)))) }
 {
+    let tree = FlatTree::from_element(alloc, root)?;
+    tree_html(alloc, &tree, options, frames)
+}
+
+/// The HTML text of a tree, as [`html_in_bundle`] writes it, for whoever owns the tree and does not
+/// need it any more: its texts are moved, where that call copies them.
+///
+/// The tree is gone, also where it is refused. Whoever wants to mend a refused tree lends it to
+/// [`html_in_bundle`].
+pub fn html_of<F: FrameWriter>(
+    alloc: Global,
+    root: HtmlElement,
+    options: &HtmlOptions,
+    frames: &F,
+) -> Result<String, ExportFault>
+    // The text, or the first fault.
+    ensures makes { Gives result
+        (document_text (F.drawing frames.now) options.now (element_view root))
+        (document_faults (F.drawing frames.now) options.now (element_view root)) }
+
+    // What the text of a tree without frames reads as.
+    ensures reads_back { options.now.pretty ≡ false → ElementIsFrameFree (element_view root) →
+        IfOk result (λ text.
+        read (text_view text) ≡ Some (element_normal (element_view root))) }
+    ensures reads_indented { options.now.pretty ≡ true →
+        ElementIsFrameFree (element_view root) → ElementEndsWell true (element_view root) →
+        IfOk result (λ text.
+        read (text_view text) ≡ Some (element_normal (element_layout (element_view root)))) }
+{
+    let tree = flat_tree_of(alloc, root)?;
+    tree_html(alloc, &tree, options, frames)
+}
+
+/// The HTML text of a flat tree that is one element and what is in it.
+fn tree_html<F: FrameWriter>(
+    alloc: Global,
+    tree: &FlatTree,
+    options: &HtmlOptions,
+    frames: &F,
+) -> Result<String, ExportFault>
+    ensures { (root : ElementView) →
+        tree_nodes tree.now ≡ node (element_node root.0 root.1) none →
+        IsHtmlOf (F.drawing frames.now) options.now root result }
+{
     let mut out = Output::new(alloc);
     let margin = Margin {
         pretty: options.pretty,
@@ -78,7 +126,7 @@ pub fn html_in_bundle<F: FrameWriter>(
     };
     out.push_ascii("<!DOCTYPE html>")?;
     push_indent_if(&mut out, options.pretty, 0)?;
-    write_root(alloc, &mut out, root, margin, frames)?;
+    write_tree(alloc, &mut out, tree, margin, frames)?;
     push_feed_if(&mut out, options.pretty)?;
     Ok(out.into_string())
 }

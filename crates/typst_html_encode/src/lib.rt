@@ -41,7 +41,7 @@ mod siblings;
 mod tags;
 mod write;
 
-pub use export::html_in_bundle;
+pub use export::{html_in_bundle, html_of};
 pub use fault::ExportFault;
 pub use frame::{FrameFault, FrameWriter};
 pub use options::HtmlOptions;

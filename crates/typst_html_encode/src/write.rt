@@ -2,14 +2,13 @@
 
 ghost use Rattle.std.specs.Prelude.{◌≡◌, ◌++◌, OnOk, Some, chars, false};
 ghost use Rattle.html_dom_tree.specs.FrameViews.{html_frame_view};
-ghost use Rattle.html_dom_tree.specs.Views.{element_view};
 ghost use Rattle.html_dom_flat.specs.FlatTrees.{tree_nodes};
-ghost use Rattle.typst_html_encode.specs.Faults.{void_faults, frame_faults, nodes_faults, element_faults};
+ghost use Rattle.typst_html_encode.specs.Faults.{void_faults, frame_faults, nodes_faults};
 ghost use Rattle.typst_html_encode.specs.Layout.{indent_where, frame_text};
 ghost use Rattle.typst_html_encode.specs.OpenElements.{open_element_view, Enters};
-ghost use Rattle.typst_html_encode.specs.ReadingBack.{HeadIsNamed, NodesAreNamed, ElementIsNamed};
+ghost use Rattle.typst_html_encode.specs.ReadingBack.{HeadIsNamed, NodesAreNamed};
 ghost use Rattle.typst_html_encode.specs.Siblings.{head_view, flat_element_view, node_flat_view, node_view, siblings_view};
-ghost use Rattle.typst_html_encode.specs.Text.{escaping_of, end_tag_text, element_text};
+ghost use Rattle.typst_html_encode.specs.Text.{escaping_of, end_tag_text};
 ghost use Rattle.typst_html_encode.specs.Walk.{first_text, first_faults, FirstIsNamed};
 ghost use Rattle.typst_html_encode.specs.Walk.{outside_text, element_first_text, element_first_faults};
 ghost use Rattle.typst_html_encode.specs.Endings.{Adds, Passes};
@@ -26,30 +25,13 @@ use crate::raw;
 use crate::siblings::{Element, ElementHead, Node};
 use crate::tags::{write_end, write_feed, write_start};
 use html_dom_flat::{FlatNode, FlatTree};
-use html_dom_tree::{HtmlElement, HtmlFrame};
+use html_dom_tree::HtmlFrame;
 use html_names::output::Output;
 use std::alloc::{AllocError, Global};
 
-/// Writes an element at that margin.
-pub(crate) fn write_root<F: FrameWriter>(
-    alloc: Global,
-    out: &mut Output,
-    root: &HtmlElement,
-    margin: Margin,
-    frames: &F,
-) -> Result<(), ExportFault>
-    ensures writes { Adds result out.old out.new
-        (element_text (F.drawing frames.now) margin (element_view root.now))
-        (element_faults (F.drawing frames.now) margin.pretty (element_view root.now)) }
-    ensures named { OnOk result (ElementIsNamed (element_view root.now)) }
-{
-    let tree = FlatTree::from_element(alloc, root)?;
-    write_tree(alloc, out, &tree, margin, frames)
-}
-
 /// Writes the nodes of a flat tree, one after another: nodes that stand in no element have that
 /// margin.
-fn write_tree<F: FrameWriter>(
+pub(crate) fn write_tree<F: FrameWriter>(
     alloc: Global,
     out: &mut Output,
     tree: &FlatTree,

@@ -2,10 +2,11 @@
 
 ghost use Rattle.std.specs.Prelude.{◌≡◌, ◌≤◌, true, false, Some, IfErr, IfOk, OnOk};
 ghost use Rattle.html_dom_tree.specs.PlainTree.{element_normal};
-ghost use Rattle.html_dom_tree.specs.Views.{text_view};
+ghost use Rattle.html_dom_tree.specs.Views.{text_view, element_view};
 ghost use Rattle.html_dom_document.specs.Views.{document_view, info_view};
 ghost use Rattle.typst_html_encode.specs.FaultViews.{IsFirstView};
 ghost use Rattle.typst_html_encode.specs.Faults.{document_faults};
+ghost use Rattle.typst_html_encode.specs.HtmlTexts.{IsHtmlOf};
 ghost use Rattle.typst_html_encode.specs.Indented.{element_layout, ElementEndsWell};
 ghost use Rattle.typst_html_encode.specs.Reader.{read};
 ghost use Rattle.html_dom_tree.specs.FrameFree.{ElementIsFrameFree};
@@ -29,9 +30,12 @@ ghost use Rattle.typst_html_export.specs.SpacesInDocuments.{ArePlainItems, Space
 use crate::document::html_document;
 use html_dom_document::{DocumentInfo, HtmlDocument};
 use html_dom_link::with_resolved_links;
+use html_dom_tree::HtmlElement;
 use html_flow_convert::Pair;
+use html_names::tag;
 use std::alloc::Global;
-use typst_html_encode::{ExportFault, FrameWriter, HtmlOptions, html_in_bundle};
+use std::mem;
+use typst_html_encode::{ExportFault, FrameWriter, HtmlOptions, html_in_bundle, html_of};
 
 /// The HTML text of a document: that of its root, as [`html_in_bundle`] writes it.
 ///
@@ -126,7 +130,7 @@ pub fn export<F: FrameWriter>(
         (items_view items.now) (items_view footnotes.now)) }
 {
     let document = html_document(alloc, items, info, footnotes, limit)?;
-    html(alloc, &document, options, frames)
+    html_of_made(alloc, document, options, frames)
 }
 
 /// The HTML text of items whose links lead: that of their document with anchors, once its links are
@@ -214,5 +218,25 @@ pub fn export_linked<F: FrameWriter>(
 {
     let made = html_document(alloc, items, info, footnotes, limit)?;
     let document = with_resolved_links(alloc, made)?;
-    html(alloc, &document, options, frames)
+    html_of_made(alloc, document, options, frames)
+}
+
+/// The HTML text of a document that is not needed any more, as [`html`] writes it.
+fn html_of_made<F: FrameWriter>(
+    alloc: Global,
+    document: HtmlDocument,
+    options: &HtmlOptions,
+    frames: &F,
+) -> Result<String, ExportFault>
+    ensures { IsHtmlOf (F.drawing frames.now) options.now
+        (document_root (document_view document)) result }
+{
+    html_of(alloc, root_of(alloc, document), options, frames)
+}
+
+/// The root of a document, of which nothing else is kept.
+fn root_of(alloc: Global, mut document: HtmlDocument) -> HtmlElement
+    ensures { element_view result ≡ document_root (document_view document) }
+{
+    mem::replace(document.root_mut(), HtmlElement::new(alloc, tag::html))
 }

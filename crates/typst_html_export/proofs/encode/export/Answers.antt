@@ -16,8 +16,8 @@ returns-clause-makes g c =
     let made = c.in_ok-document.ensures.made in
     exported (g.F.FrameWriter.drawing c.args.frames.now) c.args.options.now c.args.limit
     (items_view c.args.items.now) (items_view c.args.footnotes.now)
-    (document_view c.in_ok-document.document) _ c.html.result made.made made.clean
-    c.html.ensures.makes
+    (document_view c.in_ok-document.document) _ c.html_of_made.result made.made made.clean
+    c.html_of_made.ensures.makes
 
 pub returns-in_err-document-clause-plain : goal.returns-in_err-document-clause-plain
 returns-in_err-document-clause-plain g c = λ are.
@@ -28,7 +28,7 @@ pub returns-clause-plain : goal.returns-clause-plain
 returns-clause-plain g c = λ are.
     let items = items_view c.args.items.now in
     let notes = items_view c.args.footnotes.now in
-    first_past_none c.html.result (document_faults c.args.limit items notes)
+    first_past_none c.html_of_made.result (document_faults c.args.limit items notes)
     (root_faults (g.F.FrameWriter.drawing c.args.frames.now) c.args.options.now
     (linked_root (info_view c.args.info.now) items notes))
     (plain_documents_are_made c.args.limit items notes are) (returns-clause-makes g c).fault
@@ -44,7 +44,7 @@ returns-clause-clean g c = λ are clean known.
     let info = info_view c.args.info.now in
     let items = items_view c.args.items.now in
     let notes = items_view c.args.footnotes.now in
-    fails_by_memory_alone c.html.result
+    fails_by_memory_alone c.html_of_made.result
     (root_faults frames c.args.options.now (linked_root info items notes))
     (clean_exports frames c.args.options.now c.args.limit info items notes are clean known)
     (returns-clause-plain g c are)
@@ -52,6 +52,6 @@ returns-clause-clean g c = λ are clean known.
 pub returns-clause-spaces : goal.returns-clause-spaces
 returns-clause-spaces g c =
     spaces_are_seen (document_root (document_view c.in_ok-document.document))
-    (items_view c.args.items.now) c.args.options.now.pretty c.html.result
-    (items_view c.args.footnotes.now) c.html.ensures.reads_back c.html.ensures.reads_indented
+    (items_view c.args.items.now) c.args.options.now.pretty c.html_of_made.result
+    (items_view c.args.footnotes.now) c.html_of_made.ensures.reads_back c.html_of_made.ensures.reads_indented
     c.in_ok-document.ensures.spaces

@@ -23,15 +23,15 @@ returns-clause-makes g c =
     let made = c.in_ok-made.ensures.made in
     exported (g.F.FrameWriter.drawing c.args.frames.now) c.args.options.now c.args.limit
     (items_view c.args.items.now) (items_view c.args.footnotes.now)
-    (document_view c.in_ok-document.document) _ c.html.result
+    (document_view c.in_ok-document.document) _ c.html_of_made.result
     (c.in_ok-document.ensures.ok ∙ ap document_with_links made.made) made.clean
-    c.html.ensures.makes
+    c.html_of_made.ensures.makes
 
 pub returns-clause-plain : goal.returns-clause-plain
 returns-clause-plain g c = λ are.
     let items = items_view c.args.items.now in
     let notes = items_view c.args.footnotes.now in
-    first_past_none c.html.result (document_faults c.args.limit items notes)
+    first_past_none c.html_of_made.result (document_faults c.args.limit items notes)
     (root_faults (g.F.FrameWriter.drawing c.args.frames.now) c.args.options.now
     (resolved_root (info_view c.args.info.now) items notes))
     (plain_documents_are_made c.args.limit items notes are) (returns-clause-makes g c).fault
@@ -47,7 +47,7 @@ returns-clause-clean g c = λ are clean known.
     let none = ap (root_faults frames options) (root_has_links d)
     ∙ clean_linked_exports frames options c.args.limit info items notes are clean known
     d.introspector.anchor in
-    fails_by_memory_alone c.html.result (root_faults frames options (resolved_root info items notes))
+    fails_by_memory_alone c.html_of_made.result (root_faults frames options (resolved_root info items notes))
     none (returns-clause-plain g c are)
 
 pub returns-clause-spaces : goal.returns-clause-spaces
@@ -60,34 +60,34 @@ returns-clause-spaces g c =
     (c.in_ok-document.ensures.ok ∙ ap document_with_links c.in_ok-made.ensures.made.made)
     ∙ root_has_links d in
     spaces_are_seen (document_root (document_view c.in_ok-document.document)) items
-    c.args.options.now.pretty c.html.result notes c.html.ensures.reads_back
-    c.html.ensures.reads_indented
+    c.args.options.now.pretty c.html_of_made.result notes c.html_of_made.ensures.reads_back
+    c.html_of_made.ensures.reads_indented
     (spaces_are_left_with_links info items notes d.introspector.anchor
     (document_view c.in_ok-document.document) is)
 
 pub returns-clause-leads : goal.returns-clause-leads
 returns-clause-leads g c =
-    holds_as GivenLinksLead c.html.result (document_view c.in_ok-made.made) _ _
+    holds_as GivenLinksLead c.html_of_made.result (document_view c.in_ok-made.made) _ _
     c.in_ok-made.ensures.made.made c.in_ok-document.ensures.ok
     (c.in_ok-document.ensures.leads c.in_ok-made.ensures.shown)
 
 pub returns-clause-read : goal.returns-clause-read
 returns-clause-read g c =
-    lead_when_read (g.F.FrameWriter.drawing c.args.frames.now) c.args.options.now c.html.result
+    lead_when_read (g.F.FrameWriter.drawing c.args.frames.now) c.args.options.now c.html_of_made.result
     (document_view c.in_ok-made.made) (document_view c.in_ok-document.document)
     _ c.in_ok-made.ensures.made.made c.in_ok-document.ensures.ok
-    (c.in_ok-document.ensures.leads c.in_ok-made.ensures.shown) c.html.ensures.makes
-    c.html.ensures.reads_back c.html.ensures.reads_indented
+    (c.in_ok-document.ensures.leads c.in_ok-made.ensures.shown) c.html_of_made.ensures.makes
+    c.html_of_made.ensures.reads_back c.html_of_made.ensures.reads_indented
 
 pub returns-clause-distinct : goal.returns-clause-distinct
 returns-clause-distinct g c = λ distinct.
-    holds_as (λ d e. IdsAreDistinct e) c.html.result (document_view c.in_ok-made.made) _ _
+    holds_as (λ d e. IdsAreDistinct e) c.html_of_made.result (document_view c.in_ok-made.made) _ _
     c.in_ok-made.ensures.made.made c.in_ok-document.ensures.ok
     (c.in_ok-document.ensures.distinct (c.in_ok-made.ensures.distinct distinct))
 
 pub returns-clause-one : goal.returns-clause-one
 returns-clause-one g c = λ distinct.
-    holds_as GivenLinksLeadToOne c.html.result (document_view c.in_ok-made.made) _ _
+    holds_as GivenLinksLeadToOne c.html_of_made.result (document_view c.in_ok-made.made) _ _
     c.in_ok-made.ensures.made.made c.in_ok-document.ensures.ok
     (c.in_ok-document.ensures.one c.in_ok-made.ensures.shown
     (c.in_ok-made.ensures.distinct distinct))

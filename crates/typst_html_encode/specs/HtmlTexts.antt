@@ -1,0 +1,26 @@
+-- What is known of the answer of a call that writes a tree.
+use Rattle.std.specs.Prelude.{◌≡◌, true, false, Some, Result, IfOk, String}
+use Rattle.std.specs.declared.alloc.Global.{Global}
+use Rattle.html_dom_tree.specs.FrameFree.{ElementIsFrameFree}
+use Rattle.html_dom_tree.specs.PlainTree.{element_normal}
+use Rattle.html_dom_tree.specs.Tree.{ElementView}
+use Rattle.html_dom_tree.specs.Views.{text_view}
+use Rattle.typst_html_encode.specs.Endings.{Gives}
+use Rattle.typst_html_encode.specs.Faults.{document_faults}
+use Rattle.typst_html_encode.specs.Frames.{Frames}
+use Rattle.typst_html_encode.specs.Indented.{element_layout, ElementEndsWell}
+use Rattle.typst_html_encode.specs.Reader.{read}
+use Rattle.typst_html_encode.specs.Text.{document_text}
+use Rattle.typst_html_encode.specs.declared.fault.ExportFault.{ExportFault}
+use Rattle.typst_html_encode.specs.declared.options.HtmlOptions.{HtmlOptions}
+
+-- the text of a tree, or its first fault; a text of a tree without frames reads back
+pub record IsHtmlOf
+    (frames : Frames) (options : HtmlOptions) (root : ElementView)
+    (result : Result (String Global) ExportFault) : Type 0 where
+  pub makes : Gives result (document_text frames options root) (document_faults frames options root)
+  pub reads_back : options.pretty ≡ false → ElementIsFrameFree root →
+      IfOk result (λ text. read (text_view text) ≡ Some (element_normal root))
+  pub reads_indented : options.pretty ≡ true → ElementIsFrameFree root →
+      ElementEndsWell true root →
+      IfOk result (λ text. read (text_view text) ≡ Some (element_normal (element_layout root)))
