@@ -1,10 +1,9 @@
--- What is kept when a table gives more numbers, and elements made with its numbers.
+-- What is kept when a table gives more numbers, and what is made with its numbers.
 use Rattle.std.specs.Prelude.{◌≡◌, ℕ, true, ◌<◌, List, map, length}
 use Rattle.std.specs.List.{list_all}
 use Rattle.html_names.specs.NameTables.{NamesView, name_at}
-use Rattle.html_dom_tree.specs.Tree.{TextPair, Head}
-use Rattle.html_dom_flat.specs.FlatViews.{FlatPair, flat_pair, flat_head, is_pair_given, is_given}
-use Rattle.html_dom_flat.specs.declared.flat_node.FlatElement.{FlatElement}
+use Rattle.html_dom_tree.specs.Tree.{TextPair}
+use Rattle.html_dom_flat.specs.FlatViews.{FlatPair, flat_pair, is_pair_given}
 use Rattle.html_dom_flat.specs.declared.flat_node.FlatNode.{FlatNode}
 use Rattle.html_dom_flat.specs.declared.flat_node.FlatNode.TheVariants.{Tag, Text, Frame, Element}
 
@@ -24,11 +23,13 @@ pub record ArePairsOf (names : NamesView) (pairs : List FlatPair) (attrs : List 
     pub same : map (flat_pair names) pairs ≡ attrs
     pub given : list_all (is_pair_given names) pairs ≡ true
 
--- the element of that head, with numbers that the table has given; its end is not known yet
-pub record IsOpened (names : NamesView) (element : FlatElement) (head : Head) : Type 0 where
-  pub same : flat_head names element ≡ head
-  pub past : element.past ≡ 0
-  pub given : is_given names element ≡ true
+-- the number of that tag, and the pairs, which the table has given
+pub record AreNumbersOf
+    (names : NamesView) (number : ℕ) (pairs : List FlatPair) (tag : List ℕ) (attrs : List TextPair) :
+    Type 0 where
+  pub below : number < length names.tags
+  pub same : name_at names.tags number ≡ tag
+  pub pairs_are : ArePairsOf names pairs attrs
 
 -- with that end, if it is an element
 abbrev pub ended : (past : ℕ) → FlatNode → FlatNode

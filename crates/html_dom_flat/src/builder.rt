@@ -3,10 +3,10 @@
 ghost use Rattle.std.specs.Prelude.{◌≡◌, true};
 ghost use Rattle.html_dom_flat.specs.FlatViews.{are_given};
 
-use crate::flat_node::FlatNode;
-use crate::numbering::{head_copy, opened, set_past};
-use html_dom_tree::{HtmlElement, HtmlNode};
-use html_names::NameTable;
+use crate::flat_node::{FlatElement, FlatNode};
+use crate::numbering::{numbered_attrs, set_past};
+use html_dom_tree::{HtmlAttrs, HtmlElement, HtmlNode};
+use html_names::{HtmlTag, NameTable};
 use std::alloc::{AllocError, Global};
 
 /// A tree's list while it is made: each element that is not closed yet ends at the place 0.
@@ -18,12 +18,13 @@ pub(crate) struct Builder {
 }
 
 impl Builder {
-    ghost use Rattle.std.specs.Prelude.{◌+◌, ◌<◌, [], ◌∷◌, ◌++◌, OnOk, vec_len};
-    ghost use Rattle.html_dom_tree.specs.Views.{node_view, element_view, nodes_view};
-    ghost use Rattle.html_dom_flat.specs.Flat.{flat_element, node_count, nodes_count, node_flat, nodes_flat, element_flat};
+    ghost use Rattle.std.specs.Prelude.{◌+◌, ◌<◌, [], ◌∷◌, ◌++◌, IfOk, OnOk, vec_len};
+    ghost use Rattle.html_dom_tree.specs.Views.{attrs_view, node_view, element_view, nodes_view};
+    ghost use Rattle.html_dom_flat.specs.Flat.{node_count, nodes_count, node_flat, nodes_flat, element_flat};
     ghost use Rattle.html_dom_flat.specs.FlatViews.{flat_node_view, is_node_given};
     ghost use Rattle.html_dom_flat.specs.Builders.{builder_view};
     ghost use Rattle.html_dom_flat.specs.Closing.{closed_at};
+    ghost use Rattle.html_dom_flat.specs.Numbering.{AreNumbersOf};
 
     /// The empty list.
     pub(crate) fn new(alloc: Global) -> Builder
@@ -47,15 +48,21 @@ impl Builder {
         Ok(())
     }
 
-    /// Adds an element without its children.
-    fn open_element(&mut self, alloc: Global, element: HtmlElement) -> Result<(), AllocError>
-        ensures list { OnOk result (builder_view self.new
-            ≡ builder_view self.old ++ flat_element (element_view element).0 0 ∷ []) }
-        ensures count { OnOk result (vec_len self.new.nodes ≡ vec_len self.old.nodes + 1) }
+    /// The numbers of a tag and of the names of attributes, with their values.
+    fn numbered(
+        &mut self,
+        alloc: Global,
+        tag: &HtmlTag,
+        attrs: HtmlAttrs,
+    ) -> Result<(usize, Vec<(usize, String)>), AllocError>
+        ensures numbers { IfOk result (λ numbers.
+            AreNumbersOf self.new.names numbers.0 numbers.1.items tag.now (attrs_view attrs)) }
+        ensures list { OnOk result (builder_view self.new ≡ builder_view self.old) }
+        ensures count { OnOk result (vec_len self.new.nodes ≡ vec_len self.old.nodes) }
     {
-        let element = opened(alloc, &mut self.names, element)?;
-        self.push(FlatNode::Element(element))?;
-        Ok(())
+        let number = self.names.tag(tag)?;
+        let pairs = numbered_attrs(alloc, &mut self.names, attrs)?;
+        Ok((number, pairs))
     }
 
     /// Sets the end of the element at a place to where the list ends now.
@@ -99,7 +106,16 @@ impl Builder {
             ≡ vec_len self.old.nodes + 1 + nodes_count (element_view element.now).1) }
     {
         let place = self.nodes.len();
-        self.open_element(alloc, head_copy(alloc, element)?)?;
+        let (tag, attrs) = self.numbered(alloc, &element.tag, element.attrs.try_clone()?)?;
+        self.push(FlatNode::Element(FlatElement {
+            tag,
+            attrs,
+            css: element.css.try_clone()?,
+            parent: element.parent,
+            span: element.span,
+            pre_span: element.pre_span,
+            past: 0,
+        }))?;
         self.push_nodes(alloc, &element.children)?;
         self.close_element(place);
         Ok(())
@@ -150,14 +166,25 @@ impl Builder {
             ≡ vec_len self.old.nodes + 1 + nodes_count (element_view element).1) }
     {
         let place = self.nodes.len();
-        let children = element.children;
-        self.open_element(
-            alloc,
-            HtmlElement {
-                children: Vec::new(alloc),
-                ..element
-            },
-        )?;
+        let HtmlElement {
+            tag,
+            attrs,
+            css,
+            children,
+            parent,
+            span,
+            pre_span,
+        } = element;
+        let (tag, attrs) = self.numbered(alloc, &tag, attrs)?;
+        self.push(FlatNode::Element(FlatElement {
+            tag,
+            attrs,
+            css,
+            parent,
+            span,
+            pre_span,
+            past: 0,
+        }))?;
         self.move_nodes(alloc, children)?;
         self.close_element(place);
         Ok(())

@@ -1,16 +1,16 @@
-//! Elements with numbers for names.
+//! Attributes with numbers for names, and where an element ends.
 
 ghost use Rattle.std.specs.Prelude.{◌≡◌, IfOk};
-ghost use Rattle.html_dom_tree.specs.Views.{attrs_view, element_view};
-ghost use Rattle.html_dom_flat.specs.Numbering.{Grows, ArePairsOf, IsOpened, ended};
+ghost use Rattle.html_dom_tree.specs.Views.{attrs_view};
+ghost use Rattle.html_dom_flat.specs.Numbering.{Grows, ArePairsOf, ended};
 
-use crate::flat_node::{FlatElement, FlatNode};
-use html_dom_tree::{HtmlAttrs, HtmlElement};
+use crate::flat_node::FlatNode;
+use html_dom_tree::HtmlAttrs;
 use html_names::NameTable;
 use std::alloc::{AllocError, Global};
 
 /// The attributes with numbers for names.
-fn numbered_attrs(
+pub(crate) fn numbered_attrs(
     alloc: Global,
     names: &mut NameTable,
     attrs: HtmlAttrs,
@@ -23,41 +23,6 @@ fn numbered_attrs(
         pairs.push((names.attr(&attr)?, value))?;
     }
     Ok(pairs)
-}
-
-/// The element with numbers for names and without its children, which come after it.
-pub(crate) fn opened(
-    alloc: Global,
-    names: &mut NameTable,
-    element: HtmlElement,
-) -> Result<FlatElement, AllocError>
-    ensures grows { Grows names.old names.new }
-    ensures opened { IfOk result (λ flat. IsOpened names.new flat (element_view element).0) }
-{
-    Ok(FlatElement {
-        tag: names.tag(&element.tag)?,
-        attrs: numbered_attrs(alloc, names, element.attrs)?,
-        css: element.css,
-        parent: element.parent,
-        span: element.span,
-        pre_span: element.pre_span,
-        past: 0,
-    })
-}
-
-/// A copy of the element without its children.
-pub(crate) fn head_copy(alloc: Global, element: &HtmlElement) -> Result<HtmlElement, AllocError>
-    ensures { IfOk result (λ copy. (element_view copy).0 ≡ (element_view element.now).0) }
-{
-    Ok(HtmlElement {
-        tag: element.tag.try_clone()?,
-        attrs: element.attrs.try_clone()?,
-        css: element.css.try_clone()?,
-        children: Vec::new(alloc),
-        parent: element.parent,
-        span: element.span,
-        pre_span: element.pre_span,
-    })
 }
 
 /// Sets where an element ends.
