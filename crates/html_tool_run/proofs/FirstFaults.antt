@@ -15,8 +15,8 @@ use Rattle.typst_html_encode.specs.declared.fault.ExportFault.TheVariants as fau
 use Rattle.html_tool_run.specs.Answers.{construct_refusal, fault_refusal, first_span}
 use Rattle.html_tool_run.specs.Refusals.{export_refusal}
 use Rattle.html_tool_spell.specs.Names as names
-use Rattle.html_tool_spell.specs.Refusals.{IsFirst, numbered_refusal}
-use Rattle.html_tool_spell.specs.declared.refusal.Refusal.TheVariants.{OutOfMemory, At}
+use Rattle.html_tool_spell.specs.Refusals.{IsFirst, numbered_fault}
+use Rattle.html_tool_spell.specs.declared.fault.Fault.TheVariants.{OutOfMemory, Refused}
 
 same_first : (spans : List Span) → export.first_span spans ≡ first_span (spans_view spans)
 same_first [] = refl
@@ -38,9 +38,9 @@ seen_rest e fs h = (map export_fault_view h.0, ap (map export_fault_view) h.1)
 -- a refusal of a number and a span that are the first of the list; 0 is out of memory
 numbered_first : (n span : ℕ) (rs : List names.Refusal)
     → (rest : List names.Refusal) × (rs ≡ (n, span) ∷ rest)
-    → IsFirst (numbered_refusal n (record { 0 = span })) rs
+    → IsFirst (numbered_fault n (record { 0 = span })) rs
 numbered_first n span rs h =
-    elim (n == 0) as (λ v. IsFirst (if v then OutOfMemory else At n (record { 0 = span })) rs)
+    elim (n == 0) as (λ v. IsFirst (if v then OutOfMemory else Refused n (record { 0 = span })) rs)
     [ true ↦ tt | false ↦ h ]
 
 casts_are : (fs : List (CastFault × Span))

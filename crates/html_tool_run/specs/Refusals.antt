@@ -1,8 +1,8 @@
--- A fault of a tree or of items as a refusal.
+-- A fault of a tree or of items as one that is told.
 use Rattle.typst_html_encode.specs.Faults.{number_of, span_of}
 use Rattle.typst_html_encode.specs.declared.fault.ExportFault.{ExportFault}
-use Rattle.html_tool_spell.specs.Refusals.{numbered_refusal}
-use Rattle.html_tool_spell.specs.declared.refusal.Refusal.{Refusal}
+use Rattle.html_tool_spell.specs.Refusals.{numbered_fault}
+use Rattle.html_tool_spell.specs.declared.fault.Fault.{Fault}
 
-abbrev pub export_refusal : ExportFault → Refusal
-export_refusal fault = numbered_refusal (number_of fault) (record { 0 = span_of fault })
+abbrev pub export_refusal : ExportFault → Fault
+export_refusal fault = numbered_fault (number_of fault) (record { 0 = span_of fault })

@@ -1,24 +1,25 @@
-ghost use Rattle.std.specs.Prelude.{◌≡◌, IfOk, option_map};
 ghost use Rattle.serde_json.specs.View.{view};
 ghost use Rattle.html_tool_run.specs.Json.{json_of};
+ghost use Rattle.html_tool_spell.specs.Reading.{Takes};
 
+use html_tool_spell::Fault;
 use serde_json::{Category, Value};
-use std::alloc::{AllocError, Global};
+use std::alloc::Global;
 use std::str;
 
-/// The JSON value that the bytes are, or None where they are none.
+/// The JSON value that the bytes are.
 #[tactic(auto, using(crate::proofs::Bytes::json_of_steps))]
-pub(crate) fn parse(alloc: Global, bytes: &[u8]) -> Result<Option<Value>, AllocError>
-    ensures { IfOk result (λ value. option_map view value ≡ json_of bytes.now) }
+pub(crate) fn parse(alloc: Global, bytes: &[u8]) -> Result<Value, Fault>
+    ensures { Takes view result (json_of bytes.now) }
 {
     let Ok(text) = str::from_utf8(bytes) else {
-        return Ok(None);
+        return Err(Fault::BadInput);
     };
     match Value::from_str(alloc, text) {
-        Ok(value) => Ok(Some(value)),
+        Ok(value) => Ok(value),
         Err(fault) => match fault.classify() {
-            Category::Memory => Err(AllocError),
-            _ => Ok(None),
+            Category::Memory => Err(Fault::OutOfMemory),
+            _ => Err(Fault::BadInput),
         },
     }
 }

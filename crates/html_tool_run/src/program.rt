@@ -4,12 +4,12 @@ ghost use Rattle.std.specs.Prelude.{◌≡◌, None, IfSome, IfOk};
 ghost use Rattle.html_dom_tree.specs.Views.{text_view, element_view};
 ghost use Rattle.html_flow_convert.specs.Views.{items_view};
 ghost use Rattle.serde_json.specs.View.{view};
-ghost use Rattle.html_tool_run.specs.Answers.{AddsAnswer, AddsAnswerOn, EndsAs, EndsOn, answer_if, bad_input, input_answer};
+ghost use Rattle.html_tool_run.specs.Answers.{Answer, AddsAnswer, AddsAnswerOn, EndsAs, EndsOn, answer_if, bad_input, input_answer};
 ghost use Rattle.html_tool_run.specs.Answers.{doc_answer, doc_refusals, doc_text, refused_answer};
-ghost use Rattle.html_tool_run.specs.Answers.{tree_answer, tree_refusals, tree_text, value_answer};
+ghost use Rattle.html_tool_run.specs.Answers.{tree_answer, tree_refusals, tree_text};
 ghost use Rattle.html_tool_spell.specs.Refusals.{Gives};
 ghost use Rattle.html_tool_run.specs.Refusals.{export_refusal};
-ghost use Rattle.html_tool_run.specs.Replies.{Answers, IsReply, RepliesOn, shown};
+ghost use Rattle.html_tool_run.specs.Replies.{Answers, AnswersOn, IsReply, shown};
 ghost use Rattle.html_tool_spell.specs.Spelled.{element_spelled};
 ghost use Rattle.html_tool_spell.specs.SpelledItems.{items_spelled};
 ghost use Rattle.html_tool_run.specs.Words.{texts_of, wanted_task};
@@ -22,7 +22,7 @@ use crate::words::{Task, wanted_task};
 use html_dom_document::DocumentInfo;
 use html_dom_tree::{HtmlElement, Span};
 use html_flow_convert::Pair;
-use html_tool_spell::{Refusal, SpellFault, element_in, items_in};
+use html_tool_spell::{Fault, element_in, items_in};
 use serde_json::Value;
 use std::alloc::{AllocError, Global};
 use std::io::{Read, Write};
@@ -87,110 +87,99 @@ fn refused(alloc: Global, number: u8, span: Span) -> Result<Reply, AllocError>
     make_reply(alloc, Status::Refused, line.as_bytes())
 }
 
-/// A fault of a tree or of items as a refusal.
-fn refusal_of(fault: &ExportFault) -> Refusal
+/// The reply that a text is, or that says why there is none.
+fn reply_of(alloc: Global, text: Result<String, Fault>) -> Result<Reply, AllocError>
+    ensures { (answer : Answer) → Answers text answer → IfOk result (λ reply. IsReply reply answer) }
+{
+    match text {
+        Ok(text) => Ok(Reply {
+            status: Status::Done,
+            text: text.into_bytes(),
+        }),
+        Err(Fault::Refused(number, span)) => refused(alloc, number, span),
+        Err(Fault::BadInput) => bad_input(alloc),
+        Err(Fault::OutOfMemory) => Err(AllocError),
+    }
+}
+
+/// A fault of a tree or of items.
+fn fault_of(fault: &ExportFault) -> Fault
     ensures { result ≡ export_refusal fault.now }
 {
     match fault.number() {
-        0 => Refusal::OutOfMemory,
-        number => Refusal::At(number, fault.span()),
+        0 => Fault::OutOfMemory,
+        number => Fault::Refused(number, fault.span()),
     }
 }
 
 /// The text of an element.
 #[tactic(auto, using(crate::proofs::FirstFaults::first_faults))]
-fn element_text(alloc: Global, element: &HtmlElement, pretty: bool) -> Result<String, Refusal>
-    ensures { Gives text_view result (tree_text pretty (element_view element.now))
-        (tree_refusals pretty (element_view element.now)) }
+fn element_text(alloc: Global, element: HtmlElement, pretty: bool) -> Result<String, Fault>
+    ensures { Gives text_view result (tree_text pretty (element_view element))
+        (tree_refusals pretty (element_view element)) }
 {
     let options = HtmlOptions { pretty };
-    match html_in_bundle(alloc, element, &options, &()) {
+    match html_in_bundle(alloc, &element, &options, &()) {
         Ok(text) => Ok(text),
-        Err(fault) => Err(refusal_of(&fault)),
+        Err(fault) => Err(fault_of(&fault)),
     }
 }
 
 /// The text of items.
 #[tactic(auto, using(crate::proofs::FirstFaults::first_faults))]
-fn items_text(alloc: Global, items: &[Pair], pretty: bool) -> Result<String, Refusal>
-    ensures { Gives text_view result (doc_text pretty (items_view items.now))
-        (doc_refusals pretty (items_view items.now)) }
+fn items_text(alloc: Global, items: Vec<Pair>, pretty: bool) -> Result<String, Fault>
+    ensures { Gives text_view result (doc_text pretty (items_view items.items))
+        (doc_refusals pretty (items_view items.items)) }
 {
     let info = DocumentInfo::new(alloc);
     let settings = HtmlOptions { pretty };
-    match export(alloc, items, &info, &[], DEPTH_LIMIT, &settings, &()) {
+    match export(alloc, &items, &info, &[], DEPTH_LIMIT, &settings, &()) {
         Ok(text) => Ok(text),
-        Err(fault) => Err(refusal_of(&fault)),
+        Err(fault) => Err(fault_of(&fault)),
     }
 }
 
 /// The text of the tree that a value spells.
-fn spelled_tree(alloc: Global, value: &Value, pretty: bool) -> Result<String, SpellFault>
-    ensures { Answers result
-        (answer_if (tree_answer pretty) (element_spelled (view value.now))) }
+fn spelled_tree(alloc: Global, value: Value, pretty: bool) -> Result<String, Fault>
+    ensures { Answers result (answer_if (tree_answer pretty) (element_spelled (view value))) }
 {
     let element = element_in(alloc, value)?;
-    Ok(element_text(alloc, &element, pretty)?)
+    element_text(alloc, element, pretty)
 }
 
 /// The text of the items that a value spells.
-fn spelled_doc(alloc: Global, value: &Value, pretty: bool) -> Result<String, SpellFault>
-    ensures { Answers result (answer_if (doc_answer pretty) (items_spelled (view value.now))) }
+fn spelled_doc(alloc: Global, value: Value, pretty: bool) -> Result<String, Fault>
+    ensures { Answers result (answer_if (doc_answer pretty) (items_spelled (view value))) }
 {
     let items = items_in(alloc, value)?;
-    Ok(items_text(alloc, &items, pretty)?)
+    items_text(alloc, items, pretty)
 }
 
-/// The text of what a value spells.
-fn text_of(alloc: Global, value: &Value, task: Task, pretty: bool) -> Result<String, SpellFault>
-    ensures { Answers result (value_answer task pretty (view value.now)) }
+/// The text of what an input spells. The input is gone before anything is made of its value.
+#[tactic(auto, unfolding(crate::specs::Answers::input_answer))]
+fn answer(alloc: Global, input: Vec<u8>, task: Task, pretty: bool) -> Result<String, Fault>
+    ensures { Answers result (input_answer task pretty input.items) }
 {
+    let value = parse(alloc, &input)?;
+    drop(input);
     match task {
         Task::Tree => spelled_tree(alloc, value, pretty),
         Task::Doc => spelled_doc(alloc, value, pretty),
     }
 }
 
-/// The answer to an input that is this JSON value.
-fn answer_value(alloc: Global, value: &Value, task: Task, pretty: bool) -> Result<Reply, AllocError>
-    ensures { IfOk result (λ reply. IsReply reply (value_answer task pretty (view value.now))) }
-{
-    match text_of(alloc, value, task, pretty) {
-        Ok(text) => Ok(Reply {
-            status: Status::Done,
-            text: text.into_bytes(),
-        }),
-        Err(SpellFault::Refused(number, span)) => refused(alloc, number, span),
-        Err(SpellFault::BadInput) => bad_input(alloc),
-        Err(SpellFault::OutOfMemory) => Err(AllocError),
-    }
-}
-
-/// The answer to an input.
-#[tactic(auto, unfolding(crate::specs::Answers::input_answer))]
-fn answer(alloc: Global, input: &[u8], task: Task, pretty: bool) -> Result<Reply, AllocError>
-    ensures { IfOk result (λ reply. IsReply reply (input_answer task pretty input.now)) }
-{
-    match parse(alloc, input)? {
-        Some(value) => answer_value(alloc, &value, task, pretty),
-        None => bad_input(alloc),
-    }
-}
-
-/// What is to be answered.
-fn wanted<R: Read>(alloc: Global, reader: &mut R, words: &[String]) -> Result<Reply, AllocError>
-    ensures answers { IfOk result (λ reply.
-        RepliesOn (texts_of words.now) (R.remaining reader.old) reply) }
-    ensures wrong_words { wanted_task (texts_of words.now) ≡ None
-        → IfOk result (λ reply. IsReply reply bad_input) }
+/// The text that is wanted. A reader that fails counts as want of memory.
+fn wanted<R: Read>(alloc: Global, reader: &mut R, words: &[String]) -> Result<String, Fault>
+    ensures answers { AnswersOn (texts_of words.now) (R.remaining reader.old) result }
+    ensures wrong_words { wanted_task (texts_of words.now) ≡ None → Answers result bad_input }
     ensures unread { wanted_task (texts_of words.now) ≡ None → reader.new ≡ reader.old }
 {
     let Some((task, pretty)) = wanted_task(words) else {
-        return bad_input(alloc);
+        return Err(Fault::BadInput);
     };
     match read_all(alloc, reader) {
-        Some(input) => answer(alloc, &input, task, pretty),
-        None => Err(AllocError),
+        Some(input) => answer(alloc, input, task, pretty),
+        None => Err(Fault::OutOfMemory),
     }
 }
 
@@ -253,7 +242,7 @@ pub fn run<R: Read, W: Write>(
         → AddsAnswer bad_input result (W.contents writer.old) (W.contents writer.new) }
     ensures unread { wanted_task (texts_of words.now) ≡ None → reader.new ≡ reader.old }
 {
-    match wanted(alloc, reader, words) {
+    match reply_of(alloc, wanted(alloc, reader, words)) {
         Ok(reply) => tell(writer, &reply),
         Err(AllocError) => Status::Failed,
     }
@@ -277,7 +266,7 @@ pub fn run_recorded<R: Read, W: Write>(
         writer.new.last }
     ensures unread { wanted_task (texts_of words.now) ≡ None → reader.new ≡ reader.old }
 {
-    match wanted(alloc, reader, words) {
+    match reply_of(alloc, wanted(alloc, reader, words)) {
         Ok(reply) => tell_recorded(writer, &reply),
         Err(AllocError) => Status::Failed,
     }

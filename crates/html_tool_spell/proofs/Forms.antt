@@ -1,19 +1,22 @@
 -- The forms of a value, by the length of its list.
-use Rattle.std.proofs.Common.{◌≡◌, ◌≢◌, ℕ, ◌+◌, List, [], ◌∷◌, length, get_or, Some, None, option_map, refl, ap, ◌∙◌, rules, arith, String, chars}
+use Rattle.std.proofs.Common.{◌≡◌, ◌≢◌, ℕ, ◌<◌, List, [], ◌∷◌, length, get_or, remove, string_bytes, None, refl, sym, ap, ◌∙◌, rules, arith, String}
 use Rattle.std.specs.declared.alloc.Global.{Global}
+use Rattle.serde_json.specs.Data.{string}
+use Rattle.serde_json.specs.declared.value.Value as Value
 use Rattle.serde_json.specs.declared.value.Value.{Value}
 use Rattle.serde_json.specs.View.{view, items_view}
-use Rattle.serde_json.specs.Find.{as_str}
-use Rattle.html_dom_tree.specs.Tree.{NodeView, tag_node, text_node, element_node, none, node}
-use Rattle.html_dom_tree.specs.Views.{text_view, tag_view, nodes_of, node_view, element_view}
+use Rattle.html_dom_tree.specs.Tree.{tag_node, text_node, element_node}
+use Rattle.html_dom_tree.specs.Views.{text_view, tag_view, node_view, element_view}
 use Rattle.html_dom_tree.specs.declared.introspection.Tag.{Tag}
 use Rattle.html_dom_tree.specs.declared.node.HtmlElement.{HtmlElement}
 use Rattle.html_dom_tree.specs.declared.node.HtmlNode as HtmlNode
 use Rattle.html_dom_tree.specs.declared.node.HtmlNode.{HtmlNode, the_lemmas}
 use Rattle.html_dom_tree.specs.declared.span.Span.{Span}
-use Rattle.html_tool_spell.specs.Fields.{text_at, pair_form, pairs_at, text_form, no_fields, dest_form, end_form, element_from}
-use Rattle.html_tool_spell.specs.Spelled.{element_made, element_form, list_at}
-use Rattle.html_tool_spell.specs.Spelling.{joined}
+use Rattle.html_tool_spell.specs.Fields.{pair_form, text_form, no_fields, dest_form, end_form}
+use Rattle.html_tool_spell.specs.Spelled.{form, kind_form, element_form}
+
+pub view-String : (s : String Global) → view (Value.String s) ≡ string (string_bytes s)
+view-String s = search (rules, Value.the_lemmas)
 
 pub text_form-other : (vs : List Value) → length vs ≢ 1 → text_form (items_view vs) ≡ None
 text_form-other [] h = refl
@@ -49,31 +52,13 @@ element_form-other (v ∷ w ∷ []) n h = refl
 element_form-other (v ∷ w ∷ x ∷ []) n h = absurd (h refl)
 element_form-other (v ∷ w ∷ x ∷ y ∷ vs) n h = refl
 
-pub element_form-three : (vs : List Value) (n : ℕ) (t a c : Value) → length vs ≡ 3
-    → t ≡ get_or vs 0 t → a ≡ get_or vs 1 a → c ≡ get_or vs 2 c
-    → element_form (items_view vs) n
-    ≡ element_from (element_made n) (text_at (view t)) (pairs_at (view a))
-    (list_at (view c) (n + 1))
-element_form-three [] n t a c h p q r = absurd (omega arith)
-element_form-three (v ∷ []) n t a c h p q r = absurd (omega arith)
-element_form-three (v ∷ w ∷ []) n t a c h p q r = absurd (omega arith)
-element_form-three (v ∷ w ∷ x ∷ []) n t a c h p q r = rw (p, q, r)
-element_form-three (v ∷ w ∷ x ∷ y ∷ vs) n t a c h p q r = absurd (omega arith)
-
--- whose first is a text
-pub element_form-named : (vs : List Value) (n : ℕ) (t a c : Value) (tag : List ℕ) → length vs ≡ 3
-    → t ≡ get_or vs 0 t → a ≡ get_or vs 1 a → c ≡ get_or vs 2 c → as_str (view t) ≡ Some tag
-    → element_form (items_view vs) n
-    ≡ element_from (element_made n) (Some (chars tag)) (pairs_at (view a))
-    (list_at (view c) (n + 1))
-element_form-named vs n t a c tag long p q r named =
-    element_form-three vs n t a c long p q r
-    ∙ ap (λ text. element_from (element_made n) (option_map chars text) (pairs_at (view a))
-    (list_at (view c) (n + 1))) named
-
-pub joined-none : (ns : List NodeView) → joined node ns none ≡ nodes_of ns
-joined-none [] = refl
-joined-none (x ∷ ns) = ap (node x) (joined-none ns)
+-- the kind is the first
+pub form-first : (vs : List Value) (k : Value) (s : String Global) (n : ℕ) → 0 < length vs
+    → k ≡ get_or vs 0 k → k ≡ Value.String s
+    → form (items_view vs) n ≡ kind_form (string_bytes s) (items_view (remove vs 0)) n
+form-first [] k s n h p q = absurd (omega arith)
+form-first (v ∷ vs) k s n h p q =
+    let is : view v ≡ string (string_bytes s) = ap view (sym p ∙ q) ∙ view-String s in rw is refl
 
 pub node_view-Tag : (t : Tag) → node_view (HtmlNode.Tag t) ≡ tag_node (tag_view t)
 node_view-Tag t = search (rules, the_lemmas)

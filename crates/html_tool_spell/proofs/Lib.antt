@@ -1,8 +1,7 @@
 pub mod Forms
 pub mod ItemForms
-pub mod ItemRoots
-pub mod NameRefusals
-pub mod Presence
-pub mod Roots
+pub mod ItemRows
+pub mod NodeRows
+pub mod PairRows
+pub mod Readings
 pub mod Rows
-pub mod Wrong

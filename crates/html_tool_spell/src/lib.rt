@@ -8,13 +8,12 @@
 //! ```
 #![tactic(auto)]
 
-mod item_shape;
-mod item_spell;
-mod names;
-mod refusal;
-mod shape;
-mod spell;
+mod fault;
+mod fields;
+mod items;
+mod nodes;
+mod reader;
 
-pub use item_spell::items_in;
-pub use refusal::Refusal;
-pub use spell::{SpellFault, element_in};
+pub use fault::Fault;
+pub use items::items_in;
+pub use nodes::element_in;

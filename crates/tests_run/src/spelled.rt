@@ -14,9 +14,9 @@ fn value_of(rt: &impl Abort, alloc: Global, text: &str) -> Value {
 fn elements_and_items_are_spelled(rt: HostRuntime) {
     let alloc = rt.alloc();
     let value = value_of(&rt, alloc, r#"["el","p",[],[["text","a"]]]"#);
-    let paragraph = element_in(alloc, &value).expect(&rt, "a paragraph");
+    let paragraph = element_in(alloc, value).expect(&rt, "a paragraph");
     assert_eq!(rt; paragraph.children.len(), 1);
     let value = value_of(&rt, alloc, r#"[["text","a"],["space"],["text","b"]]"#);
-    let items = items_in(alloc, &value).expect(&rt, "items");
+    let items = items_in(alloc, value).expect(&rt, "items");
     assert_eq!(rt; items.len(), 3);
 }

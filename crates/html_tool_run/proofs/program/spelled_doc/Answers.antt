@@ -1,7 +1,7 @@
 use Rattle.std.proofs.lemmas.Result.{err_from_is_err_and}
 use Rattle.serde_json.specs.View.{view}
 use Rattle.html_flow_convert.specs.Views.{items_view}
-use Rattle.html_tool_run.proofs.Answering.{text_answered, other_said, name_said}
+use Rattle.html_tool_run.proofs.Answering.{text_said, name_said}
 use Rattle.html_tool_run.specs.Answers.{doc_answer, doc_refusals, doc_text}
 use Rattle.html_tool_spell.specs.Names.{items_refusals}
 use Rattle.html_tool_spell.specs.SpelledItems.{items_spelled}
@@ -10,27 +10,15 @@ use Rattle.html_tool_run.proofs.program.spelled_doc.Goals as goal
 pub returns-in_err-items : goal.returns-in_err-items
 unfolding doc_answer
 returns-in_err-items c =
-    let failed = err_from_is_err_and c.from_residual.result
-    c.from_residual.ensures.1 in
+    let failed = err_from_is_err_and c.from_residual.result c.from_residual.ensures.1 in
     rw (failed.1, failed.2)
     (name_said items_refusals (doc_refusals c.args.pretty) (doc_text c.args.pretty)
-    (items_spelled (view c.args.value.now)) c.in_err-items.field-0.0 c.in_err-items.ensures)
-
-pub returns-in_err-items_text : goal.returns-in_err-items_text
-unfolding doc_answer
-returns-in_err-items_text c =
-    let failed = err_from_is_err_and c.from_residual-in_err-items_text.result
-    c.from_residual-in_err-items_text.ensures.1 in
-    let made = items_view c.deref.result.now in
-    rw (failed.1, failed.2, c.in_ok-items.ensures.0, ← c.deref.ensures.value)
-    (other_said (items_refusals made) (doc_refusals c.args.pretty made) (doc_text c.args.pretty made)
-    c.in_err-items_text.field-0.0 (rw c.deref.ensures.value c.in_ok-items.ensures.1) c.in_err-items_text.ensures.fault)
+    (items_spelled (view c.args.value)) c.in_err-items.field-0.0 c.in_err-items.ensures)
 
 pub returns : goal.returns
 unfolding doc_answer
 returns c =
-    let made = items_view c.deref.result.now in
-    rw (c.in_ok-items.ensures.0, ← c.deref.ensures.value)
-    (text_answered (items_refusals made) (doc_refusals c.args.pretty made) (doc_text c.args.pretty made)
-    c.in_ok-items_text.field-0 (rw c.deref.ensures.value c.in_ok-items.ensures.1) c.in_ok-items_text.ensures.clean
-    c.in_ok-items_text.ensures.made)
+    let made = items_view c.in_ok-items.items.items in
+    rw c.in_ok-items.ensures.0
+    (text_said (items_refusals made) (doc_refusals c.args.pretty made) (doc_text c.args.pretty made)
+    c.items_text.result c.in_ok-items.ensures.1 c.items_text.ensures)

@@ -1,7 +1,7 @@
 use Rattle.std.proofs.lemmas.Result.{err_from_is_err_and}
 use Rattle.serde_json.specs.View.{view}
 use Rattle.html_dom_tree.specs.Views.{element_view}
-use Rattle.html_tool_run.proofs.Answering.{text_answered, other_said, name_said}
+use Rattle.html_tool_run.proofs.Answering.{text_said, name_said}
 use Rattle.html_tool_run.specs.Answers.{tree_answer, tree_refusals, tree_text}
 use Rattle.html_tool_spell.specs.Names.{element_refusals}
 use Rattle.html_tool_spell.specs.Spelled.{element_spelled}
@@ -10,27 +10,15 @@ use Rattle.html_tool_run.proofs.program.spelled_tree.Goals as goal
 pub returns-in_err-element : goal.returns-in_err-element
 unfolding tree_answer
 returns-in_err-element c =
-    let failed = err_from_is_err_and c.from_residual.result
-    c.from_residual.ensures.1 in
+    let failed = err_from_is_err_and c.from_residual.result c.from_residual.ensures.1 in
     rw (failed.1, failed.2)
     (name_said element_refusals (tree_refusals c.args.pretty) (tree_text c.args.pretty)
-    (element_spelled (view c.args.value.now)) c.in_err-element.field-0.0 c.in_err-element.ensures)
-
-pub returns-in_err-element_text : goal.returns-in_err-element_text
-unfolding tree_answer
-returns-in_err-element_text c =
-    let failed = err_from_is_err_and c.from_residual-in_err-element_text.result
-    c.from_residual-in_err-element_text.ensures.1 in
-    let made = element_view c.in_ok-element.element in
-    rw (failed.1, failed.2, c.in_ok-element.ensures.0)
-    (other_said (element_refusals made) (tree_refusals c.args.pretty made)
-    (tree_text c.args.pretty made) c.in_err-element_text.field-0.0 c.in_ok-element.ensures.1 c.in_err-element_text.ensures.fault)
+    (element_spelled (view c.args.value)) c.in_err-element.field-0.0 c.in_err-element.ensures)
 
 pub returns : goal.returns
 unfolding tree_answer
 returns c =
     let made = element_view c.in_ok-element.element in
     rw c.in_ok-element.ensures.0
-    (text_answered (element_refusals made) (tree_refusals c.args.pretty made)
-    (tree_text c.args.pretty made) c.in_ok-element_text.field-0 c.in_ok-element.ensures.1 c.in_ok-element_text.ensures.clean
-    c.in_ok-element_text.ensures.made)
+    (text_said (element_refusals made) (tree_refusals c.args.pretty made) (tree_text c.args.pretty made)
+    c.element_text.result c.in_ok-element.ensures.1 c.element_text.ensures)
