@@ -11,7 +11,6 @@ use Rattle.html_tool_spell.specs.Fields.{element_from}
 use Rattle.html_tool_spell.specs.Names.{Refusal, refusals, pairs_refusals, own_refusals}
 use Rattle.html_tool_spell.specs.Reading.{first_of, IsWrong, IsRead, numbered}
 use Rattle.html_tool_spell.specs.Refusals.{IsFirst}
-use Rattle.html_tool_spell.specs.Spelling.{IsTold}
 use Rattle.html_tool_spell.specs.declared.fault.Fault.{Fault}
 use Rattle.html_tool_spell.specs.declared.fault.Fault.TheVariants.{OutOfMemory, BadInput, Refused}
 use Rattle.html_tool_spell.specs.declared.reader.Reader.{Reader}
@@ -91,42 +90,11 @@ refused_whole refusals made wanted before after code span clear is r =
     first_told (refusals r.whole) code span
     (ap (λ o. first_of o (refusals r.whole)) (sym clear) ∙ sym r.noted ∙ is)
 
--- what is made where nothing is refused is all that is spelled
-pub made_whole : {B : Type 0} (refusals : B → List Refusal) (made : B) (wanted : Option (B × ℕ))
-    (before after : Reader) → after.refused ≡ None → IsRead refusals made wanted before after
-    → (wanted ≡ Some (made, after.next)) × (refusals made ≡ [])
-made_whole refusals made wanted before after clear r =
-    let clean = (first_of_none before.refused (refusals r.whole) (sym r.noted ∙ clear)).1 in
-    (r.spelled ∙ ap (λ b. Some (b, after.next)) (sym (r.same clear)), rw (r.same clear) clean)
-
-pub told_wrong : {A B : Type 0} (refusals : B → List Refusal) (o : Option A) (p : Option B)
-    (e : Fault) → (o ≡ None → p ≡ None) → IsWrong o e → IsTold refusals p e
-told_wrong refusals o p OutOfMemory f h = tt
-told_wrong refusals o p BadInput f h = f h
-told_wrong refusals o p (Refused code span) f h = absurd h
-
-no_refusal : (span : ℕ) (o : Option NameFault) → option_to_list o ≡ [] → refusals span o ≡ []
-no_refusal span None h = refl
-no_refusal span (Some f) h = absurd (cc)
-
 one_refusal : (f : NameFault) (span : ℕ) (o : Option NameFault)
     → name.IsFirst f (option_to_list o) → name.number_of f ≢ 0
     → refusals span o ≡ (name.number_of f, span) ∷ []
 one_refusal name_fault.OutOfMemory span o h other = absurd (other refl)
 one_refusal f span o h other = ap (refusals span) (some_first o _ _ h.1)
-
--- a name that is one
-pub name_kept : (fault : List ℕ → Option NameFault) (text made : List ℕ) (span : ℕ)
-    (before : Reader) → made ≡ text → option_to_list (fault text) ≡ []
-    → IsRead (λ t. refusals span (fault t)) made (Some (text, before.next)) before before
-name_kept fault text made span before is clean = record {
-  whole = text;
-  spelled = refl;
-  noted =
-      sym (ap (first_of before.refused) (no_refusal span (fault text) clean)
-      ∙ first_of_nil before.refused);
-  same = λ h. is;
-}
 
 -- a name that is none
 pub name_refused : (fault : List ℕ → Option NameFault) (text made : List ℕ) (f : NameFault)
