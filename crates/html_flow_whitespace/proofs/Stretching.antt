@@ -70,10 +70,10 @@ begins_normal (c ∷ cs) e = by (is_normal c) (c == 32) (is_stretch (is_normal c
     by false true rest e = absurd (false≢true e)
     by false false rest e = absurd (false≢true e)
 
-one_within : (normal blank after there rest : Bool) → (normal || (blank && after)) ≡ true →
+one_within : (normal blank after there : Bool) → (normal || (blank && after)) ≡ true →
     (normal ≡ false → there ≡ true) → (normal || (blank && after && there)) ≡ true
-one_within true blank after there rest e f = refl
-one_within false blank after there rest e f =
+one_within true blank after there e f = refl
+one_within false blank after there e f =
     let parts = and_parts blank after e in
     rw (parts.0, parts.1, f refl) refl
 
@@ -83,7 +83,7 @@ all_within before [] e = refl
 all_within before (c ∷ cs) e =
     let after = is_normal_there before in
     let parts = and_parts (is_normal c || ((c == 32) && after)) (is_stretch (is_normal c) cs) e in
-    and_from _ _ (one_within (is_normal c) (c == 32) after (is_normal_there (first_char cs)) true
+    and_from _ _ (one_within (is_normal c) (c == 32) after (is_normal_there (first_char cs))
     parts.0 (λ none. begins_normal cs (ap (λ n. is_stretch n cs) (sym none) ∙ parts.1)))
     (all_within (Some c) cs parts.1)
 
