@@ -158,7 +158,7 @@ fn convert_list(
         (items_view items.items))
         (items_too_deep setting.entry.depth setting.entry.limit (items_view items.items)) }
 {
-    let mut nodes = Vec::new(alloc);
+    let mut nodes = Vec::with_capacity(alloc, items.len())?;
     for pair in items {
         let Pair { item, role } = pair;
         push_item(alloc, item, setting.with_role(&role), &mut nodes)?;

@@ -9,7 +9,8 @@ convert_list-returns-in_err-push_item t c =
     let at = c.loop-pair in
     let setting = c.args.setting in
     let own = c.with_role in
-    let failed = err_from_is_err_and c.from_residual.result c.from_residual.ensures.1 in
+    let failed = err_from_is_err_and c.from_residual-in_err-push_item.result
+    c.from_residual-in_err-push_item.ensures.1 in
     record {
       made = rw failed.1 tt;
       clean = rw failed.1 tt;
