@@ -21,6 +21,7 @@ pub(crate) fn text_at(value: Value) -> Result<String, Fault>
 }
 
 /// The only field.
+#[inline(always)]
 pub(crate) fn one(mut fields: Vec<Value>) -> Option<Value>
     ensures { MatchOption result (length fields.items ≢ 1) (λ first. fields.items ≡ first ∷ []) }
 {
@@ -29,22 +30,33 @@ pub(crate) fn one(mut fields: Vec<Value>) -> Option<Value>
 }
 
 /// The only two fields.
+#[inline(always)]
 fn two(mut fields: Vec<Value>) -> Option<(Value, Value)>
     ensures { MatchOption result (length fields.items ≢ 2) (λ p. fields.items ≡ p.0 ∷ p.1 ∷ []) }
 {
     let second = fields.pop()?;
-    let first = one(fields)?;
-    Some((first, second))
+    let first = fields.pop()?;
+    if fields.is_empty() {
+        Some((first, second))
+    } else {
+        None
+    }
 }
 
 /// The only three fields.
+#[inline(always)]
 pub(crate) fn three(mut fields: Vec<Value>) -> Option<(Value, Value, Value)>
     ensures { MatchOption result (length fields.items ≢ 3)
         (λ p. fields.items ≡ p.0 ∷ p.1 ∷ p.2 ∷ []) }
 {
     let third = fields.pop()?;
-    let (first, second) = two(fields)?;
-    Some((first, second, third))
+    let second = fields.pop()?;
+    let first = fields.pop()?;
+    if fields.is_empty() {
+        Some((first, second, third))
+    } else {
+        None
+    }
 }
 
 /// The text of a text's fields.
