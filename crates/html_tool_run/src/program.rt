@@ -26,8 +26,8 @@ use html_tool_spell::{Fault, element_in, items_in};
 use serde_json::Value;
 use std::alloc::{AllocError, Global};
 use std::io::{Read, Write};
-use typst_html_encode::{ExportFault, HtmlOptions, html_in_bundle};
-use typst_html_export::export;
+use typst_html_encode::{ExportFault, HtmlOptions, html_of};
+use typst_html_export::export_items;
 
 /// The most bytes that one read asks for.
 const PIECE: usize = 4096;
@@ -119,7 +119,7 @@ fn element_text(alloc: Global, element: HtmlElement, pretty: bool) -> Result<Str
         (tree_refusals pretty (element_view element)) }
 {
     let options = HtmlOptions { pretty };
-    match html_in_bundle(alloc, &element, &options, &()) {
+    match html_of(alloc, element, &options, &()) {
         Ok(text) => Ok(text),
         Err(fault) => Err(fault_of(&fault)),
     }
@@ -133,7 +133,7 @@ fn items_text(alloc: Global, items: Vec<Pair>, pretty: bool) -> Result<String, F
 {
     let info = DocumentInfo::new(alloc);
     let settings = HtmlOptions { pretty };
-    match export(alloc, &items, &info, &[], DEPTH_LIMIT, &settings, &()) {
+    match export_items(alloc, items, &info, &[], DEPTH_LIMIT, &settings, &()) {
         Ok(text) => Ok(text),
         Err(fault) => Err(fault_of(&fault)),
     }

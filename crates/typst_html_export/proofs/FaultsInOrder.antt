@@ -1,7 +1,10 @@
--- The faults of writing come after those of making a document.
+-- The faults of writing come after those of making a document, and these after those of its items.
 use Rattle.std.proofs.Common.{◌≡◌, ℕ, List, [], ◌∷◌, ◌++◌, map, ap, subst, Result, Ok, Err, String, Global}
 use Rattle.html_dom_tree.specs.Views.{text_view}
-use Rattle.html_dom_document.specs.Documents.{DocumentView, document_root}
+use Rattle.html_dom_tree.specs.Tree.{NodesView}
+use Rattle.html_dom_document.specs.Documents.{DocumentView, InfoView, document_root}
+use Rattle.html_dom_document.specs.Views.{document_view}
+use Rattle.html_dom_document.specs.declared.document.HtmlDocument.{HtmlDocument}
 use Rattle.typst_html_encode.specs.Faults.{BeginsWith, IsFirst}
 use Rattle.typst_html_encode.specs.Faults as writing
 use Rattle.typst_html_encode.specs.Frames.{Frames}
@@ -11,8 +14,9 @@ use Rattle.typst_html_encode.specs.declared.options.HtmlOptions.{HtmlOptions}
 use Rattle.typst_html_encode.specs.FaultViews.{ExportFaultView, export_fault_view, IsFirstView}
 use Rattle.typst_html_encode.specs.declared.fault.ExportFault.{ExportFault}
 use Rattle.typst_html_encode.specs.declared.fault.ExportFault.TheVariants as fault
+use Rattle.html_flow_convert.specs.Depth.{items_too_deep}
 use Rattle.html_flow_convert.specs.Items.{ItemsView}
-use Rattle.typst_html_export.specs.Assembled.{document_faults}
+use Rattle.typst_html_export.specs.Assembled.{assembled_document, assembly_faults, depth_faults, document_around, document_faults, document_nodes}
 use Rattle.typst_html_export.specs.Assembles.{Assembles}
 use Rattle.typst_html_export.specs.Exported.{root_faults}
 use Rattle.typst_html_export.proofs.Firsts.{first_after_none, none_after_none}
@@ -54,3 +58,26 @@ exported frames options limit items notes d expected r is none m =
     (document_faults limit items notes ++ root_faults frames options (document_root v))) is
     (written r (document_text frames options (document_root d)) (document_faults limit items notes)
     (writing.document_faults frames options (document_root d)) none m)
+
+-- what is answered for the nodes of items, none of which stands too deep
+around_nodes : (r : Result HtmlDocument ExportFault) (d : DocumentView)
+    (deep fs : List ExportFaultView) → deep ≡ [] → Assembles document_view r d fs →
+    Assembles document_view r d (deep ++ fs)
+around_nodes (Ok made) d deep fs none m =
+    record { made = m.made; clean = none_after_none deep fs none m.clean; fault = tt }
+around_nodes (Err e) d deep fs none m =
+    record { made = tt; clean = tt; fault = first_after_none e deep fs none m.fault }
+
+pub around_items : (limit : ℕ) (info : InfoView) (items notes : ItemsView) (content : NodesView)
+    (r : Result HtmlDocument ExportFault) → content ≡ document_nodes items →
+    depth_faults (items_too_deep 0 limit items) ≡ [] →
+    Assembles document_view r (document_around info content notes)
+    (assembly_faults limit content notes) →
+    Assembles document_view r (assembled_document info items notes)
+    (document_faults limit items notes)
+around_items limit info items notes content r is none m =
+    around_nodes r (assembled_document info items notes)
+    (depth_faults (items_too_deep 0 limit items))
+    (assembly_faults limit (document_nodes items) notes) none
+    (subst (λ ns. Assembles document_view r (document_around info ns notes)
+    (assembly_faults limit ns notes)) is m)

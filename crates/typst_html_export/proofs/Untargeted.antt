@@ -1,12 +1,12 @@
 -- A document to which no link leads stays as it is.
-use Rattle.std.proofs.Common.{◌≡◌, ℕ, zero, suc, Bool, true, false, Some, None, refl, ap, sym, ◌∙◌}
+use Rattle.std.proofs.Common.{◌≡◌, ℕ, zero, suc, true, false, None, refl, ap, sym, ◌∙◌}
 use Rattle.std.proofs.Math.Path.{fun_ext}
 use Rattle.std.proofs.lemmas.List.{nil_from_length}
 use Rattle.std.specs.BTreeMap.{BTreeMap, IsEmpty}
 use Rattle.std.specs.BTreeSet.{BTreeSet, btree_set_len}
 use Rattle.std.specs.Prelude.{String}
 use Rattle.std.specs.declared.alloc.Global.{Global}
-use Rattle.html_dom_tree.specs.Tree.{tag_node, text_node, element_node, frame_node, NodesView, none, node, ElementView}
+use Rattle.html_dom_tree.specs.Tree.{tag_node, text_node, element_node, frame_node, NodesView, none, node}
 use Rattle.html_dom_tree.specs.declared.introspection.Location.{Location}
 use Rattle.html_dom_introspect.specs.Introspectors.{has, text_in}
 use Rattle.html_dom_document.specs.Documents.{DocumentView, document_root, element_at, given_root, is_element_at, with_element}

@@ -94,13 +94,20 @@ output_styled o = record o { nodes = nodes_styled o.nodes }
 abbrev pub document_nodes : ItemsView → NodesView
 document_nodes items = converted_nodes Block Normal None items
 
--- the document of items, of what is known of it, and of footnotes
+-- the document around nodes, of what is known of it, and of footnotes
+abbrev pub output_around : InfoView → (content : NodesView) (notes : ItemsView) → OutputView
+output_around info content notes =
+    output_styled (assembled_output info content (document_nodes notes))
+
+abbrev pub document_around : InfoView → (content : NodesView) (notes : ItemsView) → DocumentView
+document_around info content notes = new_document (output_around info content notes) info
+
+-- the same around the nodes of items
 abbrev pub document_output : InfoView → (items notes : ItemsView) → OutputView
-document_output info items notes =
-    output_styled (assembled_output info (document_nodes items) (document_nodes notes))
+document_output info items notes = output_around info (document_nodes items) notes
 
 abbrev pub assembled_document : InfoView → (items notes : ItemsView) → DocumentView
-assembled_document info items notes = new_document (document_output info items notes) info
+assembled_document info items notes = document_around info (document_nodes items) notes
 
 abbrev pub item_spans : ItemsView → List ℕ
 item_spans no_items = []

@@ -14,7 +14,7 @@ ghost use Rattle.html_flow_whitespace.specs.Nodes.{is_tag};
 ghost use Rattle.html_flow_convert.specs.Depth.{items_too_deep};
 ghost use Rattle.html_flow_convert.specs.Items.{no_items};
 ghost use Rattle.html_flow_convert.specs.Views.{items_view};
-ghost use Rattle.typst_html_export.specs.Assembled.{assembled_document, assembled_output, document_nodes};
+ghost use Rattle.typst_html_export.specs.Assembled.{assembled_document, assembled_output, document_around, document_nodes};
 ghost use Rattle.typst_html_export.specs.Assembled.{first_own, is_html, is_own, own_head, document_outline, shown_count};
 ghost use Rattle.typst_html_export.specs.Assembled.{body_node, both_nodes, html_output};
 ghost use Rattle.typst_html_export.specs.Assembled.{assembly_faults, depth_faults, document_faults, item_spans, note_faults, outline_faults};
@@ -29,7 +29,7 @@ use crate::head::{head_node, lang_text};
 use html_dom_document::{DocumentInfo, HtmlDocument, HtmlOutput};
 use html_dom_link::with_link_anchors;
 use html_dom_tree::{HtmlElement, HtmlNode, Span, with_inline_styles};
-use html_flow_convert::{ConversionLevel, Pair, Whitespace, convert_to_nodes};
+use html_flow_convert::{ConversionLevel, Pair, Whitespace, convert_items, convert_to_nodes};
 use html_names::{attr, tag};
 use std::alloc::{AllocError, Global};
 use std::collections::BTreeMap;
@@ -156,9 +156,60 @@ pub fn html_document_for_bundle(
         (items_view items.now) (items_view footnotes.now)) }
 {
     let content = converted(alloc, items, 0, limit)?;
+    document_around(alloc, content, info, footnotes, limit)
+}
+
+/// The document of items that are not needed any more, with anchors for all locations to which links
+/// lead: as [`html_document`] makes it, but their texts, attributes and css are moved.
+pub(crate) fn document_of_items(
+    alloc: Global,
+    items: Vec<Pair>,
+    info: &DocumentInfo,
+    footnotes: &[Pair],
+    limit: usize,
+) -> Result<HtmlDocument, ExportFault>
+    requires some_limit { 1 ≤ limit }
+    requires low_limit { limit ≤ 10000 }
+    ensures { Assembles document_view result
+        (linked_document (info_view info.now) (items_view items.items) (items_view footnotes.now))
+        (document_faults limit (items_view items.items) (items_view footnotes.now)) }
+{
+    let content = moved(alloc, items, limit)?;
+    let document = document_around(alloc, content, info, footnotes, limit)?;
+    Ok(with_anchors(alloc, document)?)
+}
+
+/// The document around the nodes of its items, without anchors.
+fn document_around(
+    alloc: Global,
+    content: Vec<HtmlNode>,
+    info: &DocumentInfo,
+    footnotes: &[Pair],
+    limit: usize,
+) -> Result<HtmlDocument, ExportFault>
+    requires some_limit { 1 ≤ limit }
+    requires low_limit { limit ≤ 10000 }
+    ensures made { Assembles document_view result
+        (document_around (info_view info.now) (nodes_view content.items) (items_view footnotes.now))
+        (assembly_faults limit (nodes_view content.items) (items_view footnotes.now)) }
+    ensures leads { IfOk result (λ document. PositionsLead (document_view document)) }
+{
     let output = assembled(alloc, content, info, footnotes, limit)?;
     let output = styled(alloc, output)?;
     Ok(HtmlDocument::new(alloc, output, info.try_clone()?)?)
+}
+
+/// The nodes into which a document's items move.
+fn moved(alloc: Global, items: Vec<Pair>, limit: usize) -> Result<Vec<HtmlNode>, ExportFault>
+    requires some_limit { 1 ≤ limit }
+    requires low_limit { limit ≤ 10000 }
+    ensures { Assembles (λ made. nodes_view made.items) result
+        (document_nodes (items_view items.items))
+        (depth_faults (items_too_deep 0 limit (items_view items.items))) }
+{
+    let (level, whitespace) = (ConversionLevel::Block, Whitespace::Normal);
+    let nodes = convert_items(alloc, items, level, whitespace, None, 0, limit)?;
+    Ok(nodes)
 }
 
 /// The nodes of a list of items at that depth.

@@ -27,7 +27,7 @@ ghost use Rattle.typst_html_export.specs.Linked.{linked_document};
 ghost use Rattle.typst_html_export.specs.ReadLinks.{GivenLinksLeadWhenRead, IsReadable};
 ghost use Rattle.typst_html_export.specs.SpacesInDocuments.{ArePlainItems, SpacesAreSeen};
 
-use crate::document::html_document;
+use crate::document::{document_of_items, html_document};
 use html_dom_document::{DocumentInfo, HtmlDocument};
 use html_dom_link::with_resolved_links;
 use html_dom_tree::HtmlElement;
@@ -218,6 +218,32 @@ pub fn export_linked<F: FrameWriter>(
 {
     let made = html_document(alloc, items, info, footnotes, limit)?;
     let document = with_resolved_links(alloc, made)?;
+    html_of_made(alloc, document, options, frames)
+}
+
+/// The HTML text of items, as [`export`] writes it, for whoever owns the items and does not need them
+/// any more: their texts, attributes and css are moved, where that call copies them.
+///
+/// The items are gone, also where they are refused. Whoever wants to mend refused items lends them to
+/// [`export`].
+pub fn export_items<F: FrameWriter>(
+    alloc: Global,
+    items: Vec<Pair>,
+    info: &DocumentInfo,
+    footnotes: &[Pair],
+    limit: usize,
+    options: &HtmlOptions,
+    frames: &F,
+) -> Result<String, ExportFault>
+    requires some_limit { 1 ≤ limit }
+    requires low_limit { limit ≤ 10000 }
+    ensures { Assembles text_view result
+        (export_text (F.drawing frames.now) options.now
+        (info_view info.now) (items_view items.items) (items_view footnotes.now))
+        (export_faults limit (F.drawing frames.now) options.now
+        (info_view info.now) (items_view items.items) (items_view footnotes.now)) }
+{
+    let document = document_of_items(alloc, items, info, footnotes, limit)?;
     html_of_made(alloc, document, options, frames)
 }
 

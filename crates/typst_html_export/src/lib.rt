@@ -7,4 +7,4 @@ mod head;
 pub mod laws;
 
 pub use document::{html_document, html_document_for_bundle};
-pub use encode::{export, export_linked, html};
+pub use encode::{export, export_items, export_linked, html};
