@@ -18,7 +18,13 @@ push_element-returns-clause-list t c =
     let numbered = c.in_ok-tag.ensures in
     let opens : builder_view opened ≡ builder_view old ++ flat_element e.0 0 ∷ []
     = c.in_ok-push.ensures.list
-    ∙ rw (numbered.list, numbered.numbers.same, numbered.numbers.pairs_are.same, c.in_ok-try_clone.ensures, c.in_ok-try_clone-2.ensures) refl in
+    ∙ rw (
+      numbered.list,
+      numbered.numbers.same,
+      numbered.numbers.pairs_are.same,
+      c.in_ok-try_clone.ensures,
+      c.in_ok-try_clone-2.ensures,
+    ) refl in
     let fills : builder_view filled
     ≡ builder_view opened ++ nodes_flat (vec_len old.nodes + 1) e.1
     = grind (arith, common_steps) in
