@@ -11,10 +11,10 @@ pub use Rattle.html_dom_tree.specs.Views
 pub use Rattle.html_dom_flat.specs.Flat
 pub use Rattle.html_dom_flat.specs.FlatTrees
 pub use Rattle.html_dom_flat.specs.FlatViews
-pub use Rattle.html_dom_introspect.specs.DomIndices
-pub use Rattle.html_dom_introspect.specs.Introspectors
-pub use Rattle.html_dom_introspect.specs.Paths
-pub use Rattle.html_dom_introspect.specs.Places
+pub use Rattle.html_dom_document.specs.DomIndices
+pub use Rattle.html_dom_document.specs.Introspectors
+pub use Rattle.html_dom_document.specs.Paths
+pub use Rattle.html_dom_document.specs.Places
 pub use Rattle.html_dom_document.specs.Documents
 pub use Rattle.html_dom_document.specs.Positions
 pub use Rattle.html_dom_document.specs.Views as DocumentViews

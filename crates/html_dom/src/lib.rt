@@ -1,7 +1,7 @@
 //! The tree of an HTML document: elements, texts, frames and tags, the document around them, where its
 //! located elements stand, the anchors that links lead to, and the tree as one list.
 //!
-//! Each name is of one of the parts `html_dom_tree`, `html_dom_document`, `html_dom_introspect`,
+//! Each name is of one of the parts `html_dom_tree`, `html_dom_document`,
 //! `html_dom_link` and `html_dom_flat`; users find them here.
 //!
 //! ```
@@ -21,9 +21,11 @@
 
 pub mod laws;
 
-pub use html_dom_document::{DocumentInfo, HtmlDocument, HtmlOutput, Locale};
+pub use html_dom_document::{
+    DocumentInfo, DomIndices, HtmlDocument, HtmlIntrospector, HtmlOutput, HtmlPosition,
+    HtmlSliceExt, Locale,
+};
 pub use html_dom_flat::{FlatElement, FlatNode, FlatTree};
-pub use html_dom_introspect::{DomIndices, HtmlIntrospector, HtmlPosition, HtmlSliceExt};
 pub use html_dom_link::{
     DeadLink, create_link_anchors, dead_links, href_to, ids_are_distinct, resolve_links,
     with_resolved_links,

@@ -6,7 +6,7 @@ use Rattle.html_dom_tree.specs.Views.{nodes_view, element_view}
 use Rattle.html_dom_tree.specs.declared.node.HtmlElement.{HtmlElement}
 use Rattle.html_dom_document.specs.Documents.{with_root, is_element_at}
 use Rattle.html_dom_document.specs.Lending.{with_root_element}
-use Rattle.html_dom_document.specs.Places.{put}
+use Rattle.html_dom_document.specs.RootPlaces.{set_is_seen}
 use Rattle.html_dom_document.specs.Views.{output_view}
 use Rattle.html_dom_document.specs.declared.output.HtmlOutput.{HtmlOutput}
 
@@ -30,4 +30,4 @@ module _ (output : HtmlOutput) (last : HtmlElement) where
   pub root_written : output_view made ≡ with_root (output_view output) (element_view last)
   root_written =
       ap (λ ns. record { nodes = ns; root = output.root_index })
-      (put output.nodes.items output.root_index last)
+      (set_is_seen output.nodes.items output.root_index last)

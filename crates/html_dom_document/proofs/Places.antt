@@ -6,7 +6,7 @@ use Rattle.html_dom_tree.specs.declared.node.HtmlElement.{HtmlElement}
 use Rattle.html_dom_tree.specs.declared.node.HtmlNode.{HtmlNode}
 use Rattle.html_dom_tree.specs.declared.node.HtmlNode.TheVariants.{Element}
 use Rattle.html_dom_document.specs.Documents.{node_at, as_element, element_at, is_element_at}
-use Rattle.html_dom_document.specs.Places.{view-Element}
+use Rattle.html_dom_document.specs.RootPlaces.{view-Element}
 
 -- it stands within the list
 pub within : (ns : List HtmlNode) (i : ℕ) → is_element_at (nodes_view ns) i ≡ true → i < length ns

@@ -3,11 +3,11 @@ use Rattle.std.proofs.Common.{◌≡◌, ℕ, zero, suc, List, [], ◌∷◌, �
 use Rattle.std.proofs.lemmas.Option.{none-some, same_Some}
 use Rattle.html_dom_tree.specs.PlainTree.{Plain, element_normal}
 use Rattle.html_dom_tree.specs.Tree.{Head, tag_node, text_node, element_node, frame_node, NodesView, none, node, ElementView}
-use Rattle.html_dom_introspect.specs.DomIndices.{◌then◌, dom_index}
-use Rattle.html_dom_introspect.specs.Places.{PositionView, PlaceView, is_html, children_path, node_places, nodes_places, recorded, first_position}
-use Rattle.html_dom_introspect.specs.Introspectors.{IntrospectorView, recorded_view}
-use Rattle.html_dom_introspect.specs.Paths.{holders, Lead}
-use Rattle.html_dom_introspect.proofs.Leading.{paths_lead}
+use Rattle.html_dom_document.specs.DomIndices.{◌then◌, dom_index}
+use Rattle.html_dom_document.specs.Places.{PositionView, PlaceView, is_html, children_path, node_places, nodes_places, document_places, first_position}
+use Rattle.html_dom_document.specs.Introspectors.{IntrospectorView, recorded_view}
+use Rattle.html_dom_document.specs.Paths.{holders, Lead}
+use Rattle.html_dom_document.proofs.Leading.{paths_lead}
 use Rattle.html_dom_document.specs.Documents.{DocumentView, nodes_before, element_at}
 use Rattle.html_dom_document.specs.Positions.{first_holder, led_to, PositionsLead}
 
@@ -79,7 +79,7 @@ root_path h i html = ap (λ out. if out then [] else i ∷ []) html
 found_below : (ns acc : NodesView) (i l : ℕ) (h : Head) (children : NodesView)
     (x : PositionView) → element_at ns i ≡ Some (h, children) → is_html h ≡ true →
     first_position (nodes_places [] acc (nodes_before ns i)) l ≡ None →
-    first_position (recorded children) l ≡ Some x →
+    first_position (document_places children) l ≡ Some x →
     first_position (nodes_places [] acc ns) l ≡ Some x
 unfolding nodes_places
 found_below none acc i l h children x there html absent found = absurd (none-some (h, children) there)
@@ -103,7 +103,7 @@ found_below (node (element_node g inner) ns) acc zero l h children x there html 
     found_before (node_places [] i (element_node g inner))
     (nodes_places [] (acc then node (element_node g inner) none) ns) l x
     (ap (λ path. first_position (nodes_places path none inner) l) path_is
-    ∙ (ap (λ (e : ElementView). first_position (recorded e.1) l) same ∙ found))
+    ∙ (ap (λ (e : ElementView). first_position (document_places e.1) l) same ∙ found))
 
 -- of a document that has what is recorded of its nodes, as a new one does
 pub positions_lead : (d : DocumentView) → d.introspector ≡ recorded_view d.output.nodes →
@@ -111,10 +111,10 @@ pub positions_lead : (d : DocumentView) → d.introspector ≡ recorded_view d.o
 unfolding nodes_places
 positions_lead d known root location holder there html plain absent held =
     let top = element_normal root in
-    let lead : Lead top (recorded root.1) (holders root root.1) =
+    let lead : Lead top (document_places root.1) (holders root root.1) =
     subst (λ path. Lead top (nodes_places path none root.1) (holders root root.1))
     (root_path root.0 0 html) (paths_lead 0 root.0 root.1 html plain) in
-    let below = first_leads top (recorded root.1) (holders root root.1) location holder lead held in
+    let below = first_leads top (document_places root.1) (holders root root.1) location holder lead held in
     ap (λ (i : IntrospectorView). option_and_then (led_to top) (i.position location)) known
     ∙ (ap (option_and_then (led_to top)) (found_below d.output.nodes none d.output.root location
     root.0 root.1 below.0 there html absent below.1)

@@ -2,8 +2,8 @@
 use Rattle.std.specs.Borrow.{Lends, MutBor, Fml}
 use Rattle.html_dom_tree.specs.declared.node.HtmlElement.{HtmlElement}
 use Rattle.html_dom_tree.specs.contracts.node.HtmlElement as element
-use Rattle.html_dom_introspect.specs.declared.introspect.HtmlIntrospector.{HtmlIntrospector}
-use Rattle.html_dom_introspect.specs.contracts.introspect.HtmlIntrospector as introspector
+use Rattle.html_dom_document.specs.declared.introspect.HtmlIntrospector.{HtmlIntrospector}
+use Rattle.html_dom_document.specs.contracts.introspect.HtmlIntrospector as introspector
 use Rattle.html_dom_document.specs.Lending.{with_root_element}
 use Rattle.html_dom_document.specs.declared.info.DocumentInfo.{DocumentInfo}
 use Rattle.html_dom_document.specs.declared.document.HtmlDocument.{HtmlDocument}

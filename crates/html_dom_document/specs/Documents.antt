@@ -2,7 +2,7 @@
 -- what is known of its locations.
 use Rattle.std.specs.Prelude.{ℕ, zero, suc, List, [], Bool, Option, Some, None, is_some}
 use Rattle.html_dom_tree.specs.Tree.{NodeView, tag_node, text_node, element_node, frame_node, NodesView, none, node, ElementView, new_element}
-use Rattle.html_dom_introspect.specs.Introspectors.{IntrospectorView, recorded_view}
+use Rattle.html_dom_document.specs.Introspectors.{IntrospectorView, recorded_view}
 
 -- a language, and perhaps the region in which it is spoken
 pub record LocaleView : Type 0 where

@@ -4,7 +4,7 @@ use Rattle.std.specs.Vec.{with_item}
 use Rattle.html_dom_tree.specs.declared.node.HtmlElement.{HtmlElement}
 use Rattle.html_dom_tree.specs.declared.node.HtmlNode.TheVariants.{Element}
 use Rattle.html_dom_tree.specs.contracts.node.HtmlElement as element
-use Rattle.html_dom_document.specs.Places.{put_stands}
+use Rattle.html_dom_document.specs.RootPlaces.{put_stands}
 use Rattle.html_dom_document.specs.declared.output.HtmlOutput.{HtmlOutput}
 use Rattle.html_dom_document.specs.contracts.output.HtmlOutput.{the_row}
 

@@ -1,6 +1,13 @@
-pub mod Documents
+pub mod Cursor
 pub mod DocumentLending
+pub mod Documents
+pub mod DomIndices
+pub mod IndexWalks
+pub mod Introspectors
 pub mod Lending
+pub mod Paths
 pub mod Places
 pub mod Positions
+pub mod Records
+pub mod RootPlaces
 pub mod Views

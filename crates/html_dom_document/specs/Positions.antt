@@ -2,8 +2,8 @@
 use Rattle.std.specs.Prelude.{◌≡◌, ℕ, List, [], ◌∷◌, true, ◌==◌, if◌then◌else◌, Option, Some, None, option_and_then}
 use Rattle.html_dom_tree.specs.PlainTree.{Plain, element_normal}
 use Rattle.html_dom_tree.specs.Tree.{ElementView}
-use Rattle.html_dom_introspect.specs.Places.{PositionView, PlaceView, is_html, recorded, first_position}
-use Rattle.html_dom_introspect.specs.Paths.{follow, ArePlain, without_last, holders}
+use Rattle.html_dom_document.specs.Places.{PositionView, PlaceView, is_html, document_places, first_position}
+use Rattle.html_dom_document.specs.Paths.{follow, ArePlain, without_last, holders}
 use Rattle.html_dom_document.specs.Documents.{OutputView, DocumentView, nodes_before, root_of}
 
 -- of start tags, each with the element that holds it, the element of a location's first one
@@ -15,12 +15,12 @@ first_holder (p ∷ ps) (e ∷ es) location =
 
 -- the element that holds a location's first start tag below an `html` element
 abbrev pub holder_below : ElementView → (location : ℕ) → Option ElementView
-holder_below root = first_holder (recorded root.1) (holders root root.1)
+holder_below root = first_holder (document_places root.1) (holders root root.1)
 
 -- no start tag of a location stands before the root
 abbrev pub NotBeforeRoot : OutputView → (location : ℕ) → Type 0
 NotBeforeRoot o location =
-    first_position (recorded (nodes_before o.nodes o.root)) location ≡ None
+    first_position (document_places (nodes_before o.nodes o.root)) location ≡ None
 
 -- where a position leads by child numbers: its path without the last number, which is the tag's own
 abbrev pub led_to : Plain → PositionView → Option Plain

@@ -2,7 +2,7 @@
 use Rattle.std.specs.Prelude.{ℕ, List, map, option_map, String}
 use Rattle.std.specs.declared.alloc.Global.{Global}
 use Rattle.html_dom_tree.specs.Views.{text_view, optional_text_view, nodes_view}
-use Rattle.html_dom_introspect.specs.Introspectors.{introspector_view}
+use Rattle.html_dom_document.specs.Introspectors.{introspector_view}
 use Rattle.html_dom_document.specs.Documents.{LocaleView, InfoView, OutputView, DocumentView}
 use Rattle.html_dom_document.specs.declared.info.Locale.{Locale}
 use Rattle.html_dom_document.specs.declared.info.DocumentInfo.{DocumentInfo}

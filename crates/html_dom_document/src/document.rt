@@ -1,6 +1,6 @@
+use crate::HtmlIntrospector;
 use crate::info::DocumentInfo;
 use crate::output::HtmlOutput;
-use html_dom_introspect::HtmlIntrospector;
 use html_dom_tree::{HtmlElement, HtmlNode};
 use html_names::Refused;
 use std::alloc::{AllocError, Global};
@@ -18,7 +18,7 @@ impl HtmlDocument {
     ghost use Rattle.std.specs.Prelude.{◌≡◌, Some, IfOk, IfErr};
     ghost use Rattle.html_dom_tree.specs.declared.node.HtmlElement.{HtmlElement};
     ghost use Rattle.html_dom_tree.specs.Views.{node_view, nodes_view, element_view};
-    ghost use Rattle.html_dom_introspect.specs.Introspectors.{introspector_view};
+    ghost use Rattle.html_dom_document.specs.Introspectors.{introspector_view};
     ghost use Rattle.html_dom_document.specs.Documents.{node_at, root_of, with_root, new_document};
     ghost use Rattle.html_dom_document.specs.Positions.{PositionsLead};
     ghost use Rattle.html_dom_document.specs.Views.{output_view, info_view, document_view};

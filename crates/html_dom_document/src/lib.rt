@@ -1,5 +1,8 @@
-//! Documents of HTML: the nodes with a root element among them, what is known of the whole, and
-//! where its located elements stand.
+//! Documents of HTML: the nodes with a root element among them, what is known of the whole, where its
+//! located elements stand, and where links lead.
+//!
+//! A contract sees what an introspector knows as functions of a location: its position, whether
+//! links lead to it, and its anchor.
 //!
 //! ```
 //! use html_dom::{DocumentInfo, HtmlDocument, HtmlElement, HtmlNode, HtmlOutput, Span};
@@ -17,12 +20,22 @@
 //! ```
 #![tactic(auto)]
 
+mod cursor;
 mod document;
+mod dom_indices;
 mod element;
 mod info;
+mod introspect;
 pub mod laws;
 mod output;
+mod place;
+mod position;
+mod recorder;
+mod tables;
 
 pub use document::HtmlDocument;
+pub use dom_indices::{DomIndices, HtmlSliceExt};
 pub use info::{DocumentInfo, Locale};
+pub use introspect::HtmlIntrospector;
 pub use output::HtmlOutput;
+pub use position::HtmlPosition;

@@ -6,20 +6,20 @@ use Rattle.html_names.specs.NameTables.{NamesView}
 use Rattle.html_dom_tree.specs.Tree.{Head, NodesView}
 use Rattle.html_dom_flat.specs.Flat.{FlatNodeView, flat_element, nodes_count, nodes_flat, element_flat}
 use Rattle.html_dom_flat.specs.FlatViews.{flat_node_view, flat_nodes_view, is_node_given, are_given}
-use Rattle.html_dom_flat.specs.Closing.{with_past, closed_at}
-use Rattle.html_dom_flat.specs.Numbering.{ended}
+use Rattle.html_dom_flat.specs.ClosedElements.{with_past, closed_at}
+use Rattle.html_dom_flat.specs.Numbering.{with_end}
 use Rattle.html_dom_flat.specs.declared.flat_node.FlatNode.{FlatNode}
 use Rattle.html_dom_flat.specs.declared.flat_node.FlatNode.TheVariants.{Tag, Text, Frame, Element}
 
 view_ended : (names : NamesView) (past : ℕ) (n : FlatNode) →
-    flat_node_view names (ended past n) ≡ with_past past (flat_node_view names n)
+    flat_node_view names (with_end past n) ≡ with_past past (flat_node_view names n)
 view_ended names past (Tag t) = refl
 view_ended names past (Text s span) = refl
 view_ended names past (Frame f) = refl
 view_ended names past (Element e) = refl
 
 given_ended : (names : NamesView) (past : ℕ) (n : FlatNode) →
-    is_node_given names (ended past n) ≡ is_node_given names n
+    is_node_given names (with_end past n) ≡ is_node_given names n
 given_ended names past (Tag t) = refl
 given_ended names past (Text s span) = refl
 given_ended names past (Frame f) = refl
@@ -27,7 +27,7 @@ given_ended names past (Element e) = refl
 
 pub given_closed :
     (names : NamesView) (nodes : List FlatNode) (place past : ℕ) (v d : FlatNode) →
-    v ≡ ended past (get_or nodes place d) → are_given names nodes ≡ true →
+    v ≡ with_end past (get_or nodes place d) → are_given names nodes ≡ true →
     are_given names (set nodes place v) ≡ true
 given_closed names [] place past v d is given = refl
 given_closed names (n ∷ ns) zero past v d is given =
@@ -41,7 +41,7 @@ given_closed names (n ∷ ns) (suc place) past v d is given =
 
 pub closed :
     (names : NamesView) (nodes : List FlatNode) (place past : ℕ) (v d : FlatNode) →
-    v ≡ ended past (get_or nodes place d) → place < length nodes →
+    v ≡ with_end past (get_or nodes place d) → place < length nodes →
     flat_nodes_view names (set nodes place v)
     ≡ closed_at place past (flat_nodes_view names nodes)
 unfolding closed_at

@@ -8,7 +8,7 @@ use Rattle.html_dom_tree.specs.Views.{nodes_of}
 use Rattle.html_dom_tree.specs.declared.node.HtmlNode.{HtmlNode}
 use Rattle.html_dom_flat.specs.Flat.{FlatNodeView, flat_tag, flat_text, flat_frame, flat_element, node_count, nodes_count, front, back, spelled_nodes}
 use Rattle.html_dom_flat.specs.FlatViews.{flat_node_view, flat_nodes_view}
-use Rattle.html_dom_flat.specs.Stacks.{PlacedView, placed_view, placed_node, stack_view, stack_nodes, is_top_before, nodes_before, IsPopped, rest_after, made_of, stacked}
+use Rattle.html_dom_flat.specs.Stacks.{PlacedView, placed_view, placed_node, stack_view, stack_nodes, is_top_before, nodes_before, IsPopped, rest_after, made_of, list_stack}
 use Rattle.html_dom_flat.specs.declared.flat_node.FlatNode.{FlatNode}
 
 -- the nodes stand one after another, the first at that place
@@ -76,11 +76,11 @@ taken past place (x ∷ xs) laid =
     (taken past (place + node_count x.1) xs laid.1)
 
 record Stacked (place : ℕ) (fs : List FlatNodeView) : Type 0 where
-  pub same : stack_nodes (stacked place fs) ≡ spelled_nodes place fs
-  pub laid : IsLaid place (stacked place fs)
+  pub same : stack_nodes (list_stack place fs) ≡ spelled_nodes place fs
+  pub laid : IsLaid place (list_stack place fs)
 
 stacked_all : (place : ℕ) (fs : List FlatNodeView) → Stacked place fs
-unfolding stacked spelled_nodes node_count
+unfolding list_stack spelled_nodes node_count
 stacked_all place [] = record { same = refl; laid = tt }
 stacked_all place (flat_tag t ∷ fs) =
     let later = stacked_all (place + 1) fs in
@@ -93,7 +93,7 @@ stacked_all place (flat_frame f ∷ fs) =
     record { same = rw later.same refl; laid = (refl, later.laid) }
 stacked_all place (flat_element h past ∷ fs) =
     let later = stacked_all (place + 1) fs in
-    let stack = stacked (place + 1) fs in
+    let stack = list_stack (place + 1) fs in
     let parts = taken past (place + 1) stack later.laid in
     let inside = nodes_count (nodes_of (nodes_before past stack)) in
     let counted : place + 1 + inside ≡ place + (1 + inside) = omega arith in
@@ -103,7 +103,7 @@ stacked_all place (flat_element h past ∷ fs) =
     }
 
 pub stack_spells : (place : ℕ) (fs : List FlatNodeView) →
-    stack_nodes (stacked place fs) ≡ spelled_nodes place fs
+    stack_nodes (list_stack place fs) ≡ spelled_nodes place fs
 stack_spells place fs = (stacked_all place fs).same
 
 -- the top of a stack
@@ -125,12 +125,12 @@ pub stacked_more :
     (names : NamesView) (nodes : List FlatNode) (place : ℕ) (d : FlatNode)
     (old mid new : List (ℕ × HtmlNode)) (made : HtmlNode) →
     place < length nodes →
-    stack_view old ≡ stacked (place + 1) (drop (place + 1) (flat_nodes_view names nodes)) →
+    stack_view old ≡ list_stack (place + 1) (drop (place + 1) (flat_nodes_view names nodes)) →
     ((placed_view (place, made)).1, stack_view mid)
     ≡ made_of (flat_node_view names (get_or nodes place d)) (stack_view old) →
     new ≡ mid ++ (place, made) ∷ [] →
-    stack_view new ≡ stacked place (drop place (flat_nodes_view names nodes))
-unfolding stacked
+    stack_view new ≡ list_stack place (drop place (flat_nodes_view names nodes))
+unfolding list_stack
 stacked_more names nodes place d old mid new made below before makes puts =
     let here = drop_at names nodes place d below in
     rw (puts, stack_push mid (place, made), here, ← before, ← makes) refl
@@ -188,6 +188,6 @@ drop_all names [] = refl
 drop_all names (n ∷ ns) = drop_all names ns
 
 pub stacked_none : (names : NamesView) (nodes : List FlatNode) →
-    stacked (length nodes) (drop (length nodes) (flat_nodes_view names nodes)) ≡ []
-unfolding stacked
+    list_stack (length nodes) (drop (length nodes) (flat_nodes_view names nodes)) ≡ []
+unfolding list_stack
 stacked_none names nodes = rw (drop_all names nodes) refl

@@ -3,6 +3,6 @@ pub mod FlatViews
 pub mod Sets
 pub mod FlatTrees
 pub mod Builders
-pub mod Closing
+pub mod ClosedElements
 pub mod Numbering
 pub mod Stacks

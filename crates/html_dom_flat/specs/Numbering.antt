@@ -32,8 +32,8 @@ pub record AreNumbersOf
   pub pairs_are : ArePairsOf names pairs attrs
 
 -- with that end, if it is an element
-abbrev pub ended : (past : ℕ) → FlatNode → FlatNode
-ended past (Tag t) = Tag t
-ended past (Text s span) = Text s span
-ended past (Frame f) = Frame f
-ended past (Element e) = Element (record e { past = past })
+abbrev pub with_end : (past : ℕ) → FlatNode → FlatNode
+with_end past (Tag t) = Tag t
+with_end past (Text s span) = Text s span
+with_end past (Frame f) = Frame f
+with_end past (Element e) = Element (record e { past = past })

@@ -55,7 +55,7 @@ made_of (flat_element h past) stack =
     (element_node h (nodes_of (nodes_before past stack)), rest_after past stack)
 
 -- the stack for a list, of which the first stands at that place
-unfoldable pub stacked : (place : ℕ) → List FlatNodeView → List PlacedView
-stacked place [] = []
-stacked place (f ∷ fs) =
-    let made = made_of f (stacked (place + 1) fs) in (place, made.0) ∷ made.1
+unfoldable pub list_stack : (place : ℕ) → List FlatNodeView → List PlacedView
+list_stack place [] = []
+list_stack place (f ∷ fs) =
+    let made = made_of f (list_stack (place + 1) fs) in (place, made.0) ∷ made.1

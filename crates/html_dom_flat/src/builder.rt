@@ -5,9 +5,11 @@ ghost use Rattle.html_dom_flat.specs.FlatViews.{are_given};
 
 use crate::flat_node::{FlatElement, FlatNode};
 use crate::numbering::{numbered_attrs, set_past};
-use html_dom_tree::{HtmlAttrs, HtmlElement, HtmlNode};
+use html_dom_tree::{Frame, HtmlAttrs, HtmlElement, HtmlFrame, HtmlNode, Location, Span, Tag};
 use html_names::{HtmlTag, NameTable};
+use html_values_css::{Abs, Properties};
 use std::alloc::{AllocError, Global};
+use std::mem;
 
 /// A tree's list while it is made: each element that is not closed yet ends at the place 0.
 #[derive(Drop)]
@@ -23,7 +25,7 @@ impl Builder {
     ghost use Rattle.html_dom_flat.specs.Flat.{node_count, nodes_count, node_flat, nodes_flat, element_flat};
     ghost use Rattle.html_dom_flat.specs.FlatViews.{flat_node_view, is_node_given};
     ghost use Rattle.html_dom_flat.specs.Builders.{builder_view};
-    ghost use Rattle.html_dom_flat.specs.Closing.{closed_at};
+    ghost use Rattle.html_dom_flat.specs.ClosedElements.{closed_at};
     ghost use Rattle.html_dom_flat.specs.Numbering.{AreNumbersOf};
 
     /// The empty list.
@@ -38,6 +40,7 @@ impl Builder {
     }
 
     /// Adds a node.
+    #[inline(always)]
     fn push(&mut self, node: FlatNode) -> Result<(), AllocError>
         requires { is_node_given self.old.names node ≡ true }
         ensures list { OnOk result (builder_view self.new
@@ -136,72 +139,83 @@ impl Builder {
         Ok(())
     }
 
-    /// Adds a node and all below it, which are moved.
+    /// Adds a node and all below it, and leaves nodes with no text and no attributes in their place.
     #[cycle(flatten_moved)]
     #[tactic(auto, unfolding(crate::specs::Flat::node_flat, crate::specs::Flat::node_count))]
-    fn move_node(&mut self, alloc: Global, node: HtmlNode) -> Result<(), AllocError>
+    fn move_node(&mut self, alloc: Global, node: &mut HtmlNode) -> Result<(), AllocError>
         ensures list { OnOk result (builder_view self.new
-            ≡ builder_view self.old ++ node_flat (vec_len self.old.nodes) (node_view node)) }
+            ≡ builder_view self.old ++ node_flat (vec_len self.old.nodes) (node_view node.old)) }
         ensures count { OnOk result (vec_len self.new.nodes
-            ≡ vec_len self.old.nodes + node_count (node_view node)) }
+            ≡ vec_len self.old.nodes + node_count (node_view node.old)) }
     {
         match node {
-            HtmlNode::Tag(tag) => self.push(FlatNode::Tag(tag)),
-            HtmlNode::Text(text, span) => self.push(FlatNode::Text(text, span)),
-            HtmlNode::Frame(frame) => self.push(FlatNode::Frame(frame)),
+            HtmlNode::Tag(tag) => {
+                let end = Tag::End {
+                    location: Location(0),
+                };
+                self.push(FlatNode::Tag(mem::replace(tag, end)))
+            }
+            HtmlNode::Text(text, span) => {
+                self.push(FlatNode::Text(mem::replace(text, String::new(alloc)), *span))
+            }
+            HtmlNode::Frame(frame) => {
+                let blank = blank_frame(alloc, frame.text_size);
+                self.push(FlatNode::Frame(mem::replace(frame, blank)))
+            }
             HtmlNode::Element(element) => self.move_element(alloc, element),
         }
     }
 
-    /// Adds an element and all below it, which are moved.
+    /// Adds an element and all below it, as `move_node` does.
     #[cycle(flatten_moved)]
     pub(crate) fn move_element(
         &mut self,
         alloc: Global,
-        element: HtmlElement,
+        element: &mut HtmlElement,
     ) -> Result<(), AllocError>
         ensures list { OnOk result (builder_view self.new ≡ builder_view self.old
-            ++ element_flat (vec_len self.old.nodes) (element_view element)) }
+            ++ element_flat (vec_len self.old.nodes) (element_view element.old)) }
         ensures count { OnOk result (vec_len self.new.nodes
-            ≡ vec_len self.old.nodes + 1 + nodes_count (element_view element).1) }
+            ≡ vec_len self.old.nodes + 1 + nodes_count (element_view element.old).1) }
     {
         let place = self.nodes.len();
-        let HtmlElement {
-            tag,
-            attrs,
-            css,
-            children,
-            parent,
-            span,
-            pre_span,
-        } = element;
-        let (tag, attrs) = self.numbered(alloc, &tag, attrs)?;
+        let attrs = mem::replace(&mut element.attrs, HtmlAttrs::new(alloc));
+        let (tag, attrs) = self.numbered(alloc, &element.tag, attrs)?;
         self.push(FlatNode::Element(FlatElement {
             tag,
             attrs,
-            css,
-            parent,
-            span,
-            pre_span,
+            css: mem::replace(&mut element.css, Properties::new(alloc)),
+            parent: element.parent,
+            span: element.span,
+            pre_span: element.pre_span,
             past: 0,
         }))?;
-        self.move_nodes(alloc, children)?;
+        self.move_nodes(alloc, &mut element.children)?;
         self.close_element(place);
         Ok(())
     }
 
-    /// Adds nodes and all below them, which are moved.
+    /// Adds nodes and all below them, as `move_node` does.
     #[cycle(flatten_moved)]
     #[tactic(auto, unfolding(crate::specs::Flat::nodes_flat, crate::specs::Flat::nodes_count))]
-    fn move_nodes(&mut self, alloc: Global, nodes: Vec<HtmlNode>) -> Result<(), AllocError>
+    fn move_nodes(&mut self, alloc: Global, nodes: &mut [HtmlNode]) -> Result<(), AllocError>
         ensures list { OnOk result (builder_view self.new
-            ≡ builder_view self.old ++ nodes_flat (vec_len self.old.nodes) (nodes_view nodes.items)) }
+            ≡ builder_view self.old ++ nodes_flat (vec_len self.old.nodes) (nodes_view nodes.old)) }
         ensures count { OnOk result (vec_len self.new.nodes
-            ≡ vec_len self.old.nodes + nodes_count (nodes_view nodes.items)) }
+            ≡ vec_len self.old.nodes + nodes_count (nodes_view nodes.old)) }
     {
-        for node in nodes {
+        for node in nodes.iter_mut() {
             self.move_node(alloc, node)?;
         }
         Ok(())
     }
+}
+
+/// A frame with nothing in it.
+fn blank_frame(alloc: Global, text_size: Abs) -> HtmlFrame {
+    let inner = Frame {
+        picture: 0,
+        items: Vec::new(alloc),
+    };
+    HtmlFrame::new(alloc, inner, text_size, Span(0))
 }

@@ -14,12 +14,12 @@ use std::alloc::{AllocError, Global};
 /// an allocation does; the tree is then gone.
 ///
 /// Cost: grows with the number of nodes and of their attributes. No text is copied.
-pub fn flat_tree_of(alloc: Global, element: HtmlElement) -> Result<FlatTree, AllocError>
+pub fn flat_tree_of(alloc: Global, mut element: HtmlElement) -> Result<FlatTree, AllocError>
     ensures { let e = element_view element in
         IfOk result (λ tree. tree_nodes tree ≡ node (element_node e.0 e.1) none) }
 {
     let mut builder = Builder::new(alloc);
-    builder.move_element(alloc, element)?;
+    builder.move_element(alloc, &mut element)?;
     let Builder { nodes, names } = builder;
     Ok(FlatTree { nodes, names })
 }

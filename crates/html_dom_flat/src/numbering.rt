@@ -2,7 +2,7 @@
 
 ghost use Rattle.std.specs.Prelude.{◌≡◌, IfOk};
 ghost use Rattle.html_dom_tree.specs.Views.{attrs_view};
-ghost use Rattle.html_dom_flat.specs.Numbering.{Grows, ArePairsOf, ended};
+ghost use Rattle.html_dom_flat.specs.Numbering.{Grows, ArePairsOf, with_end};
 
 use crate::flat_node::FlatNode;
 use html_dom_tree::HtmlAttrs;
@@ -18,6 +18,9 @@ pub(crate) fn numbered_attrs(
     ensures grows { Grows names.old names.new }
     ensures pairs { IfOk result (λ pairs. ArePairsOf names.new pairs.items (attrs_view attrs)) }
 {
+    if attrs.0.is_empty() {
+        return Ok(Vec::new(alloc));
+    }
     let mut pairs = Vec::with_capacity(alloc, attrs.0.len())?;
     for (attr, value) in attrs.0 {
         pairs.push((names.attr(&attr)?, value))?;
@@ -27,7 +30,7 @@ pub(crate) fn numbered_attrs(
 
 /// Sets where an element ends.
 pub(crate) fn set_past(node: &mut FlatNode, past: usize)
-    ensures { node.new ≡ ended past node.old }
+    ensures { node.new ≡ with_end past node.old }
 {
     match node {
         FlatNode::Element(element) => element.past = past,

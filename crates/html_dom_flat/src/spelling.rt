@@ -5,7 +5,7 @@ ghost use Rattle.std.specs.List.{list_all};
 ghost use Rattle.html_dom_tree.specs.Views.{attrs_view, node_view, element_view, nodes_view};
 ghost use Rattle.html_dom_flat.specs.Flat.{spelled_nodes};
 ghost use Rattle.html_dom_flat.specs.FlatViews.{flat_pair, flat_head, flat_node_view, flat_nodes_view, is_pair_given, is_given, is_node_given, are_given};
-ghost use Rattle.html_dom_flat.specs.Stacks.{stack_view, is_top_before, nodes_before, rest_after, IsPopped, made_of, stacked};
+ghost use Rattle.html_dom_flat.specs.Stacks.{stack_view, is_top_before, nodes_before, rest_after, IsPopped, made_of, list_stack};
 
 use crate::flat_node::{FlatElement, FlatNode};
 use html_dom_tree::{HtmlAttrs, HtmlElement, HtmlNode};
@@ -120,7 +120,7 @@ fn stacked(
 ) -> Result<Vec<(usize, HtmlNode)>, AllocError>
     requires { are_given names.now nodes.now ≡ true }
     ensures { IfOk result (λ stack.
-        stack_view stack.items ≡ stacked 0 (flat_nodes_view names.now nodes.now)) }
+        stack_view stack.items ≡ list_stack 0 (flat_nodes_view names.now nodes.now)) }
 {
     let mut stack = Vec::new(alloc);
     let mut place = nodes.len();

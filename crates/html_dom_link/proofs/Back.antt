@@ -8,9 +8,9 @@ use Rattle.html_dom_tree.specs.Tree.{Head, starts, ends, tag_node, text_node, el
 use Rattle.html_names.specs.Names.{stands_in}
 use Rattle.html_dom_link.specs.NewNames.{Name, first_id, element_names}
 use Rattle.html_dom_link.specs.Events.{Start, Event, end_tag, element, text, html_frame, Targets, start_event, frame_starts, events}
-use Rattle.html_dom_link.specs.Groups.{holds, first_label, label_of}
+use Rattle.html_dom_link.specs.Groups.{is_in_group, first_label, label_of}
 use Rattle.html_dom_link.specs.Namings.{Naming, made_for}
-use Rattle.html_dom_link.specs.Anchors.{with_id, text_in, span_before, named_frame, nodes_size, nodes_anchored, element_anchored}
+use Rattle.html_dom_link.specs.Anchors.{with_id, text_in_span, span_before, named_frame, nodes_size, nodes_with_anchors, element_with_anchors}
 use Rattle.html_dom_link.specs.Undone.{without_id, old_id, unnamed_frame, nodes_undone, ComesBack}
 use Rattle.html_dom_link.proofs.States.{Groups, naming_at, step, finished, makes, makes_is, makes-append, drop-events, drop-sized, length-events, or_else-none}
 
@@ -23,7 +23,7 @@ end_back (Some n) es cs (node m rest) = refl
 
 text_back : (made : Option Name) (s : List ℕ) (span : ℕ) (es : List Event) (c : Naming)
     (cs : List Naming) (rest : NodesView) →
-    nodes_undone false (text ∷ es) (c ∷ cs) (node (text_in made s span) rest)
+    nodes_undone false (text ∷ es) (c ∷ cs) (node (text_in_span made s span) rest)
     ≡ node (text_node s span) (nodes_undone false es cs rest)
 unfolding nodes_undone
 text_back None s span es c cs rest = refl
@@ -73,26 +73,26 @@ start_back false l label dest g es cs rest = refl
 
 all_back : (x : Targets) (ns : NodesView) (g : Groups) (es : List Event) (cs : List Naming) →
     nodes_undone false (events x ns ++ es) (makes g (events x ns) ++ cs)
-    (nodes_anchored (makes g (events x ns) ++ cs) ns) ≡ ns
-unfolding nodes_undone nodes_anchored events
+    (nodes_with_anchors (makes g (events x ns) ++ cs) ns) ≡ ns
+unfolding nodes_undone nodes_with_anchors events
 all_back x none g es cs = refl
 all_back x (node (tag_node (starts l label dest)) ns) g es cs =
     let t = step g (start_event (x.is_target l) l label) in
     let later = makes t (events x ns) ++ cs in
-    start_back (x.is_target l) l label dest g (events x ns ++ es) later (nodes_anchored later ns)
+    start_back (x.is_target l) l label dest g (events x ns ++ es) later (nodes_with_anchors later ns)
     ∙ ap (node (tag_node (starts l label dest))) (all_back x ns t es cs)
 all_back x (node (tag_node (ends l)) ns) g es cs =
     let t = step g (end_tag l) in
-    let q = if holds l g.queue then g.queue else [] in
+    let q = if is_in_group l g.queue then g.queue else [] in
     let made = made_for None (label_of l q) g.used q in
     let later = makes t (events x ns) ++ cs in
     ap (node (tag_node (ends l)))
-    (end_back made (events x ns ++ es) later (nodes_anchored later ns) ∙ all_back x ns t es cs)
+    (end_back made (events x ns ++ es) later (nodes_with_anchors later ns) ∙ all_back x ns t es cs)
 all_back x (node (text_node s span) ns) g es cs =
     let t = step g text in
     let made = made_for None (first_label g.queue) g.used g.queue in
     let later = makes t (events x ns) ++ cs in
-    text_back made s span (events x ns ++ es) (naming_at g text) later (nodes_anchored later ns)
+    text_back made s span (events x ns ++ es) (naming_at g text) later (nodes_with_anchors later ns)
     ∙ ap (node (text_node s span)) (all_back x ns t es cs)
 all_back x (node (element_node h kids) ns) g es cs =
     let made = made_for (first_id h) (first_label g.queue) g.used g.queue in
@@ -102,7 +102,7 @@ all_back x (node (element_node h kids) ns) g es cs =
     let u = finished t ek in
     let inside = makes t ek in
     let after = makes u en in
-    let rest = nodes_anchored (after ++ cs) ns in
+    let rest = nodes_with_anchors (after ++ cs) ns in
     let joined : NodesView → NodesView = λ i. node
     (element_node (without_id made (with_id made h)) i) (nodes_undone false
     (drop (nodes_size i) (ek ++ (en ++ es)))
@@ -126,12 +126,12 @@ all_back x (node (frame_node f) ns) g es cs =
     let t = step g e in
     let later = makes t (events x ns) ++ cs in
     ap (λ d. node (frame_node d)
-    (nodes_undone false (events x ns ++ es) later (nodes_anchored later ns)))
+    (nodes_undone false (events x ns ++ es) later (nodes_with_anchors later ns)))
     (frame_back f c (id_back f.id (first_label g.queue) g.used g.queue))
     ∙ ap (node (frame_node f)) (all_back x ns t es cs)
 
 pub comes_back : ComesBack
-unfolding element_anchored
+unfolding element_with_anchors
 comes_back x e =
     let g : Groups = record {
       queue = [];
@@ -139,7 +139,7 @@ comes_back x e =
       answers = λ l. None;
     } in
     let es = events x e.1 in
-    subst (λ cs. nodes_undone false es cs (nodes_anchored cs e.1) ≡ e.1) (makes_is es g)
-    (subst (λ cs. nodes_undone false es cs (nodes_anchored cs e.1) ≡ e.1) (append-nil (makes g es))
-    (subst (λ fs. nodes_undone false fs (makes g es ++ []) (nodes_anchored (makes g es ++ []) e.1)
+    subst (λ cs. nodes_undone false es cs (nodes_with_anchors cs e.1) ≡ e.1) (makes_is es g)
+    (subst (λ cs. nodes_undone false es cs (nodes_with_anchors cs e.1) ≡ e.1) (append-nil (makes g es))
+    (subst (λ fs. nodes_undone false fs (makes g es ++ []) (nodes_with_anchors (makes g es ++ []) e.1)
     ≡ e.1) (append-nil es) (all_back x e.1 g [] [])))

@@ -2,9 +2,9 @@
 use Rattle.std.proofs.Common.{◌≡◌, ℕ, zero, suc, Bool, [], refl, sym}
 use Rattle.html_dom_tree.specs.Tree.{NodesView, none, node, ElementView, new_element}
 use Rattle.html_dom_document.specs.Documents.{DocumentView, document_root, element_at, given_root, with_element}
-use Rattle.html_dom_link.specs.Anchors.{element_anchored, nodes_anchored}
+use Rattle.html_dom_link.specs.Anchors.{element_with_anchors, nodes_with_anchors}
 use Rattle.html_dom_link.specs.Events.{Targets}
-use Rattle.html_dom_link.specs.LinkAnchors.{document_anchored, document_targets}
+use Rattle.html_dom_link.specs.LinkAnchors.{document_with_new_anchors, document_targets}
 use Rattle.html_dom_link.specs.Links.{Anchors, document_with_links, nodes_with_links, root_with_links}
 
 -- an element put at a place stands there, unless there is no place
@@ -27,13 +27,13 @@ root_has_links d =
     placed d.output.nodes d.output.root (root_with_links d.introspector.anchor)
     (no_links_in_nothing d.introspector.anchor)
 
-no_anchors_in_nothing : (x : Targets) → element_anchored x (new_element []) ≡ new_element []
-unfolding element_anchored nodes_anchored
+no_anchors_in_nothing : (x : Targets) → element_with_anchors x (new_element []) ≡ new_element []
+unfolding element_with_anchors nodes_with_anchors
 no_anchors_in_nothing x = refl
 
 pub root_has_anchors : (is_target : ℕ → Bool) (d : DocumentView) →
-    document_root (document_anchored is_target d)
-    ≡ element_anchored (document_targets is_target d) (document_root d)
+    document_root (document_with_new_anchors is_target d)
+    ≡ element_with_anchors (document_targets is_target d) (document_root d)
 root_has_anchors is_target d =
     let x = document_targets is_target d in
-    placed d.output.nodes d.output.root (element_anchored x) (no_anchors_in_nothing x)
+    placed d.output.nodes d.output.root (element_with_anchors x) (no_anchors_in_nothing x)

@@ -8,27 +8,27 @@ use Rattle.html_names.specs.Names.{stands_in}
 use Rattle.html_dom_link.specs.NewNames.{Name, element_names}
 use Rattle.html_dom_link.specs.Events.{Targets, with_frame_start, items_starts, frame_starts}
 use Rattle.html_dom_link.specs.Namings.{Naming}
-use Rattle.html_dom_link.specs.Anchors.{text_in, span_before, nodes_size, nodes_anchored, element_namings, element_anchored}
-use Rattle.html_dom_link.specs.Answered.{names_shown, first_ids, AnswersAreFirstIds, StaysFrameFree, NoTargetNoChange}
-use Rattle.html_dom_link.specs.Walk.{walk, at_first}
+use Rattle.html_dom_link.specs.Anchors.{text_in_span, span_before, nodes_size, nodes_with_anchors, element_namings, element_with_anchors}
+use Rattle.html_dom_link.specs.Answered.{shown_names, first_ids, AnswersAreFirstIds, StaysFrameFree, NoTargetNoChange}
+use Rattle.html_dom_link.specs.AnchorWalk.{walk, at_first}
 use Rattle.html_dom_link.proofs.Showing.{answers_are_shown}
 use Rattle.html_dom_link.proofs.States.{or_else-none}
 use Rattle.html_dom_link.proofs.Walks.{one_walk_serves}
 
 free-anchored : (ns : NodesView) (cs : List Naming) → NodesAreFrameFree ns →
-    NodesAreFrameFree (nodes_anchored cs ns)
-unfolding nodes_anchored NodeIsFrameFree NodesAreFrameFree
+    NodesAreFrameFree (nodes_with_anchors cs ns)
+unfolding nodes_with_anchors NodeIsFrameFree NodesAreFrameFree
 free-anchored none cs f = f
 free-anchored (node n ns) [] f = f
 free-anchored (node (tag_node t) ns) (c ∷ cs) f = (tt, by_name c.made (free-anchored ns cs f.1))
   where
-    by_name : (made : Option Name) → NodesAreFrameFree (nodes_anchored cs ns) →
-        NodesAreFrameFree (span_before made (nodes_anchored cs ns))
+    by_name : (made : Option Name) → NodesAreFrameFree (nodes_with_anchors cs ns) →
+        NodesAreFrameFree (span_before made (nodes_with_anchors cs ns))
     by_name None h = h
     by_name (Some n) h = (tt, h)
 free-anchored (node (text_node s span) ns) (c ∷ cs) f = (by_name c.made, free-anchored ns cs f.1)
   where
-    by_name : (made : Option Name) → NodeIsFrameFree (text_in made s span)
+    by_name : (made : Option Name) → NodeIsFrameFree (text_in_span made s span)
     by_name None = tt
     by_name (Some n) = (tt, tt)
 free-anchored (node (element_node h kids) ns) (c ∷ cs) f =
@@ -36,11 +36,11 @@ free-anchored (node (element_node h kids) ns) (c ∷ cs) f =
 free-anchored (node (frame_node b) ns) (c ∷ cs) f = absurd f.0
 
 pub stays_frame_free : StaysFrameFree
-unfolding element_anchored
+unfolding element_with_anchors
 stays_frame_free x e f = free-anchored e.1 (element_namings x e) f
 
-pub shown_first : (ns : NodesView) → NodesAreFrameFree ns → names_shown ns ≡ first_ids ns
-unfolding names_shown first_ids NodeIsFrameFree NodesAreFrameFree
+pub shown_first : (ns : NodesView) → NodesAreFrameFree ns → shown_names ns ≡ first_ids ns
+unfolding shown_names first_ids NodeIsFrameFree NodesAreFrameFree
 shown_first none f = refl
 shown_first (node (tag_node t) ns) f = shown_first ns f.1
 shown_first (node (text_node s span) ns) f = shown_first ns f.1
@@ -51,7 +51,7 @@ shown_first (node (frame_node b) ns) f = absurd f.0
 pub answers_are_first_ids : AnswersAreFirstIds
 answers_are_first_ids x e f l n is =
     subst (λ ns. stands_in ns n ≡ true)
-    (shown_first (element_anchored x e).1 (stays_frame_free x e f)) (answers_are_shown x e l n is)
+    (shown_first (element_with_anchors x e).1 (stays_frame_free x e f)) (answers_are_shown x e l n is)
 
 module _ (x : Targets) (none_is : (l : ℕ) → x.is_target l ≡ false) where
   -- frames ask for nothing

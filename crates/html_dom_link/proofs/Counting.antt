@@ -6,12 +6,12 @@ use Rattle.html_names.specs.Names.{stands_in}
 use Rattle.html_dom_tree.specs.Attributes.{first, or_else}
 use Rattle.html_dom_tree.specs.Frames.{PointView}
 use Rattle.html_dom_tree.specs.Tree.{TextPair, Head, NodeView, starts, ends, tag_node, text_node, element_node, frame_node, NodesView, none, node, ElementView}
-use Rattle.html_dom_link.specs.Anchors.{with_id, text_in, span_before, nodes_anchored, element_namings, element_anchored}
-use Rattle.html_dom_link.specs.Answered.{names_shown}
+use Rattle.html_dom_link.specs.Anchors.{with_id, text_in_span, span_before, nodes_with_anchors, element_namings, element_with_anchors}
+use Rattle.html_dom_link.specs.Answered.{shown_names}
 use Rattle.html_dom_link.specs.Distinct.{are_distinct, occurrences, AnchorsStayDistinct, AllNamesStay}
 use Rattle.html_dom_link.specs.Events.{Start, Targets, start_event, end_tag, text, element, html_frame, frame_starts, events}
 use Rattle.html_dom_link.specs.Fresh.{all_made, names_made}
-use Rattle.html_dom_link.specs.Groups.{holds, first_label, label_of}
+use Rattle.html_dom_link.specs.Groups.{is_in_group, first_label, label_of}
 use Rattle.html_dom_link.specs.Links.{Anchors, attrs_with_href, dest_before, head_with_link, name_of, node_with_links, nodes_with_links, open_dest}
 use Rattle.html_dom_link.specs.Namings.{Naming, made_for, start_pairs, with_made}
 use Rattle.html_dom_link.specs.NewNames.{Name, all_ids, anchor_names, element_names, first_id, frame_names, nodes_names}
@@ -32,7 +32,7 @@ names_before None ns = refl
 names_before (Some n) ns = refl
 
 names_around : (made : Option Name) (s : List ℕ) (span : ℕ) (ns : NodesView) →
-    nodes_names (node (text_in made s span) ns) ≡ option_to_list made ++ nodes_names ns
+    nodes_names (node (text_in_span made s span) ns) ≡ option_to_list made ++ nodes_names ns
 unfolding nodes_names
 names_around None s span ns = refl
 names_around (Some n) s span ns = refl
@@ -117,26 +117,26 @@ module _ (n : Name) where
   start_counts false l label g ns old later so = so
 
   all_count : (x : Targets) (ns : NodesView) (g : Groups) (more : List Naming) →
-      count (nodes_names (nodes_anchored (makes g (events x ns) ++ more) ns))
+      count (nodes_names (nodes_with_anchors (makes g (events x ns) ++ more) ns))
       ≡ count (nodes_names ns) + count (all_made (makes g (events x ns)))
-  unfolding events nodes_anchored nodes_names
+  unfolding events nodes_with_anchors nodes_names
   all_count x none g more = omega (arith, occurrences-none n)
   all_count x (node (tag_node (starts l label dest)) ns) g more =
       let later = makes (step g (start_event (x.is_target l) l label)) (events x ns) in
-      start_counts (x.is_target l) l label g (nodes_anchored (later ++ more) ns) (nodes_names ns)
+      start_counts (x.is_target l) l label g (nodes_with_anchors (later ++ more) ns) (nodes_names ns)
       (all_made later) (all_count x ns (step g (start_event (x.is_target l) l label)) more)
   all_count x (node (tag_node (ends l)) ns) g more =
       let later = makes (step g (end_tag l)) (events x ns) in
-      let q = if holds l g.queue then g.queue else [] in
+      let q = if is_in_group l g.queue then g.queue else [] in
       let made = made_for None (label_of l q) g.used q in
-      let rest = nodes_anchored (later ++ more) ns in
+      let rest = nodes_with_anchors (later ++ more) ns in
       ap count (names_before made rest)
       ∙ more_count (option_to_list made) (nodes_names ns) (nodes_names rest) (all_made later)
       (all_count x ns (step g (end_tag l)) more)
   all_count x (node (text_node s span) ns) g more =
       let later = makes (step g text) (events x ns) in
       let made = made_for None (first_label g.queue) g.used g.queue in
-      let rest = nodes_anchored (later ++ more) ns in
+      let rest = nodes_with_anchors (later ++ more) ns in
       ap count (names_around made s span rest)
       ∙ more_count (option_to_list made) (nodes_names ns) (nodes_names rest) (all_made later)
       (all_count x ns (step g text) more)
@@ -147,8 +147,8 @@ module _ (n : Name) where
       let u = finished t (events x kids) in
       let inside = makes t (events x kids) in
       let after = makes u (events x ns) in
-      let kids' = nodes_anchored (inside ++ (after ++ more)) kids in
-      let rest = nodes_anchored (after ++ more) ns in
+      let kids' = nodes_with_anchors (inside ++ (after ++ more)) kids in
+      let rest = nodes_with_anchors (after ++ more) ns in
       rw (
         makes-append (events x kids) (events x ns) t,
         append_assoc inside after more,
@@ -164,7 +164,7 @@ module _ (n : Name) where
       let made = made_for f.id (first_label g.queue) g.used g.queue in
       let pairs = start_pairs (with_made made g.used) ss in
       let later = makes (step g (html_frame f.id ss)) (events x ns) in
-      let rest = nodes_anchored (later ++ more) ns in
+      let rest = nodes_with_anchors (later ++ more) ns in
       rw (map-append (λ (a : PointView × Name). a.1) f.anchors pairs)
       (frame_count (option_to_list f.id) (option_to_list (or_else f.id made))
       (option_to_list made) (anchor_names f.anchors) (anchor_names pairs) (nodes_names ns)
@@ -173,9 +173,9 @@ module _ (n : Name) where
       (all_count x ns (step g (html_frame f.id ss)) more))
 
   counted : (x : Targets) (e : ElementView) →
-      count (element_names (element_anchored x e))
+      count (element_names (element_with_anchors x e))
       ≡ count (element_names e) + count (all_made (element_namings x e))
-  unfolding element_anchored
+  unfolding element_with_anchors
   counted x e =
       let g : Groups = record {
         queue = [];
@@ -184,17 +184,17 @@ module _ (n : Name) where
       } in
       let made = makes g (events x e.1) in
       let ids = all_ids e.0.attrs in
-      let whole : count (nodes_names (nodes_anchored made e.1))
+      let whole : count (nodes_names (nodes_with_anchors made e.1))
       ≡ count (nodes_names e.1) + count (all_made made) =
-      subst (λ cs. count (nodes_names (nodes_anchored cs e.1))
+      subst (λ cs. count (nodes_names (nodes_with_anchors cs e.1))
       ≡ count (nodes_names e.1) + count (all_made made)) (append-nil made)
       (all_count x e.1 g []) in
-      subst (λ cs. count (ids ++ nodes_names (nodes_anchored cs e.1))
+      subst (λ cs. count (ids ++ nodes_names (nodes_with_anchors cs e.1))
       ≡ count (ids ++ nodes_names e.1) + count (all_made cs)) (makes_is (events x e.1) g)
       (omega (
         arith,
         whole,
-        occurrences-append ids (nodes_names (nodes_anchored made e.1)) n,
+        occurrences-append ids (nodes_names (nodes_with_anchors made e.1)) n,
         occurrences-append ids (nodes_names e.1) n,
       ))
 
@@ -211,8 +211,8 @@ module _ (n : Name) where
           omega (arith, occurrences-append (p.1 ∷ []) (all_ids ps) n)
       by false so = so
 
-  pub shown_count : (ns : NodesView) → count (names_shown ns) ≤ count (nodes_names ns)
-  unfolding names_shown nodes_names
+  pub shown_count : (ns : NodesView) → count (shown_names ns) ≤ count (nodes_names ns)
+  unfolding shown_names nodes_names
   shown_count none = omega arith
   shown_count (node (tag_node t) ns) = shown_count ns
   shown_count (node (text_node s span) ns) = shown_count ns
@@ -223,8 +223,8 @@ module _ (n : Name) where
         first_count h.attrs,
         shown_count kids,
         shown_count ns,
-        occurrences-append first (names_shown kids ++ names_shown ns) n,
-        occurrences-append (names_shown kids) (names_shown ns) n,
+        occurrences-append first (shown_names kids ++ shown_names ns) n,
+        occurrences-append (shown_names kids) (shown_names ns) n,
         occurrences-append (all_ids h.attrs) (nodes_names kids ++ nodes_names ns) n,
         occurrences-append (nodes_names kids) (nodes_names ns) n,
       )
@@ -232,17 +232,17 @@ module _ (n : Name) where
       omega (
         arith,
         shown_count ns,
-        occurrences-append (frame_names f) (names_shown ns) n,
+        occurrences-append (frame_names f) (shown_names ns) n,
         occurrences-append (frame_names f) (nodes_names ns) n,
       )
 
   -- so one that is shown comes once where all differ
   pub shown_once : (e : ElementView) → are_distinct (element_names e) ≡ true →
-      stands_in (names_shown e.1) n ≡ true → count (element_names e) ≡ 1
+      stands_in (shown_names e.1) n ≡ true → count (element_names e) ≡ 1
   shown_once e distinct shown =
       omega (
         arith,
-        stands_occurs (names_shown e.1) n shown,
+        stands_occurs (shown_names e.1) n shown,
         shown_count e.1,
         occurrences-append (all_ids e.0.attrs) (nodes_names e.1) n,
         distinct_once (element_names e) n distinct,
@@ -253,7 +253,7 @@ module _ (n : Name) where
 pub anchors_stay_distinct : AnchorsStayDistinct
 anchors_stay_distinct x e new distinct =
     let made = all_made (element_namings x e) in
-    once_distinct (element_names (element_anchored x e)) (λ n.
+    once_distinct (element_names (element_with_anchors x e)) (λ n.
     omega (
       arith,
       counted n x e,

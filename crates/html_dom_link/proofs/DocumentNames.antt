@@ -5,12 +5,12 @@ use Rattle.html_names.specs.Names.{stands_in}
 use Rattle.html_dom_document.specs.Documents.{DocumentView, document_root}
 use Rattle.html_dom_link.specs.NewNames.{Name, element_names}
 use Rattle.html_dom_link.specs.UsedNames.{IsBounded}
-use Rattle.html_dom_link.specs.Answered.{names_shown}
+use Rattle.html_dom_link.specs.Answered.{shown_names}
 use Rattle.html_dom_link.specs.Distinct.{IdsAreDistinct, are_distinct}
 use Rattle.html_dom_link.specs.DocumentNames.{AnchorsAreNew, AnchorsAreShown}
-use Rattle.html_dom_link.specs.LinkAnchors.{document_targets, document_anchored, document_anchor}
+use Rattle.html_dom_link.specs.LinkAnchors.{document_targets, document_with_new_anchors, document_anchor}
 use Rattle.html_dom_link.specs.Serving.{AreServing, serving_name}
-use Rattle.html_dom_link.specs.Walk.{Walked, walked}
+use Rattle.html_dom_link.specs.AnchorWalk.{Walked, element_walk}
 use Rattle.html_dom_link.proofs.Counting.{anchors_stay_distinct}
 use Rattle.html_dom_link.proofs.Freshes.{made_in_walk}
 use Rattle.html_dom_link.proofs.ChangedRoots.{root_has_anchors}
@@ -19,7 +19,7 @@ use Rattle.html_dom_link.proofs.Showing.{answers_are_shown}
 
 -- names are new where those in use at the end of the walk are bounded
 pub anchors_are_new : (is_target : ℕ → Bool) (d : DocumentView) (w : Walked) →
-    w ≡ walked (document_targets is_target d) (document_root d) → IsBounded w.1.used →
+    w ≡ element_walk (document_targets is_target d) (document_root d) → IsBounded w.1.used →
     AnchorsAreNew is_target d
 anchors_are_new is_target d w whole b =
     made_in_walk (document_targets is_target d) (document_root d)
@@ -27,17 +27,17 @@ anchors_are_new is_target d w whole b =
 
 -- the answers stand in the new tree
 pub anchors_are_shown : (is_target : ℕ → Bool) (d new : DocumentView) (anchor : ℕ → Option Name) →
-    new ≡ document_anchored is_target d → anchor ≡ document_anchor is_target d →
+    new ≡ document_with_new_anchors is_target d → anchor ≡ document_anchor is_target d →
     AnchorsAreShown anchor new
 anchors_are_shown is_target d new anchor new_is anchor_is l n e =
     let top = ap document_root new_is ∙ root_has_anchors is_target d in
-    subst (λ (r : ElementView). stands_in (names_shown r.1) n ≡ true) (sym top)
+    subst (λ (r : ElementView). stands_in (shown_names r.1) n ≡ true) (sym top)
     (answers_are_shown (document_targets is_target d) (document_root d) l n
     (sym (ap (λ f. f l) anchor_is) ∙ e))
 
 -- and they are the names of what serves in it
 pub anchors_are_serving : (is_target : ℕ → Bool) (d new : DocumentView)
-    (anchor : ℕ → Option Name) → new ≡ document_anchored is_target d →
+    (anchor : ℕ → Option Name) → new ≡ document_with_new_anchors is_target d →
     anchor ≡ document_anchor is_target d → AreServing is_target anchor new
 anchors_are_serving is_target d new anchor new_is anchor_is =
     let x = document_targets is_target d in
@@ -48,7 +48,7 @@ anchors_are_serving is_target d new anchor new_is anchor_is =
 
 -- and all names differ where they did
 pub ids_stay_distinct : (is_target : ℕ → Bool) (d new : DocumentView) →
-    new ≡ document_anchored is_target d → AnchorsAreNew is_target d → IdsAreDistinct d →
+    new ≡ document_with_new_anchors is_target d → AnchorsAreNew is_target d → IdsAreDistinct d →
     IdsAreDistinct new
 ids_stay_distinct is_target d new new_is made_new distinct =
     ap (λ (v : DocumentView). are_distinct (element_names (document_root v))) new_is

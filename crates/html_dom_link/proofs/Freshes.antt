@@ -9,7 +9,7 @@ use Rattle.html_dom_link.specs.Events.{Start, FrameStart, Event, Targets, events
 use Rattle.html_dom_link.specs.Groups.{Cut, own_name, label_for, cuts}
 use Rattle.html_dom_link.specs.Namings.{made_for, starts_in, start_pairs, used_after_starts, with_made, made_at, naming, used_after, namings}
 use Rattle.html_dom_link.specs.Fresh.{AreNew, names_made, all_made, MadeAreNew, NamesAreNew}
-use Rattle.html_dom_link.specs.Walk.{walked}
+use Rattle.html_dom_link.specs.AnchorWalk.{element_walk}
 use Rattle.html_dom_link.proofs.Gathering.{with-none, with-one, with-append, with-more}
 use Rattle.html_dom_link.proofs.Numbers.{new_is_new}
 use Rattle.html_dom_link.proofs.States.{Groups, step, finished}
@@ -128,7 +128,7 @@ finished_used [] g = refl
 finished_used (e ∷ es) g = finished_used es (step g e)
 
 -- so names are new where those in use at the end of the walk are bounded
-pub made_in_walk : (x : Targets) (e : ElementView) → IsBounded (walked x e).1.used →
+pub made_in_walk : (x : Targets) (e : ElementView) → IsBounded (element_walk x e).1.used →
     MadeAreNew x e
 made_in_walk x e b =
     let es = events x e.1 in

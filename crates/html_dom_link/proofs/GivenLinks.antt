@@ -11,17 +11,17 @@ use Rattle.percent_encoding.specs.Percent.{percent_encode}
 use Rattle.percent_encoding.proofs.PercentLemmas.{IsByte, round_trip}
 use Rattle.html_names.specs.Names.{stands_in}
 use Rattle.html_names.specs.Texts.{text_view}
-use Rattle.html_dom_tree.specs.Attributes.{first, has}
+use Rattle.html_dom_tree.specs.Attributes.{first, has_name}
 use Rattle.html_dom_tree.specs.Tree.{TextPair, Head, NodeView, tag_node, text_node, element_node, frame_node, NodesView, none, node, ElementView}
 use Rattle.html_dom_tree.specs.declared.introspection.Location.{Location}
-use Rattle.html_dom_introspect.specs.Introspectors.{location_cmp, text_in}
+use Rattle.html_dom_document.specs.Introspectors.{location_cmp, location_text}
 use Rattle.html_dom_document.specs.Documents.{DocumentView, document_root}
 use Rattle.html_dom_document.specs.Views.{document_view}
 use Rattle.html_dom_document.specs.declared.document.HtmlDocument.{HtmlDocument}
-use Rattle.html_dom_link.specs.Answered.{names_shown}
+use Rattle.html_dom_link.specs.Answered.{shown_names}
 use Rattle.html_dom_link.specs.DeadLinks.{dead_links_view}
 use Rattle.html_dom_link.specs.Distinct.{IdsAreDistinct, GivenLinksLeadToOne, LeadsToOne, are_distinct}
-use Rattle.html_dom_link.specs.GivenLinks.{KnownAnchorsAreShown, AnchorsAreTexts, EveryLinkLeads, GivenLinksLead, LeadsAmong, LeadsTo, given_by, given_link, links_without, node_given, nodes_given}
+use Rattle.html_dom_link.specs.GivenLinks.{KnownAnchorsAreShown, AnchorsAreTexts, EveryLinkLeads, GivenLinksLead, LeadsAmong, LeadsTo, given_by, given_link, links_without, node_given_links, nodes_given_links}
 use Rattle.html_dom_link.specs.Links.{Anchors, attrs_with_href, dest_before, document_dead_links, document_with_links, head_with_link, href_to, is_open, name_of, node_with_links, nodes_with_links, some_name}
 use Rattle.html_dom_link.specs.NewNames.{Name, element_names}
 use Rattle.html_dom_link.specs.declared.dead.DeadLink.{DeadLink}
@@ -57,7 +57,7 @@ known_name (Some (c ∷ cs)) name e = e
 
 -- an `a` that is open has no `href`
 no_href : (is_a : Bool) (attrs : List TextPair) →
-    (is_a && not (has attrs (codes "href"))) ≡ true → first attrs (codes "href") ≡ None
+    (is_a && not (has_name attrs (codes "href"))) ≡ true → first attrs (codes "href") ≡ None
 no_href is_a attrs e = by (first attrs (codes "href")) (and_parts is_a _ e).1
   where
     by : (href : Option (List ℕ)) → not (is_some href) ≡ true → href ≡ None
@@ -103,14 +103,14 @@ module _ (anchor : Anchors) (names : List Name) (texts : AnchorsAreTexts anchor)
       by false is = All-nil Leads
 
   pub nodes_lead : (before : List NodeView) (ns : NodesView) →
-      All Leads (nodes_given before ns (nodes_with_links anchor before ns))
-  unfolding nodes_given node_given nodes_with_links node_with_links
+      All Leads (nodes_given_links before ns (nodes_with_links anchor before ns))
+  unfolding nodes_given_links node_given_links nodes_with_links node_with_links
   nodes_lead before none = All-nil Leads
   nodes_lead before (node (tag_node t) ns) = nodes_lead (tag_node t ∷ before) ns
   nodes_lead before (node (text_node s span) ns) = nodes_lead (text_node s span ∷ before) ns
   nodes_lead before (node (element_node h kids) ns) =
       let dest = dest_before before in
-      let below = nodes_given [] kids (nodes_with_links anchor [] kids) in
+      let below = nodes_given_links [] kids (nodes_with_links anchor [] kids) in
       let own = given_link dest h (head_with_link anchor dest h) in
       All-append Leads (own ++ below) _
       (All-append Leads own below (head_leads dest h) (nodes_lead [] kids))
@@ -123,7 +123,7 @@ text_is_scalars s =
     let utf8 = IsUtf8-string_bytes s in
     ap scalars (ap chars (sym utf8.1.1) ∙ chars-encodes utf8.0 utf8.1.0) ∙ utf8.1.0
 
-texts_in : (map : BTreeMap Location (String Global)) → AnchorsAreTexts (text_in map)
+texts_in : (map : BTreeMap Location (String Global)) → AnchorsAreTexts (location_text map)
 texts_in map location name is = by (get location_cmp map (record { 0 = location })) is
   where
     by : (found : Option (String Global)) → option_map text_view found ≡ Some name →
@@ -139,8 +139,8 @@ pub anchors_stay_shown : (d : DocumentView) → KnownAnchorsAreShown d →
 anchors_stay_shown d shown location name is =
     let anchor = d.introspector.anchor in
     let root = document_root d in
-    let same : names_shown (document_root (document_with_links d)).1 ≡ names_shown root.1 =
-    ap (λ (e : ElementView). names_shown e.1) (root_has_links d) ∙ (names_stay anchor [] root.1).0 in
+    let same : shown_names (document_root (document_with_links d)).1 ≡ shown_names root.1 =
+    ap (λ (e : ElementView). shown_names e.1) (root_has_links d) ∙ (names_stay anchor [] root.1).0 in
     ap (λ names. stands_in names name) same ∙ shown location name is
 
 -- each link of a document leads that was given an `href`
@@ -149,13 +149,13 @@ pub given_links_lead : (d new : DocumentView) → AnchorsAreTexts d.introspector
 given_links_lead d new texts is shown =
     let anchor = d.introspector.anchor in
     let linked = document_with_links d in
-    let names = names_shown (document_root linked).1 in
-    let given : All (LeadsAmong anchor names) (nodes_given [] (document_root d).1
+    let names = shown_names (document_root linked).1 in
+    let given : All (LeadsAmong anchor names) (nodes_given_links [] (document_root d).1
     (nodes_with_links anchor [] (document_root d).1)) =
     nodes_lead anchor names texts (anchors_stay_shown d shown) [] (document_root d).1 in
     subst (GivenLinksLead d) (sym is)
     (subst (λ (e : ElementView). All (LeadsAmong anchor names)
-    (nodes_given [] (document_root d).1 e.1)) (sym (root_has_links d)) given)
+    (nodes_given_links [] (document_root d).1 e.1)) (sym (root_has_links d)) given)
 
 pub document_links_lead : (old : HtmlDocument) (new : DocumentView) →
     new ≡ document_with_links (document_view old) → KnownAnchorsAreShown (document_view old) →
@@ -178,7 +178,7 @@ pub links_lead_to_one : (old : HtmlDocument) (new : DocumentView) →
 links_lead_to_one old new is shown was_distinct =
     let root = document_root new in
     let anchor = new.introspector.anchor in
-    let names = names_shown root.1 in
+    let names = shown_names root.1 in
     let distinct = links_stay_distinct (document_view old) new is was_distinct in
     All-weaker (LeadsAmong anchor names) (LeadsToOne anchor names (element_names root))
     (λ link leads. record { among = leads; once = shown_once leads.name root distinct leads.stands })

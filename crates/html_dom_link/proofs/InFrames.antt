@@ -9,7 +9,7 @@ use Rattle.html_dom_tree.specs.declared.frame.FrameItem.{FrameItem}
 use Rattle.html_dom_link.specs.NewNames.{Name, new_name}
 use Rattle.html_dom_link.specs.Events.{Targets, FrameStart, with_frame_start, items_starts, frame_starts}
 use Rattle.html_dom_link.specs.Namings.{start_pairs, used_after_starts}
-use Rattle.html_dom_link.specs.Walk.{WalkState, after_start, after_starts}
+use Rattle.html_dom_link.specs.AnchorWalk.{WalkState, after_start, after_starts}
 use Rattle.html_dom_link.specs.Joined.{named_at, InFrame, with_starts}
 use Rattle.html_dom_link.proofs.Steps.{after_starts-append, start_pairs-append}
 

@@ -6,7 +6,7 @@ use Rattle.percent_encoding.proofs.PercentLemmas.{round_trip}
 use Rattle.html_dom_tree.specs.Tags.{starts, ends}
 use Rattle.html_dom_tree.specs.Tree.{Head, NodeView, tag_node, text_node, element_node, frame_node, NodesView, none, node}
 use Rattle.html_dom_link.specs.NewNames.{first_id, frame_names}
-use Rattle.html_dom_link.specs.Answered.{names_shown, first_ids}
+use Rattle.html_dom_link.specs.Answered.{shown_names, first_ids}
 use Rattle.html_dom_link.specs.LinkLaws.{HrefsDecode, LeftAreDead, NamesStay}
 use Rattle.html_dom_link.specs.Links.{Anchors, dest_before, open_dest, some_name, name_of, href_to, attrs_with_href, head_with_link, node_with_links, nodes_with_links, dead_without, dead_link, node_dead_links, nodes_dead_links}
 use Rattle.html_dom_link.specs.declared.links.TheConstants.{FRAGMENT}
@@ -26,7 +26,7 @@ id_stays anchor dest h = by (name_of anchor (open_dest h dest))
     by (Some name) = refl
 
 pub names_stay : NamesStay
-unfolding nodes_with_links names_shown first_ids
+unfolding nodes_with_links shown_names first_ids
 names_stay anchor before none = (refl, refl)
 names_stay anchor before (node (tag_node t) ns) = names_stay anchor (tag_node t ∷ before) ns
 names_stay anchor before (node (text_node s span) ns) =

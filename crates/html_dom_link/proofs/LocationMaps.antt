@@ -11,7 +11,7 @@ use Rattle.html_dom_tree.specs.declared.introspection.Location.{Location}
 use Rattle.html_names.specs.Texts.{text_view}
 use Rattle.html_dom_link.specs.NewNames.{Name}
 use Rattle.html_dom_link.specs.LocationMaps.{location_cmp, labels_in, names_in}
-use Rattle.html_dom_link.specs.Walk.{put}
+use Rattle.html_dom_link.specs.AnchorWalk.{with_entry}
 use Rattle.html_dom_link.proofs.States.{or_else-none}
 
 is_eq-nat_cmp : (m n : ℕ) → is_eq (nat_cmp m n) ≡ (m == n)
@@ -38,7 +38,7 @@ module _ {X Y : Type 0} (view : X → Y) where
 
 pub names_put : (old new : BTreeMap Location (String Global)) (l : Location) (s : String Global)
     (n : Name) → text_view s ≡ n → Updates location_cmp old new l (Some s) →
-    names_in new ≡ put l.0 n (names_in old)
+    names_in new ≡ with_entry l.0 n (names_in old)
 names_put old new l s n e updates = fun_ext (put_shown text_view old new l s n e updates)
 
 -- a first label

@@ -3,8 +3,8 @@ use Rattle.std.proofs.Common.{◌≡◌, ℕ, zero, suc, Bool, Some, refl, ap, s
 use Rattle.std.proofs.lemmas.Option.{none-some}
 use Rattle.html_dom_tree.specs.Tree.{NodesView, none, node, ElementView}
 use Rattle.html_dom_document.specs.Documents.{DocumentView, element_at, root_of, with_element, with_root, given_root, document_root}
-use Rattle.html_dom_link.specs.LinkAnchors.{document_targets, document_anchored}
-use Rattle.html_dom_link.specs.Walk.{Walked, walked}
+use Rattle.html_dom_link.specs.LinkAnchors.{document_targets, document_with_new_anchors}
+use Rattle.html_dom_link.specs.AnchorWalk.{Walked, element_walk}
 use Rattle.html_dom_link.proofs.WholeWalk.{root_written}
 
 -- of two elements put in at one place the second stays
@@ -24,11 +24,11 @@ put_is_there (node n ns) (suc i) old new there = put_is_there ns i old new there
 -- the document with the new root, which was bare in between
 pub moved_written : (is_target : ℕ → Bool) (d mid new : DocumentView)
     (root again last : ElementView) (w : Walked) →
-    w ≡ walked (document_targets is_target d) (document_root d) →
+    w ≡ element_walk (document_targets is_target d) (document_root d) →
     root_of d.output ≡ Some root →
     mid ≡ record d { output = with_root d.output (root.0, none) } →
     root_of mid.output ≡ Some again → last ≡ (again.0, w.0) →
-    new ≡ record mid { output = with_root mid.output last } → new ≡ document_anchored is_target d
+    new ≡ record mid { output = with_root mid.output last } → new ≡ document_with_new_anchors is_target d
 moved_written is_target d mid new root again last w whole root_is mid_is again_is last_is new_is =
     let bare : ElementView = (root.0, none) in
     let o = d.output in

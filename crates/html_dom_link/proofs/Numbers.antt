@@ -6,7 +6,7 @@ use Rattle.std.proofs.lemmas.List.{append_cancel_left}
 use Rattle.std.proofs.lemmas.Slice.Eq.{bytes_eq-Decides}
 use Rattle.std.proofs.lemmas.Fmt.{decimal_injective}
 use Rattle.html_names.specs.Names.{stands_in}
-use Rattle.html_dom_link.specs.NewNames.{Name, name_for, numbered, stem_of, first_number, first_free, free_name, new_name}
+use Rattle.html_dom_link.specs.NewNames.{Name, name_for, name_with_number, stem_of, first_number, first_free, free_name, new_name}
 use Rattle.html_dom_link.specs.Fresh.{IsFirstFree}
 use Rattle.html_dom_link.specs.UsedNames.{is_nothing, AreUsedBelow, IsBounded}
 
@@ -53,26 +53,26 @@ still_among x y (n ∷ ns) other e =
 
 -- the numbers from `n` on, one more than `tries`, are all in use
 abbrev AllAmong : Name → List Name → (tries n : ℕ) → Type 0
-AllAmong stem names zero n = stands_in names (numbered stem n) ≡ true
+AllAmong stem names zero n = stands_in names (name_with_number stem n) ≡ true
 AllAmong stem names (suc t) n =
-    (stands_in names (numbered stem n) ≡ true) × AllAmong stem names t (suc n)
+    (stands_in names (name_with_number stem n) ≡ true) × AllAmong stem names t (suc n)
 
 numbered_injective : (stem : Name) (m n : ℕ) → m < 2 ^ 64 → n < 2 ^ 64 →
-    numbered stem m ≡ numbered stem n → m ≡ n
+    name_with_number stem m ≡ name_with_number stem n → m ≡ n
 numbered_injective stem m n a b e =
     let ends = append_cancel_left stem (codes "-" ++ decimal m) (codes "-" ++ decimal n) e in
     decimal_injective m n a b (append_cancel_left (codes "-") (decimal m) (decimal n) ends)
 
-differ : (stem : Name) (m n : ℕ) → m < n → n < 2 ^ 64 → numbered stem m ≡ numbered stem n → ⊥
+differ : (stem : Name) (m n : ℕ) → m < n → n < 2 ^ 64 → name_with_number stem m ≡ name_with_number stem n → ⊥
 differ stem m n l b e =
     let same : m ≡ n = numbered_injective stem m n (omega arith) (omega arith) e in omega arith
 
 all_still_among : (stem : Name) (names : List Name) (t m n : ℕ) → m < n → n + t < 2 ^ 64 →
-    AllAmong stem names t n → AllAmong stem (without (numbered stem m) names) t n
+    AllAmong stem names t n → AllAmong stem (without (name_with_number stem m) names) t n
 all_still_among stem names zero m n l b h =
-    still_among (numbered stem m) (numbered stem n) names (differ stem m n l (omega arith)) h
+    still_among (name_with_number stem m) (name_with_number stem n) names (differ stem m n l (omega arith)) h
 all_still_among stem names (suc t) m n l b h = (
-  still_among (numbered stem m) (numbered stem n) names (differ stem m n l (omega arith)) h.0,
+  still_among (name_with_number stem m) (name_with_number stem n) names (differ stem m n l (omega arith)) h.0,
   all_still_among stem names t m (suc n) (omega arith) (omega arith) h.1,
 )
 
@@ -80,29 +80,29 @@ all_still_among stem names (suc t) m n l b h = (
 fewer : (stem : Name) (names : List Name) (t n : ℕ) → n + t < 2 ^ 64 →
     AllAmong stem names t n → t < length names
 fewer stem names zero n b h =
-    let e = length-without (numbered stem n) names h in omega (arith, e)
+    let e = length-without (name_with_number stem n) names h in omega (arith, e)
 fewer stem names (suc t) n b h =
-    let e = length-without (numbered stem n) names h.0 in
+    let e = length-without (name_with_number stem n) names h.0 in
     let others = all_still_among stem names t n (suc n) (omega arith) (omega arith) h.1 in
-    let l = fewer stem (without (numbered stem n) names) t (suc n) (omega arith) others in
+    let l = fewer stem (without (name_with_number stem n) names) t (suc n) (omega arith) others in
     omega (arith, e, l)
 
 all_tried : (stem : Name) (used : Name → Bool) (b : IsBounded used) (t n : ℕ) →
-    used (numbered stem (first_free stem used t n)) ≡ true → AllAmong stem b.names t n
+    used (name_with_number stem (first_free stem used t n)) ≡ true → AllAmong stem b.names t n
 unfolding first_free
-all_tried stem used b zero n e = b.holds (numbered stem n) e
+all_tried stem used b zero n e = b.holds (name_with_number stem n) e
 all_tried stem used b (suc t) n e =
-    by_test (used (numbered stem n)) refl e (all_tried stem used b t (suc n))
+    by_test (used (name_with_number stem n)) refl e (all_tried stem used b t (suc n))
   where
-    by_test : (c : Bool) → used (numbered stem n) ≡ c →
-        used (numbered stem (elim c as (λ a. ℕ) [
+    by_test : (c : Bool) → used (name_with_number stem n) ≡ c →
+        used (name_with_number stem (elim c as (λ a. ℕ) [
           | true ↦ first_free stem used t (suc n)
           | false ↦ n
         ])) ≡ true →
-        (used (numbered stem (first_free stem used t (suc n))) ≡ true →
+        (used (name_with_number stem (first_free stem used t (suc n))) ≡ true →
         AllAmong stem b.names t (suc n)) →
-        (stands_in b.names (numbered stem n) ≡ true) × AllAmong stem b.names t (suc n)
-    by_test true s e so = (b.holds (numbered stem n) s, so e)
+        (stands_in b.names (name_with_number stem n) ≡ true) × AllAmong stem b.names t (suc n)
+    by_test true s e so = (b.holds (name_with_number stem n) s, so e)
     by_test false s e so = cc
 
 pub first_is_low : (label : Name) → first_number label ≤ 2
@@ -138,23 +138,23 @@ new_is_new (Some (c ∷ cs)) used b = by_test (used (c ∷ cs)) refl
 
 -- numbers below the one that is found are in use
 pub below_first : (stem : Name) (used : Name → Bool) (t start m : ℕ) → start ≤ m →
-    m < first_free stem used t start → used (numbered stem m) ≡ true
+    m < first_free stem used t start → used (name_with_number stem m) ≡ true
 unfolding first_free
 below_first stem used zero start m a b = absurd (omega arith)
 below_first stem used (suc t) start m a b =
-    by_test (used (numbered stem start)) refl b (below_first stem used t (suc start) m)
+    by_test (used (name_with_number stem start)) refl b (below_first stem used t (suc start) m)
   where
-    here : used (numbered stem start) ≡ true → start ≡ m → used (numbered stem m) ≡ true
-    here s e = subst (λ k. used (numbered stem k) ≡ true) e s
+    here : used (name_with_number stem start) ≡ true → start ≡ m → used (name_with_number stem m) ≡ true
+    here s e = subst (λ k. used (name_with_number stem k) ≡ true) e s
 
     after : (start ≡ m → ⊥) → suc start ≤ m
     after other = ⊎_elim (λ (l : start < m). l)
         (λ (l : m ≤ start). absurd (other (omega (arith, a, l)))) (cases_lt start m)
 
-    by_test : (c : Bool) → used (numbered stem start) ≡ c →
+    by_test : (c : Bool) → used (name_with_number stem start) ≡ c →
         m < elim c as (λ a. ℕ) [ true ↦ first_free stem used t (suc start) | false ↦ start ] →
-        (suc start ≤ m → m < first_free stem used t (suc start) → used (numbered stem m) ≡ true) →
-        used (numbered stem m) ≡ true
+        (suc start ≤ m → m < first_free stem used t (suc start) → used (name_with_number stem m) ≡ true) →
+        used (name_with_number stem m) ≡ true
     by_test true s b so = ⊎_elim (λ (e : start ≡ m). here s e)
         (λ (other : start ≡ m → ⊥). so (after other) b) (cases_eq start m)
     by_test false s b so = absurd (omega arith)
@@ -168,7 +168,7 @@ is_first_free label used b = (
 -- numbers that are known to be in use need not be tried again
 pub first_free_from : (stem : Name) (used : Name → Bool) (t start from limit : ℕ) →
     start ≤ from → limit ≡ start + t → from ≤ limit →
-    ((m : ℕ) → start ≤ m → m < from → used (numbered stem m) ≡ true) →
+    ((m : ℕ) → start ≤ m → m < from → used (name_with_number stem m) ≡ true) →
     first_free stem used t start ≡ first_free stem used (limit - from) from
 unfolding first_free
 first_free_from stem used zero start from limit a e b below =
@@ -207,12 +207,12 @@ module _ (stem : Name) (used : Name → Bool) (limit n : ℕ) where
     | false ↦ n
   ]
 
-  pub free_here : n < limit → used (numbered stem n) ≡ false →
+  pub free_here : n < limit → used (name_with_number stem n) ≡ false →
       first_free stem used (limit - n) n ≡ n
   unfolding first_free
   free_here l e = rw (step_left l) (ap either e)
 
-  pub taken_here : n < limit → used (numbered stem n) ≡ true →
+  pub taken_here : n < limit → used (name_with_number stem n) ≡ true →
       first_free stem used (limit - n) n ≡ first_free stem used (limit - (n + 1)) (n + 1)
   unfolding first_free
   taken_here l e =
@@ -230,7 +230,7 @@ module _ (stem : Name) (used : Name → Bool) (limit n : ℕ) where
 at_least : (stem : Name) (used : Name → Bool) (t n : ℕ) → n ≤ first_free stem used t n
 unfolding first_free
 at_least stem used zero n = omega arith
-at_least stem used (suc t) n = by_test (used (numbered stem n)) (at_least stem used t (suc n))
+at_least stem used (suc t) n = by_test (used (name_with_number stem n)) (at_least stem used t (suc n))
   where
     by_test : (b : Bool) → suc n ≤ first_free stem used t (suc n) →
         n ≤ elim b as (λ c. ℕ) [ true ↦ first_free stem used t (suc n) | false ↦ n ]
@@ -240,7 +240,7 @@ at_least stem used (suc t) n = by_test (used (numbered stem n)) (at_least stem u
 pub free_within : (stem : Name) (used : Name → Bool) (t n : ℕ) → first_free stem used t n ≤ n + t
 unfolding first_free
 free_within stem used zero n = omega arith
-free_within stem used (suc t) n = by_test (used (numbered stem n)) (free_within stem used t (suc n))
+free_within stem used (suc t) n = by_test (used (name_with_number stem n)) (free_within stem used t (suc n))
   where
     by_test : (b : Bool) → first_free stem used t (suc n) ≤ suc n + t →
         elim b as (λ c. ℕ) [ true ↦ first_free stem used t (suc n) | false ↦ n ] ≤ n + suc t
@@ -285,7 +285,7 @@ pub used_below_more : (label : Name) (used more : Name → Bool) (number : ℕ) 
 used_below_more label used more number grows so = record {
   from_first = so.from_first;
   within = so.within;
-  below = λ m l k. grows (numbered (stem_of label) m) (so.below m l k);
+  below = λ m l k. grows (name_with_number (stem_of label) m) (so.below m l k);
 }
 
 -- which name is made for a label

@@ -7,7 +7,7 @@ use Rattle.html_dom_tree.specs.Tree.{TextPair, Head, starts, ends, tag_node, tex
 use Rattle.html_names.specs.Names.{stands_in}
 use Rattle.html_dom_link.specs.NewNames.{Name, nodes_names, first_free, new_name}
 use Rattle.html_dom_link.specs.Events.{Targets, items_starts, events}
-use Rattle.html_dom_link.specs.Anchors.{nodes_size, nodes_anchored, element_anchored, anchor_of}
+use Rattle.html_dom_link.specs.Anchors.{nodes_size, nodes_with_anchors, element_with_anchors, anchor_of}
 
 abbrev el : Name → List TextPair → NodesView → NodesView → NodesView
 el name attrs kids rest =
@@ -62,7 +62,7 @@ AllNamed ls ns (a ∷ as') =
     (anchor_of (these ls) (root, ns) a.0 ≡ a.1) × AllNamed ls ns as'
 
 abbrev Passes : Row → Type 0
-Passes r = (element_anchored (these r.0) (root, r.1) ≡ (root, r.2)) × AllNamed r.0 r.1 r.3
+Passes r = (element_with_anchors (these r.0) (root, r.1) ≡ (root, r.2)) × AllNamed r.0 r.1 r.3
 
 abbrev nested : Row
 nested = (
@@ -195,7 +195,7 @@ rows = nested ∷ ended_first ∷ own_id ∷ no_target ∷ labelled ∷ end_alon
     ∷ ends_of_nothing ∷ started_twice ∷ second_ids ∷ in_frame ∷ empty ∷ []
 
 all_pass : AllPass rows
-unfolding element_anchored nodes_anchored anchor_of nodes_size events items_starts nodes_names new_name first_free stands_in digits
+unfolding element_with_anchors nodes_with_anchors anchor_of nodes_size events items_starts nodes_names new_name first_free stands_in digits
 all_pass = (
   (refl, (refl, (refl, tt))),
   (

@@ -5,41 +5,41 @@ use Rattle.html_dom_tree.specs.PlainTree.{words, branch, Plains, no_plains, plai
 use Rattle.html_dom_tree.specs.Tree.{Head, tag_node, text_node, element_node, frame_node, NodesView, none, node}
 use Rattle.html_dom_link.specs.NewNames.{Name}
 use Rattle.html_dom_link.specs.Namings.{Naming}
-use Rattle.html_dom_link.specs.Anchors.{with_id, span_head, text_in, span_before, nodes_size, nodes_anchored, element_anchored, element_namings}
-use Rattle.html_dom_link.specs.Seen.{Sight, text_seen, plains_seen, SeesNoAnchors, StaysSeen}
+use Rattle.html_dom_link.specs.Anchors.{with_id, span_head, text_in_span, span_before, nodes_size, nodes_with_anchors, element_with_anchors, element_namings}
+use Rattle.html_dom_link.specs.Seen.{Sight, text_sights, plains_sights, SeesNoAnchors, StaysSeen}
 
 module _ {A : Type 0} (s : Sight A) where
   -- what is seen, node by node
   abbrev nodes_seen : (preserved : Bool) → NodesView → List A
   nodes_seen k none = []
   nodes_seen k (node (tag_node t) ns) = nodes_seen k ns
-  nodes_seen k (node (text_node t span) ns) = text_seen s k t ++ nodes_seen k ns
+  nodes_seen k (node (text_node t span) ns) = text_sights s k t ++ nodes_seen k ns
   nodes_seen k (node (element_node h kids) ns) =
       s.branch_seen h.name h.attrs (nodes_seen (k || s.preserves h.name h.attrs) kids)
       ++ nodes_seen k ns
   nodes_seen k (node (frame_node f) ns) = nodes_seen k ns
 
   text_joined : (k : Bool) (t u : List ℕ) →
-      text_seen s k (t ++ u) ≡ text_seen s k t ++ text_seen s k u
+      text_sights s k (t ++ u) ≡ text_sights s k t ++ text_sights s k u
   text_joined k [] u = refl
   text_joined k (c ∷ cs) u = ap (λ l. s.char k c ∷ l) (text_joined k cs u)
 
   put_seen : (k : Bool) (t : List ℕ) (ps : Plains) →
-      plains_seen s k (put_words t ps) ≡ text_seen s k t ++ plains_seen s k ps
-  unfolding plains_seen
+      plains_sights s k (put_words t ps) ≡ text_sights s k t ++ plains_sights s k ps
+  unfolding plains_sights
   put_seen k [] ps = refl
   put_seen k (c ∷ cs) no_plains = refl
   put_seen k (c ∷ cs) (plain (words t) ps) =
-      ap (λ r. r ++ plains_seen s k ps) (text_joined k (c ∷ cs) t)
-      ∙ append_assoc (text_seen s k (c ∷ cs)) (text_seen s k t) (plains_seen s k ps)
+      ap (λ r. r ++ plains_sights s k ps) (text_joined k (c ∷ cs) t)
+      ∙ append_assoc (text_sights s k (c ∷ cs)) (text_sights s k t) (plains_sights s k ps)
   put_seen k (c ∷ cs) (plain (branch name attrs kids) ps) = refl
 
-  normal_seen : (k : Bool) (ns : NodesView) → plains_seen s k (nodes_normal ns) ≡ nodes_seen k ns
-  unfolding plains_seen nodes_normal
+  normal_seen : (k : Bool) (ns : NodesView) → plains_sights s k (nodes_normal ns) ≡ nodes_seen k ns
+  unfolding plains_sights nodes_normal
   normal_seen k none = refl
   normal_seen k (node (tag_node t) ns) = normal_seen k ns
   normal_seen k (node (text_node t span) ns) =
-      put_seen k t (nodes_normal ns) ∙ ap (λ r. text_seen s k t ++ r) (normal_seen k ns)
+      put_seen k t (nodes_normal ns) ∙ ap (λ r. text_sights s k t ++ r) (normal_seen k ns)
   normal_seen k (node (element_node h kids) ns) =
       rw (normal_seen (k || s.preserves h.name h.attrs) kids, normal_seen k ns) refl
   normal_seen k (node (frame_node f) ns) = normal_seen k ns
@@ -75,11 +75,11 @@ module _ {A : Type 0} (s : Sight A) where
         (blind.id_seen n name [] (nodes_seen k kids) ∙ blind.span_seen (nodes_seen k kids)))
 
     text_kept : (k : Bool) (n : Option Name) (t : List ℕ) (span : ℕ) (rest : NodesView) →
-        nodes_seen k (node (text_in n t span) rest) ≡ text_seen s k t ++ nodes_seen k rest
+        nodes_seen k (node (text_in_span n t span) rest) ≡ text_sights s k t ++ nodes_seen k rest
     text_kept k None t span rest = refl
     text_kept k (Some n) t span rest =
         span_seen k n span (node (text_node t span) none) rest
-        ∙ ap (λ l. l ++ nodes_seen k rest) (append-nil (text_seen s k t))
+        ∙ ap (λ l. l ++ nodes_seen k rest) (append-nil (text_sights s k t))
 
     end_kept : (k : Bool) (n : Option Name) (rest : NodesView) →
         nodes_seen k (span_before n rest) ≡ nodes_seen k rest
@@ -87,24 +87,24 @@ module _ {A : Type 0} (s : Sight A) where
     end_kept k (Some n) rest = span_seen k n 0 none rest
 
     anchored_seen : (ns : NodesView) (k : Bool) (cs : List Naming) →
-        nodes_seen k (nodes_anchored cs ns) ≡ nodes_seen k ns
-    unfolding nodes_anchored
+        nodes_seen k (nodes_with_anchors cs ns) ≡ nodes_seen k ns
+    unfolding nodes_with_anchors
     anchored_seen none k cs = refl
     anchored_seen (node n ns) k [] = refl
     anchored_seen (node (tag_node t) ns) k (c ∷ cs) =
-        end_kept k c.made (nodes_anchored cs ns) ∙ anchored_seen ns k cs
+        end_kept k c.made (nodes_with_anchors cs ns) ∙ anchored_seen ns k cs
     anchored_seen (node (text_node t span) ns) k (c ∷ cs) =
-        text_kept k c.made t span (nodes_anchored cs ns)
-        ∙ ap (λ l. text_seen s k t ++ l) (anchored_seen ns k cs)
+        text_kept k c.made t span (nodes_with_anchors cs ns)
+        ∙ ap (λ l. text_sights s k t ++ l) (anchored_seen ns k cs)
     anchored_seen (node (element_node h kids) ns) k (c ∷ cs) =
         let later = drop (nodes_size kids) cs in
-        id_seen k c.made h (nodes_anchored cs kids) (nodes_anchored later ns)
+        id_seen k c.made h (nodes_with_anchors cs kids) (nodes_with_anchors later ns)
         ∙ (rw (anchored_seen kids (k || s.preserves h.name h.attrs) cs, anchored_seen ns k later)
         refl)
     anchored_seen (node (frame_node f) ns) k (c ∷ cs) = anchored_seen ns k cs
 
 pub stays_seen : (A : Type 0) → StaysSeen A
-unfolding element_anchored
+unfolding element_with_anchors
 stays_seen A s blind x e k =
-    normal_seen s k (nodes_anchored (element_namings x e) e.1)
+    normal_seen s k (nodes_with_anchors (element_namings x e) e.1)
     ∙ (anchored_seen s blind e.1 k (element_namings x e) ∙ sym (normal_seen s k e.1))

@@ -7,14 +7,14 @@ use Rattle.html_dom_tree.specs.Frames.{PointView}
 use Rattle.html_dom_tree.specs.Tree.{Head, NodeView, starts, ends, tag_node, text_node, element_node, frame_node, NodesView, none, node, ElementView}
 use Rattle.html_names.specs.Names.{stands_in}
 use Rattle.html_dom_document.specs.Documents.{DocumentView, document_root}
-use Rattle.html_dom_link.specs.Anchors.{with_id, text_in, span_before, nodes_anchored, element_namings, element_anchored, anchor_of}
+use Rattle.html_dom_link.specs.Anchors.{with_id, text_in_span, span_before, nodes_with_anchors, element_namings, element_with_anchors, anchor_of}
 use Rattle.html_dom_link.specs.Events.{Start, FrameStart, end_tag, element, text, html_frame, Targets, start_event, frame_starts, events}
-use Rattle.html_dom_link.specs.Groups.{holds, first_label, label_of}
+use Rattle.html_dom_link.specs.Groups.{is_in_group, first_label, label_of}
 use Rattle.html_dom_link.specs.LinkAnchors.{document_targets}
 use Rattle.html_dom_link.specs.Links.{Anchors, dest_before, document_with_links, nodes_with_links, node_with_links}
-use Rattle.html_dom_link.specs.Namings.{Naming, made_for, answered, start_pairs, start_answers, with_made, all_answers, last_name}
+use Rattle.html_dom_link.specs.Namings.{Naming, made_for, group_answers, start_pairs, start_answers, with_made, all_answers, last_name}
 use Rattle.html_dom_link.specs.NewNames.{Name, new_name, with_name, first_id, element_names}
-use Rattle.html_dom_link.specs.Serving.{AnchorsServe, KnownAnchorsServe, Mark, start_mark, place_mark, inner_marks, marks, named, next_name, paired_marks, served_names, start_marks}
+use Rattle.html_dom_link.specs.Serving.{AnchorsServe, KnownAnchorsServe, Mark, start_mark, place_mark, inner_marks, marks, name_entries, next_name, paired_marks, served_names, start_marks}
 use Rattle.html_dom_link.proofs.ChangedRoots.{root_has_links}
 use Rattle.html_dom_link.proofs.LeadingLinks.{id_stays}
 use Rattle.html_dom_link.proofs.Showing.{answers-append}
@@ -23,13 +23,13 @@ use Rattle.html_dom_link.proofs.States.{Groups, naming_at, step, finished, finis
 -- the start tags that wait get the next name
 abbrev waiting_names : List Start → Option Name → List (ℕ × Name)
 waiting_names [] name = []
-waiting_names (s ∷ ss) name = named s.location name ++ waiting_names ss name
+waiting_names (s ∷ ss) name = name_entries s.location name ++ waiting_names ss name
 
 -- what is named behind start tags that wait
 abbrev served_behind : List Start → List Mark → List (ℕ × Name)
 served_behind q ms = waiting_names q (next_name ms) ++ served_names ms
 
-answered_is_waiting : (name : Option Name) (q : List Start) → waiting_names q name ≡ answered name q
+answered_is_waiting : (name : Option Name) (q : List Start) → waiting_names q name ≡ group_answers name q
 answered_is_waiting None [] = refl
 answered_is_waiting None (s ∷ ss) = answered_is_waiting None ss
 answered_is_waiting (Some n) [] = refl
@@ -39,31 +39,31 @@ waiting-append : (q r : List Start) (name : Option Name) →
     waiting_names (q ++ r) name ≡ waiting_names q name ++ waiting_names r name
 waiting-append [] r name = refl
 waiting-append (s ∷ ss) r name =
-    ap (λ l. named s.location name ++ l) (waiting-append ss r name)
-    ∙ sym (append_assoc (named s.location name) (waiting_names ss name) (waiting_names r name))
+    ap (λ l. name_entries s.location name ++ l) (waiting-append ss r name)
+    ∙ sym (append_assoc (name_entries s.location name) (waiting_names ss name) (waiting_names r name))
 
 -- one more waits
 start_waits : (q : List Start) (s : Start) (ms : List Mark) →
     served_behind q (start_mark s.location ∷ ms) ≡ served_behind (q ++ s ∷ []) ms
 start_waits q s ms =
     let name = next_name ms in
-    sym (append_assoc (waiting_names q name) (named s.location name) (served_names ms))
+    sym (append_assoc (waiting_names q name) (name_entries s.location name) (served_names ms))
     ∙ ap (λ l. l ++ served_names ms)
-    (ap (λ l. waiting_names q name ++ l) (sym (append-nil (named s.location name)))
+    (ap (λ l. waiting_names q name ++ l) (sym (append-nil (name_entries s.location name)))
     ∙ sym (waiting-append q (s ∷ []) name))
 
 -- what waits is named after what stands next
 place_served : (q : List Start) (name : Option Name) (ms : List Mark)
     (inner later last : List (ℕ × Name)) → served_names ms ≡ inner ++ (later ++ last) →
-    served_behind q (place_mark name ∷ ms) ≡ ((answered name q ++ inner) ++ later) ++ last
+    served_behind q (place_mark name ∷ ms) ≡ ((group_answers name q ++ inner) ++ later) ++ last
 place_served q name ms inner later last is =
-    let now = answered name q in
+    let now = group_answers name q in
     ap (λ l. l ++ served_names ms) (answered_is_waiting name q)
     ∙ (ap (λ l. now ++ l) is
     ∙ (sym (append_assoc now inner (later ++ last))
     ∙ sym (append_assoc (now ++ inner) later last)))
 
-nothing_answered : (name : Option Name) → answered name [] ≡ []
+nothing_answered : (name : Option Name) → group_answers name [] ≡ []
 nothing_answered None = refl
 nothing_answered (Some n) = refl
 
@@ -87,7 +87,7 @@ module _ (x : Targets) where
       let made = made_for None (label_of l group) used group in
       served_behind (if here then [] else q) (marks x new ++ rest) ≡ later ++ last →
       served_behind q (marks x (span_before made new) ++ rest)
-      ≡ ((answered made group ++ []) ++ later) ++ last
+      ≡ ((group_answers made group ++ []) ++ later) ++ last
   unfolding marks
   end_served false l used q new rest later last is = is
   end_served true l used [] new rest later last is = is
@@ -99,8 +99,8 @@ module _ (x : Targets) where
       (span : ℕ) (new : NodesView) (rest : List Mark) (later last : List (ℕ × Name)) →
       let made = made_for None label used q in
       served_names (marks x new ++ rest) ≡ later ++ last →
-      served_behind q (marks x (node (text_in made s span) new) ++ rest)
-      ≡ ((answered made q ++ []) ++ later) ++ last
+      served_behind q (marks x (node (text_in_span made s span) new) ++ rest)
+      ≡ ((group_answers made q ++ []) ++ later) ++ last
   unfolding marks
   text_served label used [] s span new rest later last is = is
   text_served label used (t ∷ ts) s span new rest later last is =
@@ -110,12 +110,12 @@ module _ (x : Targets) where
 -- an element serves with its first `id`, which is a new one or its own
 head_answers : (h : Head) (own label : Option Name) (used : Name → Bool) (q : List Start) →
     first_id h ≡ own → let made = made_for own label used q in
-    answered (first_id (with_id made h)) q ≡ answered (or_else own made) q
+    group_answers (first_id (with_id made h)) q ≡ group_answers (or_else own made) q
 head_answers h own label used [] is =
     nothing_answered (first_id (with_id (made_for own label used []) h))
     ∙ sym (nothing_answered (or_else own (made_for own label used [])))
 head_answers h None label used (s ∷ ss) is = refl
-head_answers h (Some n) label used (s ∷ ss) is = ap (λ name. answered name (s ∷ ss)) is
+head_answers h (Some n) label used (s ∷ ss) is = ap (λ name. group_answers name (s ∷ ss)) is
 
 -- the last anchors of a frame are those of its start tags
 drop_front : (front back : List (PointView × Name)) (n : ℕ) → n ≡ length back →
@@ -149,27 +149,27 @@ inner_served ss used old ms =
 
 all_served : (x : Targets) (ns : NodesView) (g : Groups) (more : List Naming)
     (rest : List Mark) →
-    served_behind g.queue (marks x (nodes_anchored (makes g (events x ns) ++ more) ns) ++ rest)
+    served_behind g.queue (marks x (nodes_with_anchors (makes g (events x ns) ++ more) ns) ++ rest)
     ≡ all_answers (makes g (events x ns))
     ++ served_behind (finished g (events x ns)).queue rest
-unfolding events nodes_anchored marks
+unfolding events nodes_with_anchors marks
 all_served x none g more rest = refl
 all_served x (node (tag_node (starts l label dest)) ns) g more rest =
     let t = step g (start_event (x.is_target l) l label) in
     let later = makes t (events x ns) in
-    start_served x (x.is_target l) l label g (nodes_anchored (later ++ more) ns) rest
+    start_served x (x.is_target l) l label g (nodes_with_anchors (later ++ more) ns) rest
     (all_answers later) (served_behind (finished t (events x ns)).queue rest)
     (all_served x ns t more rest)
 all_served x (node (tag_node (ends l)) ns) g more rest =
     let t = step g (end_tag l) in
     let later = makes t (events x ns) in
-    end_served x (holds l g.queue) l g.used g.queue (nodes_anchored (later ++ more) ns) rest
+    end_served x (is_in_group l g.queue) l g.used g.queue (nodes_with_anchors (later ++ more) ns) rest
     (all_answers later) (served_behind (finished t (events x ns)).queue rest)
     (all_served x ns t more rest)
 all_served x (node (text_node s span) ns) g more rest =
     let t = step g text in
     let later = makes t (events x ns) in
-    text_served x (first_label g.queue) g.used g.queue s span (nodes_anchored (later ++ more) ns)
+    text_served x (first_label g.queue) g.used g.queue s span (nodes_with_anchors (later ++ more) ns)
     rest (all_answers later) (served_behind (finished t (events x ns)).queue rest)
     (all_served x ns t more rest)
 all_served x (node (element_node h kids) ns) g more rest =
@@ -180,8 +180,8 @@ all_served x (node (element_node h kids) ns) g more rest =
     let u = finished t (events x kids) in
     let inside = makes t (events x kids) in
     let after = makes u (events x ns) in
-    let below = marks x (nodes_anchored (inside ++ (after ++ more)) kids) in
-    let behind = marks x (nodes_anchored (after ++ more) ns) in
+    let below = marks x (nodes_with_anchors (inside ++ (after ++ more)) kids) in
+    let behind = marks x (nodes_with_anchors (after ++ more) ns) in
     let last = served_behind (finished u (events x ns)).queue rest in
     let later = all_answers inside ++ all_answers after in
     let both : served_names ((below ++ behind) ++ rest) ≡ later ++ last =
@@ -204,7 +204,7 @@ all_served x (node (frame_node f) ns) g more rest =
     let used = with_made made g.used in
     let t = step g (html_frame f.id ss) in
     let later = makes t (events x ns) in
-    let behind = marks x (nodes_anchored (later ++ more) ns) in
+    let behind = marks x (nodes_with_anchors (later ++ more) ns) in
     let inner = inner_marks ss (f.anchors ++ start_pairs used ss) in
     let last = served_behind (finished t (events x ns)).queue rest in
     let inside = start_answers used ss in
@@ -216,7 +216,7 @@ all_served x (node (frame_node f) ns) g more rest =
     last both
 
 pub anchors_serve : AnchorsServe
-unfolding element_anchored anchor_of
+unfolding element_with_anchors anchor_of
 anchors_serve x e l =
     let g : Groups = record {
       queue = [];
@@ -224,15 +224,15 @@ anchors_serve x e l =
       answers = λ l. None;
     } in
     let made = makes g (events x e.1) in
-    let all : served_names (marks x (nodes_anchored made e.1)) ≡ all_answers made =
-    ap served_names (sym (append-nil (marks x (nodes_anchored made e.1))))
-    ∙ (ap (λ cs. served_names (marks x (nodes_anchored cs e.1) ++ [])) (sym (append-nil made))
+    let all : served_names (marks x (nodes_with_anchors made e.1)) ≡ all_answers made =
+    ap served_names (sym (append-nil (marks x (nodes_with_anchors made e.1))))
+    ∙ (ap (λ cs. served_names (marks x (nodes_with_anchors cs e.1) ++ [])) (sym (append-nil made))
     ∙ (all_served x e.1 g [] []
     ∙ (ap (λ l. all_answers made ++ l) (nothing_waits (finished g (events x e.1)).queue)
     ∙ append-nil (all_answers made)))) in
     let is : made ≡ element_namings x e = makes_is (events x e.1) g in
     ap (λ l'. last_name l' l)
-    (sym (ap all_answers is) ∙ (sym all ∙ ap (λ cs. served_names (marks x (nodes_anchored cs e.1))) is))
+    (sym (ap all_answers is) ∙ (sym all ∙ ap (λ cs. served_names (marks x (nodes_with_anchors cs e.1))) is))
   where
     nothing_waits : (q : List Start) → served_behind q [] ≡ []
     nothing_waits [] = refl

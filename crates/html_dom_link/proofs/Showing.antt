@@ -9,10 +9,10 @@ use Rattle.html_dom_tree.specs.Tree.{Head, starts, ends, tag_node, text_node, el
 use Rattle.html_names.specs.Names.{stands_in}
 use Rattle.html_dom_link.specs.NewNames.{Name, with_name, new_name, anchor_names, first_id, element_names}
 use Rattle.html_dom_link.specs.Events.{Start, FrameStart, end_tag, element, text, html_frame, Targets, start_event, frame_starts, events}
-use Rattle.html_dom_link.specs.Groups.{holds, first_label, label_of}
-use Rattle.html_dom_link.specs.Namings.{Naming, made_for, answered, start_pairs, start_answers, with_made, all_answers, last_name}
-use Rattle.html_dom_link.specs.Anchors.{with_id, text_in, span_before, nodes_anchored, element_namings, element_anchored, anchor_of}
-use Rattle.html_dom_link.specs.Answered.{names_shown, AnswersAreShown}
+use Rattle.html_dom_link.specs.Groups.{is_in_group, first_label, label_of}
+use Rattle.html_dom_link.specs.Namings.{Naming, made_for, group_answers, start_pairs, start_answers, with_made, all_answers, last_name}
+use Rattle.html_dom_link.specs.Anchors.{with_id, text_in_span, span_before, nodes_with_anchors, element_namings, element_with_anchors, anchor_of}
+use Rattle.html_dom_link.specs.Answered.{shown_names, AnswersAreShown}
 use Rattle.html_dom_link.proofs.States.{Groups, naming_at, step, finished, makes, makes_is, makes-append, drop-events}
 
 -- the names of the answers are among these
@@ -69,7 +69,7 @@ itself : (n : Name) (ns : List Name) → stands_in (n ∷ ns) n ≡ true
 unfolding stands_in
 itself n ns = ap (λ b. b || stands_in ns n) ((bytes_eq-Decides n n).1 refl)
 
-answered_among : (n : Option Name) (ss : List Start) → AreAmong (answered n ss) (option_to_list n)
+answered_among : (n : Option Name) (ss : List Start) → AreAmong (group_answers n ss) (option_to_list n)
 answered_among None ss = tt
 answered_among (Some n) [] = tt
 answered_among (Some n) (s ∷ ss) = (itself n [], answered_among (Some n) ss)
@@ -100,75 +100,75 @@ names-append (a ∷ as') bs = ap (λ l. a.1 ∷ l) (names-append as' bs)
 -- an element shows the name that it serves with
 head_shows : (h : Head) (own label : Option Name) (used : Name → Bool) (q : List Start) →
     first_id h ≡ own →
-    AreAmong (answered (or_else own (made_for own label used q)) q)
+    AreAmong (group_answers (or_else own (made_for own label used q)) q)
     (option_to_list (first_id (with_id (made_for own label used q) h)))
 head_shows h None label used [] e = tt
 head_shows h (Some n) label used [] e = tt
 head_shows h None label used (s ∷ ss) e = answered_among (Some (new_name label used)) (s ∷ ss)
 head_shows h (Some n) label used (s ∷ ss) e =
-    subst (λ o. AreAmong (answered (Some n) (s ∷ ss)) (option_to_list o)) (sym e)
+    subst (λ o. AreAmong (group_answers (Some n) (s ∷ ss)) (option_to_list o)) (sym e)
     (answered_among (Some n) (s ∷ ss))
 
 -- so does a text in a new element, and a new element after an end tag
 text_shows : (label : Option Name) (used : Name → Bool) (q : List Start) (s : List ℕ) (span : ℕ)
     (ns : NodesView) (xs : List (ℕ × Name)) → let made = made_for None label used q in
-    AreAmong xs (names_shown ns) →
-    AreAmong ((answered made q ++ []) ++ xs) (names_shown (node (text_in made s span) ns))
-unfolding names_shown
+    AreAmong xs (shown_names ns) →
+    AreAmong ((group_answers made q ++ []) ++ xs) (shown_names (node (text_in_span made s span) ns))
+unfolding shown_names
 text_shows label used [] t span ns xs h = h
 text_shows label used (s ∷ ss) t span ns xs h =
     let n = Some (new_name label used) in
-    with_nil (answered n (s ∷ ss)) xs (option_to_list n ++ names_shown ns)
-    (joined (answered n (s ∷ ss)) xs (option_to_list n) (names_shown ns)
+    with_nil (group_answers n (s ∷ ss)) xs (option_to_list n ++ shown_names ns)
+    (joined (group_answers n (s ∷ ss)) xs (option_to_list n) (shown_names ns)
     (answered_among n (s ∷ ss)) h)
 
 end_shows : (label : Option Name) (used : Name → Bool) (q : List Start)
     (ns : NodesView) (xs : List (ℕ × Name)) → let made = made_for None label used q in
-    AreAmong xs (names_shown ns) →
-    AreAmong ((answered made q ++ []) ++ xs) (names_shown (span_before made ns))
-unfolding names_shown
+    AreAmong xs (shown_names ns) →
+    AreAmong ((group_answers made q ++ []) ++ xs) (shown_names (span_before made ns))
+unfolding shown_names
 end_shows label used [] ns xs h = h
 end_shows label used (s ∷ ss) ns xs h =
     let n = Some (new_name label used) in
-    with_nil (answered n (s ∷ ss)) xs (option_to_list n ++ names_shown ns)
-    (joined (answered n (s ∷ ss)) xs (option_to_list n) (names_shown ns)
+    with_nil (group_answers n (s ∷ ss)) xs (option_to_list n ++ shown_names ns)
+    (joined (group_answers n (s ∷ ss)) xs (option_to_list n) (shown_names ns)
     (answered_among n (s ∷ ss)) h)
 
 start_shows : (is_target : Bool) (l : ℕ) (label : Option Name) (g : Groups) (ns : NodesView)
     (xs : List (ℕ × Name)) → let c = naming_at g (start_event is_target l label) in
-    AreAmong xs (names_shown ns) →
-    AreAmong (c.answers ++ xs) (names_shown (span_before c.made ns))
+    AreAmong xs (shown_names ns) →
+    AreAmong (c.answers ++ xs) (shown_names (span_before c.made ns))
 start_shows true l label g ns xs h = h
 start_shows false l label g ns xs h = h
 
 all_shown : (x : Targets) (ns : NodesView) (g : Groups) (more : List Naming) →
     AreAmong (all_answers (makes g (events x ns)))
-    (names_shown (nodes_anchored (makes g (events x ns) ++ more) ns))
-unfolding events nodes_anchored names_shown
+    (shown_names (nodes_with_anchors (makes g (events x ns) ++ more) ns))
+unfolding events nodes_with_anchors shown_names
 all_shown x none g more = tt
 all_shown x (node (tag_node (starts l label dest)) ns) g more =
     let later = makes (step g (start_event (x.is_target l) l label)) (events x ns) in
-    start_shows (x.is_target l) l label g (nodes_anchored (later ++ more) ns) (all_answers later)
+    start_shows (x.is_target l) l label g (nodes_with_anchors (later ++ more) ns) (all_answers later)
     (all_shown x ns (step g (start_event (x.is_target l) l label)) more)
 all_shown x (node (tag_node (ends l)) ns) g more =
     let later = makes (step g (end_tag l)) (events x ns) in
-    let q = if holds l g.queue then g.queue else [] in
-    end_shows (label_of l q) g.used q (nodes_anchored (later ++ more) ns) (all_answers later)
+    let q = if is_in_group l g.queue then g.queue else [] in
+    end_shows (label_of l q) g.used q (nodes_with_anchors (later ++ more) ns) (all_answers later)
     (all_shown x ns (step g (end_tag l)) more)
 all_shown x (node (text_node s span) ns) g more =
     let later = makes (step g text) (events x ns) in
-    text_shows (first_label g.queue) g.used g.queue s span (nodes_anchored (later ++ more) ns)
+    text_shows (first_label g.queue) g.used g.queue s span (nodes_with_anchors (later ++ more) ns)
     (all_answers later) (all_shown x ns (step g text) more)
 all_shown x (node (element_node h kids) ns) g more =
     let own = first_id h in
     let made = made_for own (first_label g.queue) g.used g.queue in
-    let group = answered (or_else own made) g.queue in
+    let group = group_answers (or_else own made) g.queue in
     let t = step g (element own) in
     let u = finished t (events x kids) in
     let inside = makes t (events x kids) in
     let after = makes u (events x ns) in
-    let kids' = nodes_anchored (inside ++ (after ++ more)) kids in
-    let rest = nodes_anchored (after ++ more) ns in
+    let kids' = nodes_with_anchors (inside ++ (after ++ more)) kids in
+    let rest = nodes_with_anchors (after ++ more) ns in
     let names = option_to_list (first_id (with_id made h)) in
     let here : AreAmong (group ++ []) names =
     rw (append-nil group) (head_shows h own (first_label g.queue) g.used g.queue refl) in
@@ -179,8 +179,8 @@ all_shown x (node (element_node h kids) ns) g more =
       answers-append inside after,
     )
     (joined (group ++ []) (all_answers inside ++ all_answers after) names
-    (names_shown kids' ++ names_shown rest) here
-    (joined (all_answers inside) (all_answers after) (names_shown kids') (names_shown rest)
+    (shown_names kids' ++ shown_names rest) here
+    (joined (all_answers inside) (all_answers after) (shown_names kids') (shown_names rest)
     (all_shown x kids t (after ++ more)) (all_shown x ns u more)))
 all_shown x (node (frame_node f) ns) g more =
     let ss = frame_starts x f.inner in
@@ -189,13 +189,13 @@ all_shown x (node (frame_node f) ns) g more =
     let pairs = start_pairs used ss in
     let later = makes (step g (html_frame f.id ss)) (events x ns) in
     let own = option_to_list (or_else f.id made) in
-    let group = answered (or_else f.id made) g.queue in
+    let group = group_answers (or_else f.id made) g.queue in
     let inside = start_answers used ss in
     let paired : AreAmong inside (anchor_names (f.anchors ++ pairs)) =
     rw (names-append f.anchors pairs)
     (all-right inside (anchor_names f.anchors) (anchor_names pairs) (starts_among ss used)) in
     joined (group ++ inside) (all_answers later) (own ++ anchor_names (f.anchors ++ pairs))
-    (names_shown (nodes_anchored (later ++ more) ns))
+    (shown_names (nodes_with_anchors (later ++ more) ns))
     (joined group inside own (anchor_names (f.anchors ++ pairs))
     (answered_among (or_else f.id made) g.queue) paired)
     (all_shown x ns (step g (html_frame f.id ss)) more)
@@ -218,7 +218,7 @@ from_answer (a ∷ as') names l n h e =
     by_rest None s false e so = cc
 
 pub answers_are_shown : AnswersAreShown
-unfolding element_anchored anchor_of
+unfolding element_with_anchors anchor_of
 answers_are_shown x e l n is =
     let g : Groups = record {
       queue = [];
@@ -226,10 +226,10 @@ answers_are_shown x e l n is =
       answers = λ l. None;
     } in
     let made = makes g (events x e.1) in
-    let all : AreAmong (all_answers made) (names_shown (nodes_anchored made e.1)) =
-    subst (λ cs. AreAmong (all_answers made) (names_shown (nodes_anchored cs e.1)))
+    let all : AreAmong (all_answers made) (shown_names (nodes_with_anchors made e.1)) =
+    subst (λ cs. AreAmong (all_answers made) (shown_names (nodes_with_anchors cs e.1)))
     (append-nil made) (all_shown x e.1 g []) in
     from_answer (all_answers (element_namings x e))
-    (names_shown (nodes_anchored (element_namings x e) e.1)) l n
-    (subst (λ cs. AreAmong (all_answers cs) (names_shown (nodes_anchored cs e.1)))
+    (shown_names (nodes_with_anchors (element_namings x e) e.1)) l n
+    (subst (λ cs. AreAmong (all_answers cs) (shown_names (nodes_with_anchors cs e.1)))
     (makes_is (events x e.1) g) all) is

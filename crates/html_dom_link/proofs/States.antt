@@ -5,8 +5,8 @@ use Rattle.html_dom_tree.specs.Attributes.{or_else}
 use Rattle.html_dom_tree.specs.Tree.{starts, ends, tag_node, text_node, element_node, frame_node, NodesView, none, node}
 use Rattle.html_dom_link.specs.NewNames.{Name}
 use Rattle.html_dom_link.specs.Events.{Start, Event, Targets, events}
-use Rattle.html_dom_link.specs.Groups.{holds, waiting_after, cut_at, cuts}
-use Rattle.html_dom_link.specs.Namings.{Naming, answered, naming, used_after, namings, all_answers, last_name}
+use Rattle.html_dom_link.specs.Groups.{is_in_group, waiting_after, cut_at, cuts}
+use Rattle.html_dom_link.specs.Namings.{Naming, group_answers, naming, used_after, namings, all_answers, last_name}
 use Rattle.html_dom_link.specs.Anchors.{nodes_size}
 
 -- the group that waits, the names in use, and the last name of each location
@@ -108,12 +108,12 @@ named_if waits n old = if waits then Some n else old
 
 -- a location that waits gets the name
 pub answered_is : (n : Name) (ss : List Start) (old : Option Name) (l : ℕ) →
-    or_else (last_name (answered (Some n) ss) l) old ≡ named_if (holds l ss) n old
+    or_else (last_name (group_answers (Some n) ss) l) old ≡ named_if (is_in_group l ss) n old
 answered_is n [] old l = refl
 answered_is n (s ∷ ss) old l =
     let here = if s.location == l then Some n else None in
-    sym (or_else-assoc (last_name (answered (Some n) ss) l) here old)
-    ∙ (answered_is n ss (or_else here old) l ∙ by_first (holds l ss) (s.location == l))
+    sym (or_else-assoc (last_name (group_answers (Some n) ss) l) here old)
+    ∙ (answered_is n ss (or_else here old) l ∙ by_first (is_in_group l ss) (s.location == l))
   where
     by_first : (a b : Bool) →
         named_if a n (or_else (if b then Some n else None) old) ≡ named_if (b || a) n old

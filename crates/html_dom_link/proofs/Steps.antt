@@ -1,6 +1,6 @@
 -- The walk goes on where it stopped, as a loop over nodes does.
 use Rattle.std.proofs.Common.{◌≡◌, ℕ, Bool, List, [], ◌∷◌, ◌++◌, Option, Some, None, String, Global, Bor, refl, ap, ◌∙◌, rules}
-use Rattle.std.specs.Option.{option_or, option_copied}
+use Rattle.std.specs.Option.{option_copied}
 use Rattle.std.specs.Prelude.{option_map}
 use Rattle.html_dom_tree.specs.Attributes.{or_else}
 use Rattle.html_dom_tree.specs.Frames.{PointView, HtmlFrameView}
@@ -15,8 +15,8 @@ use Rattle.html_dom_tree.specs.declared.node.HtmlNode as HtmlNode
 use Rattle.html_dom_link.specs.NewNames.{Name, with_name, new_name}
 use Rattle.html_dom_link.specs.Events.{Targets, FrameStart, frame_starts}
 use Rattle.html_dom_link.specs.Namings.{start_pairs, used_after_starts}
-use Rattle.html_dom_link.specs.Anchors.{span_before, text_in}
-use Rattle.html_dom_link.specs.Walk.{WalkState, started, first_waiting, Serves, made_now, after_server, after_start, after_starts, Walked, walk}
+use Rattle.html_dom_link.specs.Anchors.{span_before, text_in_span}
+use Rattle.html_dom_link.specs.AnchorWalk.{WalkState, after_tag_start, first_waiting, Serves, made_now, after_server, after_start, after_starts, Walked, walk}
 use Rattle.html_dom_link.specs.Joined.{◌then◌, nodes_before, with_starts}
 
 pub then-none : (ns : NodesView) → (ns then none) ≡ ns
@@ -68,14 +68,19 @@ pub nodes_view-push : (ns : List HtmlNode) (n : HtmlNode) →
 nodes_view-push [] n = refl
 nodes_view-push (m ∷ ns) n = ap (node (node_view m)) (nodes_view-push ns n)
 
+-- one node more, and then what follows it
+pub span_placed : (ns : List HtmlNode) (n : HtmlNode) (more : NodesView) →
+    (nodes_view (ns ++ n ∷ []) then more) ≡ (nodes_view ns then node (node_view n) more)
+span_placed ns n more =
+    ap (λ l. l then more) (nodes_view-push ns n)
+    ∙ then-assoc (nodes_view ns) (node (node_view n) none) more
+
 -- a text, which serves all that wait
-pub text_pushed : (x : Targets) (s : List ℕ) (span : ℕ) (old new : NodesView) (n : NodeView)
-    (st after : WalkState) (made : Option Name) → Serves st after (first_waiting st) None made →
-    n ≡ text_in made s span → new ≡ (old then node n none) →
-    (new, after) ≡ nodes_before old (walk x (node (text_node s span) none) st)
+pub text_served : (x : Targets) (s : List ℕ) (span : ℕ) (n : NodeView) (st after : WalkState)
+    (made : Option Name) → Serves st after (first_waiting st) None made → n ≡ text_in_span made s span →
+    (node n none, after) ≡ walk x (node (text_node s span) none) st
 unfolding walk
-text_pushed x s span old new n st after made serves is pushed =
-    rw (pushed, is, serves.name, serves.state) refl
+text_served x s span n st after made serves is = rw (is, serves.name, serves.state) refl
 
 -- the views of nodes, case by case
 pub node_view-Tag : (t : Tag) → node_view (HtmlNode.Tag t) ≡ tag_node (tag_view t)
@@ -90,37 +95,19 @@ pub node_view-Frame : (f : HtmlFrame) →
 node_view-Frame f = search (rules, the_lemmas)
 
 -- a start tag, which waits where its location is a target
-pub start_pushed : (x : Targets) (l : ℕ) (label : Option Name) (dest : Option ℕ)
-    (old new : NodesView) (n : NodeView) (st after : WalkState) →
-    after ≡ started (x.is_target l) l label st → n ≡ tag_node (starts l label dest) →
-    new ≡ (old then node n none) →
-    (new, after) ≡ nodes_before old (walk x (node (tag_node (starts l label dest)) none) st)
+pub tag_started : (x : Targets) (l : ℕ) (label : Option Name) (dest : Option ℕ)
+    (st after : WalkState) → after ≡ after_tag_start (x.is_target l) l label st →
+    let start = node (tag_node (starts l label dest)) none in (start, after) ≡ walk x start st
 unfolding walk
-start_pushed x l label dest old new n st after waits is pushed = rw (pushed, is, waits) refl
+tag_started x l label dest st after waits = rw waits refl
 
--- what stands after an end tag, and the state then
-abbrev pub after_end : ℕ → WalkState → Walked
-after_end l st =
-    let waiting = st.labels l in
-    (span_before (made_now waiting None st.used) none, after_server waiting None st)
-
--- an end tag, and then the `span` that it makes
-pub end_pushed : (x : Targets) (l : ℕ) (old mid new : NodesView) (n : NodeView)
-    (st after : WalkState) → n ≡ tag_node (ends l) → mid ≡ (old then node n none) →
-    (new, after) ≡ nodes_before mid (after_end l st) →
-    (new, after) ≡ nodes_before old (walk x (node (tag_node (ends l)) none) st)
+-- an end tag, and the `span` that it makes
+pub tag_ended : (x : Targets) (l : ℕ) (st after : WalkState) (made : Option Name) →
+    Serves st after (st.labels l) None made →
+    (node (tag_node (ends l)) (span_before made none), after)
+    ≡ walk x (node (tag_node (ends l)) none) st
 unfolding walk
-end_pushed x l old mid new n st after is pushed more =
-    let e = after_end l st in
-    more ∙ (rw (pushed, is)
-    (ap (λ ms. (ms, e.1)) (then-assoc old (node (tag_node (ends l)) none) e.0)))
-
--- the `span` that an end tag makes
-pub span_pushed : (l : ℕ) (old new : NodesView) (st after : WalkState) (made : Option Name) →
-    Serves st after (st.labels l) None made → new ≡ (old then span_before made none) →
-    (new, after) ≡ nodes_before old (after_end l st)
-span_pushed l old new st after made serves pushed =
-    rw (pushed, serves.name, serves.state) refl
+tag_ended x l st after made serves = rw (serves.name, serves.state) refl
 
 -- the name that a frame has of its own
 pub own_is : (own : Option (Bor (String Global))) →
@@ -128,25 +115,16 @@ pub own_is : (own : Option (Bor (String Global))) →
 own_is None = refl
 own_is (Some n) = refl
 
--- a frame's own `id`, else the new one
-pub id_is : (own made : Option (String Global)) →
-    optional_text_view (option_or own made)
-    ≡ or_else (optional_text_view own) (optional_text_view made)
-id_is None made = refl
-id_is (Some n) made = refl
-
 -- a frame, which serves all that wait
-pub frame_pushed : (x : Targets) (f : HtmlFrameView) (id : Option Name)
-    (pairs : List (PointView × Name)) (old new : NodesView) (n : NodeView)
-    (st served after : WalkState) (own made : Option Name) →
+pub frame_served : (x : Targets) (f g : HtmlFrameView) (id : Option Name)
+    (pairs : List (PointView × Name)) (st served after : WalkState) (own made : Option Name) →
     Serves st served (first_waiting st) own made → own ≡ f.id → id ≡ or_else f.id made →
     (after, pairs) ≡ with_starts (frame_starts x f.inner) (served, f.anchors) →
-    n ≡ frame_node (record f { id = id; anchors = pairs }) → new ≡ (old then node n none) →
-    (new, after) ≡ nodes_before old (walk x (node (frame_node f) none) st)
+    g ≡ record f { id = id; anchors = pairs } →
+    (node (frame_node g) none, after) ≡ walk x (node (frame_node f) none) st
 unfolding walk
-frame_pushed x f id pairs old new n st served after own made serves own_id is named node_is
-    pushed =
+frame_served x f g id pairs st served after own made serves own_id is named frame_is =
     let ss = frame_starts x f.inner in
     let state : after ≡ after_starts ss served = ap (λ w. w.0) named in
     let anchors : pairs ≡ f.anchors ++ start_pairs served.used ss = ap (λ w. w.1) named in
-    rw (pushed, node_is, is, anchors, state, serves.name, serves.state, own_id) refl
+    rw (frame_is, is, anchors, state, serves.name, serves.state, own_id) refl

@@ -22,7 +22,7 @@ use Rattle.html_names.specs.Texts.{text_view}
 use Rattle.html_names.proofs.Lists.{bytes_eq-chars}
 use lib.Utf8.{encodes}
 use Rattle.html_names.proofs.Lists.{chars_ascii}
-use Rattle.html_dom_link.specs.NewNames.{Name, numbered, stem_of}
+use Rattle.html_dom_link.specs.NewNames.{Name, name_with_number, stem_of}
 use Rattle.html_dom_link.specs.UsedNames.{is_nothing, AreUsedBelow, IsCounted}
 
 pub bytes_eq-sym : (a b : List ℕ) → bytes_eq a b ≡ bytes_eq b a
@@ -87,7 +87,7 @@ dash = IsAscii-cons 45 [] (omega arith) IsAscii-nil
 
 -- a numbered name in characters
 pub numbered_is : (stem : List ℕ) (n : ℕ) → IsUtf8 stem → n < 2 ^ 64 →
-    chars (stem ++ (codes "-" ++ decimal n)) ≡ numbered (chars stem) n
+    chars (stem ++ (codes "-" ++ decimal n)) ≡ name_with_number (chars stem) n
 numbered_is stem n u l =
     chars-append stem (codes "-" ++ decimal n) u
     ∙ ap (λ t. chars stem ++ t)

@@ -9,10 +9,10 @@ use Rattle.html_dom_tree.specs.Tree.{starts, ends, NodeView, tag_node, text_node
 use Rattle.html_names.specs.Names.{stands_in}
 use Rattle.html_dom_link.specs.NewNames.{Name, new_name, with_name, first_id, element_names}
 use Rattle.html_dom_link.specs.Events.{Start, FrameStart, end_tag, element, text, html_frame, Targets, start_event, frame_starts, events}
-use Rattle.html_dom_link.specs.Groups.{holds, Cut, first_label, label_of}
-use Rattle.html_dom_link.specs.Namings.{made_for, answered, start_pairs, start_answers, used_after_starts, with_made, Naming, naming, used_after, all_answers, last_name}
-use Rattle.html_dom_link.specs.Anchors.{with_id, text_in, span_before, named_frame, nodes_anchored, element_anchored, anchor_of}
-use Rattle.html_dom_link.specs.Walk.{WalkState, started, first_waiting, put_each, served, made_now, after_server, after_starts, Walked, node_before, walk, OneWalkServes}
+use Rattle.html_dom_link.specs.Groups.{is_in_group, Cut, first_label, label_of}
+use Rattle.html_dom_link.specs.Namings.{made_for, group_answers, start_pairs, start_answers, used_after_starts, with_made, Naming, naming, used_after, all_answers, last_name}
+use Rattle.html_dom_link.specs.Anchors.{with_id, text_in_span, span_before, named_frame, nodes_with_anchors, element_with_anchors, anchor_of}
+use Rattle.html_dom_link.specs.AnchorWalk.{WalkState, after_tag_start, first_waiting, put_each, with_answers, made_now, after_server, after_starts, Walked, node_before, walk, OneWalkServes}
 use Rattle.html_dom_link.proofs.States.{Groups, named_if, naming_at, step, finished, makes, makes_is, makes-append, finished-append, drop-events, or_else-assoc, or_else-none, last_name-append, finished_answers, answered_is}
 
 -- the group that waits, as the walk carries it
@@ -21,7 +21,7 @@ locations_of [] = []
 locations_of (s ∷ ss) = s.location ∷ locations_of ss
 
 abbrev pub labels_of : List Start → ℕ → Option (Option Name)
-labels_of q l = if holds l q then Some (label_of l q) else None
+labels_of q l = if is_in_group l q then Some (label_of l q) else None
 
 abbrev pub waiting_in : List Start → Option (Option Name)
 waiting_in [] = None
@@ -55,15 +55,15 @@ labels_more (t ∷ q) s k = by_first (t.location == k) (labels_more q s k)
     by_first : (b : Bool) →
         or_else (labels_of q k) (if s.location == k then Some s.label else None)
         ≡ labels_of (q ++ s ∷ []) k →
-        or_else (if b || holds k q then Some (if b then t.label else label_of k q) else None)
+        or_else (if b || is_in_group k q then Some (if b then t.label else label_of k q) else None)
         (if s.location == k then Some s.label else None)
-        ≡ (if b || holds k (q ++ s ∷ [])
+        ≡ (if b || is_in_group k (q ++ s ∷ [])
         then Some (if b then t.label else label_of k (q ++ s ∷ [])) else None)
     by_first true so = refl
     by_first false so = so
 
 started_is : (is_target : Bool) (l : ℕ) (label : Option Name) (g : Groups) →
-    started is_target l label (walk_state g) ≡ walk_state (step g (start_event is_target l label))
+    after_tag_start is_target l label (walk_state g) ≡ walk_state (step g (start_event is_target l label))
 started_is false l label g = refl
 started_is true l label g =
     let s : Start = record { location = l; label = label } in
@@ -97,15 +97,15 @@ served_group own made q more g = record {
   waiting = [];
   labels = λ l. None;
   used = with_made made g.used;
-  answers = λ l. or_else (last_name (answered (or_else own made) q ++ more) l) (g.answers l);
+  answers = λ l. or_else (last_name (group_answers (or_else own made) q ++ more) l) (g.answers l);
 }
 
 put_each_is : (n : Name) (q : List Start) (answers : ℕ → Option Name) (l : ℕ) →
-    put_each n (locations_of q) answers l ≡ named_if (holds l q) n (answers l)
+    put_each n (locations_of q) answers l ≡ named_if (is_in_group l q) n (answers l)
 put_each_is n [] answers l = refl
 put_each_is n (s ∷ ss) answers l =
     put_each_is n ss (λ k. if s.location == k then Some n else answers k) l
-    ∙ by_first (holds l ss) (s.location == l)
+    ∙ by_first (is_in_group l ss) (s.location == l)
   where
     by_first : (a b : Bool) → named_if a n (if b then Some n else answers l)
         ≡ named_if (b || a) n (answers l)
@@ -116,15 +116,15 @@ put_each_is n (s ∷ ss) answers l =
 
 named_is : (n : Name) (g : Groups) (l : ℕ) →
     put_each n (locations_of g.queue) g.answers l
-    ≡ or_else (last_name (answered (Some n) g.queue ++ []) l) (g.answers l)
+    ≡ or_else (last_name (group_answers (Some n) g.queue ++ []) l) (g.answers l)
 named_is n g l =
     put_each_is n g.queue g.answers l
     ∙ (sym (answered_is n g.queue (g.answers l) l)
     ∙ ap (λ as'. or_else (last_name as' l) (g.answers l))
-    (sym (append-nil (answered (Some n) g.queue))))
+    (sym (append-nil (group_answers (Some n) g.queue))))
 
 served_is : (n : Name) (made : Option Name) (g : Groups) →
-    served n (record (walk_state g) { used = with_made made g.used })
+    with_answers n (record (walk_state g) { used = with_made made g.used })
     ≡ served_group (Some n) made g.queue [] g
 served_is n made g =
     ap (λ f. record {
@@ -190,7 +190,7 @@ frame_is : (own : Option Name) (ss : List FrameStart) (g : Groups) →
 frame_is own ss g =
     let made = made_for own (first_label g.queue) g.used g.queue in
     let used = with_made made g.used in
-    let group = answered (or_else own made) g.queue in
+    let group = group_answers (or_else own made) g.queue in
     let inside = start_answers used ss in
     ap (after_starts ss) (server_is own g)
     ∙ (starts_is ss (served_group own made g.queue [] g)
@@ -214,7 +214,7 @@ ended b l g =
     }
 
 ended_as : (b : Bool) (l : ℕ) (q : List Start) (used : Name → Bool)
-    (answers : ℕ → Option Name) → holds l q ≡ b → let g = groups q used answers in
+    (answers : ℕ → Option Name) → is_in_group l q ≡ b → let g = groups q used answers in
     after_server (if b then Some (label_of l q) else None) None (walk_state g)
     ≡ walk_state (ended b l g)
 ended_as false l q used answers e = refl
@@ -224,9 +224,9 @@ ended_as true l (s ∷ ss) used answers e =
 
 end_is : (l : ℕ) (g : Groups) →
     after_server (labels_of g.queue l) None (walk_state g) ≡ walk_state (step g (end_tag l))
-end_is l g = ended_as (holds l g.queue) l g.queue g.used g.answers refl
+end_is l g = ended_as (is_in_group l g.queue) l g.queue g.used g.answers refl
 
-made_at_end : (b : Bool) (l : ℕ) (q : List Start) (used : Name → Bool) → holds l q ≡ b →
+made_at_end : (b : Bool) (l : ℕ) (q : List Start) (used : Name → Bool) → is_in_group l q ≡ b →
     made_now (if b then Some (label_of l q) else None) None used
     ≡ made_for None (label_of l (if b then q else [])) used (if b then q else [])
 made_at_end false l q used e = refl
@@ -249,11 +249,11 @@ no_name false l label g = refl
 -- the new nodes and the state after them, by groups; more namings may follow
 abbrev pub by_groups : Targets → NodesView → Groups → List Naming → Walked
 by_groups x ns g more =
-    (nodes_anchored (makes g (events x ns) ++ more) ns, walk_state (finished g (events x ns)))
+    (nodes_with_anchors (makes g (events x ns) ++ more) ns, walk_state (finished g (events x ns)))
 
 pub walk_is : (x : Targets) (ns : NodesView) (g : Groups) (more : List Naming) →
     walk x ns (walk_state g) ≡ by_groups x ns g more
-unfolding walk events nodes_anchored
+unfolding walk events nodes_with_anchors
 walk_is x none g more = refl
 walk_is x (node (tag_node (starts l label dest)) ns) g more =
     let e = start_event (x.is_target l) l label in
@@ -270,13 +270,13 @@ walk_is x (node (tag_node (ends l)) ns) g more =
     ap (λ st. joined (walk x ns st)) (end_is l g)
     ∙ (ap joined (walk_is x ns (step g (end_tag l)) more)
     ∙ ap (λ n. (node t (span_before n rest.0), rest.1))
-    (made_at_end (holds l g.queue) l g.queue g.used refl))
+    (made_at_end (is_in_group l g.queue) l g.queue g.used refl))
 walk_is x (node (text_node s span) ns) g more =
     let rest = by_groups x ns (step g text) more in
-    let first = text_in (made_now (first_waiting (walk_state g)) None g.used) s span in
+    let first = text_in_span (made_now (first_waiting (walk_state g)) None g.used) s span in
     ap (λ st. node_before first (walk x ns st)) (server_is None g)
     ∙ (ap (node_before first) (walk_is x ns (step g text) more)
-    ∙ ap (λ n. node_before (text_in n s span) rest) (made_any None g))
+    ∙ ap (λ n. node_before (text_in_span n s span) rest) (made_any None g))
 walk_is x (node (element_node h kids) ns) g more =
     let own = first_id h in
     let made = made_now (first_waiting (walk_state g)) own g.used in
@@ -284,7 +284,7 @@ walk_is x (node (element_node h kids) ns) g more =
     let u = finished t (events x kids) in
     let inside = makes t (events x kids) in
     let after = makes u (events x ns) in
-    let kids' = nodes_anchored (inside ++ (after ++ more)) kids in
+    let kids' = nodes_with_anchors (inside ++ (after ++ more)) kids in
     let rest = by_groups x ns u more in
     let joined : Walked → Walked =
     λ r. node_before (element_node (with_id made h) r.0) (walk x ns r.1) in
@@ -314,14 +314,14 @@ walk_is x (node (frame_node f) ns) g more =
     (made_any f.id g)))
 
 pub one_walk_serves : OneWalkServes
-unfolding element_anchored anchor_of
+unfolding element_with_anchors anchor_of
 one_walk_serves x e =
     let used = stands_in (element_names e) in
     let g = groups [] used (λ l. None) in
     let es = events x e.1 in
     let whole = walk_is x e.1 g [] in
     let all = append-nil (makes g es) ∙ makes_is es g in (
-      ap (λ w. (e.0, w.0)) whole ∙ ap (λ cs. (e.0, nodes_anchored cs e.1)) all,
+      ap (λ w. (e.0, w.0)) whole ∙ ap (λ cs. (e.0, nodes_with_anchors cs e.1)) all,
       λ l. ap (λ w. w.1.answers l) whole ∙ (finished_answers es g l
           ∙ (or_else-none (last_name (all_answers (makes g es)) l)
           ∙ ap (λ ns. last_name (all_answers ns) l) (makes_is es g))),

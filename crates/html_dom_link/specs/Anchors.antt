@@ -23,9 +23,9 @@ abbrev pub span_head : Name → (span : ℕ) → Head
 span_head n span = with_id (Some n) (record (new_element (codes "span")).0 { span = span })
 
 -- a text inside a new `span`, which has the text's span
-abbrev pub text_in : Option Name → List ℕ → (span : ℕ) → NodeView
-text_in None s span = text_node s span
-text_in (Some n) s span = element_node (span_head n span) (node (text_node s span) none)
+abbrev pub text_in_span : Option Name → List ℕ → (span : ℕ) → NodeView
+text_in_span None s span = text_node s span
+text_in_span (Some n) s span = element_node (span_head n span) (node (text_node s span) none)
 
 -- a new empty `span` after an end tag
 abbrev pub span_before : Option Name → NodesView → NodesView
@@ -46,25 +46,25 @@ nodes_size (node (element_node h kids) ns) = suc (nodes_size kids + nodes_size n
 nodes_size (node (frame_node f) ns) = suc (nodes_size ns)
 
 -- the changes, by one naming for each node in document order
-unfoldable pub nodes_anchored : List Naming → NodesView → NodesView
-nodes_anchored cs none = none
-nodes_anchored [] (node n ns) = node n ns
-nodes_anchored (c ∷ cs) (node (tag_node t) ns) =
-    node (tag_node t) (span_before c.made (nodes_anchored cs ns))
-nodes_anchored (c ∷ cs) (node (text_node s span) ns) =
-    node (text_in c.made s span) (nodes_anchored cs ns)
-nodes_anchored (c ∷ cs) (node (element_node h kids) ns) =
-    node (element_node (with_id c.made h) (nodes_anchored cs kids))
-    (nodes_anchored (drop (nodes_size kids) cs) ns)
-nodes_anchored (c ∷ cs) (node (frame_node f) ns) =
-    node (frame_node (named_frame c.made c.pairs f)) (nodes_anchored cs ns)
+unfoldable pub nodes_with_anchors : List Naming → NodesView → NodesView
+nodes_with_anchors cs none = none
+nodes_with_anchors [] (node n ns) = node n ns
+nodes_with_anchors (c ∷ cs) (node (tag_node t) ns) =
+    node (tag_node t) (span_before c.made (nodes_with_anchors cs ns))
+nodes_with_anchors (c ∷ cs) (node (text_node s span) ns) =
+    node (text_in_span c.made s span) (nodes_with_anchors cs ns)
+nodes_with_anchors (c ∷ cs) (node (element_node h kids) ns) =
+    node (element_node (with_id c.made h) (nodes_with_anchors cs kids))
+    (nodes_with_anchors (drop (nodes_size kids) cs) ns)
+nodes_with_anchors (c ∷ cs) (node (frame_node f) ns) =
+    node (frame_node (named_frame c.made c.pairs f)) (nodes_with_anchors cs ns)
 
 abbrev pub element_namings : Targets → ElementView → List Naming
 element_namings x e = namings (stands_in (element_names e)) (cuts [] (events x e.1))
 
 -- the tree with anchors, in which the root has its old attributes
-unfoldable pub element_anchored : Targets → ElementView → ElementView
-element_anchored x e = (e.0, nodes_anchored (element_namings x e) e.1)
+unfoldable pub element_with_anchors : Targets → ElementView → ElementView
+element_with_anchors x e = (e.0, nodes_with_anchors (element_namings x e) e.1)
 
 -- the name that a location gets, if it gets one
 unfoldable pub anchor_of : Targets → ElementView → ℕ → Option Name

@@ -5,16 +5,16 @@ use Rattle.html_dom_tree.specs.Tree.{tag_node, text_node, element_node, frame_no
 use Rattle.html_names.specs.Names.{stands_in}
 use Rattle.html_dom_link.specs.NewNames.{Name, first_id, frame_names}
 use Rattle.html_dom_link.specs.Events.{Targets}
-use Rattle.html_dom_link.specs.Anchors.{element_anchored, anchor_of}
+use Rattle.html_dom_link.specs.Anchors.{element_with_anchors, anchor_of}
 
 -- the first `id` of each element, and the ids and anchors of frames
-unfoldable pub names_shown : NodesView → List Name
-names_shown none = []
-names_shown (node (tag_node t) ns) = names_shown ns
-names_shown (node (text_node s span) ns) = names_shown ns
-names_shown (node (element_node h kids) ns) =
-    option_to_list (first_id h) ++ (names_shown kids ++ names_shown ns)
-names_shown (node (frame_node f) ns) = frame_names f ++ names_shown ns
+unfoldable pub shown_names : NodesView → List Name
+shown_names none = []
+shown_names (node (tag_node t) ns) = shown_names ns
+shown_names (node (text_node s span) ns) = shown_names ns
+shown_names (node (element_node h kids) ns) =
+    option_to_list (first_id h) ++ (shown_names kids ++ shown_names ns)
+shown_names (node (frame_node f) ns) = frame_names f ++ shown_names ns
 
 -- the first `id` of each element alone
 unfoldable pub first_ids : NodesView → List Name
@@ -29,19 +29,19 @@ first_ids (node (frame_node f) ns) = first_ids ns
 -- one of a frame's anchors
 abbrev pub AnswersAreShown : Type 0
 AnswersAreShown = (x : Targets) (e : ElementView) (l : ℕ) (n : Name) → anchor_of x e l ≡ Some n →
-    stands_in (names_shown (element_anchored x e).1) n ≡ true
+    stands_in (shown_names (element_with_anchors x e).1) n ≡ true
 
 -- in a tree without frames it is the first `id` of an element
 abbrev pub AnswersAreFirstIds : Type 0
 AnswersAreFirstIds = (x : Targets) (e : ElementView) → ElementIsFrameFree e → (l : ℕ) (n : Name) →
-    anchor_of x e l ≡ Some n → stands_in (first_ids (element_anchored x e).1) n ≡ true
+    anchor_of x e l ≡ Some n → stands_in (first_ids (element_with_anchors x e).1) n ≡ true
 
 -- anchors bring no frame
 abbrev pub StaysFrameFree : Type 0
 StaysFrameFree = (x : Targets) (e : ElementView) → ElementIsFrameFree e →
-    ElementIsFrameFree (element_anchored x e)
+    ElementIsFrameFree (element_with_anchors x e)
 
 -- without a target the tree stays, and no location gets a name
 abbrev pub NoTargetNoChange : Type 0
 NoTargetNoChange = (x : Targets) (e : ElementView) → ((l : ℕ) → x.is_target l ≡ false) →
-    (element_anchored x e ≡ e) × ((l : ℕ) → anchor_of x e l ≡ None)
+    (element_with_anchors x e ≡ e) × ((l : ℕ) → anchor_of x e l ≡ None)

@@ -8,11 +8,11 @@ use Rattle.html_names.specs.Names.{stands_in}
 use Rattle.html_names.specs.Texts.{text_view}
 use Rattle.html_dom_tree.specs.Tree.{ElementView}
 use Rattle.html_dom_document.specs.Documents.{DocumentView, document_root}
-use Rattle.html_dom_link.specs.Anchors.{element_anchored}
-use Rattle.html_dom_link.specs.Answered.{names_shown}
+use Rattle.html_dom_link.specs.Anchors.{element_with_anchors}
+use Rattle.html_dom_link.specs.Answered.{shown_names}
 use Rattle.html_dom_link.specs.Events.{Targets}
 use Rattle.html_dom_link.specs.Fresh.{MadeAreNew}
-use Rattle.html_dom_link.specs.GivenLinks.{GivenLink, LeadsAmong, document_given}
+use Rattle.html_dom_link.specs.GivenLinks.{GivenLink, LeadsAmong, document_given_links}
 use Rattle.html_dom_link.specs.Links.{Anchors, root_with_links}
 use Rattle.html_dom_link.specs.NewNames.{Name, element_names}
 
@@ -41,14 +41,14 @@ pub record LeadsToOne (anchor : Anchors) (shown names : List Name) (link : Given
 -- each link that got an `href` leads to such a name of the new tree
 abbrev pub GivenLinksLeadToOne : (old new : DocumentView) → Type 0
 GivenLinksLeadToOne old new = let root = document_root new in
-    All (LeadsToOne new.introspector.anchor (names_shown root.1) (element_names root))
-    (document_given old new)
+    All (LeadsToOne new.introspector.anchor (shown_names root.1) (element_names root))
+    (document_given_links old new)
 
 -- a tree whose names differ has such names with anchors too, where those that are made are new
 abbrev pub AnchorsStayDistinct : Type 0
 AnchorsStayDistinct = (x : Targets) (e : ElementView) → MadeAreNew x e →
     are_distinct (element_names e) ≡ true →
-    are_distinct (element_names (element_anchored x e)) ≡ true
+    are_distinct (element_names (element_with_anchors x e)) ≡ true
 
 -- links change none of these names
 abbrev pub AllNamesStay : Type 0

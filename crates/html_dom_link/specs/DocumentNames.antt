@@ -5,7 +5,7 @@ use Rattle.html_names.specs.Names.{stands_in}
 use Rattle.html_dom_document.specs.Documents.{DocumentView, document_root}
 use Rattle.html_dom_link.specs.NewNames.{Name}
 use Rattle.html_dom_link.specs.Fresh.{MadeAreNew}
-use Rattle.html_dom_link.specs.Answered.{names_shown}
+use Rattle.html_dom_link.specs.Answered.{shown_names}
 use Rattle.html_dom_link.specs.LinkAnchors.{document_targets}
 
 -- each name that is made for an anchor is none of those in use in the tree, nor of those made
@@ -17,4 +17,4 @@ AnchorsAreNew is_target d = MadeAreNew (document_targets is_target d) (document_
 -- one of a frame's anchors
 abbrev pub AnchorsAreShown : (anchor : ℕ → Option Name) → DocumentView → Type 0
 AnchorsAreShown anchor d = (l : ℕ) (n : Name) → anchor l ≡ Some n →
-    stands_in (names_shown (document_root d).1) n ≡ true
+    stands_in (shown_names (document_root d).1) n ≡ true

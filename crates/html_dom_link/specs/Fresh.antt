@@ -2,7 +2,7 @@
 use Rattle.std.specs.Prelude.{◌≡◌, ℕ, ◌≤◌, ◌<◌, ◌^◌, Bool, true, false, List, [], ◌∷◌, ◌++◌, option_to_list}
 use Rattle.html_dom_tree.specs.Tree.{ElementView}
 use Rattle.html_names.specs.Names.{stands_in}
-use Rattle.html_dom_link.specs.NewNames.{Name, with_name, anchor_names, element_names, numbered, stem_of, first_number, first_free}
+use Rattle.html_dom_link.specs.NewNames.{Name, with_name, anchor_names, element_names, name_with_number, stem_of, first_number, first_free}
 use Rattle.html_dom_link.specs.Events.{Targets}
 use Rattle.html_dom_link.specs.Namings.{Naming}
 use Rattle.html_dom_link.specs.UsedNames.{with_names, IsBounded}
@@ -37,5 +37,5 @@ abbrev pub IsFirstFree : Type 0
 IsFirstFree = (label : Name) (used : Name → Bool) → IsBounded used →
     let stem = stem_of label in
     let n = first_free stem used (2 ^ 63) (first_number label) in
-    (used (numbered stem n) ≡ false)
-    × ((m : ℕ) → first_number label ≤ m → m < n → used (numbered stem m) ≡ true)
+    (used (name_with_number stem n) ≡ false)
+    × ((m : ℕ) → first_number label ≤ m → m < n → used (name_with_number stem m) ≡ true)

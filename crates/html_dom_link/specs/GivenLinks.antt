@@ -6,7 +6,7 @@ use Rattle.html_names.specs.Names.{stands_in}
 use Rattle.html_dom_tree.specs.Attributes.{first}
 use Rattle.html_dom_tree.specs.Tree.{Head, NodeView, tag_node, text_node, element_node, frame_node, NodesView, none, node}
 use Rattle.html_dom_document.specs.Documents.{DocumentView, document_root}
-use Rattle.html_dom_link.specs.Answered.{names_shown}
+use Rattle.html_dom_link.specs.Answered.{shown_names}
 use Rattle.html_dom_link.specs.DocumentNames.{AnchorsAreShown}
 use Rattle.html_dom_link.specs.Links.{Anchors, DeadLinkView, dest_before, document_with_links, is_open, nodes_dead_links}
 use Rattle.html_dom_link.specs.NewNames.{Name}
@@ -28,24 +28,24 @@ given_link (Some dest) old new =
 -- of two trees of one shape: the links that had no `href` in the old one and have one in the new
 -- one, in document order
 unfoldable mutual
-  pub node_given : (dest : Option ℕ) → (old new : NodeView) → List GivenLink
-  node_given dest (tag_node t) new = []
-  node_given dest (text_node s span) new = []
-  node_given dest (element_node h kids) (tag_node t) = []
-  node_given dest (element_node h kids) (text_node s span) = []
-  node_given dest (element_node h kids) (element_node g new) =
-      given_link dest h g ++ nodes_given [] kids new
-  node_given dest (element_node h kids) (frame_node f) = []
-  node_given dest (frame_node f) new = []
+  pub node_given_links : (dest : Option ℕ) → (old new : NodeView) → List GivenLink
+  node_given_links dest (tag_node t) new = []
+  node_given_links dest (text_node s span) new = []
+  node_given_links dest (element_node h kids) (tag_node t) = []
+  node_given_links dest (element_node h kids) (text_node s span) = []
+  node_given_links dest (element_node h kids) (element_node g new) =
+      given_link dest h g ++ nodes_given_links [] kids new
+  node_given_links dest (element_node h kids) (frame_node f) = []
+  node_given_links dest (frame_node f) new = []
 
-  pub nodes_given : (before : List NodeView) → (old new : NodesView) → List GivenLink
-  nodes_given before none new = []
-  nodes_given before (node n ns) none = []
-  nodes_given before (node n ns) (node m ms) =
-      node_given (dest_before before) n m ++ nodes_given (n ∷ before) ns ms
+  pub nodes_given_links : (before : List NodeView) → (old new : NodesView) → List GivenLink
+  nodes_given_links before none new = []
+  nodes_given_links before (node n ns) none = []
+  nodes_given_links before (node n ns) (node m ms) =
+      node_given_links (dest_before before) n m ++ nodes_given_links (n ∷ before) ns ms
 
-abbrev pub document_given : (old new : DocumentView) → List GivenLink
-document_given old new = nodes_given [] (document_root old).1 (document_root new).1
+abbrev pub document_given_links : (old new : DocumentView) → List GivenLink
+document_given_links old new = nodes_given_links [] (document_root old).1 (document_root new).1
 
 -- an `href` leads to a name: it is `#` and a text that decodes to it
 pub record LeadsTo (href : List ℕ) (name : Name) : Type 0 where
@@ -71,7 +71,7 @@ AnchorsAreTexts anchor =
 -- each link that got an `href` leads to such a name of the new tree
 abbrev pub GivenLinksLead : (old new : DocumentView) → Type 0
 GivenLinksLead old new =
-    All (LeadsAmong new.introspector.anchor (names_shown (document_root new).1)) (document_given old new)
+    All (LeadsAmong new.introspector.anchor (shown_names (document_root new).1)) (document_given_links old new)
 
 -- the links behind a start tag with a destination that have no `href`
 abbrev pub links_without : NodesView → List DeadLinkView

@@ -6,15 +6,15 @@ use Rattle.html_dom_link.specs.NewNames.{Name}
 use Rattle.html_dom_link.specs.Events.{Start, Event, other_start, target_start, end_tag, element, text, html_frame}
 
 -- a start tag of the group is of that location
-abbrev pub holds : ℕ → List Start → Bool
-holds l [] = false
-holds l (s ∷ ss) = (s.location == l) || holds l ss
+abbrev pub is_in_group : ℕ → List Start → Bool
+is_in_group l [] = false
+is_in_group l (s ∷ ss) = (s.location == l) || is_in_group l ss
 
 -- an event serves the group that waits for a server
 abbrev pub serves : List Start → Event → Bool
 serves group other_start = false
 serves group (target_start s) = false
-serves group (end_tag l) = holds l group
+serves group (end_tag l) = is_in_group l group
 serves group (element id) = true
 serves group text = true
 serves group (html_frame id inside) = true

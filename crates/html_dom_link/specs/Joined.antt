@@ -1,11 +1,11 @@
 -- Parts of the walk: one list of nodes and then another, one start tag of a frame, and several.
 use Rattle.html_dom_tree.specs.Frames.{PointView}
-use Rattle.html_dom_tree.specs.Tree.{NodesView, none, node}
-use Rattle.std.specs.Prelude.{ℕ, List, ◌++◌}
+use Rattle.html_dom_tree.specs.Tree.{starts, ends, NodeView, tag_node, text_node, element_node, frame_node, NodesView, none, node}
+use Rattle.std.specs.Prelude.{ℕ, Bool, true, false, List, ◌++◌}
 use Rattle.html_dom_link.specs.Events.{FrameStart}
 use Rattle.html_dom_link.specs.Namings.{start_pairs}
 use Rattle.html_dom_link.specs.NewNames.{Name, with_name}
-use Rattle.html_dom_link.specs.Walk.{put, WalkState, after_starts, Walked}
+use Rattle.html_dom_link.specs.AnchorWalk.{with_entry, WalkState, after_starts, Walked}
 
 infixl 20 ◌then◌
 abbrev pub ◌then◌ : NodesView → NodesView → NodesView
@@ -16,9 +16,17 @@ none then ms = ms
 abbrev pub nodes_before : NodesView → Walked → Walked
 nodes_before made w = (made then w.0, w.1)
 
+-- an end tag, behind which a new `span` may stand
+abbrev pub is_end : NodeView → Bool
+is_end (tag_node (starts l label dest)) = false
+is_end (tag_node (ends l)) = true
+is_end (text_node s span) = false
+is_end (element_node h kids) = false
+is_end (frame_node f) = false
+
 -- a name is made for one location
 abbrev pub named_at : ℕ → Name → WalkState → WalkState
-named_at l n st = record st { used = with_name n st.used; answers = put l n st.answers }
+named_at l n st = record st { used = with_name n st.used; answers = with_entry l n st.answers }
 
 -- the state, and the anchors of a frame
 abbrev pub InFrame : Type 0

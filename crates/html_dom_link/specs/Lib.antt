@@ -18,5 +18,5 @@ pub mod Seen
 pub mod Serving
 pub mod Undone
 pub mod UsedNames
-pub mod Walk
+pub mod AnchorWalk
 pub mod WalkViews

@@ -2,10 +2,10 @@
 -- that are recorded.
 use Rattle.std.specs.Prelude.{ℕ, List, Bool, Option, Some, None}
 use Rattle.html_dom_tree.specs.Frames.{PointView}
-use Rattle.html_dom_introspect.specs.Places.{PositionView}
-use Rattle.html_dom_introspect.specs.Introspectors.{IntrospectorView}
+use Rattle.html_dom_document.specs.Places.{PositionView}
+use Rattle.html_dom_document.specs.Introspectors.{IntrospectorView}
 use Rattle.html_dom_document.specs.Documents.{DocumentView, document_root, with_root}
-use Rattle.html_dom_link.specs.Anchors.{element_anchored, anchor_of}
+use Rattle.html_dom_link.specs.Anchors.{element_with_anchors, anchor_of}
 use Rattle.html_dom_link.specs.Events.{Targets}
 
 -- the point at which a location was recorded, if that was in a frame
@@ -23,9 +23,9 @@ abbrev pub document_targets : (is_target : ℕ → Bool) → DocumentView → Ta
 document_targets is_target d = targets_in d.introspector is_target
 
 -- the document whose root has anchors for these locations
-abbrev pub document_anchored : (is_target : ℕ → Bool) → DocumentView → DocumentView
-document_anchored is_target d = record d {
-  output = with_root d.output (element_anchored (document_targets is_target d) (document_root d));
+abbrev pub document_with_new_anchors : (is_target : ℕ → Bool) → DocumentView → DocumentView
+document_with_new_anchors is_target d = record d {
+  output = with_root d.output (element_with_anchors (document_targets is_target d) (document_root d));
 }
 
 -- the anchor that a location gets, if it gets one

@@ -5,7 +5,7 @@
 use Rattle.std.specs.Prelude.{ℕ, List, [], ◌∷◌, ◌++◌, Bool, not, ◌&&◌, Option, Some, None, bytes_eq, codes, if◌then◌else◌}
 use lib.Utf8.{encodes}
 use Rattle.percent_encoding.specs.Percent.{percent_encode}
-use Rattle.html_dom_tree.specs.Attributes.{has}
+use Rattle.html_dom_tree.specs.Attributes.{has_name}
 use Rattle.html_dom_tree.specs.Tags.{starts, ends}
 use Rattle.html_dom_tree.specs.Tree.{TextPair, Head, NodeView, tag_node, text_node, element_node, frame_node, NodesView, none, node, ElementView}
 use Rattle.html_dom_document.specs.Documents.{DocumentView, document_root, with_root}
@@ -28,7 +28,7 @@ dest_before (frame_node f ∷ before) = None
 
 -- whether an element is an `a` without an `href`
 abbrev pub is_open : Head → Bool
-is_open h = bytes_eq h.name (codes "a") && not (has h.attrs (codes "href"))
+is_open h = bytes_eq h.name (codes "a") && not (has_name h.attrs (codes "href"))
 
 -- the destination of a link that has no `href`
 abbrev pub open_dest : Head → Option ℕ → Option ℕ

@@ -20,10 +20,10 @@ made_for (Some n) label used (s ∷ ss) = None
 made_for None label used (s ∷ ss) = Some (new_name label used)
 
 -- each start tag of the group gets the name
-abbrev pub answered : Option Name → List Start → List (ℕ × Name)
-answered None group = []
-answered (Some n) [] = []
-answered (Some n) (s ∷ ss) = (s.location, n) ∷ answered (Some n) ss
+abbrev pub group_answers : Option Name → List Start → List (ℕ × Name)
+group_answers None group = []
+group_answers (Some n) [] = []
+group_answers (Some n) (s ∷ ss) = (s.location, n) ∷ group_answers (Some n) ss
 
 abbrev pub starts_in : Event → List FrameStart
 starts_in (html_frame id inside) = inside
@@ -60,7 +60,7 @@ abbrev pub naming : (used : Name → Bool) → Cut → Naming
 naming used c = record {
   made = made_at used c;
   pairs = start_pairs (used_after_made used c) (starts_in c.event);
-  answers = answered (or_else (own_name c.event) (made_at used c)) c.group
+  answers = group_answers (or_else (own_name c.event) (made_at used c)) c.group
       ++ start_answers (used_after_made used c) (starts_in c.event);
 }
 

@@ -40,13 +40,13 @@ abbrev pub element_names : ElementView → List Name
 element_names e = all_ids e.0.attrs ++ nodes_names e.1
 
 -- a stem, `-` and a number
-abbrev pub numbered : Name → ℕ → Name
-numbered stem n = stem ++ (codes "-" ++ decimal n)
+abbrev pub name_with_number : Name → ℕ → Name
+name_with_number stem n = stem ++ (codes "-" ++ decimal n)
 
 -- the first number from `n` on whose name is free, among so many
 unfoldable pub first_free : (stem : Name) (used : Name → Bool) (tries n : ℕ) → ℕ
 first_free stem used zero n = n
-first_free stem used (suc tries) n = elim (used (numbered stem n)) as (λ b. ℕ)
+first_free stem used (suc tries) n = elim (used (name_with_number stem n)) as (λ b. ℕ)
     [ true ↦ first_free stem used tries (suc n) | false ↦ n ]
 
 -- what stands before a number, and the first number
@@ -61,7 +61,7 @@ first_number (c ∷ cs) = 2
 -- one of 2 ^ 63 names is free, since no memory holds so many
 abbrev pub free_name : (label : Name) (used : Name → Bool) → Name
 free_name label used =
-    numbered (stem_of label) (first_free (stem_of label) used (2 ^ 63) (first_number label))
+    name_with_number (stem_of label) (first_free (stem_of label) used (2 ^ 63) (first_number label))
 
 -- no label is as an empty one
 abbrev pub text_of_label : Option Name → Name

@@ -4,7 +4,7 @@ use Rattle.html_dom_tree.specs.PlainTree.{words, branch, Plains, no_plains, plai
 use Rattle.html_dom_tree.specs.Tree.{TextPair, ElementView}
 use Rattle.html_dom_link.specs.NewNames.{Name}
 use Rattle.html_dom_link.specs.Events.{Targets}
-use Rattle.html_dom_link.specs.Anchors.{element_anchored}
+use Rattle.html_dom_link.specs.Anchors.{element_with_anchors}
 
 -- a way to see plain trees as lists: characters one by one, by whether blanks are preserved there;
 -- which elements preserve the blanks in them; elements, by what is seen of their children
@@ -14,16 +14,16 @@ pub record Sight (A : Type 0) : Type 0 where
   pub branch_seen : (name : List ℕ) (attrs : List TextPair) (inner : List A) → List A
 
 module _ {A : Type 0} where
-  abbrev pub text_seen : Sight A → (preserved : Bool) → List ℕ → List A
-  text_seen s k [] = []
-  text_seen s k (c ∷ cs) = s.char k c ∷ text_seen s k cs
+  abbrev pub text_sights : Sight A → (preserved : Bool) → List ℕ → List A
+  text_sights s k [] = []
+  text_sights s k (c ∷ cs) = s.char k c ∷ text_sights s k cs
 
-  unfoldable pub plains_seen : Sight A → (preserved : Bool) → Plains → List A
-  plains_seen s k no_plains = []
-  plains_seen s k (plain (words t) ps) = text_seen s k t ++ plains_seen s k ps
-  plains_seen s k (plain (branch name attrs kids) ps) =
-      s.branch_seen name attrs (plains_seen s (k || s.preserves name attrs) kids)
-      ++ plains_seen s k ps
+  unfoldable pub plains_sights : Sight A → (preserved : Bool) → Plains → List A
+  plains_sights s k no_plains = []
+  plains_sights s k (plain (words t) ps) = text_sights s k t ++ plains_sights s k ps
+  plains_sights s k (plain (branch name attrs kids) ps) =
+      s.branch_seen name attrs (plains_sights s (k || s.preserves name attrs) kids)
+      ++ plains_sights s k ps
 
   -- an `id` in front of other attributes isn't seen, and of a `span` with nothing but an `id` only
   -- the children are
@@ -39,5 +39,5 @@ module _ {A : Type 0} where
 abbrev pub StaysSeen : (A : Type 0) → Type 0
 StaysSeen A = (s : Sight A) → SeesNoAnchors s →
     (x : Targets) (e : ElementView) (preserved : Bool) →
-    plains_seen s preserved (nodes_normal (element_anchored x e).1)
-    ≡ plains_seen s preserved (nodes_normal e.1)
+    plains_sights s preserved (nodes_normal (element_with_anchors x e).1)
+    ≡ plains_sights s preserved (nodes_normal e.1)

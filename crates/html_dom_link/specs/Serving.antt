@@ -4,7 +4,7 @@ use Rattle.std.specs.Prelude.{◌≡◌, ℕ, ◌-◌, Bool, List, [], ◌∷◌
 use Rattle.html_dom_tree.specs.Frames.{PointView}
 use Rattle.html_dom_tree.specs.Tree.{starts, ends, tag_node, text_node, element_node, frame_node, NodesView, none, node, ElementView}
 use Rattle.html_dom_document.specs.Documents.{DocumentView, document_root}
-use Rattle.html_dom_link.specs.Anchors.{element_anchored, anchor_of}
+use Rattle.html_dom_link.specs.Anchors.{element_with_anchors, anchor_of}
 use Rattle.html_dom_link.specs.Events.{FrameStart, Targets, frame_starts}
 use Rattle.html_dom_link.specs.LinkAnchors.{document_targets}
 use Rattle.html_dom_link.specs.Namings.{last_name}
@@ -48,14 +48,14 @@ next_name (start_mark l ∷ ms) = next_name ms
 next_name (place_mark name ∷ ms) = name
 next_name (inner_mark l n ∷ ms) = None
 
-abbrev pub named : ℕ → Option Name → List (ℕ × Name)
-named l None = []
-named l (Some n) = (l, n) ∷ []
+abbrev pub name_entries : ℕ → Option Name → List (ℕ × Name)
+name_entries l None = []
+name_entries l (Some n) = (l, n) ∷ []
 
 -- each start tag that has a name, with that name
 abbrev pub served_names : List Mark → List (ℕ × Name)
 served_names [] = []
-served_names (start_mark l ∷ ms) = named l (next_name ms) ++ served_names ms
+served_names (start_mark l ∷ ms) = name_entries l (next_name ms) ++ served_names ms
 served_names (place_mark name ∷ ms) = served_names ms
 served_names (inner_mark l n ∷ ms) = (l, n) ∷ served_names ms
 
@@ -66,7 +66,7 @@ serving_name x ns = last_name (served_names (marks x ns))
 -- the names that locations get are those of what serves them in the new tree
 abbrev pub AnchorsServe : Type 0
 AnchorsServe = (x : Targets) (e : ElementView) (location : ℕ) →
-    anchor_of x e location ≡ serving_name x (element_anchored x e).1 location
+    anchor_of x e location ≡ serving_name x (element_with_anchors x e).1 location
 
 -- so it is in a document with these anchors of these locations
 abbrev pub AreServing : (is_target : ℕ → Bool) → (anchor : ℕ → Option Name) → DocumentView → Type 0

@@ -5,7 +5,7 @@ use Rattle.html_dom_tree.specs.Tree.{Head, NodeView, tag_node, text_node, elemen
 use Rattle.html_dom_link.specs.NewNames.{Name}
 use Rattle.html_dom_link.specs.Events.{Targets, Event, text, events}
 use Rattle.html_dom_link.specs.Namings.{Naming}
-use Rattle.html_dom_link.specs.Anchors.{nodes_size, element_namings, element_anchored}
+use Rattle.html_dom_link.specs.Anchors.{nodes_size, element_namings, element_with_anchors}
 
 -- the attributes of an element without the `id` that was put in front of them
 abbrev pub without_id : (made : Option Name) → Head → Head
@@ -24,9 +24,9 @@ unnamed_frame c f = record f {
 }
 
 -- the text in an added element
-abbrev pub unwrapped : NodeView → NodesView → NodeView
-unwrapped n none = n
-unwrapped n (node m ms) = m
+abbrev pub inner_node : NodeView → NodesView → NodeView
+inner_node n none = n
+inner_node n (node m ms) = m
 
 -- `added`: an element stands first that was put after an end tag
 unfoldable pub nodes_undone : (added : Bool) → List Event → List Naming → NodesView → NodesView
@@ -39,7 +39,7 @@ nodes_undone false (e ∷ es) (c ∷ cs) (node (tag_node t) ns) =
 nodes_undone false (e ∷ es) (c ∷ cs) (node (text_node s span) ns) =
     node (text_node s span) (nodes_undone false es cs ns)
 nodes_undone false (text ∷ es) (c ∷ cs) (node (element_node h kids) ns) =
-    node (unwrapped (element_node h kids) kids) (nodes_undone false es cs ns)
+    node (inner_node (element_node h kids) kids) (nodes_undone false es cs ns)
 nodes_undone false (e ∷ es) (c ∷ cs) (node (element_node h kids) ns) =
     let inside = nodes_undone false es cs kids in
     node (element_node (without_id c.made h) inside)
@@ -50,4 +50,4 @@ nodes_undone false (e ∷ es) (c ∷ cs) (node (frame_node f) ns) =
 -- what was added taken off again gives the old tree
 abbrev pub ComesBack : Type 0
 ComesBack = (x : Targets) (e : ElementView) →
-    nodes_undone false (events x e.1) (element_namings x e) (element_anchored x e).1 ≡ e.1
+    nodes_undone false (events x e.1) (element_namings x e) (element_with_anchors x e).1 ≡ e.1

@@ -5,7 +5,7 @@ use Rattle.std.specs.BTreeMap.{BTreeMap, get_by_text}
 use Rattle.std.specs.BTreeSet.{BTreeSet}
 use Rattle.html_names.specs.Names.{stands_in}
 use Rattle.html_names.specs.Texts.{text_view}
-use Rattle.html_dom_link.specs.NewNames.{Name, numbered, stem_of, first_number}
+use Rattle.html_dom_link.specs.NewNames.{Name, name_with_number, stem_of, first_number}
 
 abbrev pub used_in : BTreeSet (String Global) → Name → Bool
 used_in used = stands_in (map text_view used.keys)
@@ -19,7 +19,7 @@ pub record AreUsedBelow (used : Name → Bool) (label : Name) (n : ℕ) : Type 0
   pub from_first : first_number label ≤ n
   pub within : n ≤ first_number label + 2 ^ 63
   pub below : (m : ℕ) → first_number label ≤ m → m < n →
-      used (numbered (stem_of label) m) ≡ true
+      used (name_with_number (stem_of label) m) ≡ true
 
 -- below the next number to try for a label, all are in use
 abbrev pub IsCounted : (used : Name → Bool) → BTreeMap (String Global) ℕ → Type 0

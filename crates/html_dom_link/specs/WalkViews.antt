@@ -1,9 +1,9 @@
 -- The state of the walk, the targets and the points, as they are held.
-use Rattle.html_dom_introspect.specs.Introspectors.{has, introspector_view}
+use Rattle.html_dom_document.specs.Introspectors.{has_location, introspector_view}
 use Rattle.html_dom_link.specs.Events.{Targets}
 use Rattle.html_dom_link.specs.LinkAnchors.{targets_in}
 use Rattle.html_dom_link.specs.UsedNames.{used_in}
-use Rattle.html_dom_link.specs.Walk.{WalkState}
+use Rattle.html_dom_link.specs.AnchorWalk.{WalkState}
 use Rattle.html_dom_link.specs.LocationMaps.{labels_in, names_in, locations_in}
 use Rattle.html_dom_link.specs.declared.sought.Sought.{Sought}
 use Rattle.html_dom_link.specs.declared.state.Walk.{Walk}
@@ -17,4 +17,4 @@ walk_view w = record {
 }
 
 abbrev pub targets_view : Sought → Targets
-targets_view s = targets_in (introspector_view s.known.now) (has s.targets.now)
+targets_view s = targets_in (introspector_view s.known.now) (has_location s.targets.now)

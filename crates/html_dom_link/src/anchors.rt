@@ -1,16 +1,16 @@
 ghost use Rattle.std.specs.Prelude.{◌≡◌, IfOk, OnOk, OnErr};
 ghost use Rattle.html_dom_tree.specs.Views.{nodes_view};
 ghost use Rattle.html_dom_document.specs.Views.{document_view};
-ghost use Rattle.html_dom_introspect.specs.Introspectors.{has, text_in};
+ghost use Rattle.html_dom_document.specs.Introspectors.{has_location, location_text};
 ghost use Rattle.html_dom_link.specs.Distinct.{IdsAreDistinct};
 ghost use Rattle.html_dom_link.specs.DocumentNames.{AnchorsAreNew, AnchorsAreShown};
-ghost use Rattle.html_dom_link.specs.LinkAnchors.{document_anchor, document_anchored};
+ghost use Rattle.html_dom_link.specs.LinkAnchors.{document_anchor, document_with_new_anchors};
 ghost use Rattle.html_dom_link.specs.Serving.{AreServing};
 ghost use Rattle.html_dom_link.specs.UsedNames.{used_in, IsBounded};
-ghost use Rattle.html_dom_link.specs.Walk.{at_first, walk};
+ghost use Rattle.html_dom_link.specs.AnchorWalk.{at_first, walk};
 ghost use Rattle.html_dom_link.specs.WalkViews.{walk_view, targets_view};
 
-use crate::elements::anchored_nodes;
+use crate::elements::anchor_nodes;
 use crate::names::AnchorNames;
 use crate::names_in_tree::element_names;
 use crate::sought::Sought;
@@ -59,14 +59,14 @@ pub fn create_link_anchors(
     targets: &BTreeSet<Location>,
 ) -> Result<BTreeMap<Location, String>, AllocError>
     ensures tree { OnOk result (document_view document.new
-        ≡ document_anchored (has targets.now) (document_view document.old)) }
+        ≡ document_with_new_anchors (has_location targets.now) (document_view document.old)) }
     ensures anchors { IfOk result (λ anchors.
-        text_in anchors ≡ document_anchor (has targets.now) (document_view document.old)) }
-    ensures fresh { OnOk result (AnchorsAreNew (has targets.now) (document_view document.old)) }
+        location_text anchors ≡ document_anchor (has_location targets.now) (document_view document.old)) }
+    ensures fresh { OnOk result (AnchorsAreNew (has_location targets.now) (document_view document.old)) }
     ensures shown { IfOk result (λ anchors.
-        AnchorsAreShown (text_in anchors) (document_view document.new)) }
+        AnchorsAreShown (location_text anchors) (document_view document.new)) }
     ensures serves { IfOk result (λ anchors.
-        AreServing (has targets.now) (text_in anchors) (document_view document.new)) }
+        AreServing (has_location targets.now) (location_text anchors) (document_view document.new)) }
     ensures distinct { IdsAreDistinct (document_view document.old) →
         OnOk result (IdsAreDistinct (document_view document.new)) }
     ensures kept { OnErr result (document.new ≡ document.old) }
@@ -91,14 +91,14 @@ pub fn with_link_anchors(
     targets: &BTreeSet<Location>,
 ) -> Result<(HtmlDocument, BTreeMap<Location, String>), AllocError>
     ensures tree { IfOk result (λ made. document_view made.0
-        ≡ document_anchored (has targets.now) (document_view document)) }
+        ≡ document_with_new_anchors (has_location targets.now) (document_view document)) }
     ensures anchors { IfOk result (λ made.
-        text_in made.1 ≡ document_anchor (has targets.now) (document_view document)) }
-    ensures fresh { OnOk result (AnchorsAreNew (has targets.now) (document_view document)) }
+        location_text made.1 ≡ document_anchor (has_location targets.now) (document_view document)) }
+    ensures fresh { OnOk result (AnchorsAreNew (has_location targets.now) (document_view document)) }
     ensures shown { IfOk result (λ made.
-        AnchorsAreShown (text_in made.1) (document_view made.0)) }
+        AnchorsAreShown (location_text made.1) (document_view made.0)) }
     ensures serves { IfOk result (λ made.
-        AreServing (has targets.now) (text_in made.1) (document_view made.0)) }
+        AreServing (has_location targets.now) (location_text made.1) (document_view made.0)) }
     ensures distinct { IdsAreDistinct (document_view document) →
         IfOk result (λ made. IdsAreDistinct (document_view made.0)) }
 {
@@ -118,7 +118,7 @@ fn walk_over(
     alloc: Global,
     names: AnchorNames,
     sought: Sought<'_>,
-    nodes: Vec<HtmlNode>,
+    mut nodes: Vec<HtmlNode>,
 ) -> Result<(Vec<HtmlNode>, Walk), AllocError>
     ensures walk { IfOk result (λ made. (nodes_view made.0.items, walk_view made.1)
         ≡ walk (targets_view sought.entry) (nodes_view nodes.items)
@@ -126,7 +126,7 @@ fn walk_over(
     ensures bounded { IfOk result (λ made. IsBounded (walk_view made.1).used) }
 {
     let mut state = Walk::new(alloc, names);
-    let made = anchored_nodes(&mut state, alloc, sought, nodes)?;
+    anchor_nodes(&mut nodes, &mut state, alloc, sought)?;
     state.names.are_bounded();
-    Ok((made, state))
+    Ok((nodes, state))
 }

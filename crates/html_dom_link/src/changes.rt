@@ -1,12 +1,14 @@
 //! What anchors change in nodes.
 
-ghost use Rattle.std.specs.Prelude.{◌≡◌, IfOk};
+ghost use Rattle.std.specs.Prelude.{◌≡◌, ℕ, List, Some, IfOk, OnOk};
+ghost use Rattle.html_dom_tree.specs.Tree.{text_node};
 ghost use Rattle.html_dom_tree.specs.Views.{text_view, optional_text_view, attrs_view, node_view, nodes_view, element_view};
-ghost use Rattle.html_dom_link.specs.Anchors.{attrs_with_id, span_head, text_in};
+ghost use Rattle.html_dom_link.specs.Anchors.{attrs_with_id, span_head, text_in_span};
 
 use html_dom_tree::{HtmlAttrs, HtmlElement, HtmlNode, Span};
 use html_names::{attr, tag};
 use std::alloc::{AllocError, Global};
+use std::mem;
 
 /// A new `span` with that `id`.
 #[tactic(auto, unfolding(html_names::specs::Tables::known_attrs, html_names::specs::Tables::known_tags))]
@@ -26,38 +28,32 @@ pub(crate) fn named_span(
     Ok(element)
 }
 
-/// Attributes, with a new `id` in front where one was made.
+/// Attributes get a new `id` in front where one was made.
 #[tactic(auto, unfolding(html_names::specs::Tables::known_attrs))]
-pub(crate) fn named_attrs(
-    mut attrs: HtmlAttrs,
-    made: Option<String>,
-) -> Result<HtmlAttrs, AllocError>
-    ensures { IfOk result (λ named. attrs_view named
-        ≡ attrs_with_id (optional_text_view made) (attrs_view attrs)) }
+pub(crate) fn name_attrs(attrs: &mut HtmlAttrs, made: Option<String>) -> Result<(), AllocError>
+    ensures { OnOk result (attrs_view attrs.new
+        ≡ attrs_with_id (optional_text_view made) (attrs_view attrs.old)) }
 {
     if let Some(name) = made {
         attrs.push_front(attr::id, name)?;
     }
-    Ok(attrs)
+    Ok(())
 }
 
-/// A text, in a new `span` where a name was made.
-pub(crate) fn text_in(
+/// A text is put in a new `span` with that `id`.
+pub(crate) fn put_in_span(
     alloc: Global,
-    made: Option<String>,
-    text: String,
-    span: Span,
-) -> Result<HtmlNode, AllocError>
-    ensures { IfOk result (λ node. node_view node
-        ≡ text_in (optional_text_view made) (text_view text) span.0) }
+    node: &mut HtmlNode,
+    name: String,
+) -> Result<(), AllocError>
+    ensures { (text : List ℕ) → (span : ℕ) → node_view node.old ≡ text_node text span →
+        OnOk result (node_view node.new ≡ text_in_span (Some (text_view name)) text span) }
 {
-    let node = HtmlNode::Text(text, span);
-    match made {
-        Some(name) => {
-            let mut children = Vec::new(alloc);
-            children.push(node)?;
-            Ok(HtmlNode::Element(named_span(alloc, name, span, children)?))
-        }
-        None => Ok(node),
+    if let HtmlNode::Text(text, span) = node {
+        let text = mem::replace(text, String::new(alloc));
+        let mut children = Vec::new(alloc);
+        children.push(HtmlNode::Text(text, *span))?;
+        *node = HtmlNode::Element(named_span(alloc, name, *span, children)?);
     }
+    Ok(())
 }

@@ -4,14 +4,13 @@ ghost use Rattle.std.specs.Prelude.{◌≡◌, ◌++◌, [], map, option_map, If
 ghost use Rattle.html_dom_tree.specs.Tree.{element_node};
 ghost use Rattle.html_dom_tree.specs.Views.{element_view, node_view, nodes_view};
 ghost use Rattle.html_dom_document.specs.Views.{document_view};
-ghost use Rattle.html_dom_introspect.specs.Introspectors.{introspector_view};
+ghost use Rattle.html_dom_document.specs.Introspectors.{introspector_view};
 ghost use Rattle.html_dom_link.specs.DeadLinks.{dead_links_view};
 ghost use Rattle.html_dom_link.specs.GivenLinks.{EveryLinkLeads};
 ghost use Rattle.html_dom_link.specs.Links.{dead_link, document_dead_links, node_dead_links, nodes_dead_links};
 
 use crate::links::{dest_past, name_of, open_dest};
-use html_dom_document::HtmlDocument;
-use html_dom_introspect::HtmlIntrospector;
+use html_dom_document::{HtmlDocument, HtmlIntrospector};
 use html_dom_tree::{HtmlElement, HtmlNode, Location, Span};
 use std::alloc::{AllocError, Global};
 

@@ -1,82 +1,119 @@
 //! Anchors in elements, and in all nodes of a list.
 
-ghost use Rattle.std.specs.Prelude.{◌≡◌, OnOk, IfOk};
+ghost use Rattle.std.specs.Prelude.{◌≡◌, false, OnOk, IfOk};
+ghost use Rattle.std.specs.List.{list_any};
 ghost use Rattle.html_dom_tree.specs.Tree.{node, none, element_node};
-ghost use Rattle.html_dom_tree.specs.Views.{node_view, nodes_view, element_view};
-ghost use Rattle.html_dom_link.specs.Joined.{nodes_before};
-ghost use Rattle.html_dom_link.specs.Walk.{walk};
+ghost use Rattle.html_dom_tree.specs.Views.{optional_text_view, node_view, nodes_view, element_view};
+ghost use Rattle.html_dom_link.specs.Anchors.{span_before};
+ghost use Rattle.html_dom_link.specs.Joined.{is_end};
+ghost use Rattle.html_dom_link.specs.AnchorWalk.{walk};
 ghost use Rattle.html_dom_link.specs.WalkViews.{walk_view, targets_view};
 
-use crate::changes::named_attrs;
-use crate::nodes::{push_frame, push_tag, push_text};
+use crate::changes::name_attrs;
+use crate::nodes::{anchor_frame, anchor_tag, anchor_text, has_end, push_span};
 use crate::sought::Sought;
 use crate::state::Walk;
 use html_dom_tree::{HtmlElement, HtmlNode};
 use html_names::attr;
 use std::alloc::{AllocError, Global};
+use std::mem;
 
 // Each node stands first among the parameters: its depth shows that the calls end.
 
-/// Adds an element, which serves all that wait, and then what stands in it.
+/// An element serves all that wait, and then what stands in it is anchored.
 #[cycle(nodes)]
-fn push_element(
-    element: HtmlElement,
+fn anchor_element(
+    element: &mut HtmlElement,
     state: &mut Walk,
-    made: &mut Vec<HtmlNode>,
     alloc: Global,
     sought: Sought<'_>,
 ) -> Result<(), AllocError>
-    ensures { let e = element_view element in
-        OnOk result ((nodes_view made.new.items, walk_view state.new)
-        ≡ nodes_before (nodes_view made.old.items) (walk (targets_view sought.entry)
-        (node (element_node e.0 e.1) none) (walk_view state.old))) }
+    ensures { let old = element_view element.old in let new = element_view element.new in
+        OnOk result ((node (element_node new.0 new.1) none, walk_view state.new)
+        ≡ walk (targets_view sought.entry) (node (element_node old.0 old.1) none)
+        (walk_view state.old)) }
 {
     let name = state.serve(alloc, element.attrs.get(&attr::id))?;
-    let attrs = named_attrs(element.attrs, name)?;
-    let children = anchored_nodes(state, alloc, sought, element.children)?;
-    made.push(HtmlNode::Element(HtmlElement {
-        attrs,
-        children,
-        ..element
-    }))?;
+    name_attrs(&mut element.attrs, name)?;
+    anchor_nodes(&mut element.children, state, alloc, sought)
+}
+
+/// A node is anchored where it stands, with all below it. The answer is the name of the new `span`
+/// that is to follow it.
+#[cycle(nodes)]
+fn anchor_node(
+    child: &mut HtmlNode,
+    state: &mut Walk,
+    alloc: Global,
+    sought: Sought<'_>,
+) -> Result<Option<String>, AllocError>
+    ensures { IfOk result (λ name.
+        (node (node_view child.new) (span_before (optional_text_view name) none), walk_view state.new)
+        ≡ walk (targets_view sought.entry) (node (node_view child.old) none) (walk_view state.old)) }
+{
+    match child {
+        HtmlNode::Tag(tag) => return anchor_tag(state, alloc, sought, tag),
+        HtmlNode::Text(_, _) => anchor_text(state, child, alloc)?,
+        HtmlNode::Element(element) => anchor_element(element, state, alloc, sought)?,
+        HtmlNode::Frame(frame) => anchor_frame(state, frame, alloc, sought)?,
+    }
+    Ok(None)
+}
+
+/// Nodes among which no end tag is are anchored where they stand.
+#[cycle(nodes)]
+fn anchor_in_place(
+    nodes: &mut [HtmlNode],
+    state: &mut Walk,
+    alloc: Global,
+    sought: Sought<'_>,
+) -> Result<(), AllocError>
+    requires { list_any (λ n. is_end (node_view n)) nodes.old ≡ false }
+    ensures { OnOk result ((nodes_view nodes.new, walk_view state.new)
+        ≡ walk (targets_view sought.entry) (nodes_view nodes.old) (walk_view state.old)) }
+{
+    for child in nodes.iter_mut() {
+        // No end tag is among them, so no `span` follows any.
+        let _ = anchor_node(child, state, alloc, sought)?;
+    }
     Ok(())
 }
 
-/// Adds a node, with all below it.
+/// Nodes with anchors, and with the new `span`s that follow end tags.
 #[cycle(nodes)]
-fn push_node(
-    child: HtmlNode,
-    state: &mut Walk,
-    made: &mut Vec<HtmlNode>,
-    alloc: Global,
-    sought: Sought<'_>,
-) -> Result<(), AllocError>
-    ensures { OnOk result ((nodes_view made.new.items, walk_view state.new)
-        ≡ nodes_before (nodes_view made.old.items) (walk (targets_view sought.entry)
-        (node (node_view child) none) (walk_view state.old))) }
-{
-    match child {
-        HtmlNode::Tag(tag) => push_tag(state, made, alloc, sought, tag),
-        HtmlNode::Text(text, span) => push_text(state, made, alloc, sought, text, span),
-        HtmlNode::Element(element) => push_element(element, state, made, alloc, sought),
-        HtmlNode::Frame(frame) => push_frame(state, made, alloc, sought, frame),
-    }
-}
-
-/// Nodes and all below them, with what anchors change.
-#[cycle(nodes)]
-pub(crate) fn anchored_nodes(
-    state: &mut Walk,
-    alloc: Global,
-    sought: Sought<'_>,
+fn with_spans(
     nodes: Vec<HtmlNode>,
+    state: &mut Walk,
+    alloc: Global,
+    sought: Sought<'_>,
 ) -> Result<Vec<HtmlNode>, AllocError>
     ensures { IfOk result (λ made. (nodes_view made.items, walk_view state.new)
         ≡ walk (targets_view sought.entry) (nodes_view nodes.items) (walk_view state.old)) }
 {
     let mut made = Vec::with_capacity(alloc, nodes.len())?;
-    for child in nodes {
-        push_node(child, state, &mut made, alloc, sought)?;
+    for mut child in nodes {
+        let name = anchor_node(&mut child, state, alloc, sought)?;
+        made.push(child)?;
+        push_span(&mut made, alloc, name)?;
     }
     Ok(made)
+}
+
+/// Nodes are anchored, with all below them.
+#[cycle(nodes)]
+pub(crate) fn anchor_nodes(
+    nodes: &mut Vec<HtmlNode>,
+    state: &mut Walk,
+    alloc: Global,
+    sought: Sought<'_>,
+) -> Result<(), AllocError>
+    ensures { OnOk result ((nodes_view nodes.new.items, walk_view state.new)
+        ≡ walk (targets_view sought.entry) (nodes_view nodes.old.items) (walk_view state.old)) }
+{
+    if !has_end(nodes) {
+        return anchor_in_place(nodes, state, alloc, sought);
+    }
+    let old = mem::replace(nodes, Vec::new(alloc));
+    *nodes = with_spans(old, state, alloc, sought)?;
+    Ok(())
 }

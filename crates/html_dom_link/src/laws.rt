@@ -7,7 +7,7 @@ ghost use Rattle.html_dom_link.specs.LinkLaws.{HrefsDecode, LeftAreDead, NamesSt
 ghost use Rattle.html_dom_link.specs.Seen.{StaysSeen};
 ghost use Rattle.html_dom_link.specs.Serving.{AnchorsServe};
 ghost use Rattle.html_dom_link.specs.Undone.{ComesBack};
-ghost use Rattle.html_dom_link.specs.Walk.{OneWalkServes};
+ghost use Rattle.html_dom_link.specs.AnchorWalk.{OneWalkServes};
 
 /// One walk over the tree gives the tree and the names that the groups of start tags give.
 #[tactic(auto, using(crate::proofs::Walks::one_walk_serves))]

@@ -5,14 +5,13 @@ ghost use Rattle.html_dom_document.specs.Documents.{document_root};
 ghost use Rattle.html_dom_document.specs.Views.{document_view};
 ghost use Rattle.html_dom_tree.specs.Tree.{NodeView, element_node};
 ghost use Rattle.html_dom_tree.specs.Views.{attrs_view, element_view, node_view, nodes_view, text_view};
-ghost use Rattle.html_dom_introspect.specs.Introspectors.{introspector_view};
+ghost use Rattle.html_dom_document.specs.Introspectors.{introspector_view};
 ghost use Rattle.html_dom_link.specs.Distinct.{IdsAreDistinct, GivenLinksLeadToOne};
 ghost use Rattle.html_dom_link.specs.GivenLinks.{KnownAnchorsAreShown, GivenLinksLead, links_without};
 ghost use Rattle.html_dom_link.specs.Links.{attrs_with_href, dest_before, document_dead_links, document_with_links, href_to, is_open, name_of, node_with_links, nodes_with_links, open_dest};
 ghost use Rattle.html_dom_link.specs.Serving.{KnownAnchorsServe};
 
-use html_dom_document::HtmlDocument;
-use html_dom_introspect::HtmlIntrospector;
+use html_dom_document::{HtmlDocument, HtmlIntrospector};
 use html_dom_tree::{HtmlAttrs, HtmlElement, HtmlNode, Location, Tag};
 use html_names::{Refused, attr, tag};
 use percent_encoding::{AsciiSet, CONTROLS, ascii_set, utf8_percent_encode};
@@ -78,7 +77,7 @@ pub fn resolve_links(alloc: Global, document: &mut HtmlDocument) -> Result<(), A
     ensures one { KnownAnchorsAreShown (document_view document.old) →
         IdsAreDistinct (document_view document.old) → OnOk result
         (GivenLinksLeadToOne (document_view document.old) (document_view document.new)) }
-    ensures err { OnErr result (document.new ≡ document.old) }
+    ensures kept { OnErr result (document.new ≡ document.old) }
 {
     let HtmlElement { children, .. } = document.root().try_clone()?;
     let children = nodes_with_links(children, alloc, document.introspector())?;

@@ -3,7 +3,7 @@
 ghost use Rattle.std.specs.Prelude.{◌≡◌, ◌==◌, ℕ, Some, None, if◌then◌else◌, IfOk, OnOk, option_map};
 ghost use Rattle.html_dom_tree.specs.Attributes.{or_else};
 ghost use Rattle.html_dom_tree.specs.Views.{text_view, optional_text_view};
-ghost use Rattle.html_dom_link.specs.Walk.{put, put_each};
+ghost use Rattle.html_dom_link.specs.AnchorWalk.{with_entry, put_each};
 ghost use Rattle.html_dom_link.specs.LocationMaps.{labels_in, names_in, locations_in};
 
 use html_dom_tree::Location;
@@ -72,7 +72,7 @@ pub(crate) fn put_name(
     name: &String,
 ) -> Result<(), AllocError>
     ensures { OnOk result (names_in answers.new
-        ≡ put location.0 (text_view name.now) (names_in answers.old)) }
+        ≡ with_entry location.0 (text_view name.now) (names_in answers.old)) }
 {
     answers.insert(location, name.clone()?)?;
     Ok(())

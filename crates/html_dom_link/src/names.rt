@@ -2,7 +2,7 @@
 
 ghost use Rattle.std.specs.Prelude.{Bool, true, [], ◌≡◌, ◌-◌, ◌≤◌, ◌<◌, ◌^◌, ◌+◌, chars, IfOk, OnOk};
 ghost use Rattle.html_dom_tree.specs.Views.{text_view, optional_text_view};
-ghost use Rattle.html_dom_link.specs.NewNames.{Name, numbered, stem_of, first_number, first_free, free_name, text_of_label, name_for, new_name, with_name};
+ghost use Rattle.html_dom_link.specs.NewNames.{Name, name_with_number, stem_of, first_number, first_free, free_name, text_of_label, name_for, new_name, with_name};
 ghost use Rattle.html_dom_link.specs.UsedNames.{used_in, is_nothing, AreUsedBelow, IsCounted, IsBounded};
 
 use std::alloc::{AllocError, Global};
@@ -22,7 +22,7 @@ pub(crate) struct AnchorNames {
 
 /// A stem, `-` and a number.
 fn numbered(alloc: Global, stem: &str, number: u64) -> Result<String, AllocError>
-    ensures { IfOk result (λ name. text_view name ≡ numbered (chars stem.now) number) }
+    ensures { IfOk result (λ name. text_view name ≡ name_with_number (chars stem.now) number) }
 {
     format!(in alloc; "{stem}-{number}")
 }

@@ -1,121 +1,125 @@
-//! Anchors in nodes. Each node is moved, with what its anchor changes.
+//! Anchors in nodes. Each node is changed where it stands.
 
-ghost use Rattle.std.specs.Prelude.{◌≡◌, None, OnOk};
+ghost use Rattle.std.specs.Prelude.{◌≡◌, ℕ, List, OnOk, IfOk};
+ghost use Rattle.std.specs.List.{list_any};
+ghost use Rattle.html_dom_tree.specs.Attributes.{or_else};
 ghost use Rattle.html_dom_tree.specs.FrameViews.{tag_view, html_frame_view};
 ghost use Rattle.html_dom_tree.specs.Tree.{node, none, tag_node, text_node, frame_node};
-ghost use Rattle.html_dom_tree.specs.Views.{text_view, nodes_view};
+ghost use Rattle.html_dom_tree.specs.Views.{node_view, nodes_view, optional_text_view};
 ghost use Rattle.html_dom_link.specs.Anchors.{span_before};
-ghost use Rattle.html_dom_link.specs.Joined.{nodes_before};
-ghost use Rattle.html_dom_link.specs.Walk.{made_now, after_server, walk};
+ghost use Rattle.html_dom_link.specs.Events.{Targets};
+ghost use Rattle.html_dom_link.specs.Joined.{◌then◌, is_end};
+ghost use Rattle.html_dom_link.specs.AnchorWalk.{walk};
 ghost use Rattle.html_dom_link.specs.WalkViews.{walk_view, targets_view};
 
-use crate::changes::{named_span, text_in};
+use crate::changes::{named_span, put_in_span};
 use crate::frames::name_frame;
 use crate::sought::Sought;
 use crate::state::Walk;
-use html_dom_tree::{HtmlFrame, HtmlNode, Location, Span, Tag};
+use html_dom_tree::{HtmlFrame, HtmlNode, Span, Tag};
 use std::alloc::{AllocError, Global};
 
-/// Adds a text, which serves all that wait.
-#[tactic(auto, unfolding(crate::specs::Walk::walk))]
-pub(crate) fn push_text(
-    state: &mut Walk,
-    made: &mut Vec<HtmlNode>,
-    alloc: Global,
-    sought: Sought<'_>,
-    text: String,
-    span: Span,
-) -> Result<(), AllocError>
-    ensures { OnOk result ((nodes_view made.new.items, walk_view state.new)
-        ≡ nodes_before (nodes_view made.old.items) (walk (targets_view sought.entry)
-        (node (text_node (text_view text) span.0) none) (walk_view state.old))) }
+/// Whether a node is an end tag.
+fn is_end(node: &HtmlNode) -> bool
+    ensures { result ≡ is_end (node_view node.now) }
 {
-    let name = state.serve(alloc, None)?;
-    made.push(text_in(alloc, name, text, span)?)?;
-    Ok(())
+    match node {
+        HtmlNode::Tag(Tag::End { .. }) => true,
+        HtmlNode::Tag(Tag::Start { .. }) => false,
+        HtmlNode::Text(_, _) | HtmlNode::Element(_) | HtmlNode::Frame(_) => false,
+    }
 }
 
-/// Adds the `span` after an end tag, where it serves.
-fn push_span(
-    state: &mut Walk,
-    made: &mut Vec<HtmlNode>,
-    alloc: Global,
-    location: Location,
-) -> Result<(), AllocError>
-    ensures { let st = walk_view state.old in let waiting = st.labels location.0 in
-        OnOk result ((nodes_view made.new.items, walk_view state.new)
-        ≡ nodes_before (nodes_view made.old.items)
-        (span_before (made_now waiting None st.used) none, after_server waiting None st)) }
+/// Whether an end tag is among nodes.
+pub(crate) fn has_end(nodes: &[HtmlNode]) -> bool
+    ensures { result ≡ list_any (λ n. is_end (node_view n)) nodes.now }
 {
-    if let Some(name) = state.end(alloc, location)? {
-        let span = named_span(alloc, name, Span(0), Vec::new(alloc))?;
-        made.push(HtmlNode::Element(span))?;
+    nodes.iter().any(|node| is_end(node))
+}
+
+/// A text serves all that wait, in a new `span`.
+pub(crate) fn anchor_text(
+    state: &mut Walk,
+    child: &mut HtmlNode,
+    alloc: Global,
+) -> Result<(), AllocError>
+    ensures { (x : Targets) → (text : List ℕ) → (span : ℕ) →
+        node_view child.old ≡ text_node text span →
+        OnOk result ((node (node_view child.new) none, walk_view state.new)
+        ≡ walk x (node (text_node text span) none) (walk_view state.old)) }
+{
+    if let Some(name) = state.serve(alloc, None)? {
+        put_in_span(alloc, child, name)?;
     }
     Ok(())
 }
 
-/// Adds a tag. A start tag of a target waits; where an end tag serves, a new empty `span` follows.
-pub(crate) fn push_tag(
+/// A start tag of a target waits. At an end tag the answer is the name of the `span` that serves
+/// there.
+pub(crate) fn anchor_tag(
     state: &mut Walk,
-    made: &mut Vec<HtmlNode>,
     alloc: Global,
     sought: Sought<'_>,
-    tag: Tag,
-) -> Result<(), AllocError>
-    ensures { OnOk result ((nodes_view made.new.items, walk_view state.new)
-        ≡ nodes_before (nodes_view made.old.items) (walk (targets_view sought.entry)
-        (node (tag_node (tag_view tag)) none) (walk_view state.old))) }
+    tag: &Tag,
+) -> Result<Option<String>, AllocError>
+    ensures { IfOk result (λ name. (
+      node (tag_node (tag_view tag.now)) (span_before (optional_text_view name) none),
+      walk_view state.new,
+    ) ≡ walk (targets_view sought.entry)
+        (node (tag_node (tag_view tag.now)) none) (walk_view state.old)) }
 {
     match tag {
         Tag::Start {
             location,
             label,
-            dest,
+            ..
         } => {
-            state.start(sought.targets, location, &label)?;
-            made.push(HtmlNode::Tag(Tag::Start {
-                location,
-                label,
-                dest,
-            }))?;
-            Ok(())
+            state.start(sought.targets, *location, label)?;
+            Ok(None)
         }
-        Tag::End { location } => {
-            made.push(HtmlNode::Tag(Tag::End { location }))?;
-            push_span(state, made, alloc, location)
-        }
+        Tag::End { location } => state.end(alloc, *location),
     }
 }
 
-/// Adds a frame, which serves all that wait; the start tags in it get anchors.
-pub(crate) fn push_frame(
+/// A frame without an `id` gets the one that was made.
+fn name_frame_id(id: &mut Option<String>, made: Option<String>)
+    ensures { optional_text_view id.new
+        ≡ or_else (optional_text_view id.old) (optional_text_view made) }
+{
+    if id.is_none() {
+        *id = made;
+    }
+}
+
+/// A frame serves all that wait; the start tags in it get anchors.
+pub(crate) fn anchor_frame(
     state: &mut Walk,
-    made: &mut Vec<HtmlNode>,
+    frame: &mut HtmlFrame,
     alloc: Global,
     sought: Sought<'_>,
-    frame: HtmlFrame,
 ) -> Result<(), AllocError>
-    ensures { OnOk result ((nodes_view made.new.items, walk_view state.new)
-        ≡ nodes_before (nodes_view made.old.items) (walk (targets_view sought.entry)
-        (node (frame_node (html_frame_view frame)) none) (walk_view state.old))) }
+    ensures { OnOk result ((node (frame_node (html_frame_view frame.new)) none, walk_view state.new)
+        ≡ walk (targets_view sought.entry)
+        (node (frame_node (html_frame_view frame.old)) none) (walk_view state.old)) }
 {
-    let HtmlFrame {
-        inner,
-        text_size,
-        id,
-        css,
-        mut anchors,
-        span,
-    } = frame;
-    let name = state.serve(alloc, id.as_ref())?;
-    name_frame(state, &mut anchors, alloc, sought, &inner)?;
-    made.push(HtmlNode::Frame(HtmlFrame {
-        inner,
-        text_size,
-        id: id.or(name),
-        css,
-        anchors,
-        span,
-    }))?;
+    let name = state.serve(alloc, frame.id.as_ref())?;
+    name_frame(state, &mut frame.anchors, alloc, sought, &frame.inner)?;
+    name_frame_id(&mut frame.id, name);
+    Ok(())
+}
+
+/// Adds a new empty `span`, if it has a name.
+pub(crate) fn push_span(
+    made: &mut Vec<HtmlNode>,
+    alloc: Global,
+    name: Option<String>,
+) -> Result<(), AllocError>
+    ensures { OnOk result (nodes_view made.new.items
+        ≡ (nodes_view made.old.items then span_before (optional_text_view name) none)) }
+{
+    if let Some(name) = name {
+        let span = named_span(alloc, name, Span(0), Vec::new(alloc))?;
+        made.push(HtmlNode::Element(span))?;
+    }
     Ok(())
 }

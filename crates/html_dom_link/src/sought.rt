@@ -1,6 +1,6 @@
 //! Which locations get anchors.
 
-use html_dom_introspect::HtmlIntrospector;
+use html_dom_document::HtmlIntrospector;
 use html_dom_tree::{Location, Point};
 use std::collections::BTreeSet;
 

@@ -24,7 +24,7 @@ impl Walk {
     ghost use Rattle.html_dom_tree.specs.Views.{text_view, optional_text_view};
     ghost use Rattle.std.specs.BTreeSet.{contains};
     ghost use Rattle.html_dom_link.specs.LocationMaps.{location_cmp};
-    ghost use Rattle.html_dom_link.specs.Walk.{queued, started, served, first_waiting, at_first, Serves};
+    ghost use Rattle.html_dom_link.specs.AnchorWalk.{with_waiting, after_tag_start, with_answers, first_waiting, at_first, Serves};
     ghost use Rattle.html_dom_link.specs.Joined.{named_at};
     ghost use Rattle.html_dom_link.specs.NewNames.{new_name};
     ghost use Rattle.html_dom_link.specs.UsedNames.{used_in};
@@ -37,7 +37,7 @@ impl Walk {
         label: &Option<String>,
     ) -> Result<(), AllocError>
         ensures { OnOk result (walk_view self.new
-            ≡ queued location.0 (optional_text_view label.now) (walk_view self.old)) }
+            ≡ with_waiting location.0 (optional_text_view label.now) (walk_view self.old)) }
     {
         self.waiting.push(location)?;
         put_first_label(&mut self.labels, location, label)
@@ -51,7 +51,7 @@ impl Walk {
         label: &Option<String>,
     ) -> Result<(), AllocError>
         ensures { OnOk result (walk_view self.new
-            ≡ started (contains location_cmp targets.now location) location.0
+            ≡ after_tag_start (contains location_cmp targets.now location) location.0
             (optional_text_view label.now) (walk_view self.old)) }
     {
         if targets.contains(&location) {
@@ -103,7 +103,7 @@ impl Walk {
     /// All that wait get the name.
     fn answer_all(&mut self, alloc: Global, name: &String) -> Result<(), AllocError>
         ensures { OnOk result (walk_view self.new
-            ≡ served (text_view name.now) (walk_view self.old)) }
+            ≡ with_answers (text_view name.now) (walk_view self.old)) }
     {
         put_each(&mut self.answers, &self.waiting, name)?;
         self.waiting = Vec::new(alloc);

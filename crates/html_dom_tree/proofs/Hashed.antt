@@ -4,18 +4,18 @@ use Rattle.std.specs.Hash as fed
 use Rattle.std.proofs.lemmas.Str.{IsUtf8-string_bytes, encodes-chars}
 use lib.Utf8.{encodes}
 use Rattle.html_names.proofs.Equals as equals
-use Rattle.html_dom_tree.specs.Hashes.{pair_fed, pairs_fed}
+use Rattle.html_dom_tree.specs.Hashes.{pair_writes, pairs_writes}
 use Rattle.html_dom_tree.specs.Views.{pair_view}
 use Rattle.html_dom_tree.proofs.Attributes.{Item}
 
 abbrev item_fed : Item → fed.HashWrites
 item_fed p = fed.str (encodes p.0) ++ fed.str (string_bytes p.1)
 
-one_fed : (p : Item) → item_fed p ≡ pair_fed (pair_view p)
+one_fed : (p : Item) → item_fed p ≡ pair_writes (pair_view p)
 one_fed p =
     let bytes = string_bytes p.1 in
     ap (λ s. fed.str (encodes p.0) ++ fed.str s)
     (sym (encodes-chars bytes (IsUtf8-string_bytes p.1)))
 
-pub hashed : (ps : List Item) → fed.slice item_fed ps ≡ pairs_fed (map pair_view ps)
+pub hashed : (ps : List Item) → fed.slice item_fed ps ≡ pairs_writes (map pair_view ps)
 hashed ps = equals.hashed pair_view item_fed one_fed ps

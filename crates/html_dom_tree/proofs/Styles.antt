@@ -5,13 +5,13 @@ use lib.Utf8.{encodes}
 use Rattle.html_names.proofs.Lists.{chars_ascii}
 use Rattle.html_dom_tree.specs.Tree.{NodeView, node}
 use Rattle.html_dom_tree.specs.Views.{nodes_of}
-use Rattle.html_dom_tree.specs.Styled.{node_styled, nodes_styled, before_value}
+use Rattle.html_dom_tree.specs.Styled.{styled_node, styled_nodes, before_value}
 
 pub nodes_styled-nodes_of : (ns : List NodeView) →
-    nodes_styled (nodes_of ns) ≡ nodes_of (map node_styled ns)
-unfolding node_styled
+    styled_nodes (nodes_of ns) ≡ nodes_of (map styled_node ns)
+unfolding styled_node
 nodes_styled-nodes_of [] = refl
-nodes_styled-nodes_of (n ∷ ns) = ap (node (node_styled n)) (nodes_styled-nodes_of ns)
+nodes_styled-nodes_of (n ∷ ns) = ap (node (styled_node n)) (nodes_styled-nodes_of ns)
 
 -- a text before an empty value, and before one that is not empty
 pub before_nothing : (text bytes : List ℕ) →

@@ -19,12 +19,12 @@ place [] name = 0
 place (p ∷ ps) name = if bytes_eq p.0 name then 0 else place ps name + 1
 
 -- whether a pair of that name is there
-abbrev pub has : List TextPair → List ℕ → Bool
-has ps name = is_some (first ps name)
+abbrev pub has_name : List TextPair → List ℕ → Bool
+has_name ps name = is_some (first ps name)
 
 -- with a pair at the end, unless one of its name is there
 abbrev pub with_new : List TextPair → TextPair → List TextPair
-with_new ps p = if has ps p.0 then ps else ps ++ p ∷ []
+with_new ps p = if has_name ps p.0 then ps else ps ++ p ∷ []
 
 -- the inner pairs, and then the first pair of each name of the outer ones that is not among them
 abbrev pub union : (inner outer : List TextPair) → List TextPair
@@ -34,7 +34,7 @@ union inner (p ∷ ps) = union (with_new inner p) ps
 -- whether no name comes twice
 abbrev pub names_differ : List TextPair → Bool
 names_differ [] = true
-names_differ (p ∷ ps) = not (has ps p.0) && names_differ ps
+names_differ (p ∷ ps) = not (has_name ps p.0) && names_differ ps
 
 -- the first option where it holds a value, else the second
 abbrev pub or_else : {A : Type 0} → Option A → Option A → Option A

@@ -1,6 +1,6 @@
 pub mod Attributes
 pub mod Frames
-pub mod Equal
+pub mod NodeEqual
 pub mod FrameEqual
 pub mod FrameFree
 pub mod FrameViews

@@ -17,25 +17,25 @@ attrs_with_style text attrs (Some value) =
 attrs_with_style text attrs None = attrs ++ (codes "style", text) ∷ []
 
 -- attributes with css in them; with no css they stay
-abbrev pub attrs_styled : (css attrs : List TextPair) → List TextPair
-attrs_styled [] attrs = attrs
-attrs_styled (p ∷ ps) attrs =
+abbrev pub styled_attrs : (css attrs : List TextPair) → List TextPair
+styled_attrs [] attrs = attrs
+styled_attrs (p ∷ ps) attrs =
     attrs_with_style (inline_text (p ∷ ps)) attrs (first attrs (codes "style"))
 
-abbrev pub head_styled : Head → Head
-head_styled h = record h { attrs = attrs_styled h.css h.attrs }
+abbrev pub head_with_style : Head → Head
+head_with_style h = record h { attrs = styled_attrs h.css h.attrs }
 
 -- each element at any depth, and nothing else, is changed
 unfoldable mutual
-  pub node_styled : NodeView → NodeView
-  node_styled (tag_node t) = tag_node t
-  node_styled (text_node s span) = text_node s span
-  node_styled (element_node h ns) = element_node (head_styled h) (nodes_styled ns)
-  node_styled (frame_node f) = frame_node f
+  pub styled_node : NodeView → NodeView
+  styled_node (tag_node t) = tag_node t
+  styled_node (text_node s span) = text_node s span
+  styled_node (element_node h ns) = element_node (head_with_style h) (styled_nodes ns)
+  styled_node (frame_node f) = frame_node f
 
-  pub nodes_styled : NodesView → NodesView
-  nodes_styled none = none
-  nodes_styled (node n ns) = node (node_styled n) (nodes_styled ns)
+  pub styled_nodes : NodesView → NodesView
+  styled_nodes none = none
+  styled_nodes (node n ns) = node (styled_node n) (styled_nodes ns)
 
-abbrev pub element_styled : ElementView → ElementView
-element_styled e = (head_styled e.0, nodes_styled e.1)
+abbrev pub styled_element : ElementView → ElementView
+styled_element e = (head_with_style e.0, styled_nodes e.1)

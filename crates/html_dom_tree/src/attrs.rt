@@ -1,6 +1,6 @@
 ghost use Rattle.std.specs.Prelude.{◌≡◌, ◌↔◌, ◌++◌, ◌∷◌, [], IsTrue, OnOk, OnErr, IfErr, IfOk, map, option_map, is_some};
 ghost use Rattle.html_dom_tree.specs.Views.{text_view, pair_view, attrs_view};
-ghost use Rattle.html_dom_tree.specs.Attributes.{first, has, place, union};
+ghost use Rattle.html_dom_tree.specs.Attributes.{first, has_name, place, union};
 
 use crate::text::same_text;
 use html_names::{HtmlAttr, Refused};
@@ -32,7 +32,7 @@ impl HtmlAttrs {
     pub fn push(&mut self, attr: HtmlAttr, value: String) -> Result<(), Refused<(HtmlAttr, String)>>
         ensures ok { OnOk result
             (attrs_view self.new ≡ attrs_view self.old ++ (attr, text_view value) ∷ []) }
-        ensures err { OnErr result (attrs_view self.new ≡ attrs_view self.old) }
+        ensures kept { OnErr result (attrs_view self.new ≡ attrs_view self.old) }
         ensures back { IfErr result (λ refused. refused.back ≡ (attr, value)) }
     {
         match self.0.push((attr, value)) {
@@ -49,7 +49,7 @@ impl HtmlAttrs {
     ) -> Result<(), Refused<(HtmlAttr, String)>>
         ensures ok { OnOk result
             (attrs_view self.new ≡ (attr, text_view value) ∷ attrs_view self.old) }
-        ensures err { OnErr result (attrs_view self.new ≡ attrs_view self.old) }
+        ensures kept { OnErr result (attrs_view self.new ≡ attrs_view self.old) }
         ensures back { IfErr result (λ refused. refused.back ≡ (attr, value)) }
     {
         match self.0.insert(0, (attr, value)) {
@@ -114,7 +114,7 @@ impl HtmlAttrs {
 
     /// Whether a pair of that name is there.
     fn contains(&self, attr: &HtmlAttr) -> bool
-        ensures { result ≡ has (attrs_view self.now) attr.now }
+        ensures { result ≡ has_name (attrs_view self.now) attr.now }
     {
         self.get(attr).is_some()
     }
@@ -184,7 +184,7 @@ pub(crate) fn same_attrs(a: &HtmlAttrs, b: &HtmlAttrs) -> bool
 
 impl PartialEq for HtmlAttrs {
     ghost use Rattle.std.specs.Cmp.{partial_equiv_from_equiv};
-    ghost use Rattle.html_dom_tree.specs.Equal.{same, same_equiv, pairs_discrete};
+    ghost use Rattle.html_dom_tree.specs.NodeEqual.{same, same_equiv, pairs_discrete};
 
     ghost eq = { same attrs_view pairs_discrete };
 
@@ -196,15 +196,15 @@ impl PartialEq for HtmlAttrs {
 }
 
 impl Eq for HtmlAttrs {
-    ghost use Rattle.html_dom_tree.specs.Equal.{same_equiv, pairs_discrete};
+    ghost use Rattle.html_dom_tree.specs.NodeEqual.{same_equiv, pairs_discrete};
 
     ghost laws = { same_equiv attrs_view pairs_discrete };
 }
 
 impl Hash for HtmlAttrs {
-    ghost use Rattle.html_dom_tree.specs.Hashes.{pairs_fed, equal_fed};
+    ghost use Rattle.html_dom_tree.specs.Hashes.{pairs_writes, equal_fed};
 
-    ghost hash_input = { λ attrs. pairs_fed (attrs_view attrs) };
+    ghost hash_input = { λ attrs. pairs_writes (attrs_view attrs) };
 
     ghost respects_eq = { equal_fed };
 

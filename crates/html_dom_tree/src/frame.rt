@@ -228,7 +228,7 @@ pub(crate) fn same_html_frame(a: &HtmlFrame, b: &HtmlFrame) -> bool
 
 impl PartialEq for Frame {
     ghost use Rattle.std.specs.Cmp.{partial_equiv_from_equiv};
-    ghost use Rattle.html_dom_tree.specs.Equal.{same, same_equiv};
+    ghost use Rattle.html_dom_tree.specs.NodeEqual.{same, same_equiv};
     ghost use Rattle.html_dom_tree.specs.FrameEqual.{frame_discrete};
 
     ghost eq = { same frame_view frame_discrete };
@@ -241,7 +241,7 @@ impl PartialEq for Frame {
 }
 
 impl Eq for Frame {
-    ghost use Rattle.html_dom_tree.specs.Equal.{same_equiv};
+    ghost use Rattle.html_dom_tree.specs.NodeEqual.{same_equiv};
     ghost use Rattle.html_dom_tree.specs.FrameEqual.{frame_discrete};
 
     ghost laws = { same_equiv frame_view frame_discrete };
@@ -249,7 +249,7 @@ impl Eq for Frame {
 
 impl PartialEq for FrameItem {
     ghost use Rattle.std.specs.Cmp.{partial_equiv_from_equiv};
-    ghost use Rattle.html_dom_tree.specs.Equal.{same, same_equiv};
+    ghost use Rattle.html_dom_tree.specs.NodeEqual.{same, same_equiv};
     ghost use Rattle.html_dom_tree.specs.FrameEqual.{frame_item_discrete};
 
     ghost eq = { same frame_item_view frame_item_discrete };
@@ -262,7 +262,7 @@ impl PartialEq for FrameItem {
 }
 
 impl Eq for FrameItem {
-    ghost use Rattle.html_dom_tree.specs.Equal.{same_equiv};
+    ghost use Rattle.html_dom_tree.specs.NodeEqual.{same_equiv};
     ghost use Rattle.html_dom_tree.specs.FrameEqual.{frame_item_discrete};
 
     ghost laws = { same_equiv frame_item_view frame_item_discrete };
@@ -270,7 +270,7 @@ impl Eq for FrameItem {
 
 impl PartialEq for HtmlFrame {
     ghost use Rattle.std.specs.Cmp.{partial_equiv_from_equiv};
-    ghost use Rattle.html_dom_tree.specs.Equal.{same, same_equiv};
+    ghost use Rattle.html_dom_tree.specs.NodeEqual.{same, same_equiv};
     ghost use Rattle.html_dom_tree.specs.FrameEqual.{html_frame_discrete};
 
     ghost eq = { same html_frame_view html_frame_discrete };
@@ -283,7 +283,7 @@ impl PartialEq for HtmlFrame {
 }
 
 impl Eq for HtmlFrame {
-    ghost use Rattle.html_dom_tree.specs.Equal.{same_equiv};
+    ghost use Rattle.html_dom_tree.specs.NodeEqual.{same_equiv};
     ghost use Rattle.html_dom_tree.specs.FrameEqual.{html_frame_discrete};
 
     ghost laws = { same_equiv html_frame_view html_frame_discrete };

@@ -77,7 +77,7 @@ pub(crate) fn same_tag(a: &Tag, b: &Tag) -> bool
 
 impl PartialEq for Tag {
     ghost use Rattle.std.specs.Cmp.{partial_equiv_from_equiv};
-    ghost use Rattle.html_dom_tree.specs.Equal.{same, same_equiv, tag_discrete};
+    ghost use Rattle.html_dom_tree.specs.NodeEqual.{same, same_equiv, tag_discrete};
 
     ghost eq = { same tag_view tag_discrete };
 
@@ -89,7 +89,7 @@ impl PartialEq for Tag {
 }
 
 impl Eq for Tag {
-    ghost use Rattle.html_dom_tree.specs.Equal.{same_equiv, tag_discrete};
+    ghost use Rattle.html_dom_tree.specs.NodeEqual.{same_equiv, tag_discrete};
 
     ghost laws = { same_equiv tag_view tag_discrete };
 }

@@ -151,7 +151,7 @@ impl HtmlElement {
     ) -> Result<HtmlElement, Refused<(HtmlElement, HtmlNode)>>
         ensures ok { IfOk result (λ element.
             element_view element ≡ with_node (node_view child) (element_view self)) }
-        ensures err { IfErr result (λ refused. (element_view refused.back.0 ≡ element_view self)
+        ensures back { IfErr result (λ refused. (element_view refused.back.0 ≡ element_view self)
             × (refused.back.1 ≡ child)) }
     {
         match self.children.push(child) {
@@ -176,7 +176,7 @@ impl HtmlElement {
     pub fn with_text(self, alloc: Global, text: &str) -> Result<HtmlElement, Refused<HtmlElement>>
         ensures ok { IfOk result (λ element. element_view element
             ≡ with_node (text_node (chars text.now) (element_view self).0.span) (element_view self)) }
-        ensures err { IfErr result (λ refused. element_view refused.back ≡ element_view self) }
+        ensures back { IfErr result (λ refused. element_view refused.back ≡ element_view self) }
     {
         let Ok(text) = String::from_str(alloc, text) else {
             return Err(Refused { back: self });
@@ -210,7 +210,7 @@ impl HtmlElement {
     ) -> Result<HtmlElement, Refused<(HtmlElement, HtmlAttr, String)>>
         ensures ok { IfOk result (λ element.
             element_view element ≡ with_pair (attr, text_view value) (element_view self)) }
-        ensures err { IfErr result (λ refused. (element_view refused.back.0 ≡ element_view self)
+        ensures back { IfErr result (λ refused. (element_view refused.back.0 ≡ element_view self)
             × (refused.back.1 ≡ attr) × (refused.back.2 ≡ value)) }
     {
         match self.attrs.push(attr, value) {
@@ -328,7 +328,7 @@ fn same_nodes(a: &[HtmlNode], b: &[HtmlNode]) -> bool
 
 impl PartialEq for HtmlNode {
     ghost use Rattle.std.specs.Cmp.{partial_equiv_from_equiv};
-    ghost use Rattle.html_dom_tree.specs.Equal.{same, same_equiv, node_discrete};
+    ghost use Rattle.html_dom_tree.specs.NodeEqual.{same, same_equiv, node_discrete};
 
     ghost eq = { same node_view node_discrete };
 
@@ -340,14 +340,14 @@ impl PartialEq for HtmlNode {
 }
 
 impl Eq for HtmlNode {
-    ghost use Rattle.html_dom_tree.specs.Equal.{same_equiv, node_discrete};
+    ghost use Rattle.html_dom_tree.specs.NodeEqual.{same_equiv, node_discrete};
 
     ghost laws = { same_equiv node_view node_discrete };
 }
 
 impl PartialEq for HtmlElement {
     ghost use Rattle.std.specs.Cmp.{partial_equiv_from_equiv};
-    ghost use Rattle.html_dom_tree.specs.Equal.{same, same_equiv, element_discrete};
+    ghost use Rattle.html_dom_tree.specs.NodeEqual.{same, same_equiv, element_discrete};
 
     ghost eq = { same element_view element_discrete };
 
@@ -359,7 +359,7 @@ impl PartialEq for HtmlElement {
 }
 
 impl Eq for HtmlElement {
-    ghost use Rattle.html_dom_tree.specs.Equal.{same_equiv, element_discrete};
+    ghost use Rattle.html_dom_tree.specs.NodeEqual.{same_equiv, element_discrete};
 
     ghost laws = { same_equiv element_view element_discrete };
 }

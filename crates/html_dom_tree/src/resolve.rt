@@ -2,7 +2,7 @@ ghost use Rattle.std.specs.Prelude.{◌≡◌, [], IfOk, OnOk, OnErr, codes};
 ghost use Rattle.html_values_css.specs.Properties.{inline_text};
 ghost use Rattle.html_dom_tree.specs.Attributes.{first};
 ghost use Rattle.html_dom_tree.specs.Views.{text_view, attrs_view, node_view, element_view, nodes_view};
-ghost use Rattle.html_dom_tree.specs.Styled.{before_value, attrs_with_style, attrs_styled, node_styled, nodes_styled, element_styled};
+ghost use Rattle.html_dom_tree.specs.Styled.{before_value, attrs_with_style, styled_attrs, styled_node, styled_nodes, styled_element};
 
 use crate::attrs::HtmlAttrs;
 use crate::node::{HtmlElement, HtmlNode};
@@ -35,8 +35,8 @@ use std::alloc::{AllocError, Global};
 /// ```
 pub fn resolve_inline_styles(alloc: Global, element: &mut HtmlElement) -> Result<(), AllocError>
     ensures ok { OnOk result
-        (element_view element.new ≡ element_styled (element_view element.old)) }
-    ensures err { OnErr result (element.new ≡ element.old) }
+        (element_view element.new ≡ styled_element (element_view element.old)) }
+    ensures kept { OnErr result (element.new ≡ element.old) }
 {
     let made = with_inline_styles(alloc, element.try_clone()?)?;
     *element = made;
@@ -50,7 +50,7 @@ pub fn with_inline_styles(
     alloc: Global,
     mut element: HtmlElement,
 ) -> Result<HtmlElement, AllocError>
-    ensures { IfOk result (λ made. element_view made ≡ element_styled (element_view element)) }
+    ensures { IfOk result (λ made. element_view made ≡ styled_element (element_view element)) }
 {
     style_element(alloc, &mut element)?;
     Ok(element)
@@ -60,16 +60,16 @@ pub fn with_inline_styles(
 #[cycle(style)]
 fn style_element(alloc: Global, element: &mut HtmlElement) -> Result<(), AllocError>
     ensures { OnOk result
-        (element_view element.new ≡ element_styled (element_view element.old)) }
+        (element_view element.new ≡ styled_element (element_view element.old)) }
 {
     style_nodes(alloc, &mut element.children)?;
     style_attrs(alloc, &element.css, &mut element.attrs)
 }
 
 #[cycle(style)]
-#[tactic(auto, unfolding(crate::specs::Styled::node_styled))]
+#[tactic(auto, unfolding(crate::specs::Styled::styled_node))]
 fn style_node(alloc: Global, node: &mut HtmlNode) -> Result<(), AllocError>
-    ensures { OnOk result (node_view node.new ≡ node_styled (node_view node.old)) }
+    ensures { OnOk result (node_view node.new ≡ styled_node (node_view node.old)) }
 {
     match node {
         HtmlNode::Element(element) => style_element(alloc, element),
@@ -79,7 +79,7 @@ fn style_node(alloc: Global, node: &mut HtmlNode) -> Result<(), AllocError>
 
 #[cycle(style)]
 fn style_nodes(alloc: Global, nodes: &mut [HtmlNode]) -> Result<(), AllocError>
-    ensures { OnOk result (nodes_view nodes.new ≡ nodes_styled (nodes_view nodes.old)) }
+    ensures { OnOk result (nodes_view nodes.new ≡ styled_nodes (nodes_view nodes.old)) }
 {
     for node in nodes.iter_mut() {
         style_node(alloc, node)?;
@@ -89,7 +89,7 @@ fn style_nodes(alloc: Global, nodes: &mut [HtmlNode]) -> Result<(), AllocError>
 
 /// Puts the css into the attributes, if there is any.
 fn style_attrs(alloc: Global, css: &Properties, attrs: &mut HtmlAttrs) -> Result<(), AllocError>
-    ensures { OnOk result (attrs_view attrs.new ≡ attrs_styled css.now (attrs_view attrs.old)) }
+    ensures { OnOk result (attrs_view attrs.new ≡ styled_attrs css.now (attrs_view attrs.old)) }
 {
     if css.as_slice().is_empty() {
         return Ok(());

@@ -5,7 +5,7 @@ use Rattle.std.proofs.lemmas.Bool.{cases_Bool}
 use Rattle.std.proofs.lemmas.Option.{none-some, same_Some}
 use Rattle.html_names.specs.Kinds.{is_void, is_raw}
 use Rattle.html_flow.specs.Construct.{ArgView, BodyChoice, arg_view, args_view, arg_body, choice_after, choice_faults, body_choice, choice_from, first_choice, takes}
-use Rattle.html_flow.specs.Pieces.{arg_at, body_faults, unnamed_at}
+use Rattle.html_flow.specs.ArgumentPieces.{arg_at, body_faults, unnamed_at}
 use Rattle.html_flow_convert.specs.Items.{BodyView, absent}
 use Rattle.html_flow.specs.declared.args.Arg.{Arg}
 

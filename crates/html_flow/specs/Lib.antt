@@ -1,11 +1,11 @@
 pub mod Construct
 pub mod Endings
-pub mod Pieces
-pub use Rattle.html_flow_whitespace.specs.BareSpaces
-pub use Rattle.html_flow_whitespace.specs.Nodes
-pub use Rattle.html_flow_whitespace.specs.Pieces as TextPieces
-pub use Rattle.html_flow_whitespace.specs.Protected
-pub use Rattle.html_flow_whitespace.specs.Runs
+pub mod ArgumentPieces
+pub use Rattle.html_flow_convert.specs.BareSpaces
+pub use Rattle.html_flow_convert.specs.Nodes
+pub use Rattle.html_flow_convert.specs.Pieces as TextPieces
+pub use Rattle.html_flow_convert.specs.Protected
+pub use Rattle.html_flow_convert.specs.Runs
 pub use Rattle.html_flow_convert.specs.ConstructFaults
 pub use Rattle.html_flow_convert.specs.Converted
 pub use Rattle.html_flow_convert.specs.Depth

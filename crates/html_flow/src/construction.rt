@@ -5,8 +5,8 @@ ghost use Rattle.html_names.specs.Texts.{text_view};
 ghost use Rattle.html_dom_tree.specs.Views.{attrs_view};
 ghost use Rattle.html_flow.specs.Construct.{cast_answer, args_view, arg_body, attrs, choice_faults, construct_faults, construction, entries_view, entry_for, entry_view, faults, joined_faults, arg_value_view, other_args, body_choice, takes, text_items};
 ghost use Rattle.html_flow.specs.Endings.{Gives};
-ghost use Rattle.html_flow.specs.Pieces.{arg_at, body_faults, or_own, unnamed_at};
-ghost use Rattle.html_values.specs.Casts.{Casts, option_answer};
+ghost use Rattle.html_flow.specs.ArgumentPieces.{arg_at, body_faults, or_own, unnamed_at};
+ghost use Rattle.html_values.specs.Casts.{GivesCast, option_answer};
 ghost use Rattle.html_values.specs.Types.{attr_type_view};
 ghost use Rattle.html_flow_convert.specs.Items.{present};
 ghost use Rattle.html_flow_convert.specs.Views.{body_view, items_view, elem_view};
@@ -57,7 +57,7 @@ pub fn construct(
     ensures ends { let given = args_view args.old.items.items in
         Gives (λ made. Some (elem_view made, args_view args.new.items.items)) result
         (construction info.now given) (construct_faults info.now given) }
-    ensures stays { OnErr result (args.new ≡ args.old) }
+    ensures kept { OnErr result (args.new ≡ args.old) }
 {
     let attrs = cast_args(alloc, &info.attrs, &args.items)?;
     let tag = info.tag.try_clone()?;
@@ -106,7 +106,7 @@ fn cast_arg(
     attr_type: &AttrType,
     value: &ArgValue,
 ) -> Result<Option<String>, CastFault>
-    ensures { Casts option_answer result
+    ensures { GivesCast option_answer result
         (cast_answer (attr_type_view attr_type.now) (arg_value_view value.now)) }
 {
     match value {
@@ -213,7 +213,7 @@ fn take_at(
         Gives (λ made. Some (present (items_view made.items))) result body
         (body_faults body arg.span) }
     ensures removed { OnOk result (args.new.items ≡ remove args.old.items place) }
-    ensures stays { OnErr result (args.new ≡ args.old) }
+    ensures kept { OnErr result (args.new ≡ args.old) }
 {
     let plain = plain_body(alloc, raw, &args[place].value, args[place].span)?;
     let Arg { value, .. } = args.remove(place);
@@ -229,7 +229,7 @@ fn take_body(
     ensures ends { let choice = body_choice tag.now (args_view args.old.items) in
         Gives (λ made. takes (body_view made) (args_view args.new.items)) result choice
         (choice_faults choice) }
-    ensures stays { OnErr result (args.new ≡ args.old) }
+    ensures kept { OnErr result (args.new ≡ args.old) }
 {
     if tag::is_void(tag) {
         return Ok(None);

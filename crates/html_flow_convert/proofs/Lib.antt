@@ -1,5 +1,15 @@
+pub mod Beginnings
+pub mod Blanks
 pub mod Bodies
 pub mod ConstructFaults
 pub mod Items
-pub mod Levels
+pub mod Lines
 pub mod LoneNodes
+pub mod Looks
+pub mod NodeViews
+pub mod OneProperty
+pub mod Protecting
+pub mod SingleChars
+pub mod Stretching
+pub mod Turns
+pub mod Walking

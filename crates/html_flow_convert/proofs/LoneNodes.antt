@@ -11,10 +11,10 @@ use Rattle.html_values_css.specs.Properties.{with_value, without}
 use Rattle.html_dom_tree.specs.Tree.{Head, NodeView, element_node, node}
 use Rattle.html_dom_tree.specs.Views.{node_view, nodes_of, nodes_view}
 use Rattle.html_dom_tree.specs.declared.node.HtmlNode.{HtmlNode}
-use Rattle.html_flow_whitespace.specs.Nodes.{is_tag}
+use Rattle.html_flow_convert.specs.Nodes.{is_tag}
 use Rattle.html_flow_convert.specs.declared.lone.DisplayChange.{DisplayChange}
 use Rattle.html_flow_convert.specs.declared.lone.DisplayChange.TheVariants.{Removed, SetTo}
-use Rattle.html_flow_convert.specs.LoneNode.{DisplayChangeView, change_view, css_displayed, node_displayed, node_list, are_tags, lone_alone, lone_node, changed_or_in}
+use Rattle.html_flow_convert.specs.LoneNode.{DisplayChangeView, change_view, css_with_display, node_with_display, node_list, are_tags, lone_alone, lone_node, changed_or_in}
 
 pub node_list_of : (ns : List NodeView) → node_list (nodes_of ns) ≡ ns
 unfolding node_list
@@ -97,13 +97,13 @@ inline_math_word = chars_ascii (codes "inline math") refl
 -- what the program's change does to css
 module _ (change : DisplayChange) (css : List TextPair) where
   pub display_removed : change ≡ Removed
-      → without css (chars (codes "display")) ≡ css_displayed (change_view change) css
+      → without css (chars (codes "display")) ≡ css_with_display (change_view change) css
   display_removed is = rw is (ap (without css) display_name)
 
   pub display_set : (value : Bor (List ℕ)) (text : List ℕ) → change ≡ SetTo value
       → text ≡ value.now
       → with_value css (chars (codes "display")) (chars text)
-      ≡ css_displayed (change_view change) css
+      ≡ css_with_display (change_view change) css
   display_set value text is same =
       rw is (ap (λ name. with_value css name (chars text)) display_name
       ∙ ap (λ t. with_value css (codes "display") (chars t)) same)
@@ -111,8 +111,8 @@ module _ (change : DisplayChange) (css : List TextPair) where
 -- the nodes by the change of the lone one
 module _ (h : Head) (o : Option DisplayChangeView) (body : List NodeView) where
   pub changed_is : (change : DisplayChangeView) → Some change ≡ o
-      → map (node_displayed change) body ≡ changed_or_in h o (nodes_of body)
-  changed_is change is = rw (← is) (ap (map (node_displayed change)) (sym (node_list_of body)))
+      → map (node_with_display change) body ≡ changed_or_in h o (nodes_of body)
+  changed_is change is = rw (← is) (ap (map (node_with_display change)) (sym (node_list_of body)))
 
   pub wrapped_is : None ≡ o
       → element_node h (nodes_of body) ∷ [] ≡ changed_or_in h o (nodes_of body)

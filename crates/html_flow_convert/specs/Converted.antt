@@ -7,11 +7,11 @@ use Rattle.html_names.specs.Texts.{TextPair}
 use Rattle.html_dom_tree.specs.Frames.{new_html_frame}
 use Rattle.html_dom_tree.specs.Tree.{Head, NodeView, tag_node, text_node, element_node, frame_node, NodesView, none}
 use Rattle.html_dom_tree.specs.Views.{nodes_of}
-use Rattle.html_flow_whitespace.specs.BareSpaces.{makes_block}
-use Rattle.html_flow_whitespace.specs.Nodes.{break_node}
-use Rattle.html_flow_whitespace.specs.Pieces.{text_nodes}
-use Rattle.html_flow_whitespace.specs.Protected.{protected_nodes}
-use Rattle.html_flow_whitespace.specs.Runs.{nodes_with_runs}
+use Rattle.html_flow_convert.specs.BareSpaces.{makes_block}
+use Rattle.html_flow_convert.specs.Nodes.{break_node}
+use Rattle.html_flow_convert.specs.Pieces.{text_nodes}
+use Rattle.html_flow_convert.specs.Protected.{protected_nodes}
+use Rattle.html_flow_convert.specs.Runs.{nodes_with_runs}
 use Rattle.html_flow_convert.specs.Items.{RoleView, inherits, sets, unsets, ElemHead, FrameElemView, ItemView, tag_item, element_item, space_item, text_item, hole_item, break_item, box_item, block_item, frame_item, ItemsView, no_items, item, BodyView, absent, present}
 use Rattle.html_flow_convert.specs.LoneNode.{box_nodes, block_nodes}
 use Rattle.html_flow_convert.specs.declared.convert.ConversionLevel.{ConversionLevel}

@@ -90,8 +90,8 @@ abbrev pub inheriting : ItemView → ItemView × RoleView
 inheriting i = (i, inherits)
 
 -- an item between the tags that locate it
-abbrev pub located : ℕ → Option (List ℕ) → Option ℕ → ItemView → List (ItemView × RoleView)
-located location label dest i = inheriting (tag_item (starts location label dest))
+abbrev pub located_item : ℕ → Option (List ℕ) → Option ℕ → ItemView → List (ItemView × RoleView)
+located_item location label dest i = inheriting (tag_item (starts location label dest))
     ∷ inheriting i ∷ inheriting (tag_item (ends location)) ∷ []
 
 -- the span that an item comes from, 0 for a tag and a hole

@@ -8,7 +8,7 @@ use Rattle.html_names.specs.declared.property.Display.TheVariants as display
 use Rattle.html_values_css.specs.Properties.{with_value, without}
 use Rattle.html_dom_tree.specs.Attributes.{first}
 use Rattle.html_dom_tree.specs.Tree.{Head, NodeView, tag_node, text_node, element_node, frame_node, NodesView, none, node}
-use Rattle.html_flow_whitespace.specs.Nodes.{plain_head, is_tag}
+use Rattle.html_flow_convert.specs.Nodes.{plain_head, is_tag}
 use Rattle.html_flow_convert.specs.declared.lone.DisplayChange.{DisplayChange}
 use Rattle.html_flow_convert.specs.declared.lone.DisplayChange.TheVariants.{Removed, SetTo}
 
@@ -43,16 +43,16 @@ abbrev pub change_view : DisplayChange → DisplayChangeView
 change_view Removed = removed
 change_view (SetTo value) = set_to (chars value.now)
 
-abbrev pub css_displayed : DisplayChangeView → List TextPair → List TextPair
-css_displayed removed css = without css (codes "display")
-css_displayed (set_to value) css = with_value css (codes "display") value
+abbrev pub css_with_display : DisplayChangeView → List TextPair → List TextPair
+css_with_display removed css = without css (codes "display")
+css_with_display (set_to value) css = with_value css (codes "display") value
 
-abbrev pub node_displayed : DisplayChangeView → NodeView → NodeView
-node_displayed change (tag_node t) = tag_node t
-node_displayed change (text_node s span) = text_node s span
-node_displayed change (element_node h ns) =
-    element_node (record h { css = css_displayed change h.css }) ns
-node_displayed change (frame_node f) = frame_node (record f { css = css_displayed change f.css })
+abbrev pub node_with_display : DisplayChangeView → NodeView → NodeView
+node_with_display change (tag_node t) = tag_node t
+node_with_display change (text_node s span) = text_node s span
+node_with_display change (element_node h ns) =
+    element_node (record h { css = css_with_display change h.css }) ns
+node_with_display change (frame_node f) = frame_node (record f { css = css_with_display change f.css })
 
 abbrev pub is_math : Head → Bool
 is_math h = bytes_eq h.name (codes "math")
@@ -98,7 +98,7 @@ block_change (frame_node f) = Some (set_to (codes "block"))
 -- the nodes with a lone one changed; without such a change all in an element
 abbrev pub changed_or_in : Head → Option DisplayChangeView → NodesView → List NodeView
 changed_or_in h None ns = element_node h ns ∷ []
-changed_or_in h (Some change) ns = map (node_displayed change) (node_list ns)
+changed_or_in h (Some change) ns = map (node_with_display change) (node_list ns)
 
 abbrev pub box_change_of : Option NodeView → Option DisplayChangeView
 box_change_of None = None

@@ -1,6 +1,6 @@
 ghost use Rattle.std.specs.Prelude.{◌≡◌, ◌+◌, ◌<◌, ◌≤◌, ◌++◌, ◌∷◌, [], IfOk, IfErr, OnOk, OnErr, option_map, vec_len, vec_capacity, chars};
 ghost use Rattle.html_names.specs.Texts.{text_view};
-ghost use Rattle.html_flow_convert.specs.Items.{absent, inheriting, item_span, located, new_head, text_item, with_items, with_last_item, with_optional_pair, with_pair, with_properties, with_span};
+ghost use Rattle.html_flow_convert.specs.Items.{absent, inheriting, item_span, located_item, new_head, text_item, with_items, with_last_item, with_optional_pair, with_pair, with_properties, with_span};
 ghost use Rattle.html_flow_convert.specs.Views.{body_view, elem_view, item_view, items_view, pair_view, pairs_view, frame_elem_view, role_view};
 ghost use Rattle.html_dom_tree.specs.Views.{optional_text_view};
 
@@ -164,9 +164,9 @@ pub fn push_located(
     item: Item,
 ) -> Result<(), Refused<(Option<String>, Item)>>
     ensures ok { OnOk result (pairs_view items.new.items ≡ pairs_view items.old.items
-        ++ located location.0 (optional_text_view label) (option_map (λ l. l.0) dest)
+        ++ located_item location.0 (optional_text_view label) (option_map (λ l. l.0) dest)
         (item_view item)) }
-    ensures err { OnErr result (pairs_view items.new.items ≡ pairs_view items.old.items) }
+    ensures kept { OnErr result (pairs_view items.new.items ≡ pairs_view items.old.items) }
     ensures back { IfErr result (λ refused.
         (refused.back.0 ≡ label) × (refused.back.1 ≡ item)) }
 {
@@ -332,7 +332,7 @@ impl HtmlElem {
     ) -> Result<HtmlElem, Refused<(HtmlElem, Pair)>>
         ensures ok { IfOk result
             (λ element. elem_view element ≡ with_last_item (pair_view item) (elem_view self)) }
-        ensures err { IfErr result (λ refused. (elem_view refused.back.0 ≡ elem_view self)
+        ensures back { IfErr result (λ refused. (elem_view refused.back.0 ≡ elem_view self)
             × (refused.back.1 ≡ item)) }
     {
         match &mut self.body {
@@ -369,7 +369,7 @@ impl HtmlElem {
         ensures ok { IfOk result (λ element. elem_view element
             ≡ with_last_item (inheriting (text_item (chars text.now) (elem_view self).0.span))
             (elem_view self)) }
-        ensures err { IfErr result (λ refused. elem_view refused.back ≡ elem_view self) }
+        ensures back { IfErr result (λ refused. elem_view refused.back ≡ elem_view self) }
     {
         let Ok(text) = String::from_str(alloc, text) else {
             return Err(Refused { back: self });
@@ -409,7 +409,7 @@ impl HtmlElem {
     ) -> Result<HtmlElem, Refused<(HtmlElem, HtmlAttr, String)>>
         ensures ok { IfOk result
             (λ element. elem_view element ≡ with_pair (attr, text_view value) (elem_view self)) }
-        ensures err { IfErr result (λ refused. (elem_view refused.back.0 ≡ elem_view self)
+        ensures back { IfErr result (λ refused. (elem_view refused.back.0 ≡ elem_view self)
             × (refused.back.1 ≡ attr) × (refused.back.2 ≡ value)) }
     {
         match self.attrs.push(attr, value) {
@@ -432,7 +432,7 @@ impl HtmlElem {
     ) -> Result<HtmlElem, Refused<(HtmlElem, HtmlAttr, Option<String>)>>
         ensures ok { IfOk result (λ element. elem_view element
             ≡ with_optional_pair attr (option_map text_view value) (elem_view self)) }
-        ensures err { IfErr result (λ refused. (elem_view refused.back.0 ≡ elem_view self)
+        ensures back { IfErr result (λ refused. (elem_view refused.back.0 ≡ elem_view self)
             × (refused.back.1 ≡ attr) × (refused.back.2 ≡ value)) }
     {
         let Some(value) = value else {

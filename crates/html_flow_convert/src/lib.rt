@@ -1,4 +1,5 @@
-//! Items and the nodes that they become: a part of html_flow, which passes these names on.
+//! Items and the nodes that they become, and white space that must not collapse (CSS Text 3, 4.1): a
+//! part of html_flow, which passes these names on.
 //!
 //! ```
 //! use html_dom::Span;
@@ -12,6 +13,8 @@
 //! ```
 #![tactic(auto)]
 
+mod answers;
+mod bareness;
 mod construct_fault;
 mod convert;
 mod depth;
@@ -19,12 +22,24 @@ mod fault;
 mod fragment;
 mod item;
 pub mod laws;
+mod line;
 mod lone;
+mod look;
+mod made;
+mod one;
+mod pieces;
+mod protect;
+mod runs;
 mod setting;
 
+pub use bareness::{Bareness, bare_spaces};
 pub use construct_fault::ConstructFault;
 pub use convert::{ConversionLevel, Whitespace, convert_items, convert_to_nodes, is_depth_limit};
 pub use fault::FlowFault;
 pub use fragment::{html_block_fragment, html_inline_fragment, html_math_fragment};
-pub use html_flow_whitespace::{Bareness, bare_spaces};
 pub use item::{FrameElem, HtmlElem, Item, Pair, Role, push_located};
+pub use look::makes_block;
+pub use made::break_element;
+pub use pieces::push_text_nodes;
+pub use protect::protect_spaces;
+pub use runs::keep_runs;

@@ -4,8 +4,8 @@ ghost use Rattle.std.specs.Prelude.{◌≡◌, ◌++◌, ◌∷◌, [], IfOk, On
 ghost use Rattle.std.specs.List.{list_all};
 ghost use Rattle.html_dom_tree.specs.Tree.{element_node, none};
 ghost use Rattle.html_dom_tree.specs.Views.{element_view, head_of, node_view, nodes_view, text_view};
-ghost use Rattle.html_flow_whitespace.specs.Nodes.{is_tag};
-ghost use Rattle.html_flow_convert.specs.LoneNode.{change_view, css_displayed, node_displayed};
+ghost use Rattle.html_flow_convert.specs.Nodes.{is_tag};
+ghost use Rattle.html_flow_convert.specs.LoneNode.{change_view, css_with_display, node_with_display};
 ghost use Rattle.html_flow_convert.specs.LoneNode.{lone_alone, lone_node, is_math, is_shown_as_block};
 ghost use Rattle.html_flow_convert.specs.LoneNode.{box_change, change_by_display, block_change};
 ghost use Rattle.html_flow_convert.specs.LoneNode.{box_change_of, block_change_of, box_head, block_head, box_nodes, block_nodes};
@@ -28,7 +28,7 @@ enum DisplayChange {
 impl DisplayChange {
     /// Changes the css. Nothing is allocated where `display` goes.
     fn apply(self, alloc: Global, css: &mut Properties) -> Result<(), AllocError>
-        ensures { OnOk result (css.new ≡ css_displayed (change_view self) css.old) }
+        ensures { OnOk result (css.new ≡ css_with_display (change_view self) css.old) }
     {
         match self {
             DisplayChange::Removed => css.remove("display"),
@@ -189,7 +189,7 @@ fn element_displayed(
     change: DisplayChange,
 ) -> Result<HtmlElement, AllocError>
     ensures { let view = element_view element in IfOk result (λ changed. element_view changed
-        ≡ (record view.0 { css = css_displayed (change_view change) view.0.css }, view.1)) }
+        ≡ (record view.0 { css = css_with_display (change_view change) view.0.css }, view.1)) }
 {
     change.apply(alloc, &mut element.css)?;
     Ok(element)
@@ -202,7 +202,7 @@ fn node_displayed(
     change: DisplayChange,
 ) -> Result<HtmlNode, AllocError>
     ensures { IfOk result
-        (λ changed. node_view changed ≡ node_displayed (change_view change) (node_view node)) }
+        (λ changed. node_view changed ≡ node_with_display (change_view change) (node_view node)) }
 {
     match node {
         HtmlNode::Element(element) => {
@@ -224,7 +224,7 @@ fn push_displayed(
     change: DisplayChange,
 ) -> Result<(), AllocError>
     ensures { OnOk result (map node_view nodes.new.items ≡ map node_view nodes.old.items
-        ++ map (node_displayed (change_view change)) (map node_view body.items)) }
+        ++ map (node_with_display (change_view change)) (map node_view body.items)) }
 {
     for node in body {
         nodes.push(node_displayed(alloc, node, change)?)?;

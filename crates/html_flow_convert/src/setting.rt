@@ -1,6 +1,6 @@
 //! How a list of items stands.
 
-ghost use Rattle.std.specs.Prelude.{◌≡◌, ◌+◌, ◌<◌, bytes_eq, codes, nat_lt};
+ghost use Rattle.std.specs.Prelude.{◌≡◌, ◌+◌, ◌<◌, nat_lt};
 ghost use Rattle.html_names.specs.Displays.{default_display};
 ghost use Rattle.html_names.specs.Kinds.{shows_border};
 ghost use Rattle.html_flow_convert.specs.Converted.{body_level, body_role, body_whitespace, is_preformatted, item_role, passes_role, role_text};
@@ -8,7 +8,8 @@ ghost use Rattle.html_flow_convert.specs.Views.{elem_view, role_view};
 
 use crate::convert::{ConversionLevel, Whitespace};
 use crate::item::{HtmlElem, Role};
-use html_flow_whitespace::makes_block;
+use crate::makes_block;
+use html_names::property::Display;
 use html_names::{HtmlTag, tag};
 
 /// How a list of items stands.
@@ -117,17 +118,8 @@ pub(crate) fn body_level(element: &HtmlElem) -> ConversionLevel
 }
 
 /// Whether the element has lines of its own by default.
-#[tactic(auto, using(crate::proofs::Levels::line_display))]
 fn has_lines(tag: &HtmlTag) -> bool
     ensures { result ≡ shows_border (default_display tag.now) }
 {
-    tag::is_whitespace_collapsing(tag) && !is_line_break(tag)
-}
-
-/// Whether the element is `br`.
-#[tactic(auto, unfolding(html_names::specs::Tables::known_tags))]
-fn is_line_break(tag: &HtmlTag) -> bool
-    ensures { result ≡ bytes_eq tag.now (codes "br") }
-{
-    *tag == tag::br
+    Display::default_for(tag).is_some_and(|display| display.is_border())
 }

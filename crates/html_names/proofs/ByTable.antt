@@ -12,7 +12,8 @@ use Rattle.html_names.specs.Kinds.{is_void, void_names, is_raw, raw_names, is_es
 use Rattle.html_names.specs.Displays.{Row, first_row, rows, default_display}
 use Rattle.html_names.specs.declared.name.Name.{Name}
 use Rattle.html_names.specs.declared.name.Name.TheVariants.{Known, Own}
-use Rattle.html_names.specs.declared.table.TheConstants.{KINDS, DISPLAYS, VOID, RAW, ESCAPABLE_RAW, FOREIGN_SELF_CLOSING, MATHML, TOKEN, METADATA_CONTENT, SECTIONING_CONTENT, HEADING_CONTENT, PHRASING_CONTENT, FLOW_BESIDE_PHRASING, NOT_PALPABLE, EMBEDDED_CONTENT, INTERACTIVE_CONTENT, SCRIPT_SUPPORTING_ELEMENT, REPLACED, LINE_BREAK}
+use Rattle.html_names.specs.declared.table.TheConstants.{KINDS, DISPLAYS}
+use Rattle.html_names.specs.declared.table.kinds.TheConstants.{VOID, RAW, ESCAPABLE_RAW, FOREIGN_SELF_CLOSING, MATHML, TOKEN, METADATA, SECTIONING, HEADING, PHRASING, FLOW_BESIDE_PHRASING, NOT_PALPABLE, EMBEDDED, INTERACTIVE, SCRIPT_SUPPORTING, REPLACED, LINE_BREAK}
 
 -- columns that agree, agree at each place
 at_place : {A B C : Type 0} (f : A → C) (g : B → C) (as' : List A) (bs : List B) (a : A) (b : B)
@@ -85,21 +86,21 @@ pub token_by_table : HasKind TOKEN is_token
 unfolding is_token known_tags stands_in
 token_by_table = by_table TOKEN token_names refl refl refl
 
-pub metadata_content_by_table : HasKind METADATA_CONTENT is_metadata_content
+pub metadata_content_by_table : HasKind METADATA is_metadata_content
 unfolding is_metadata_content known_tags stands_in
-metadata_content_by_table = by_table METADATA_CONTENT metadata_content_names refl refl refl
+metadata_content_by_table = by_table METADATA metadata_content_names refl refl refl
 
-pub sectioning_content_by_table : HasKind SECTIONING_CONTENT is_sectioning_content
+pub sectioning_content_by_table : HasKind SECTIONING is_sectioning_content
 unfolding is_sectioning_content known_tags stands_in
-sectioning_content_by_table = by_table SECTIONING_CONTENT sectioning_content_names refl refl refl
+sectioning_content_by_table = by_table SECTIONING sectioning_content_names refl refl refl
 
-pub heading_content_by_table : HasKind HEADING_CONTENT is_heading_content
+pub heading_content_by_table : HasKind HEADING is_heading_content
 unfolding is_heading_content known_tags stands_in
-heading_content_by_table = by_table HEADING_CONTENT heading_content_names refl refl refl
+heading_content_by_table = by_table HEADING heading_content_names refl refl refl
 
-pub phrasing_content_by_table : HasKind PHRASING_CONTENT is_phrasing_content
+pub phrasing_content_by_table : HasKind PHRASING is_phrasing_content
 unfolding is_phrasing_content known_tags stands_in
-phrasing_content_by_table = by_table PHRASING_CONTENT phrasing_content_names refl refl refl
+phrasing_content_by_table = by_table PHRASING phrasing_content_names refl refl refl
 
 pub flow_beside_phrasing_by_table : HasKind FLOW_BESIDE_PHRASING is_flow_beside_phrasing
 unfolding is_flow_beside_phrasing known_tags stands_in
@@ -110,19 +111,19 @@ pub not_palpable_by_table : HasKind NOT_PALPABLE is_not_palpable
 unfolding is_not_palpable known_tags stands_in
 not_palpable_by_table = by_table NOT_PALPABLE not_palpable_names refl refl refl
 
-pub embedded_content_by_table : HasKind EMBEDDED_CONTENT is_embedded_content
+pub embedded_content_by_table : HasKind EMBEDDED is_embedded_content
 unfolding is_embedded_content known_tags stands_in
-embedded_content_by_table = by_table EMBEDDED_CONTENT embedded_content_names refl refl refl
+embedded_content_by_table = by_table EMBEDDED embedded_content_names refl refl refl
 
-pub interactive_content_by_table : HasKind INTERACTIVE_CONTENT is_interactive_content
+pub interactive_content_by_table : HasKind INTERACTIVE is_interactive_content
 unfolding is_interactive_content known_tags stands_in
-interactive_content_by_table = by_table INTERACTIVE_CONTENT interactive_content_names refl refl refl
+interactive_content_by_table = by_table INTERACTIVE interactive_content_names refl refl refl
 
-pub script_supporting_element_by_table : HasKind SCRIPT_SUPPORTING_ELEMENT
+pub script_supporting_element_by_table : HasKind SCRIPT_SUPPORTING
     is_script_supporting_element
 unfolding is_script_supporting_element known_tags stands_in
 script_supporting_element_by_table =
-    by_table SCRIPT_SUPPORTING_ELEMENT script_supporting_element_names refl refl refl
+    by_table SCRIPT_SUPPORTING script_supporting_element_names refl refl refl
 
 pub replaced_by_table : HasKind REPLACED is_replaced
 unfolding is_replaced known_tags stands_in

@@ -6,7 +6,7 @@ use Rattle.std.specs.Prelude.{Bool, flat_map}
 use Rattle.std.specs.Hash as fed
 use Rattle.std.specs.Bool.{Decides, one_answer}
 use Rattle.html_names.specs.Equal.{same, same_decides}
-use Rattle.html_names.specs.Hashes.{pair_fed, pairs_fed}
+use Rattle.html_names.specs.Hashes.{pair_writes, pairs_writes}
 use Rattle.html_names.specs.Texts.{TextPair}
 
 pub same_count : {A B : Type 0} (v : A → B) (xs ys : List A) → map v xs ≡ map v ys →
@@ -25,12 +25,12 @@ same_law v d x y r e =
     (λ h. (same_decides v d x y).0 (sym e ∙ h), λ p. e ∙ (same_decides v d x y).1 p)
 
 module _ {A : Type 0} (v : A → TextPair) (item_fed : A → fed.HashWrites)
-    (one_fed : (a : A) → item_fed a ≡ pair_fed (v a)) where
-  all_fed : (xs : List A) → flat_map item_fed xs ≡ flat_map pair_fed (map v xs)
+    (one_fed : (a : A) → item_fed a ≡ pair_writes (v a)) where
+  all_fed : (xs : List A) → flat_map item_fed xs ≡ flat_map pair_writes (map v xs)
   all_fed [] = refl
   all_fed (x ∷ xs) = ap (λ w. w ++ flat_map item_fed xs) (one_fed x)
-      ∙ ap (λ w. pair_fed (v x) ++ w) (all_fed xs)
+      ∙ ap (λ w. pair_writes (v x) ++ w) (all_fed xs)
 
-  pub hashed : (xs : List A) → fed.slice item_fed xs ≡ pairs_fed (map v xs)
+  pub hashed : (xs : List A) → fed.slice item_fed xs ≡ pairs_writes (map v xs)
   hashed xs = ap (λ n. fed.usize n ++ flat_map item_fed xs) (sym (length-map xs v))
       ∙ ap (λ w. fed.usize (length (map v xs)) ++ w) (all_fed xs)

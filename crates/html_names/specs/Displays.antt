@@ -1,7 +1,7 @@
 -- The css property `display`: its defaults by tag (this project's profile of HTML Standard 15.3),
 -- and its texts.
 use Rattle.std.specs.Prelude.{◌++◌, ℕ, Bool, true, false, List, [], ◌∷◌, codes, Option, Some, None}
-use Rattle.html_names.specs.Names.{listed, stands_in}
+use Rattle.html_names.specs.Names.{listed_names, stands_in}
 use Rattle.html_names.specs.declared.property.Display.{Display}
 use Rattle.html_names.specs.declared.property.Display.TheVariants as display
 
@@ -17,37 +17,37 @@ first_row (r ∷ rs) name = elim (stands_in r.1 name) [ true ↦ Some r.0 | fals
 abbrev pub rows : List Row
 rows = (
   display.None,
-  listed (codes "area base datalist head link meta rp script style template title"),
+  listed_names (codes "area base datalist head link meta rp script style template title"),
 )
     ∷ (
       display.Block,
-      listed (codes "html body address blockquote dialog div figure figcaption footer form")
-          ++ listed (codes "header hr legend main p pre search article aside h1 h2 h3 h4 h5 h6")
-          ++ listed (codes "hgroup nav section dd dl dt menu ol ul fieldset details summary option")
-          ++ listed (codes "optgroup"),
+      listed_names (codes "html body address blockquote dialog div figure figcaption footer form")
+          ++ listed_names (codes "header hr legend main p pre search article aside h1 h2 h3 h4 h5 h6")
+          ++ listed_names (codes "hgroup nav section dd dl dt menu ol ul fieldset details summary option")
+          ++ listed_names (codes "optgroup"),
     )
-    ∷ (display.Contents, listed (codes "slot"))
-    ∷ (display.Ruby, listed (codes "ruby"))
-    ∷ (display.RubyText, listed (codes "rt"))
-    ∷ (display.ListItem, listed (codes "li"))
-    ∷ (display.Table, listed (codes "table"))
-    ∷ (display.TableCaption, listed (codes "caption"))
-    ∷ (display.TableHeaderGroup, listed (codes "thead"))
-    ∷ (display.TableRowGroup, listed (codes "tbody"))
-    ∷ (display.TableFooterGroup, listed (codes "tfoot"))
-    ∷ (display.TableRow, listed (codes "tr mtr"))
-    ∷ (display.TableCell, listed (codes "th td mtd"))
-    ∷ (display.TableColumn, listed (codes "col"))
-    ∷ (display.TableColumnGroup, listed (codes "colgroup"))
-    ∷ (display.InlineBlock, listed (codes "input button meter progress select textarea"))
+    ∷ (display.Contents, listed_names (codes "slot"))
+    ∷ (display.Ruby, listed_names (codes "ruby"))
+    ∷ (display.RubyText, listed_names (codes "rt"))
+    ∷ (display.ListItem, listed_names (codes "li"))
+    ∷ (display.Table, listed_names (codes "table"))
+    ∷ (display.TableCaption, listed_names (codes "caption"))
+    ∷ (display.TableHeaderGroup, listed_names (codes "thead"))
+    ∷ (display.TableRowGroup, listed_names (codes "tbody"))
+    ∷ (display.TableFooterGroup, listed_names (codes "tfoot"))
+    ∷ (display.TableRow, listed_names (codes "tr mtr"))
+    ∷ (display.TableCell, listed_names (codes "th td mtd"))
+    ∷ (display.TableColumn, listed_names (codes "col"))
+    ∷ (display.TableColumnGroup, listed_names (codes "colgroup"))
+    ∷ (display.InlineBlock, listed_names (codes "input button meter progress select textarea"))
     ∷ (
       display.Inline,
-      listed (codes "a abbr audio b bdi bdo br canvas cite code data del dfn em embed i")
-          ++ listed (codes "iframe img ins kbd label map mark noscript object output picture q s")
-          ++ listed (codes "samp small source span strong sub sup time track u var video wbr"),
+      listed_names (codes "a abbr audio b bdi bdo br canvas cite code data del dfn em embed i")
+          ++ listed_names (codes "iframe img ins kbd label map mark noscript object output picture q s")
+          ++ listed_names (codes "samp small source span strong sub sup time track u var video wbr"),
     )
-    ∷ (display.InlineMath, listed (codes "math"))
-    ∷ (display.InlineTable, listed (codes "mtable"))
+    ∷ (display.InlineMath, listed_names (codes "math"))
+    ∷ (display.InlineTable, listed_names (codes "mtable"))
     ∷ []
 
 unfoldable pub default_display : List ℕ → Option Display

@@ -4,8 +4,8 @@ use Rattle.std.specs.Hash as fed
 use lib.Utf8.{encodes}
 use Rattle.html_names.specs.Texts.{TextPair}
 
-abbrev pub pair_fed : TextPair → fed.HashWrites
-pair_fed p = fed.str (encodes p.0) ++ fed.str (encodes p.1)
+abbrev pub pair_writes : TextPair → fed.HashWrites
+pair_writes p = fed.str (encodes p.0) ++ fed.str (encodes p.1)
 
-abbrev pub pairs_fed : List TextPair → fed.HashWrites
-pairs_fed = fed.slice pair_fed
+abbrev pub pairs_writes : List TextPair → fed.HashWrites
+pairs_writes = fed.slice pair_writes

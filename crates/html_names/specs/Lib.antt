@@ -3,7 +3,7 @@ pub mod Characters
 pub mod Displays
 pub mod Endings
 pub mod Equal
-pub mod Faults
+pub mod NameFaults
 pub mod Hashes
 pub mod Held
 pub mod Kinds

@@ -13,9 +13,9 @@ put_first c [] = (c ∷ []) ∷ []
 put_first c (n ∷ ns) = (c ∷ n) ∷ ns
 
 -- the names that a text lists, with one space between
-abbrev pub listed : List ℕ → List (List ℕ)
-listed [] = [] ∷ []
-listed (c ∷ cs) = if c == 32 then [] ∷ listed cs else put_first c (listed cs)
+abbrev pub listed_names : List ℕ → List (List ℕ)
+listed_names [] = [] ∷ []
+listed_names (c ∷ cs) = if c == 32 then [] ∷ listed_names cs else put_first c (listed_names cs)
 
 -- the text is one of the list
 unfoldable pub stands_in : List (List ℕ) → List ℕ → Bool
@@ -49,8 +49,8 @@ IsPlace names text n = (n < length names) × (slice_index_or names n [] ≡ text
 -- the names that HTML keeps for SVG and MathML
 abbrev pub reserved_names : List (List ℕ)
 reserved_names =
-    listed (codes "annotation-xml color-profile font-face font-face-src font-face-uri")
-    ++ listed (codes "font-face-format font-face-name missing-glyph")
+    listed_names (codes "annotation-xml color-profile font-face font-face-src font-face-uri")
+    ++ listed_names (codes "font-face-format font-face-name missing-glyph")
 
 unfoldable pub is_reserved : List ℕ → Bool
 is_reserved name = stands_in reserved_names name

@@ -33,7 +33,7 @@ pub enum NameFault {
 }
 
 impl NameFault {
-    ghost use Rattle.html_names.specs.Faults.{number_of};
+    ghost use Rattle.html_names.specs.NameFaults.{number_of};
 
     /// The fault's number, from 0 to 7 in the order of the variants.
     pub fn number(&self) -> u8

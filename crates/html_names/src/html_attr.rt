@@ -1,6 +1,6 @@
 ghost use Rattle.std.specs.Prelude.{◌≡◌, bytes_eq, chars, IfOk, IfErr, OnErr, IfSome, IsTrue, is_some, false, not, option_to_list, None};
 ghost use Rattle.std.specs.List.{find, list_any};
-ghost use Rattle.html_names.specs.Faults.{Gives, OnOutOfMemory};
+ghost use Rattle.html_names.specs.NameFaults.{Gives, OnOutOfMemory};
 ghost use Rattle.html_names.specs.Names.{attr_fault, is_ascii};
 ghost use Rattle.std.specs.Cmp as cmp;
 ghost use Rattle.std.specs.Cmp.{on_equiv, on_per};

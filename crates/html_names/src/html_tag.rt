@@ -1,6 +1,6 @@
 ghost use Rattle.std.specs.Prelude.{◌≡◌, ◌<◌, bytes_eq, chars, IfOk, IfErr, OnErr, IfSome, is_some, false, not, option_to_list, slice_index, None};
 ghost use Rattle.std.specs.List.{find, list_any};
-ghost use Rattle.html_names.specs.Faults.{Gives, OnOutOfMemory};
+ghost use Rattle.html_names.specs.NameFaults.{Gives, OnOutOfMemory};
 ghost use Rattle.html_names.specs.Names.{tag_fault, custom_fault, is_reserved};
 ghost use Rattle.std.specs.Cmp as cmp;
 ghost use Rattle.std.specs.Cmp.{on_equiv, on_per};

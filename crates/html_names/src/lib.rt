@@ -14,11 +14,12 @@
 //! ```
 #![tactic(auto)]
 
-pub mod attr;
 pub mod charsets;
+mod constants;
 mod fault;
 mod html_attr;
 mod html_tag;
+mod kind;
 pub mod laws;
 mod name;
 mod name_table;
@@ -26,8 +27,8 @@ pub mod output;
 pub mod property;
 mod refused;
 mod table;
-pub mod tag;
 
+pub use constants::{attr, tag};
 pub use fault::NameFault;
 pub use html_attr::HtmlAttr;
 pub use html_tag::HtmlTag;

@@ -4,65 +4,18 @@ ghost use Rattle.std.specs.Prelude.{◌≡◌};
 
 use crate::html_tag::HtmlTag;
 
-/// A value of the css property `display` (CSS Display 3, MathML Core 4.1).
+/// A value of the css property `display` (CSS Display 3, MathML Core 4.1), spelled as `as_str` tells.
+#[rattlefmt::skip]
 #[derive(Clone, Copy, Debug, PartialEq, Eq, Hash)]
 pub enum Display {
-    /// `block`
-    Block,
-    /// `inline`
-    Inline,
-    /// `run-in`
-    RunIn,
-    /// `flow`
-    Flow,
-    /// `flow-root`
-    FlowRoot,
-    /// `table`
-    Table,
-    /// `flex`
-    Flex,
-    /// `grid`
-    Grid,
-    /// `ruby`
-    Ruby,
-    /// `list-item`
+    Block, Inline, RunIn,
+    Flow, FlowRoot, Table, Flex, Grid, Ruby,
     ListItem,
-    /// `table-row-group`
-    TableRowGroup,
-    /// `table-header-group`
-    TableHeaderGroup,
-    /// `table-footer-group`
-    TableFooterGroup,
-    /// `table-row`
-    TableRow,
-    /// `table-cell`
-    TableCell,
-    /// `table-column-group`
-    TableColumnGroup,
-    /// `table-column`
-    TableColumn,
-    /// `table-caption`
-    TableCaption,
-    /// `ruby-base`
-    RubyBase,
-    /// `ruby-text`
-    RubyText,
-    /// `contents`
-    Contents,
-    /// `none`
-    None,
-    /// `inline-block`
-    InlineBlock,
-    /// `inline-table`
-    InlineTable,
-    /// `inline-flex`
-    InlineFlex,
-    /// `inline-grid`
-    InlineGrid,
-    /// `inline math`
-    InlineMath,
-    /// `block math`
-    BlockMath,
+    TableRowGroup, TableHeaderGroup, TableFooterGroup, TableRow, TableCell,
+    TableColumnGroup, TableColumn, TableCaption, RubyBase, RubyText,
+    Contents, None,
+    InlineBlock, InlineTable, InlineFlex, InlineGrid,
+    InlineMath, BlockMath,
 }
 
 impl Display {
@@ -78,38 +31,28 @@ impl Display {
     }
 
     /// Whether it is a table or a part of one.
+    #[rattlefmt::skip]
     pub fn is_tabular(self) -> bool
         ensures { result ≡ is_tabular self }
     {
         matches!(
             self,
-            Display::Table
-                | Display::TableCaption
-                | Display::TableColumn
-                | Display::TableColumnGroup
-                | Display::TableRow
-                | Display::TableRowGroup
-                | Display::TableHeaderGroup
-                | Display::TableFooterGroup
-                | Display::TableCell
+            Display::Table | Display::TableCaption | Display::TableColumn
+                | Display::TableColumnGroup | Display::TableRow | Display::TableRowGroup
+                | Display::TableHeaderGroup | Display::TableFooterGroup | Display::TableCell
         )
     }
 
     /// Whether a line ends before and after what has this display.
-    pub(crate) fn is_border(self) -> bool
+    #[rattlefmt::skip]
+    pub fn is_border(self) -> bool
         ensures { result ≡ is_border self }
     {
         matches!(
             self,
-            Display::Block
-                | Display::ListItem
-                | Display::Table
-                | Display::TableHeaderGroup
-                | Display::TableRowGroup
-                | Display::TableFooterGroup
-                | Display::TableRow
-                | Display::TableCell
-                | Display::TableCaption
+            Display::Block | Display::ListItem | Display::Table | Display::TableHeaderGroup
+                | Display::TableRowGroup | Display::TableFooterGroup | Display::TableRow
+                | Display::TableCell | Display::TableCaption
         )
     }
 

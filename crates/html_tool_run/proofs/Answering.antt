@@ -5,12 +5,12 @@ use Rattle.std.proofs.lemmas.Str.{encodes-chars, IsUtf8-string_bytes}
 use lib.Utf8.{encodes}
 use Rattle.html_dom_tree.specs.Views.{text_view}
 use Rattle.html_tool_run.specs.Answers.{first_refusal_or_text, answer_if}
-use Rattle.html_tool_run.specs.Replies.{Answers, Says}
-use Rattle.html_tool_spell.specs.Names.{Refusal}
-use Rattle.html_tool_spell.specs.Refusals.{Gives, IsFirst}
-use Rattle.html_tool_spell.specs.Spelling.{IsTold}
-use Rattle.html_tool_spell.specs.declared.fault.Fault.{Fault}
-use Rattle.html_tool_spell.specs.declared.fault.Fault.TheVariants.{OutOfMemory, BadInput, Refused}
+use Rattle.html_tool_run.specs.Replies.{GivesAnswer, Says}
+use Rattle.html_tool_run.specs.NameRefusals.{Refusal}
+use Rattle.html_tool_run.specs.Refusals.{Gives, IsFirst}
+use Rattle.html_tool_run.specs.Spelling.{IsTold}
+use Rattle.html_tool_run.specs.declared.fault.Fault.{Fault}
+use Rattle.html_tool_run.specs.declared.fault.Fault.TheVariants.{OutOfMemory, BadInput, Refused}
 
 first_said : (refusals : List Refusal) (text : List ℕ) (f : Fault) → IsFirst f refusals
     → Says (first_refusal_or_text refusals text) f
@@ -21,7 +21,7 @@ first_said refusals text (Refused number span) h = rw h.1 refl
 -- the text or its first refusal is answered where no name is refused
 pub text_said : (names others : List Refusal) (text : List ℕ) (r : Result (String Global) Fault)
     → names ≡ [] → Gives text_view r text others
-    → Answers r (first_refusal_or_text (names ++ others) text)
+    → GivesAnswer r (first_refusal_or_text (names ++ others) text)
 text_said names others text (Ok s) named given =
     let same : encodes text ≡ string_bytes s =
     ap encodes (sym given.made) ∙ encodes-chars (string_bytes s) (IsUtf8-string_bytes s) in

@@ -1,6 +1,6 @@
 -- The first fault of a tree or of items, as the first refusal.
 use Rattle.std.proofs.Common.{◌≡◌, ◌==◌, ℕ, List, [], ◌∷◌, map, true, false, if◌then◌else◌, refl, sym, ap, ◌∙◌}
-use Rattle.html_names.specs.Faults as name
+use Rattle.html_names.specs.NameFaults as name
 use Rattle.html_values_css.specs.CastFaults as cast
 use Rattle.html_values_css.specs.declared.cast_fault.CastFault.{CastFault}
 use Rattle.html_flow_convert.specs.ConstructFaults as construct
@@ -8,15 +8,15 @@ use Rattle.html_flow_convert.specs.ConstructFaults.{construct_fault_view, faults
 use Rattle.html_flow_convert.specs.declared.construct_fault.ConstructFault.{ConstructFault}
 use Rattle.html_flow_convert.specs.declared.construct_fault.ConstructFault.TheVariants as kind
 use Rattle.html_dom_tree.specs.declared.span.Span.{Span}
-use Rattle.typst_html_encode.specs.Faults as export
+use Rattle.typst_html_encode.specs.ExportFaults as export
 use Rattle.typst_html_encode.specs.FaultViews.{ExportFaultView, export_fault_view, spans_view, IsFirstView}
 use Rattle.typst_html_encode.specs.declared.fault.ExportFault.{ExportFault}
 use Rattle.typst_html_encode.specs.declared.fault.ExportFault.TheVariants as fault
 use Rattle.html_tool_run.specs.Answers.{construct_refusal, fault_refusal, first_span}
-use Rattle.html_tool_run.specs.Refusals.{export_refusal}
-use Rattle.html_tool_spell.specs.Names as names
-use Rattle.html_tool_spell.specs.Refusals.{IsFirst, numbered_fault}
-use Rattle.html_tool_spell.specs.declared.fault.Fault.TheVariants.{OutOfMemory, Refused}
+use Rattle.html_tool_run.specs.ExportRefusals.{export_refusal}
+use Rattle.html_tool_run.specs.NameRefusals as names
+use Rattle.html_tool_run.specs.Refusals.{IsFirst, numbered_fault}
+use Rattle.html_tool_run.specs.declared.fault.Fault.TheVariants.{OutOfMemory, Refused}
 
 same_first : (spans : List Span) → export.first_span spans ≡ first_span (spans_view spans)
 same_first [] = refl

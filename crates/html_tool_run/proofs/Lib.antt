@@ -1,4 +1,11 @@
 pub mod Answering
 pub mod Bytes
 pub mod FirstFaults
+pub mod Forms
 pub mod Inputs
+pub mod ItemForms
+pub mod ItemRows
+pub mod NodeRows
+pub mod PairRows
+pub mod Readings
+pub mod Rows

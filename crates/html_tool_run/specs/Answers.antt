@@ -4,22 +4,22 @@ use Rattle.std.specs.Io.KnownBytes.{Appends, Keeps}
 use Rattle.std.specs.Fmt.{decimal}
 use lib.Utf8.{encodes}
 use Rattle.serde_json.specs.Data.{Data}
-use Rattle.html_names.specs.Faults as name
+use Rattle.html_names.specs.NameFaults as name
 use Rattle.html_values_css.specs.CastFaults as cast
 use Rattle.html_flow_convert.specs.ConstructFaults as construct
 use Rattle.html_flow_convert.specs.ConstructFaults.{ConstructFaultView}
 use Rattle.html_dom_tree.specs.Tree.{ElementView}
 use Rattle.html_dom_document.specs.Documents.{no_info}
 use Rattle.typst_html_encode.specs.FaultViews.{ExportFaultView, out_of_memory, too_deep, not_alone, footnotes, unencodable, void_children, raw_child, raw_closing, frame_refused, name_fault, cast_fault, construct_fault}
-use Rattle.typst_html_encode.specs.Frames.{no_frames}
+use Rattle.typst_html_encode.specs.FrameWriters.{no_frames}
 use Rattle.typst_html_encode.specs.Text.{document_text}
 use Rattle.typst_html_encode.specs.declared.options.HtmlOptions.{HtmlOptions}
 use Rattle.html_flow_convert.specs.Items.{ItemsView, no_items}
 use Rattle.typst_html_export.specs.Exported.{root_faults, export_faults, export_text}
 use Rattle.html_tool_run.specs.Json.{json_of}
-use Rattle.html_tool_spell.specs.Names.{Refusal, element_refusals, items_refusals}
-use Rattle.html_tool_spell.specs.Spelled.{element_spelled}
-use Rattle.html_tool_spell.specs.SpelledItems.{items_spelled}
+use Rattle.html_tool_run.specs.NameRefusals.{Refusal, element_refusals, items_refusals}
+use Rattle.html_tool_run.specs.Spelled.{spelled_element}
+use Rattle.html_tool_run.specs.SpelledItems.{spelled_items}
 use Rattle.html_tool_run.specs.Words.{wanted_task}
 use Rattle.html_tool_run.specs.Writing.{AppendsBeginning}
 use Rattle.html_tool_run.specs.declared.recorded.LastCall.{LastCall}
@@ -119,8 +119,8 @@ answer_if answer None = bad_input
 answer_if answer (Some a) = answer a
 
 abbrev pub value_answer : Task → (pretty : Bool) → Data → Answer
-value_answer Tree pretty d = answer_if (tree_answer pretty) (element_spelled d)
-value_answer Doc pretty d = answer_if (doc_answer pretty) (items_spelled d)
+value_answer Tree pretty d = answer_if (tree_answer pretty) (spelled_element d)
+value_answer Doc pretty d = answer_if (doc_answer pretty) (spelled_items d)
 
 unfoldable pub input_answer : Task → (pretty : Bool) (input : List ℕ) → Answer
 input_answer task pretty input = answer_if (value_answer task pretty) (json_of input)

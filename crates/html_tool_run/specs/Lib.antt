@@ -1,6 +1,13 @@
 pub mod Answers
+pub mod ExportRefusals
+pub mod Fields
 pub mod Json
+pub mod NameRefusals
+pub mod Reading
 pub mod Refusals
 pub mod Replies
+pub mod Spelled
+pub mod SpelledItems
+pub mod Spelling
 pub mod Words
 pub mod Writing

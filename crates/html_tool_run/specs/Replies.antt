@@ -3,15 +3,15 @@ use Rattle.std.specs.Prelude.{◌≡◌, ℕ, List, Option, Result, MatchResult,
 use Rattle.std.specs.declared.alloc.Global.{Global}
 use Rattle.html_tool_run.specs.Answers.{Answer, IsAll, bad_input, refused_answer, words_answer}
 use Rattle.html_tool_run.specs.declared.program.Reply.{Reply}
-use Rattle.html_tool_spell.specs.declared.fault.Fault.{Fault}
-use Rattle.html_tool_spell.specs.declared.fault.Fault.TheVariants.{OutOfMemory, BadInput, Refused}
+use Rattle.html_tool_run.specs.declared.fault.Fault.{Fault}
+use Rattle.html_tool_run.specs.declared.fault.Fault.TheVariants.{OutOfMemory, BadInput, Refused}
 use Rattle.html_tool_run.specs.declared.status.Status.TheVariants.{Done}
 
-abbrev pub shown : Reply → Answer
-shown r = record { status = r.status; line = r.text.items }
+abbrev pub reply_answer : Reply → Answer
+reply_answer r = record { status = r.status; line = r.text.items }
 
 abbrev pub IsReply : Reply → Answer → Type 0
-IsReply r a = shown r ≡ a
+IsReply r a = reply_answer r ≡ a
 
 -- why there is no text is what the answer says, unless memory ran out
 abbrev pub Says : Answer → Fault → Type 0
@@ -20,12 +20,12 @@ Says a BadInput = a ≡ bad_input
 Says a (Refused number span) = a ≡ refused_answer (number, span.0)
 
 -- a text is the whole answer, or why there is none is
-abbrev pub Answers : Result (String Global) Fault → Answer → Type 0
-Answers r a =
+abbrev pub GivesAnswer : Result (String Global) Fault → Answer → Type 0
+GivesAnswer r a =
     MatchResult r (λ text. a ≡ record { status = Done; line = string_bytes text }) (Says a)
 
 -- so it is of the answer to some input, which is all that the reader has
-abbrev pub AnswersOn : (words : List (List ℕ)) (remaining : Option (List ℕ))
+abbrev pub GivesAnswerOn : (words : List (List ℕ)) (remaining : Option (List ℕ))
     → Result (String Global) Fault → Type 0
-AnswersOn words remaining r =
-    (input : List ℕ) × IsAll input remaining × Answers r (words_answer words input)
+GivesAnswerOn words remaining r =
+    (input : List ℕ) × IsAll input remaining × GivesAnswer r (words_answer words input)

@@ -1,8 +1,8 @@
 ghost use Rattle.serde_json.specs.View.{view};
 ghost use Rattle.html_tool_run.specs.Json.{json_of};
-ghost use Rattle.html_tool_spell.specs.Reading.{Takes};
+ghost use Rattle.html_tool_run.specs.Reading.{ReadsField};
 
-use html_tool_spell::Fault;
+use crate::Fault;
 use serde_json::{Category, Value};
 use std::alloc::Global;
 use std::str;
@@ -10,7 +10,7 @@ use std::str;
 /// The JSON value that the bytes are.
 #[tactic(auto, using(crate::proofs::Bytes::json_of_steps))]
 pub(crate) fn parse(alloc: Global, bytes: &[u8]) -> Result<Value, Fault>
-    ensures { Takes view result (json_of bytes.now) }
+    ensures { ReadsField view result (json_of bytes.now) }
 {
     let Ok(text) = str::from_utf8(bytes) else {
         return Err(Fault::BadInput);

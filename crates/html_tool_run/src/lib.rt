@@ -1,15 +1,30 @@
 //! A run of the program on any reader and writer: HTML text of a tree or of items that
 //! JSON spells. A part of html_tool, which is a program, so that nothing can stand on it: who runs it
 //! from a program stands on this part.
+//!
+//! A tree is spelled by its root, and items by a list of them:
+//!
+//! ```json
+//! ["el", "p", [["class", "intro"]], [["text", "a"]]]
+//! [["text", "a"], ["space"], ["text", "b"]]
+//! ```
 #![tactic(auto)]
 
+mod fault;
+mod fields;
+mod items;
 mod json;
+mod nodes;
 mod program;
+mod reader;
 mod recorded;
 mod status;
 mod whole;
 mod words;
 
+pub use fault::Fault;
+pub use items::items_in;
+pub use nodes::element_in;
 pub use program::{run, run_recorded};
 pub use recorded::{LastCall, Recorded, WriteFailed};
 pub use status::Status;

@@ -7,11 +7,11 @@ ghost use Rattle.serde_json.specs.View.{view};
 ghost use Rattle.html_tool_run.specs.Answers.{Answer, AddsAnswer, AddsAnswerOn, EndsAs, EndsOn, answer_if, bad_input, input_answer};
 ghost use Rattle.html_tool_run.specs.Answers.{doc_answer, doc_refusals, doc_text, refused_answer};
 ghost use Rattle.html_tool_run.specs.Answers.{tree_answer, tree_refusals, tree_text};
-ghost use Rattle.html_tool_spell.specs.Refusals.{Gives};
-ghost use Rattle.html_tool_run.specs.Refusals.{export_refusal};
-ghost use Rattle.html_tool_run.specs.Replies.{Answers, AnswersOn, IsReply, shown};
-ghost use Rattle.html_tool_spell.specs.Spelled.{element_spelled};
-ghost use Rattle.html_tool_spell.specs.SpelledItems.{items_spelled};
+ghost use Rattle.html_tool_run.specs.Refusals.{Gives};
+ghost use Rattle.html_tool_run.specs.ExportRefusals.{export_refusal};
+ghost use Rattle.html_tool_run.specs.Replies.{GivesAnswer, GivesAnswerOn, IsReply, reply_answer};
+ghost use Rattle.html_tool_run.specs.Spelled.{spelled_element};
+ghost use Rattle.html_tool_run.specs.SpelledItems.{spelled_items};
 ghost use Rattle.html_tool_run.specs.Words.{texts_of, wanted_task};
 
 use crate::json::parse;
@@ -19,10 +19,10 @@ use crate::recorded::{Recorded, WriteFailed};
 use crate::status::Status;
 use crate::whole::write_whole;
 use crate::words::{Task, wanted_task};
+use crate::{Fault, element_in, items_in};
 use html_dom_document::DocumentInfo;
 use html_dom_tree::{HtmlElement, Span};
 use html_flow_convert::Pair;
-use html_tool_spell::{Fault, element_in, items_in};
 use serde_json::Value;
 use std::alloc::{AllocError, Global};
 use std::io::{Read, Write};
@@ -89,7 +89,7 @@ fn refused(alloc: Global, number: u8, span: Span) -> Result<Reply, AllocError>
 
 /// The reply that a text is, or that says why there is none.
 fn reply_of(alloc: Global, text: Result<String, Fault>) -> Result<Reply, AllocError>
-    ensures { (answer : Answer) → Answers text answer → IfOk result (λ reply. IsReply reply answer) }
+    ensures { (answer : Answer) → GivesAnswer text answer → IfOk result (λ reply. IsReply reply answer) }
 {
     match text {
         Ok(text) => Ok(Reply {
@@ -141,7 +141,7 @@ fn items_text(alloc: Global, items: Vec<Pair>, pretty: bool) -> Result<String, F
 
 /// The text of the tree that a value spells.
 fn spelled_tree(alloc: Global, value: Value, pretty: bool) -> Result<String, Fault>
-    ensures { Answers result (answer_if (tree_answer pretty) (element_spelled (view value))) }
+    ensures { GivesAnswer result (answer_if (tree_answer pretty) (spelled_element (view value))) }
 {
     let element = element_in(alloc, value)?;
     element_text(alloc, element, pretty)
@@ -149,7 +149,7 @@ fn spelled_tree(alloc: Global, value: Value, pretty: bool) -> Result<String, Fau
 
 /// The text of the items that a value spells.
 fn spelled_doc(alloc: Global, value: Value, pretty: bool) -> Result<String, Fault>
-    ensures { Answers result (answer_if (doc_answer pretty) (items_spelled (view value))) }
+    ensures { GivesAnswer result (answer_if (doc_answer pretty) (spelled_items (view value))) }
 {
     let items = items_in(alloc, value)?;
     items_text(alloc, items, pretty)
@@ -158,7 +158,7 @@ fn spelled_doc(alloc: Global, value: Value, pretty: bool) -> Result<String, Faul
 /// The text of what an input spells. The input is gone before anything is made of its value.
 #[tactic(auto, unfolding(crate::specs::Answers::input_answer))]
 fn answer(alloc: Global, input: Vec<u8>, task: Task, pretty: bool) -> Result<String, Fault>
-    ensures { Answers result (input_answer task pretty input.items) }
+    ensures { GivesAnswer result (input_answer task pretty input.items) }
 {
     let value = parse(alloc, &input)?;
     drop(input);
@@ -170,8 +170,8 @@ fn answer(alloc: Global, input: Vec<u8>, task: Task, pretty: bool) -> Result<Str
 
 /// The text that is wanted. A reader that fails counts as want of memory.
 fn wanted<R: Read>(alloc: Global, reader: &mut R, words: &[String]) -> Result<String, Fault>
-    ensures answers { AnswersOn (texts_of words.now) (R.remaining reader.old) result }
-    ensures wrong_words { wanted_task (texts_of words.now) ≡ None → Answers result bad_input }
+    ensures answers { GivesAnswerOn (texts_of words.now) (R.remaining reader.old) result }
+    ensures wrong_words { wanted_task (texts_of words.now) ≡ None → GivesAnswer result bad_input }
     ensures unread { wanted_task (texts_of words.now) ≡ None → reader.new ≡ reader.old }
 {
     let Some((task, pretty)) = wanted_task(words) else {
@@ -185,7 +185,7 @@ fn wanted<R: Read>(alloc: Global, reader: &mut R, words: &[String]) -> Result<St
 
 /// Writes the reply, and says how that ended.
 fn tell<W: Write>(writer: &mut W, reply: &Reply) -> Status
-    ensures { AddsAnswer (shown reply.now) result
+    ensures { AddsAnswer (reply_answer reply.now) result
         (W.contents writer.old) (W.contents writer.new) }
 {
     if write_whole(writer, &reply.text).is_err() {
@@ -196,7 +196,7 @@ fn tell<W: Write>(writer: &mut W, reply: &Reply) -> Status
 
 /// The same to a writer that remembers how its last call ended.
 fn tell_recorded<W: Write>(writer: &mut Recorded<W>, reply: &Reply) -> Status
-    ensures { EndsAs (shown reply.now) result (W.contents writer.old.writer)
+    ensures { EndsAs (reply_answer reply.now) result (W.contents writer.old.writer)
         (W.contents writer.new.writer) writer.new.last }
 {
     match writer.write_all(&reply.text) {

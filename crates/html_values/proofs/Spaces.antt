@@ -3,13 +3,13 @@ use Rattle.std.proofs.Common.{◌≡◌, ℕ, zero, suc, ◌<◌, ◌^◌, List,
 use Rattle.std.specs.Fmt.{decimal}
 use Rattle.std.proofs.lemmas.List.{length-append}
 use Rattle.std.proofs.lemmas.Fmt.{decimal_nonempty}
-use Rattle.html_values.specs.AttrTexts.{gap_after, spaced, count_text}
+use Rattle.html_values.specs.AttrTexts.{gap_after, texts_with_gap, count_text}
 
-spaced-first : (ys : List ℕ) → spaced [] ys ≡ ys
+spaced-first : (ys : List ℕ) → texts_with_gap [] ys ≡ ys
 spaced-first [] = refl
 spaced-first (y ∷ ys) = refl
 
-spaced-assoc : (xs ys zs : List ℕ) → spaced (spaced xs ys) zs ≡ spaced xs (spaced ys zs)
+spaced-assoc : (xs ys zs : List ℕ) → texts_with_gap (texts_with_gap xs ys) zs ≡ texts_with_gap xs (texts_with_gap ys zs)
 spaced-assoc xs ys [] = refl
 spaced-assoc xs [] (z ∷ zs) = refl
 spaced-assoc [] (y ∷ ys) (z ∷ zs) = refl
@@ -21,26 +21,26 @@ spaced-assoc (x ∷ xs) (y ∷ ys) (z ∷ zs) =
 
 -- from the left and from the right
 module _ (a b c d e : List ℕ) where
-  five : spaced (spaced (spaced (spaced (spaced [] a) b) c) d) e
-      ≡ spaced a (spaced b (spaced c (spaced d e)))
+  five : texts_with_gap (texts_with_gap (texts_with_gap (texts_with_gap (texts_with_gap [] a) b) c) d) e
+      ≡ texts_with_gap a (texts_with_gap b (texts_with_gap c (texts_with_gap d e)))
   five =
-      ap (λ l. spaced (spaced (spaced (spaced l b) c) d) e) (spaced-first a)
-      ∙ spaced-assoc (spaced (spaced a b) c) d e
-      ∙ spaced-assoc (spaced a b) c (spaced d e)
-      ∙ spaced-assoc a b (spaced c (spaced d e))
+      ap (λ l. texts_with_gap (texts_with_gap (texts_with_gap (texts_with_gap l b) c) d) e) (spaced-first a)
+      ∙ spaced-assoc (texts_with_gap (texts_with_gap a b) c) d e
+      ∙ spaced-assoc (texts_with_gap a b) c (texts_with_gap d e)
+      ∙ spaced-assoc a b (texts_with_gap c (texts_with_gap d e))
 
-  pub step_by_step : (t u v w x y : List ℕ) → t ≡ [] → u ≡ spaced t a → v ≡ spaced u b
-      → w ≡ spaced v c → x ≡ spaced w d → y ≡ spaced x e
-      → y ≡ spaced a (spaced b (spaced c (spaced d e)))
+  pub step_by_step : (t u v w x y : List ℕ) → t ≡ [] → u ≡ texts_with_gap t a → v ≡ texts_with_gap u b
+      → w ≡ texts_with_gap v c → x ≡ texts_with_gap w d → y ≡ texts_with_gap x e
+      → y ≡ texts_with_gap a (texts_with_gap b (texts_with_gap c (texts_with_gap d e)))
   step_by_step t u v w x y none first second third fourth fifth =
-      let after_first = first ∙ ap (λ l. spaced l a) none in
-      let after_second = second ∙ ap (λ l. spaced l b) after_first in
-      let after_third = third ∙ ap (λ l. spaced l c) after_second in
-      let after_fourth = fourth ∙ ap (λ l. spaced l d) after_third in
-      fifth ∙ ap (λ l. spaced l e) after_fourth ∙ five
+      let after_first = first ∙ ap (λ l. texts_with_gap l a) none in
+      let after_second = second ∙ ap (λ l. texts_with_gap l b) after_first in
+      let after_third = third ∙ ap (λ l. texts_with_gap l c) after_second in
+      let after_fourth = fourth ∙ ap (λ l. texts_with_gap l d) after_third in
+      fifth ∙ ap (λ l. texts_with_gap l e) after_fourth ∙ five
 
 -- a count above zero is a text that is not empty
-pub spaced-nonempty : (xs ys : List ℕ) → 0 < length ys → spaced xs ys ≡ gap_after xs ++ ys
+pub spaced-nonempty : (xs ys : List ℕ) → 0 < length ys → texts_with_gap xs ys ≡ gap_after xs ++ ys
 spaced-nonempty xs [] h = absurd (omega arith)
 spaced-nonempty xs (y ∷ ys) h = refl
 
@@ -53,7 +53,7 @@ count_is (suc n) unit h f =
 
 -- a count is added after its gap
 pub spaced-count : (xs unit : List ℕ) (n : ℕ) → 0 < n → n < 2 ^ 64
-    → (gap_after xs ++ decimal n) ++ unit ≡ spaced xs (count_text n unit)
+    → (gap_after xs ++ decimal n) ++ unit ≡ texts_with_gap xs (count_text n unit)
 spaced-count xs unit n h f =
     let count = count_is n unit h f in
     append_assoc (gap_after xs) (decimal n) unit

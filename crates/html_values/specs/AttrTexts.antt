@@ -71,9 +71,9 @@ abbrev pub gap_after : List ℕ → List ℕ
 gap_after [] = []
 gap_after (x ∷ xs) = x ∷ xs ++ codes " "
 
-abbrev pub spaced : List ℕ → List ℕ → List ℕ
-spaced xs [] = xs
-spaced xs (y ∷ ys) = gap_after xs ++ y ∷ ys
+abbrev pub texts_with_gap : List ℕ → List ℕ → List ℕ
+texts_with_gap xs [] = xs
+texts_with_gap xs (y ∷ ys) = gap_after xs ++ y ∷ ys
 
 -- a count with its unit, unless it is zero
 abbrev pub count_text : ℕ → List ℕ → List ℕ
@@ -83,10 +83,10 @@ count_text (suc n) unit = decimal (suc n) ++ unit
 -- HTML Standard 2.3.5, valid duration string: weeks, days, hours, minutes, seconds
 abbrev pub counts_text : ℕ → List ℕ
 counts_text s =
-    spaced (count_text (s / 604_800) (codes "w"))
-    (spaced (count_text (s / 86_400 % 7) (codes "d"))
-    (spaced (count_text (s / 3_600 % 24) (codes "h"))
-    (spaced (count_text (s / 60 % 60) (codes "m")) (count_text (s % 60) (codes "s")))))
+    texts_with_gap (count_text (s / 604_800) (codes "w"))
+    (texts_with_gap (count_text (s / 86_400 % 7) (codes "d"))
+    (texts_with_gap (count_text (s / 3_600 % 24) (codes "h"))
+    (texts_with_gap (count_text (s / 60 % 60) (codes "m")) (count_text (s % 60) (codes "s")))))
 
 abbrev pub duration_text : ℕ → List ℕ
 duration_text s = if s == 0 then codes "0s" else counts_text s

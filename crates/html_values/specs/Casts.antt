@@ -33,8 +33,8 @@ answer_faults nothing = []
 answer_faults (refuses f) = f ∷ []
 
 -- how a call ends that casts: with what the answer gives, as a view shows it, else refused
-abbrev pub Casts : {A : Type 0} → (A → CastAnswer) → Result A CastFault → CastAnswer → Type 0
-Casts view r answer = Gives view r answer (answer_faults answer)
+abbrev pub GivesCast : {A : Type 0} → (A → CastAnswer) → Result A CastFault → CastAnswer → Type 0
+GivesCast view r answer = Gives view r answer (answer_faults answer)
 
 -- how a call ends that finds one value: with it, else with that fault
 abbrev pub Finds : {A B : Type 0} → (A → B) → CastFault → Result A CastFault → Option B → Type 0
@@ -229,9 +229,9 @@ list_answer separator (Ok texts) = gives (join_by (λ t. t) (separator_text sepa
 list_answer separator (Err f) = refuses f
 
 -- how a call ends that makes the texts of an array's items
-abbrev pub MakesTexts : Result (Vec (String Global) Global) CastFault → ℕ → Texts → Type 0
-MakesTexts (Ok made) separator texts = texts ≡ Ok (texts_view made.items)
-MakesTexts (Err fault) separator texts =
+abbrev pub GivesTexts : Result (Vec (String Global) Global) CastFault → ℕ → Texts → Type 0
+GivesTexts (Ok made) separator texts = texts ≡ Ok (texts_view made.items)
+GivesTexts (Err fault) separator texts =
     IsFirst fault (answer_faults (list_answer separator texts))
 
 abbrev mutual

@@ -1,6 +1,6 @@
 ghost use Rattle.std.specs.Prelude.{◌≡◌, ◌&&◌, false, IfOk, IfErr, Ok};
 ghost use Rattle.html_names.specs.Texts.{text_view};
-ghost use Rattle.html_values.specs.Casts.{Casts, MakesTexts, shorthand_answer, option_answer, cast, castable, castable_by_any, first_cast, has_presence, item_texts, presence_in, text_answer};
+ghost use Rattle.html_values.specs.Casts.{GivesCast, GivesTexts, shorthand_answer, option_answer, cast, castable, castable_by_any, first_cast, has_presence, item_texts, presence_in, text_answer};
 ghost use Rattle.html_values.specs.Types.{inner_view, list, list_type_view, texts_view, attr_type_view, attr_types_view};
 ghost use Rattle.html_values.specs.Values.{value_view, values_view};
 
@@ -52,7 +52,7 @@ impl ListType {
         requires { has_presence (attr_type_view inner) ≡ false }
         ensures ok { IfOk result
             (λ made. list_type_view made ≡ list (attr_type_view inner) separator shorthand) }
-        ensures err { IfErr result (λ refused. refused.back ≡ inner) }
+        ensures back { IfErr result (λ refused. refused.back ≡ inner) }
     {
         match Box::new(alloc, inner) {
             Ok(inner) => Ok(ListType {
@@ -154,7 +154,7 @@ impl AttrType {
     /// ```
     #[cycle(cast)]
     pub fn cast(&self, alloc: Global, value: &Value) -> Result<Option<String>, CastFault>
-        ensures { Casts option_answer result
+        ensures { GivesCast option_answer result
             (cast (attr_type_view self.now) (value_view value.now)) }
     {
         match self {
@@ -175,7 +175,7 @@ impl ListType {
     /// The text of an array, or of a value that stands for an array of itself.
     #[cycle(cast)]
     fn cast(&self, alloc: Global, value: &Value) -> Result<String, CastFault>
-        ensures { Casts text_answer result (cast (list_type_view self.now) (value_view value.now)) }
+        ensures { GivesCast text_answer result (cast (list_type_view self.now) (value_view value.now)) }
     {
         match value {
             Value::Array(items) => {
@@ -190,7 +190,7 @@ impl ListType {
     #[cycle(cast)]
     #[tactic(auto, using(crate::proofs::Joined::item_refusal))]
     fn cast_shorthand(&self, alloc: Global, value: &Value) -> Result<String, CastFault>
-        ensures { Casts text_answer result (shorthand_answer
+        ensures { GivesCast text_answer result (shorthand_answer
             (self.now.shorthand && castable (inner_view self.now) (value_view value.now))
             (cast (inner_view self.now) (value_view value.now))) }
     {
@@ -204,7 +204,7 @@ impl ListType {
     /// The texts of an array's items.
     #[cycle(cast)]
     fn texts(&self, alloc: Global, items: &[Value]) -> Result<Vec<String>, CastFault>
-        ensures { MakesTexts result self.now.separator
+        ensures { GivesTexts result self.now.separator
             (item_texts (cast (inner_view self.now)) self.now.separator (values_view items.now)) }
     {
         let mut texts = Vec::new(alloc);
@@ -223,7 +223,7 @@ fn cast_by_first(
     members: &[AttrType],
     value: &Value,
 ) -> Result<Option<String>, CastFault>
-    ensures { Casts option_answer result
+    ensures { GivesCast option_answer result
         (first_cast (attr_types_view members.now) (value_view value.now)) }
 {
     for kind in members {

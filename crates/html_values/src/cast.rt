@@ -6,7 +6,7 @@ ghost use Rattle.std.specs.Str.{bytes_eq};
 ghost use Rattle.html_names.specs.Names.{stands_in};
 ghost use Rattle.html_names.specs.Texts.{text_view};
 ghost use Rattle.html_values.specs.Attributes.{IsText};
-ghost use Rattle.html_values.specs.Casts.{option_answer, separator_text, item_answer, gives, Casts, text_answer, text_result, item_text, strings_cast};
+ghost use Rattle.html_values.specs.Casts.{option_answer, separator_text, item_answer, gives, GivesCast, text_answer, text_result, item_text, strings_cast};
 ghost use Rattle.html_values.specs.Types.{texts_view};
 ghost use Rattle.html_values.specs.Values.{value_view};
 
@@ -38,7 +38,7 @@ fn is_same(a: &str, b: &str) -> bool
 
 /// A text that is one of these.
 pub(crate) fn allowed_text(texts: &[String], value: &Value) -> Result<String, CastFault>
-    ensures { Casts text_answer result
+    ensures { GivesCast text_answer result
         (strings_cast (texts_view texts.now) (value_view value.now)) }
 {
     match value {

@@ -1,7 +1,7 @@
 ghost use Rattle.std.specs.Prelude.{◌≡◌, ◌++◌, OnOk, codes, IsTrue};
 ghost use Rattle.html_names.specs.Names.{is_ascii};
 ghost use Rattle.html_names.specs.Texts.{text_view};
-ghost use Rattle.html_values.specs.AttrTexts.{counts_text, count_text, gap_after, spaced};
+ghost use Rattle.html_values.specs.AttrTexts.{counts_text, count_text, gap_after, texts_with_gap};
 ghost use Rattle.html_values.specs.Attributes.{IsText};
 
 use crate::into_attr::IntoAttr;
@@ -38,7 +38,7 @@ fn push_gap(text: &mut Output) -> Result<(), AllocError>
 fn push_count(text: &mut Output, count: u64, unit: &str) -> Result<(), AllocError>
     requires { IsTrue (is_ascii unit.now) }
     ensures { OnOk result
-        (text.new ≡ spaced text.old (count_text count unit.now)) }
+        (text.new ≡ texts_with_gap text.old (count_text count unit.now)) }
 {
     if count == 0 {
         return Ok(());

@@ -47,7 +47,7 @@ impl Datetime {
     /// The moment, unless its year is outside 1 to 9999.
     pub fn new(moment: Moment) -> Result<Datetime, CastFault>
         ensures ok { IfOk result (λ made. (made.moment ≡ moment) × IsTrue (has_year moment)) }
-        ensures err { IfErr result (λ fault. (fault ≡ YearRange) × IsFalse (has_year moment)) }
+        ensures fault { IfErr result (λ fault. (fault ≡ YearRange) × IsFalse (has_year moment)) }
     {
         if moment.has_year() {
             Ok(Datetime { moment })

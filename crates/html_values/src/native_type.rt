@@ -2,7 +2,7 @@ ghost use Rattle.std.specs.Prelude.{◌≡◌, IfOk, IfErr, None, Some, length, 
 ghost use Rattle.std.specs.Int.NonZero.{non_zero_u64_get};
 ghost use Rattle.html_names.specs.Texts.{text_view};
 ghost use Rattle.html_values.specs.AttrTexts.{horizontal_text, size_text};
-ghost use Rattle.html_values.specs.Casts.{candidate_answer, Casts, Finds, horizontal, icon_size, image, int_of, is_bad_source, native_cast, native_castable, natural, one_char, positive, text_answer, gives};
+ghost use Rattle.html_values.specs.Casts.{candidate_answer, GivesCast, Finds, horizontal, icon_size, image, int_of, is_bad_source, native_cast, native_castable, natural, one_char, positive, text_answer, gives};
 ghost use Rattle.html_values.specs.Values.{array_value, auto_value, bool_value, color_value, datetime_value, dir_value, duration_value, image_value, int_value, none_value, str_value, value_view, values_view};
 ghost use Rattle.html_values_css.specs.declared.cast_fault.CastFault.TheVariants.{NumberRange, WrongKind};
 
@@ -88,7 +88,7 @@ impl NativeType {
 
     /// The text of a value of this type.
     pub(crate) fn cast(self, alloc: Global, value: &Value) -> Result<String, CastFault>
-        ensures { Casts text_answer result (native_cast self (value_view value.now)) }
+        ensures { GivesCast text_answer result (native_cast self (value_view value.now)) }
     {
         match value {
             Value::None => self.cast_none(alloc),
@@ -116,7 +116,7 @@ impl NativeType {
 
     /// The text of none.
     fn cast_none(self, alloc: Global) -> Result<String, CastFault>
-        ensures { Casts text_answer result (native_cast self none_value) }
+        ensures { GivesCast text_answer result (native_cast self none_value) }
     {
         match self {
             NativeType::NoValue => Ok(NoneValue.into_attr(alloc)?),
@@ -128,7 +128,7 @@ impl NativeType {
 
     /// The text of a Boolean.
     fn cast_bool(self, alloc: Global, on: bool) -> Result<String, CastFault>
-        ensures { Casts text_answer result (native_cast self (bool_value on)) }
+        ensures { GivesCast text_answer result (native_cast self (bool_value on)) }
     {
         match self {
             NativeType::TrueFalse => Ok(TrueFalseBool(on).into_attr(alloc)?),
@@ -140,7 +140,7 @@ impl NativeType {
 
     /// The text of a whole number.
     fn cast_int(self, alloc: Global, n: i64) -> Result<String, CastFault>
-        ensures { Casts text_answer result (native_cast self (int_value n)) }
+        ensures { GivesCast text_answer result (native_cast self (int_value n)) }
     {
         match self {
             NativeType::Int => Ok(n.into_attr(alloc)?),
@@ -152,7 +152,7 @@ impl NativeType {
 
     /// The text of a text.
     fn cast_str(self, alloc: Global, text: &String) -> Result<String, CastFault>
-        ensures { Casts text_answer result (native_cast self (str_value (text_view text.now))) }
+        ensures { GivesCast text_answer result (native_cast self (str_value (text_view text.now))) }
     {
         match self {
             NativeType::Str => Ok(text.clone()?),
@@ -163,7 +163,7 @@ impl NativeType {
 
     /// The text of a moment.
     fn cast_datetime(self, alloc: Global, moment: &Moment) -> Result<String, CastFault>
-        ensures { Casts text_answer result (native_cast self (datetime_value moment.now)) }
+        ensures { GivesCast text_answer result (native_cast self (datetime_value moment.now)) }
     {
         match self {
             NativeType::Datetime => Ok(Datetime::new(*moment)?.into_attr(alloc)?),
@@ -173,7 +173,7 @@ impl NativeType {
 
     /// The text of a direction.
     fn cast_dir(self, alloc: Global, dir: Dir) -> Result<String, CastFault>
-        ensures { Casts text_answer result (native_cast self (dir_value dir)) }
+        ensures { GivesCast text_answer result (native_cast self (dir_value dir)) }
     {
         match self {
             NativeType::HorizontalDir => Ok(horizontal(dir)?.into_attr(alloc)?),
@@ -188,7 +188,7 @@ impl NativeType {
         src: &String,
         width: Option<i64>,
     ) -> Result<String, CastFault>
-        ensures { Casts text_answer result
+        ensures { GivesCast text_answer result
             (native_cast self (image_value (text_view src.now) width)) }
     {
         match self {
@@ -199,7 +199,7 @@ impl NativeType {
 
     /// The text of an array.
     fn cast_array(self, alloc: Global, items: &[Value]) -> Result<String, CastFault>
-        ensures { Casts text_answer result
+        ensures { GivesCast text_answer result
             (native_cast self (array_value (values_view items.now))) }
     {
         match self {
@@ -231,7 +231,7 @@ fn positive(n: i64) -> Result<NonZeroU64, CastFault>
 
 /// The one character of a text.
 fn only_char(text: &str) -> Result<char, CastFault>
-    ensures { Casts (λ c. gives (c ∷ [])) result (one_char (chars text.now)) }
+    ensures { GivesCast (λ c. gives (c ∷ [])) result (one_char (chars text.now)) }
 {
     let mut characters = text.chars();
     match (characters.next(), characters.next()) {
@@ -242,7 +242,7 @@ fn only_char(text: &str) -> Result<char, CastFault>
 
 /// A horizontal direction.
 fn horizontal(dir: Dir) -> Result<HorizontalDir, CastFault>
-    ensures { Casts (λ made. gives (horizontal_text made)) result (horizontal dir) }
+    ensures { GivesCast (λ made. gives (horizontal_text made)) result (horizontal dir) }
 {
     match dir {
         Dir::LTR => Ok(HorizontalDir::LTR),
@@ -263,7 +263,7 @@ fn integer(value: &Value) -> Result<i64, CastFault>
 
 /// The size that two whole numbers give.
 fn icon_size(items: &[Value]) -> Result<IconSize, CastFault>
-    ensures { Casts (λ size. gives (size_text size.width size.height)) result
+    ensures { GivesCast (λ size. gives (size_text size.width size.height)) result
         (icon_size (values_view items.now)) }
 {
     let [width, height] = items else {
@@ -310,7 +310,7 @@ fn is_bad_source(src: &str) -> bool
 
 /// An image with a source and perhaps a width.
 fn candidate(src: &String, width: Option<i64>) -> Result<ImageCandidate, CastFault>
-    ensures { Casts candidate_answer result (image (text_view src.now) width) }
+    ensures { GivesCast candidate_answer result (image (text_view src.now) width) }
 {
     let width = match width {
         Some(n) => Some(positive(n)?),

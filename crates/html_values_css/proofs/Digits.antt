@@ -7,7 +7,7 @@ use Rattle.std.specs.Str.{IsAscii}
 use Rattle.std.proofs.lemmas.Str.{chars-IsAscii, IsAscii-append}
 use Rattle.std.proofs.lemmas.Str.Ascii.{IsAscii-nil, IsAscii-cons}
 use Rattle.std.proofs.lemmas.Fmt.{IsAscii-decimal}
-use Rattle.html_values_css.specs.Quantities.{IsQuantity, rounded, fraction_digits, point_text, sign_text, fixed_text}
+use Rattle.html_values_css.specs.Quantities.{IsQuantity, nearest_hundreds, fraction_digits, point_text, sign_text, fixed_text}
 
 pub power_bound : (k : ℕ) → k < 5 → 10 ^ k < 2 ^ 64
 power_bound zero h = omega arith
@@ -70,8 +70,8 @@ sign_ascii (pos m) n = IsAscii-nil
 sign_ascii (negsuc m) zero = IsAscii-nil
 sign_ascii (negsuc m) (suc n) = IsAscii-cons 45 [] (omega arith) IsAscii-nil
 
-pub whole_fits : (k : ℕ) (z : ℤ) → IsQuantity z → rounded z / 10 ^ k < 2 ^ 64
-whole_fits k z q = let above = power_above k in omega (arith, div-le_self (rounded z) (10 ^ k), q)
+pub whole_fits : (k : ℕ) (z : ℤ) → IsQuantity z → nearest_hundreds z / 10 ^ k < 2 ^ 64
+whole_fits k z q = let above = power_above k in omega (arith, div-le_self (nearest_hundreds z) (10 ^ k), q)
 
 -- the text of a quantity is its own characters
 pub fixed_chars : (k : ℕ) (z : ℤ) → IsQuantity z → chars (fixed_text k z) ≡ fixed_text k z
@@ -79,6 +79,6 @@ fixed_chars k z q =
     let above = power_above k in
     chars-IsAscii (fixed_text k z)
     (IsAscii-append _ _
-    (IsAscii-append _ _ (sign_ascii z (rounded z))
-    (IsAscii-decimal (rounded z / 10 ^ k) (whole_fits k z q)))
-    (point_ascii k (rounded z % 10 ^ k) (omega arith)))
+    (IsAscii-append _ _ (sign_ascii z (nearest_hundreds z))
+    (IsAscii-decimal (nearest_hundreds z / 10 ^ k) (whole_fits k z q)))
+    (point_ascii k (nearest_hundreds z % 10 ^ k) (omega arith)))

@@ -3,8 +3,8 @@ use Rattle.std.proofs.Common.{◌≡◌, ℕ, List, [], ◌∷◌, ◌++◌, Boo
 use Rattle.std.specs.Result.{OnOk}
 use Rattle.std.specs.declared.alloc.AllocError.{AllocError}
 use Rattle.html_names.proofs.Texts.{chars_add}
-use Rattle.html_values_css.specs.Sink.{Answers}
-use Rattle.html_values_css.specs.Writer.{State, Emits, fails}
+use Rattle.html_values_css.specs.Sink.{SinkAnswers}
+use Rattle.html_values_css.specs.Writer.{WriterState, Emits, fails}
 use Rattle.html_values_css.specs.declared.sink.Warning.{Warning}
 use Rattle.html_values_css.proofs.Beginnings.{StartsWith-same, StartsWith-append, StartsWith-trans}
 use Rattle.html_values_css.proofs.Giving.{not_begun, hands_then, interrupted_more, hands_one}
@@ -38,9 +38,9 @@ failed_then (Ok u) true b d f g h e p q = rw (q, p)
 failed_then (Ok u) false b d f g h e p q = rw (q, p, e)
 failed_then (Err x) a b d f g h e p q = tt
 
-module _ {S : Type 0} (takes : Answers S) where
+module _ {S : Type 0} (takes : SinkAnswers S) where
   -- a text that `push_str` appended, or did not
-  pub pushed : (r : Result (Unit {0}) AllocError) (old new : State S) (b d s : List ℕ)
+  pub pushed : (r : Result (Unit {0}) AllocError) (old new : WriterState S) (b d s : List ℕ)
       → IsUtf8 b → old.text ≡ chars b → new.text ≡ chars d → d ≡ (if is_ok r then b ++ s else b)
       → new.failed ≡ old.failed → new.sink ≡ old.sink → Emits takes r old new (chars s) []
   pushed (Ok u) old new b d s utf8 old_is new_is grew same_flag same_sink =
@@ -61,7 +61,7 @@ module _ {S : Type 0} (takes : Answers S) where
     given = same_sink;
   }
 
-  pub Emits-then : (r : Result (Unit {0}) AllocError) (a b d : State S) (x y : List ℕ)
+  pub Emits-then : (r : Result (Unit {0}) AllocError) (a b d : WriterState S) (x y : List ℕ)
       (first second : List Warning)
       → Emits takes (Ok tt) a b x first → Emits takes r b d y second
       → Emits takes r a d (x ++ y) (first ++ second)
@@ -76,8 +76,8 @@ module _ {S : Type 0} (takes : Answers S) where
   }
 
 -- the same, where the first went well and the texts are known by other names
-pub then_emits : {S : Type 0} {takes : Answers S} {q r : Result (Unit {0}) AllocError}
-    {a b d : State S}
+pub then_emits : {S : Type 0} {takes : SinkAnswers S} {q r : Result (Unit {0}) AllocError}
+    {a b d : WriterState S}
     {x y : List ℕ} {first second : List Warning} {u : Unit {0}} (v w : List ℕ)
     → Emits takes q a b x first → q ≡ Ok u → x ≡ v → Emits takes r b d y second → y ≡ w
     → Emits takes r a d (v ++ w) (first ++ second)
@@ -88,8 +88,8 @@ then_emits {S} {takes} {q} {r} {a} {b} {d} {x} {y} {first} {second} {u} v w
     rw (← left, ← right) (Emits-then takes r a b d x y first second went later)
 
 -- at a refusal the text to be written does not matter, nor the warnings to come
-pub refused_emits : {S : Type 0} {takes : Answers S} {q r : Result (Unit {0}) AllocError}
-    {a b : State S}
+pub refused_emits : {S : Type 0} {takes : SinkAnswers S} {q r : Result (Unit {0}) AllocError}
+    {a b : WriterState S}
     {x : List ℕ} {first : List Warning} {e e' : AllocError} (y : List ℕ) (second : List Warning)
     → Emits takes r a b x first → r ≡ Err e → q ≡ Err e' → Emits takes q a b y (first ++ second)
 refused_emits {S} {takes} {q} {r} {a} {b} {x} {first} {e} {e'} y second emitted was is =
@@ -104,7 +104,7 @@ refused_emits {S} {takes} {q} {r} {a} {b} {x} {first} {e} {e'} y second emitted 
     }
 
 -- a refusal before anything was done
-pub nothing_yet : {S : Type 0} {takes : Answers S} (old : State S) (text : List ℕ)
+pub nothing_yet : {S : Type 0} {takes : SinkAnswers S} (old : WriterState S) (text : List ℕ)
     (ws : List Warning) (e : AllocError)
     → Emits takes (Err e) old old text ws
 nothing_yet {S} {takes} old text ws e = record {
@@ -116,7 +116,7 @@ nothing_yet {S} {takes} old text ws e = record {
 }
 
 -- a warning that is handed to the sink
-pub warns : {S : Type 0} {takes : Answers S} (r : Result (Unit {0}) AllocError) (old new : State S)
+pub warns : {S : Type 0} {takes : SinkAnswers S} (r : Result (Unit {0}) AllocError) (old new : WriterState S)
     (w : Warning)
     → new.text ≡ old.text → OnOk r (new.failed ≡ true) → takes old.sink w r new.sink
     → Emits takes r old new [] (w ∷ [])

@@ -3,7 +3,7 @@ use Rattle.std.proofs.Common.{◌≡◌, List, [], ◌∷◌, map, Bool, ◌++�
 use Rattle.std.specs.Hash as fed
 use Rattle.std.proofs.lemmas.Str.{encodes-chars, IsUtf8-string_bytes}
 use lib.Utf8.{encodes}
-use Rattle.html_names.specs.Hashes.{pair_fed, pairs_fed}
+use Rattle.html_names.specs.Hashes.{pair_writes, pairs_writes}
 use Rattle.html_names.proofs.Equals.{hashed}
 use Rattle.std.specs.Bool.{Decides}
 use Rattle.std.specs.String.{string_eq}
@@ -65,7 +65,7 @@ list_decides = lists_decide block.ghosts.eq property_view one_decides
 item_fed : Property → fed.HashWrites
 item_fed p = fed.str (string_bytes p.name) ++ fed.str (string_bytes p.value)
 
-one_fed : (p : Property) → item_fed p ≡ pair_fed (property_view p)
+one_fed : (p : Property) → item_fed p ≡ pair_writes (property_view p)
 unfolding item_fed
 one_fed p =
     ap (λ s. fed.str s ++ fed.str (string_bytes p.value))
@@ -74,6 +74,6 @@ one_fed p =
     (sym (encodes-chars (string_bytes p.value) (IsUtf8-string_bytes p.value)))
 
 pub list_hashed : (xs : List Property) → fed.slice hashing.ghosts.hash_input xs
-    ≡ pairs_fed (list_view xs)
+    ≡ pairs_writes (list_view xs)
 unfolding item_fed
 list_hashed xs = hashed property_view item_fed one_fed xs

@@ -2,11 +2,11 @@
 use Rattle.std.proofs.Common.{◌≡◌, List, [], ◌∷◌, ◌++◌, Result, Ok, Err, inl, inr, refl, sym, ap, subst, ◌∙◌, append_assoc, append-nil, Vec, Global, Option}
 use base.Fml.{GName}
 use Rattle.std.specs.declared.alloc.AllocError.{AllocError}
-use Rattle.html_values_css.specs.Sink.{Answers, Takes, Given, Interrupted, Hands, Keeps, AddsAtMost, StartsWith, GivenVector, HandsBegin}
+use Rattle.html_values_css.specs.Sink.{SinkAnswers, TakesWarning, Given, Interrupted, Hands, KeepsWarning, AddsAtMost, StartsWith, GivenVector, HandsBegin}
 use Rattle.html_values_css.proofs.Beginnings.{StartsWith-same, StartsWith-append, StartsWith-trans}
 use Rattle.html_values_css.specs.declared.sink.Warning.{Warning}
 
-module _ {S : Type 0} (takes : Answers S) where
+module _ {S : Type 0} (takes : SinkAnswers S) where
   -- handed none, a sink is as before
   pub unchanged : {A E : Type 0} (r : Result A E) (old new : S) → new ≡ old
       → Hands takes r old [] new
@@ -83,7 +83,7 @@ given_vector borrow old new (w ∷ ws) (next, took, left) =
 -- an empty vector that was given warnings has these
 pub given_empty : (borrow : Vec Warning Global → Option GName) (fresh old new : Vec Warning Global)
     (ws handed : List Warning) → fresh.items ≡ [] → old ≡ fresh
-    → Given (Takes (λ v. v.items) borrow (λ v w r u. Keeps v.items w r u.items)) old ws new
+    → Given (TakesWarning (λ v. v.items) borrow (λ v w r u. KeepsWarning v.items w r u.items)) old ws new
     → handed ≡ new.items → handed ≡ ws
 given_empty borrow fresh old new ws handed none is given same =
     same ∙ given_vector borrow old new ws given ∙ ap (λ v. v.items ++ ws) is
@@ -94,7 +94,7 @@ begins old new w (inl same) = StartsWith-same old new same
 begins old new w (inr more) = rw more (StartsWith-append old (w ∷ []))
 
 module _ {S : Type 0} (warnings : S → List Warning) (borrow : S → Option GName)
-    (emit_gives : Answers S) where
+    (emit_gives : SinkAnswers S) where
   abbrev Begins : S → S → Type 0
   Begins old new = StartsWith (warnings new) (warnings old) × (borrow new ≡ borrow old)
 
@@ -103,7 +103,7 @@ module _ {S : Type 0} (warnings : S → List Warning) (borrow : S → Option GNa
       (StartsWith-same (warnings old) (warnings new) (ap warnings same), ap borrow same)
 
   step_begins : (old new : S) (w : Warning) (r : Result (Unit {0}) AllocError)
-      → Takes warnings borrow emit_gives old w r new → Begins old new
+      → TakesWarning warnings borrow emit_gives old w r new → Begins old new
   step_begins old new w r took =
       (begins (warnings old) (warnings new) w took.adds, took.same_borrow)
 
@@ -114,13 +114,13 @@ module _ {S : Type 0} (warnings : S → List Warning) (borrow : S → Option GNa
   )
 
   given_begins : (old new : S) (ws : List Warning)
-      → Given (Takes warnings borrow emit_gives) old ws new → Begins old new
+      → Given (TakesWarning warnings borrow emit_gives) old ws new → Begins old new
   given_begins old new [] same = same_begins old new same
   given_begins old new (w ∷ ws) (next, took, left) =
       then_begins old next new (step_begins old next w (Ok tt) took) (given_begins next new ws left)
 
   interrupted_begins : (old new : S) (ws : List Warning)
-      → Interrupted (Takes warnings borrow emit_gives) old ws new → Begins old new
+      → Interrupted (TakesWarning warnings borrow emit_gives) old ws new → Begins old new
   interrupted_begins old new [] same = same_begins old new same
   interrupted_begins old new (w ∷ ws) (inl same) = same_begins old new same
   interrupted_begins old new (w ∷ ws) (inr (inl (e, took))) = step_begins old new w (Err e) took

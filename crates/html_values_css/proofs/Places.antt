@@ -7,10 +7,10 @@ use Rattle.std.specs.Result.{OnOk, OnErr}
 use Rattle.std.specs.declared.alloc.AllocError.{AllocError}
 use lib.Utf8.{encodes}
 use Rattle.html_names.proofs.Lists.{chars_ascii}
-use Rattle.html_values_css.specs.Calc.{appended, opened}
+use Rattle.html_values_css.specs.Calc.{next_part_text, with_opening}
 use Rattle.html_values_css.specs.Sums.{Part, Parts, Zero, One, More, with_part}
-use Rattle.html_values_css.specs.Sink.{StartsWith, Answers, Hands}
-use Rattle.html_values_css.specs.Writer.{State, Emits, Adds, fails}
+use Rattle.html_values_css.specs.Sink.{StartsWith, SinkAnswers, Hands}
+use Rattle.html_values_css.specs.Writer.{WriterState, Emits, SumsUp, fails}
 use Rattle.html_values_css.specs.declared.sink.Warning.{Warning}
 use Rattle.html_values_css.proofs.Giving.{hands_then}
 use Rattle.html_values_css.proofs.Beginnings.{StartsWith-append, StartsWith-trans, rest_of}
@@ -57,8 +57,8 @@ module _ (at : ℕ) (b d : List ℕ) (u : IsUtf8 (take at b)) (front : take at d
   from_appended (Ok x) t e = from_grown t e
   from_appended (Err x) t e = tt
 
-  pub emits_from : {S : Type 0} {takes : Answers S} (r : Result (Unit {0}) AllocError)
-      (old new : State S) (t : List ℕ) (ws : List Warning)
+  pub emits_from : {S : Type 0} {takes : SinkAnswers S} (r : Result (Unit {0}) AllocError)
+      (old new : WriterState S) (t : List ℕ) (ws : List Warning)
       → Emits takes r (record old { text = chars b }) (record new { text = chars d }) t ws
       → Emits takes r (record old { text = chars (drop at b) })
       (record new { text = chars (drop at d) }) t ws
@@ -100,13 +100,13 @@ then_kept (Ok x) a m d p q = tt
 then_kept (Err x) a m d p q = StartsWith-trans d m a q p
 
 -- a part that is appended, and then the opening
-pub Adds-then : {S : Type 0} {takes : Answers S} (r : Result (Unit {0}) AllocError)
-    (a b d : State S)
-    (t : List ℕ) (opened : List ℕ → List ℕ) (ws : List Warning)
-    → Emits takes (Ok tt) a b t ws → Adds takes r b d (opened b.text) []
-    → Adds takes r a d (opened (a.text ++ t)) ws
-Adds-then {S} {takes} r a b d t opened ws emitted added = record {
-  written = subst (λ x. OnOk r (d.text ≡ opened x)) emitted.appended added.written;
+pub Adds-then : {S : Type 0} {takes : SinkAnswers S} (r : Result (Unit {0}) AllocError)
+    (a b d : WriterState S)
+    (t : List ℕ) (with_opening : List ℕ → List ℕ) (ws : List Warning)
+    → Emits takes (Ok tt) a b t ws → SumsUp takes r b d (with_opening b.text) []
+    → SumsUp takes r a d (with_opening (a.text ++ t)) ws
+Adds-then {S} {takes} r a b d t with_opening ws emitted added = record {
+  written = subst (λ x. OnOk r (d.text ≡ with_opening x)) emitted.appended added.written;
   kept = then_kept r a.text b.text d.text emitted.kept added.kept;
   failed = then_failed r a.failed b.failed d.failed (fails ws) emitted.failed added.failed;
   steady = λ none. added.steady refl ∙ emitted.steady none;
@@ -116,15 +116,15 @@ Adds-then {S} {takes} r a b d t opened ws emitted added = record {
 
 -- what a part appends, behind the opening, is the sum with that part
 pub with_appended : (parts : Parts) (own : List ℕ) (p : Part)
-    → opened parts (own ++ appended parts p) ≡ with_part parts own p
+    → with_opening parts (own ++ next_part_text parts p) ≡ with_part parts own p
 with_appended Zero own p = refl
 with_appended One own p = refl
 with_appended More own p = refl
 
 -- a refusal while the part is appended
-pub Adds-refused : {S : Type 0} {takes : Answers S} (e e' : AllocError) (a b : State S)
+pub Adds-refused : {S : Type 0} {takes : SinkAnswers S} (e e' : AllocError) (a b : WriterState S)
     (t s : List ℕ) (ws : List Warning)
-    → Emits takes (Err e) a b t ws → Adds takes (Err e') a b s ws
+    → Emits takes (Err e) a b t ws → SumsUp takes (Err e') a b s ws
 Adds-refused e e' a b t s ws emitted = record {
   written = tt;
   kept = emitted.kept;
@@ -134,9 +134,9 @@ Adds-refused e e' a b t s ws emitted = record {
 }
 
 -- the opening, at the second part
-pub opens : {S : Type 0} {takes : Answers S} (parts : Parts) (a b : State S) → parts ≡ One
+pub opens : {S : Type 0} {takes : SinkAnswers S} (parts : Parts) (a b : WriterState S) → parts ≡ One
     → b.text ≡ codes "calc(" ++ a.text → b.failed ≡ a.failed → b.sink ≡ a.sink
-    → Adds takes (Ok tt) a b (opened parts a.text) []
+    → SumsUp takes (Ok tt) a b (with_opening parts a.text) []
 opens parts a b second text f same = record {
   written = rw second text;
   kept = tt;
@@ -163,9 +163,9 @@ whole_text (Err x) at b new t u e = tt
 
 -- what is appended at the end is appended, with all that was written from a place on, to what stood
 -- before the place
-pub emits_whole : {S : Type 0} {takes : Answers S} (r : Result (Unit {0}) AllocError) (at : ℕ)
+pub emits_whole : {S : Type 0} {takes : SinkAnswers S} (r : Result (Unit {0}) AllocError) (at : ℕ)
     (b : List ℕ)
-    (old new : State S) (t : List ℕ) (ws : List Warning) → IsUtf8 (take at b)
+    (old new : WriterState S) (t : List ℕ) (ws : List Warning) → IsUtf8 (take at b)
     → Emits takes r (record old { text = chars b }) new t ws
     → Emits takes r (record old { text = chars (take at b) }) new (chars (drop at b) ++ t) ws
 emits_whole r at b old new t ws utf8 emitted = record {

@@ -24,7 +24,7 @@ use Rattle.std.proofs.lemmas.Str.{encodes_same}
 use lib.Utf8.{encodes}
 use Rattle.html_names.specs.Texts.{TextPair}
 use Rattle.html_values_css.specs.Properties.{by_name, IsListed, value_of, with_value, inline_text}
-use Rattle.html_values_css.specs.PropertyLaws.{pushed, AnyOrder, PushSets, RemoveClears, ValuesDecide}
+use Rattle.html_values_css.specs.PropertyLaws.{properties_after, AnyOrder, PushSets, RemoveClears, ValuesDecide}
 use Rattle.html_values_css.proofs.Names.{by_name_total}
 use Rattle.html_values_css.proofs.Listing.{listed_with}
 
@@ -100,7 +100,7 @@ set_to ps p q = push_sets ps p.0 p.1 q ∙ ap (λ b. cond b (Some p.1) (value_of
 
 -- the last value that was pushed, or else the old one
 last_value : (ps : List TextPair) (old : List TextPair) (q : List ℕ)
-    → IsDistinct (eq_by_cmp by_name) (keys_of ps) → value_of (pushed old ps) q
+    → IsDistinct (eq_by_cmp by_name) (keys_of ps) → value_of (properties_after old ps) q
     ≡ option_or (value_of ps q) (value_of old q)
 last_value [] old q d = refl
 last_value (p ∷ ps) old q d =
@@ -114,7 +114,7 @@ last_value (p ∷ ps) old q d =
         (lookup-none (is_at (by_name q)) ps (none_past_head ties_equiv q p ps d h))
     by false h = refl
 
-still_listed : (ps old : List TextPair) → IsListed old → IsListed (pushed old ps)
+still_listed : (ps old : List TextPair) → IsListed old → IsListed (properties_after old ps)
 still_listed [] old s = s
 still_listed (p ∷ ps) old s = still_listed ps (with_value old p.0 p.1)
     (listed_with by_name_total p.0 p.1 old s)
@@ -159,7 +159,7 @@ any_order old ps qs listed distinct permuted =
     let distinct_qs : IsDistinct (eq_by_cmp by_name) (keys_of qs) =
     IsDistinct-IsPermutation (eq_by_cmp by_name) ties_equiv.symm (keys_of ps) (keys_of qs)
     (IsPermutation-map (λ (p : TextPair). p.0) ps qs permuted) distinct_ps in
-    let same : pushed old ps ≡ pushed old qs = values_decide (pushed old ps) (pushed old qs)
+    let same : properties_after old ps ≡ properties_after old qs = values_decide (properties_after old ps) (properties_after old qs)
     (still_listed ps old listed) (still_listed qs old listed)
     (λ q. last_value ps old q distinct_ps
     ∙ ap (λ o. option_or o (value_of old q)) (alike ps qs q distinct_ps distinct_qs permuted)

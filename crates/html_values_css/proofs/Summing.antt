@@ -3,9 +3,9 @@ use Rattle.std.proofs.Common.{◌≡◌, ℕ, ℤ, List, [], ◌∷◌, ◌++◌
 use Rattle.std.specs.List.{filter, flat_map}
 use Rattle.std.specs.declared.alloc.AllocError.{AllocError}
 use Rattle.html_values_css.specs.Quantities.{is_zero, is_negative}
-use Rattle.html_values_css.specs.Sums.{Part, Parts, Zero, One, More, following, enclosed, sum_text, written_sum, next, next_parts, next_text, next_warnings, with_part, closed, quantity_part}
-use Rattle.html_values_css.specs.Writer.{State, Emits, Adds}
-use Rattle.html_values_css.specs.Sink.{StartsWith, Answers}
+use Rattle.html_values_css.specs.Sums.{Part, Parts, Zero, One, More, following, whole_sum, sum_text, written_sum, next, next_parts, next_text, next_warnings, with_part, sum_end, quantity_part}
+use Rattle.html_values_css.specs.Writer.{WriterState, Emits, SumsUp}
+use Rattle.html_values_css.specs.Sink.{StartsWith, SinkAnswers}
 use Rattle.html_values_css.specs.declared.sink.Warning.{Warning}
 use Rattle.html_values_css.proofs.Giving.{handed_none}
 
@@ -55,12 +55,12 @@ after_one : (ps : List Part) (own : List ℕ) → written_sum One own ps ≡ wit
 after_one [] own = append-nil own
 after_one (p ∷ ps) own = one_step (is_zero p.number) own p ps (after_one ps own)
 
-first_is : (p : Part) (ps : List Part) → with_first p.text ps ≡ enclosed (p ∷ ps)
+first_is : (p : Part) (ps : List Part) → with_first p.text ps ≡ whole_sum (p ∷ ps)
 first_is p [] = refl
 first_is p (q ∷ qs) = refl
 
-zero_step : (z : Bool) (p : Part) (ps : List Part) → written_sum Zero [] ps ≡ enclosed (shown ps)
-    → stepped z Zero [] p ps ≡ enclosed (kept z p ps)
+zero_step : (z : Bool) (p : Part) (ps : List Part) → written_sum Zero [] ps ≡ whole_sum (shown ps)
+    → stepped z Zero [] p ps ≡ whole_sum (kept z p ps)
 zero_step true p ps h = h
 zero_step false p ps h = after_one ps p.text ∙ first_is p (shown ps)
 
@@ -82,38 +82,38 @@ never_warns More text z = either (is_zero z) _ (either (is_negative z) [] refl)
 
 -- A sum of `all` that still lacks `left`, which began at a writer in `start`: what stood before it,
 -- how many parts it has, and what it has written.
-pub record Going {S : Type 0} (start : State S) (all left : List Part) (before : List ℕ)
-    (parts : Parts) (own : State S) : Type 0 where
+pub record Going {S : Type 0} (start : WriterState S) (all left : List Part) (before : List ℕ)
+    (parts : Parts) (own : WriterState S) : Type 0 where
   pub at : before ≡ start.text
   pub told : written_sum parts own.text left ≡ sum_text all
   pub failed : own.failed ≡ start.failed
   pub sink : own.sink ≡ start.sink
 
-pub begun : {S : Type 0} (start : State S) (all : List Part) (before : List ℕ) (parts : Parts)
-    (own : State S)
+pub begun : {S : Type 0} (start : WriterState S) (all : List Part) (before : List ℕ) (parts : Parts)
+    (own : WriterState S)
     → before ≡ start.text → own ≡ record start { text = [] } → parts ≡ Zero
     → Going start all all before parts own
 begun {S} start all before parts own b o p = record {
   at = b;
   told = rw (p, o) (sums all);
-  failed = ap (λ (s : State S). s.failed) o;
-  sink = ap (λ (s : State S). s.sink) o;
+  failed = ap (λ (s : WriterState S). s.failed) o;
+  sink = ap (λ (s : WriterState S). s.sink) o;
 }
 
-added_text : {S : Type 0} (takes : Answers S) (q : Result (Unit {0}) AllocError) (u : Unit {0})
-    (a b : State S) (t : List ℕ) (ws : List Warning)
-    → q ≡ Ok u → Adds takes q a b t ws → b.text ≡ t
+added_text : {S : Type 0} (takes : SinkAnswers S) (q : Result (Unit {0}) AllocError) (u : Unit {0})
+    (a b : WriterState S) (t : List ℕ) (ws : List Warning)
+    → q ≡ Ok u → SumsUp takes q a b t ws → b.text ≡ t
 added_text takes q u a b t ws ok added =
-    let done : Adds takes (Ok u) a b t ws
-    = subst (λ (r : Result (Unit {0}) AllocError). Adds takes r a b t ws) ok added in
+    let done : SumsUp takes (Ok u) a b t ws
+    = subst (λ (r : Result (Unit {0}) AllocError). SumsUp takes r a b t ws) ok added in
     done.written
 
-pub going : {S : Type 0} {takes : Answers S} {q : Result (Unit {0}) AllocError} {u : Unit {0}}
-    {start : State S} {all qs : List Part}
-    {before before' : List ℕ} {parts parts' : Parts} {own own' : State S} (p : Part)
+pub going : {S : Type 0} {takes : SinkAnswers S} {q : Result (Unit {0}) AllocError} {u : Unit {0}}
+    {start : WriterState S} {all qs : List Part}
+    {before before' : List ℕ} {parts parts' : Parts} {own own' : WriterState S} (p : Part)
     → Going start all (p ∷ qs) before parts own → q ≡ Ok u → before' ≡ before → parts'
     ≡ next_parts parts p
-    → Adds takes q own own' (next_text parts own.text p) (next_warnings parts p)
+    → SumsUp takes q own own' (next_text parts own.text p) (next_warnings parts p)
     → next_warnings parts p ≡ [] → Going start all qs before' parts' own'
 going {S} {takes} {q} {u} {start} {all} {qs} {before} {before'} {parts} {parts'} {own} {own'} p
     held ok stays counted added none = record {
@@ -123,28 +123,28 @@ going {S} {takes} {q} {u} {start} {all} {qs} {before} {before'} {parts} {parts'}
       sink = handed_none takes q own.sink own'.sink _ none added.given ∙ held.sink;
     }
 
-pub done : {S : Type 0} {takes : Answers S} {r : Result (Unit {0}) AllocError} {start : State S}
+pub done : {S : Type 0} {takes : SinkAnswers S} {r : Result (Unit {0}) AllocError} {start : WriterState S}
     {all : List Part}
-    {before : List ℕ} {parts : Parts} {own final : State S}
+    {before : List ℕ} {parts : Parts} {own final : WriterState S}
     → Going start all [] before parts own → Emits takes r (record own { text = before }) final
-    (own.text ++ closed parts) []
+    (own.text ++ sum_end parts) []
     → Emits takes r start final (sum_text all) []
 done {S} {takes} {r} {start} {all} {before} {parts} {own} {final} held closes =
     let same : record own { text = before } ≡ start = as_state held.at held.failed held.sink in
     subst (λ (t : List ℕ). Emits takes r start final t []) held.told
-    (subst (λ (s : State S). Emits takes r s final (own.text ++ closed parts) []) same closes)
+    (subst (λ (s : WriterState S). Emits takes r s final (own.text ++ sum_end parts) []) same closes)
   where
     as_state : before ≡ start.text → own.failed ≡ start.failed → own.sink ≡ start.sink
         → record own { text = before } ≡ start
     as_state a b c = rw (a, b, c) refl
 
 -- at a refusal of a part
-pub broken : {S : Type 0} {takes : Answers S} {q r : Result (Unit {0}) AllocError}
-    {e e' : AllocError} {start : State S} {all qs : List Part}
-    {before before' : List ℕ} {parts : Parts} {own own' : State S} (p : Part) (text final : List ℕ)
+pub broken : {S : Type 0} {takes : SinkAnswers S} {q r : Result (Unit {0}) AllocError}
+    {e e' : AllocError} {start : WriterState S} {all qs : List Part}
+    {before before' : List ℕ} {parts : Parts} {own own' : WriterState S} (p : Part) (text final : List ℕ)
     → Going start all (p ∷ qs) before parts own → q ≡ Err e → r ≡ Err e' → before' ≡ before
     → StartsWith final before'
-    → Adds takes q own own' (next_text parts own.text p) (next_warnings parts p)
+    → SumsUp takes q own own' (next_text parts own.text p) (next_warnings parts p)
     → next_warnings parts p ≡ []
     → Emits takes r start (record own' { text = final }) text []
 broken {S} {takes} {q} {r} {e} {e'} {start} {all} {qs} {before} {before'} {parts} {own} {own'} p

@@ -7,8 +7,8 @@ use Rattle.std.specs.List.{prefix_len}
 use Rattle.std.specs.Char.{digit_value}
 use Rattle.std.specs.Fmt.{decimal}
 use Rattle.std.specs.Str.Parse.{AllDigits, digits_value}
-use Rattle.html_values_css.specs.Quantities.{IsQuantity, rounded, fraction_digits, point_text, sign_text, fixed_text, abs_text, em_text, ratio_text}
-use Rattle.html_values_css.specs.Lengths.{Amounts, nothing, negated, is_digit, digits_of, after_digits, decimals, in_unit, behind, unsigned, part_value, round}
+use Rattle.html_values_css.specs.Quantities.{IsQuantity, nearest_hundreds, fraction_digits, point_text, sign_text, fixed_text, abs_text, em_text, ratio_text}
+use Rattle.html_values_css.specs.Lengths.{Amounts, nothing, negative_amounts, is_digit, digits_of, after_digits, decimals, in_unit, behind, unsigned_value, part_value, round}
 use Rattle.html_values_css.proofs.Digits.{whole_fits, leading_digit, power_above}
 
 -- what no number begins with
@@ -90,7 +90,7 @@ percents_2 (suc n) h = rw (
 
 -- whole digits, and the text behind them
 unsigned_is : (ds rest : List ℕ) → 0 < length ds → AllDigits 10 ds → Ends rest
-    → unsigned (digits_of (ds ++ rest)) (after_digits (ds ++ rest))
+    → unsigned_value (digits_of (ds ++ rest)) (after_digits (ds ++ rest))
     ≡ behind (digits_value 10 ds * 1000000) rest
 unsigned_is [] rest h a e = absurd (omega (arith, h))
 unsigned_is (d ∷ ds) rest h a e = rw (digits_first (d ∷ ds) rest a e, digits_past (d ∷ ds) rest a e)
@@ -98,7 +98,7 @@ unsigned_is (d ∷ ds) rest h a e = rw (digits_first (d ∷ ds) rest a e, digits
 
 -- what begins with a digit has no sign
 without_sign : (ds rest : List ℕ) → 0 < length ds → AllDigits 10 ds → part_value (ds ++ rest)
-    ≡ unsigned (digits_of (ds ++ rest)) (after_digits (ds ++ rest))
+    ≡ unsigned_value (digits_of (ds ++ rest)) (after_digits (ds ++ rest))
 without_sign [] rest h a = absurd (omega (arith, h))
 without_sign (d ∷ ds) rest h a = rw (no_minus d a.0) refl
   where
@@ -138,11 +138,11 @@ module _ (k m : ℕ) (u : List ℕ) (amount : ℤ → Amounts) (is_unit : IsUnit
     (places : (f : ℕ) → f < 10 ^ k → decimals 100000 (fraction_digits k f) ≡ f * m)
     (reads : (r : ℕ) → in_unit u (r / 10 ^ k * 1000000 + r % 10 ^ k * m)
     ≡ Some (amount (pos (r * 100))))
-    (turns : (a : ℤ) → negated (amount a) ≡ amount (neg_ℤ a)) where
+    (turns : (a : ℤ) → negative_amounts (amount a) ≡ amount (neg_ℤ a)) where
   number : (r : ℕ) → List ℕ
   number r = decimal (r / 10 ^ k) ++ (point_text k (r % 10 ^ k) ++ u)
 
-  number_value : (r : ℕ) → r / 10 ^ k < 2 ^ 64 → unsigned (digits_of (number r))
+  number_value : (r : ℕ) → r / 10 ^ k < 2 ^ 64 → unsigned_value (digits_of (number r))
       (after_digits (number r)) ≡ Some (amount (pos (r * 100)))
   unfolding number
   number_value r fits =
@@ -170,17 +170,17 @@ module _ (k m : ℕ) (u : List ℕ) (amount : ℤ → Amounts) (is_unit : IsUnit
   below_zero n zero fits = ap part_value (append_assoc (decimal (0 / 10 ^ k))
       (point_text k (0 % 10 ^ k)) u) ∙ plain_value 0 fits
   below_zero n (suc r) fits =
-      ap (λ t. option_map negated (unsigned (digits_of t) (after_digits t)))
+      ap (λ t. option_map negative_amounts (unsigned_value (digits_of t) (after_digits t)))
       (append_assoc (decimal (suc r / 10 ^ k)) (point_text k (suc r % 10 ^ k)) u)
-      ∙ ap (option_map negated) (number_value (suc r) fits) ∙ ap Some (turns (pos (suc r * 100)))
+      ∙ ap (option_map negative_amounts) (number_value (suc r) fits) ∙ ap Some (turns (pos (suc r * 100)))
 
   pub quantity_value : (z : ℤ) → IsQuantity z → part_value (fixed_text k z ++ u)
       ≡ Some (amount (round z))
   unfolding number
-  quantity_value (pos n) q = ap part_value (append_assoc (decimal (rounded (pos n) / 10 ^ k))
-      (point_text k (rounded (pos n) % 10 ^ k)) u)
-      ∙ plain_value (rounded (pos n)) (whole_fits k (pos n) q)
-  quantity_value (negsuc n) q = below_zero n (rounded (negsuc n)) (whole_fits k (negsuc n) q)
+  quantity_value (pos n) q = ap part_value (append_assoc (decimal (nearest_hundreds (pos n) / 10 ^ k))
+      (point_text k (nearest_hundreds (pos n) % 10 ^ k)) u)
+      ∙ plain_value (nearest_hundreds (pos n)) (whole_fits k (pos n) q)
+  quantity_value (negsuc n) q = below_zero n (nearest_hundreds (negsuc n)) (whole_fits k (negsuc n) q)
 
 abbrev pub of_abs : ℤ → Amounts
 of_abs a = record nothing { abs = a }

@@ -7,10 +7,10 @@ use Rattle.std.specs.Str.Parse.{AllDigits}
 use Rattle.std.proofs.lemmas.Bool.Decides.{nat_tests}
 use Rattle.std.proofs.lemmas.Fmt.{decimal_is_IsNumeral}
 use lib.IntN.{+ℤ_idl, +ℤ_idr}
-use Rattle.html_names.specs.Names.{listed}
-use Rattle.html_values_css.specs.Quantities.{IsQuantity, is_zero, is_negative, rounded, point_text, sign_text, fixed_text, abs_text, em_text, ratio_text}
-use Rattle.html_values_css.specs.Sums.{Part, following, enclosed, sum_text, quantity_part}
-use Rattle.html_values_css.specs.Lengths.{Amounts, nothing, negated, added, both, part_value, signed, terms, sum_value, unclosed, of_body, css_value, round, LengthValue, RelValue}
+use Rattle.html_names.specs.Names.{listed_names}
+use Rattle.html_values_css.specs.Quantities.{IsQuantity, is_zero, is_negative, nearest_hundreds, point_text, sign_text, fixed_text, abs_text, em_text, ratio_text}
+use Rattle.html_values_css.specs.Sums.{Part, following, whole_sum, sum_text, quantity_part}
+use Rattle.html_values_css.specs.Lengths.{Amounts, nothing, negative_amounts, amounts_sum, both, part_value, value_with_sign, terms, sum_value, before_close, of_body, css_value, round, LengthValue, RelValue}
 use Rattle.html_values_css.proofs.Digits.{whole_fits, power_above}
 use Rattle.html_values_css.proofs.Values.{of_abs, of_em, of_ratio, abs_value, em_value, ratio_value, fraction_all}
 
@@ -22,11 +22,11 @@ words_join : (a b : List ℕ) → IsWord a → IsWord b → IsWord (a ++ b)
 words_join [] b p q = q
 words_join (c ∷ cs) b p q = (p.0, words_join cs b p.1 q)
 
-one_word : (a : List ℕ) → IsWord a → listed a ≡ a ∷ []
+one_word : (a : List ℕ) → IsWord a → listed_names a ≡ a ∷ []
 one_word [] p = refl
 one_word (c ∷ cs) p = rw (p.0, one_word cs p.1) refl
 
-first_word : (a b : List ℕ) → IsWord a → listed (a ++ 32 ∷ b) ≡ a ∷ listed b
+first_word : (a b : List ℕ) → IsWord a → listed_names (a ++ 32 ∷ b) ≡ a ∷ listed_names b
 first_word [] b p = refl
 first_word (c ∷ cs) b p = rw (p.0, first_word cs b p.1) refl
 
@@ -88,31 +88,31 @@ longer (c ∷ cs) b h = omega arith
 module _ (k : ℕ) (u : List ℕ) (unit_word : IsWord u) (some_unit : 0 < length u) (z : ℤ)
     (q : IsQuantity z) where
   whole : List ℕ
-  whole = decimal (rounded z / 10 ^ k)
+  whole = decimal (nearest_hundreds z / 10 ^ k)
 
   point : List ℕ
-  point = point_text k (rounded z % 10 ^ k)
+  point = point_text k (nearest_hundreds z % 10 ^ k)
 
-  parted : fixed_text k z ++ u ≡ sign_text z (rounded z) ++ (whole ++ (point ++ u))
+  parted : fixed_text k z ++ u ≡ sign_text z (nearest_hundreds z) ++ (whole ++ (point ++ u))
   unfolding whole point
-  parted = append_assoc (sign_text z (rounded z) ++ whole) point u
-      ∙ append_assoc (sign_text z (rounded z)) whole (point ++ u)
+  parted = append_assoc (sign_text z (nearest_hundreds z) ++ whole) point u
+      ∙ append_assoc (sign_text z (nearest_hundreds z)) whole (point ++ u)
 
   pub text_word : IsWord (fixed_text k z ++ u)
   unfolding whole point
   text_word =
       let above = power_above k in
-      let numeral = decimal_is_IsNumeral (rounded z / 10 ^ k) (whole_fits k z q) in
-      rw parted (words_join (sign_text z (rounded z)) (whole ++ (point ++ u))
-      (sign_word z (rounded z))
+      let numeral = decimal_is_IsNumeral (nearest_hundreds z / 10 ^ k) (whole_fits k z q) in
+      rw parted (words_join (sign_text z (nearest_hundreds z)) (whole ++ (point ++ u))
+      (sign_word z (nearest_hundreds z))
       (words_join whole (point ++ u) (digits_word whole numeral.0.1)
-      (words_join point u (point_word k (rounded z % 10 ^ k) (omega arith)) unit_word)))
+      (words_join point u (point_word k (nearest_hundreds z % 10 ^ k) (omega arith)) unit_word)))
 
   pub text_part : IsPart (fixed_text k z ++ u)
   unfolding whole point
   text_part =
-      let numeral = decimal_is_IsNumeral (rounded z / 10 ^ k) (whole_fits k z q) in
-      rw parted (signed_part z (rounded z) whole (point ++ u) numeral.0.0 numeral.0.1
+      let numeral = decimal_is_IsNumeral (nearest_hundreds z / 10 ^ k) (whole_fits k z q) in
+      rw parted (signed_part z (nearest_hundreds z) whole (point ++ u) numeral.0.0 numeral.0.1
       (longer point u some_unit))
 
 -- a quantity in a sum, with what its text is worth
@@ -125,7 +125,7 @@ pub record Term : Type 0 where
   pub part : IsPart (text z)
   pub opposite_value : part_value (text (neg_ℤ z)) ≡ Some (amount (round (neg_ℤ z)))
   pub opposite_word : IsWord (text (neg_ℤ z))
-  pub turns : (a : ℤ) → negated (amount a) ≡ amount (neg_ℤ a)
+  pub turns : (a : ℤ) → negative_amounts (amount a) ≡ amount (neg_ℤ a)
   pub zero_is : amount (pos 0) ≡ nothing
 
 abbrev as_part : Term → Part
@@ -133,7 +133,7 @@ as_part t = quantity_part t.text t.z
 
 abbrev total : List Term → Amounts
 total [] = nothing
-total (t ∷ ts) = added (t.amount (round t.z)) (total ts)
+total (t ∷ ts) = amounts_sum (t.amount (round t.z)) (total ts)
 
 abbrev words : List Term → List (List ℕ)
 words [] = []
@@ -141,8 +141,8 @@ words (t ∷ ts) = (if is_negative t.z then codes "-" else codes "+") ∷
     (if is_negative t.z then t.text (neg_ℤ t.z) else t.text t.z) ∷ words ts
 
 next_word : (b : Bool) (w x y rest : List ℕ) (ws : List (List ℕ)) → IsWord w → IsWord x → IsWord y
-    → ((v : List ℕ) → IsWord v → listed (v ++ rest) ≡ v ∷ ws)
-    → listed (w ++ ((if b then codes " - " ++ x else codes " + " ++ y) ++ rest))
+    → ((v : List ℕ) → IsWord v → listed_names (v ++ rest) ≡ v ∷ ws)
+    → listed_names (w ++ ((if b then codes " - " ++ x else codes " + " ++ y) ++ rest))
     ≡ w ∷ (if b then codes "-" else codes "+") ∷ (if b then x else y) ∷ ws
 next_word true w x y rest ws p q r h = first_word w (codes "- " ++ x ++ rest) p
     ∙ ap (λ l. w ∷ l) (first_word (codes "-") (x ++ rest) (refl, tt)
@@ -153,29 +153,29 @@ next_word false w x y rest ws p q r h = first_word w (codes "+ " ++ y ++ rest) p
 
 -- the words of a sum
 listed_sum : (ts : List Term) (w : List ℕ) → IsWord w
-    → listed (w ++ flat_map following (map as_part ts)) ≡ w ∷ words ts
-listed_sum [] w p = ap listed (append-nil w) ∙ one_word w p
+    → listed_names (w ++ flat_map following (map as_part ts)) ≡ w ∷ words ts
+listed_sum [] w p = ap listed_names (append-nil w) ∙ one_word w p
 listed_sum (t ∷ ts) w p = next_word (is_negative t.z) w (t.text (neg_ℤ t.z)) (t.text t.z)
     (flat_map following (map as_part ts)) (words ts) p t.opposite_word t.word (listed_sum ts)
 
-signed_value : (t : Term) → signed (if is_negative t.z then codes "-" else codes "+")
+signed_value : (t : Term) → value_with_sign (if is_negative t.z then codes "-" else codes "+")
     (part_value (if is_negative t.z then t.text (neg_ℤ t.z) else t.text t.z))
     ≡ Some (t.amount (round t.z))
 signed_value t = by t.z t.value t.opposite_value
   where
     by : (z : ℤ) → part_value (t.text z) ≡ Some (t.amount (round z)) → part_value (t.text (neg_ℤ z))
         ≡ Some (t.amount (round (neg_ℤ z)))
-        → signed (if is_negative z then codes "-" else codes "+")
+        → value_with_sign (if is_negative z then codes "-" else codes "+")
         (part_value (if is_negative z then t.text (neg_ℤ z) else t.text z))
         ≡ Some (t.amount (round z))
     by (pos n) v o = v
-    by (negsuc n) v o = ap (option_map negated) o ∙ ap Some (t.turns (round (pos (suc n))))
+    by (negsuc n) v o = ap (option_map negative_amounts) o ∙ ap Some (t.turns (round (pos (suc n))))
 
 terms_value : (ts : List Term) → terms (words ts) ≡ Some (total ts)
 terms_value [] = refl
 terms_value (t ∷ ts) = rw (signed_value t, terms_value ts) refl
 
-without_end : (b : List ℕ) → unclosed (b ++ codes ")") ≡ Some b
+without_end : (b : List ℕ) → before_close (b ++ codes ")") ≡ Some b
 without_end [] = refl
 without_end (c ∷ []) = refl
 without_end (c ∷ d ∷ cs) = ap (option_map (λ body. c ∷ body)) (without_end (d ∷ cs))
@@ -187,19 +187,19 @@ alone text p = rw p.is (by (p.first == 48) (p.first == 99) p.no_call)
     by : (a b : Bool) → b ≡ false → (if a && false then Some nothing
         else of_body (p.first ∷ p.second ∷ p.rest)
         (if b && bytes_eq (take 4 (p.second ∷ p.rest)) (codes "alc(")
-        then unclosed (drop 5 (p.first ∷ p.second ∷ p.rest)) else None))
+        then before_close (drop 5 (p.first ∷ p.second ∷ p.rest)) else None))
         ≡ part_value (p.first ∷ p.second ∷ p.rest)
     by true b h = rw h refl
     by false b h = rw h refl
 
-added_nothing : (a : Amounts) → added a nothing ≡ a
+added_nothing : (a : Amounts) → amounts_sum a nothing ≡ a
 added_nothing a = rw (+ℤ_idr a.ratio, +ℤ_idr a.em, +ℤ_idr a.abs) refl
 
-nothing_added : (a : Amounts) → added nothing a ≡ a
+nothing_added : (a : Amounts) → amounts_sum nothing a ≡ a
 nothing_added a = rw (+ℤ_idl a.ratio, +ℤ_idl a.em, +ℤ_idl a.abs) refl
 
 -- what is enclosed
-enclosed_value : (ts : List Term) → css_value (enclosed (map as_part ts)) ≡ Some (total ts)
+enclosed_value : (ts : List Term) → css_value (whole_sum (map as_part ts)) ≡ Some (total ts)
 enclosed_value [] = refl
 enclosed_value (t ∷ []) = alone (t.text t.z) t.part ∙ t.value
     ∙ ap Some (sym (added_nothing (t.amount (round t.z))))
@@ -237,19 +237,19 @@ live_total [] = refl
 live_total (t ∷ ts) = by t.z refl (live_total ts)
   where
     zero_part : t.z ≡ pos 0 → total (live ts) ≡ total ts → total (live ts)
-        ≡ added (t.amount (round t.z)) (total ts)
+        ≡ amounts_sum (t.amount (round t.z)) (total ts)
     zero_part e h = h ∙ sym (nothing_added (total ts))
-        ∙ ap (λ a. added a (total ts)) (sym (ap (λ z. t.amount (round z)) e ∙ t.zero_is))
+        ∙ ap (λ a. amounts_sum a (total ts)) (sym (ap (λ z. t.amount (round z)) e ∙ t.zero_is))
 
     by : (z : ℤ) → t.z ≡ z → total (live ts) ≡ total ts
         → total (cond (not (is_zero z)) (t ∷ live ts) (live ts))
-        ≡ added (t.amount (round t.z)) (total ts)
+        ≡ amounts_sum (t.amount (round t.z)) (total ts)
     by (pos zero) e h = zero_part e h
-    by (pos (suc n)) e h = ap (added (t.amount (round t.z))) h
-    by (negsuc n) e h = ap (added (t.amount (round t.z))) h
+    by (pos (suc n)) e h = ap (amounts_sum (t.amount (round t.z))) h
+    by (negsuc n) e h = ap (amounts_sum (t.amount (round t.z))) h
 
 pub sum_worth : (ts : List Term) → css_value (sum_text (map as_part ts)) ≡ Some (total ts)
-sum_worth ts = ap (λ ps. css_value (enclosed ps)) (live_parts ts) ∙ enclosed_value (live ts)
+sum_worth ts = ap (λ ps. css_value (whole_sum ps)) (live_parts ts) ∙ enclosed_value (live ts)
     ∙ ap Some (live_total ts)
 
 -- a term of each unit
@@ -305,13 +305,13 @@ ratio_term z q = record {
 pub length_value : LengthValue
 length_value em abs p q =
     sum_worth (em_term em p ∷ abs_term abs q ∷ [])
-    ∙ ap Some (ap (added (of_em (round em))) (added_nothing (of_abs (round abs)))
+    ∙ ap Some (ap (amounts_sum (of_em (round em))) (added_nothing (of_abs (round abs)))
     ∙ rw (+ℤ_idr (round em), +ℤ_idl (round abs)) refl)
 
 pub rel_value : RelValue
 rel_value ratio em abs o p q =
     sum_worth (ratio_term ratio o ∷ em_term em p ∷ abs_term abs q ∷ [])
-    ∙ ap Some (ap (λ a. added (of_ratio (round ratio)) (added (of_em (round em)) a))
+    ∙ ap Some (ap (λ a. amounts_sum (of_ratio (round ratio)) (amounts_sum (of_em (round em)) a))
     (added_nothing (of_abs (round abs))) ∙ rw (
       +ℤ_idr (round ratio),
       +ℤ_idr (round em),

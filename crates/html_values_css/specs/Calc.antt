@@ -1,7 +1,7 @@
 -- What a sum has written, and what stood before it.
 use Rattle.std.specs.Prelude.{◌≡◌, ◌≤◌, ℕ, ℤ, List, ◌++◌, codes, take, drop, length, chars, string_bytes}
 use Rattle.html_values_css.specs.Sums.{Part, Parts, Zero, One, More, following}
-use Rattle.html_values_css.specs.Writer.{State}
+use Rattle.html_values_css.specs.Writer.{WriterState}
 use Rattle.html_values_css.specs.declared.sink.Warning.{Warning}
 use Rattle.html_values_css.specs.declared.writer.CssWriter.{CssWriter}
 
@@ -9,7 +9,7 @@ use Rattle.html_values_css.specs.declared.writer.CssWriter.{CssWriter}
 abbrev pub text_before : {S : Type 0} → ℕ → CssWriter S → List ℕ
 text_before start w = chars (take start (string_bytes w.text))
 
-abbrev pub written_from : {S : Type 0} → ℕ → CssWriter S → State S
+abbrev pub written_from : {S : Type 0} → ℕ → CssWriter S → WriterState S
 written_from start w = record {
   text = chars (drop start (string_bytes w.text));
   failed =
@@ -18,7 +18,7 @@ written_from start w = record {
 }
 
 -- nothing before the start of the sum is changed
-pub record Keeps {S : Type 0} (start : ℕ) (old new : CssWriter S) : Type 0 where
+pub record KeepsFront {S : Type 0} (start : ℕ) (old new : CssWriter S) : Type 0 where
   pub within : start ≤ length (string_bytes new.text)
   pub front : take start (string_bytes new.text) ≡ take start (string_bytes old.text)
 
@@ -33,13 +33,13 @@ part_of number text warnings opposite x = record {
 }
 
 -- what one more part appends
-abbrev pub appended : Parts → Part → List ℕ
-appended Zero p = p.text
-appended One p = following p
-appended More p = following p
+abbrev pub next_part_text : Parts → Part → List ℕ
+next_part_text Zero p = p.text
+next_part_text One p = following p
+next_part_text More p = following p
 
 -- the opening comes with the second part
-abbrev pub opened : Parts → List ℕ → List ℕ
-opened Zero text = text
-opened One text = codes "calc(" ++ text
-opened More text = text
+abbrev pub with_opening : Parts → List ℕ → List ℕ
+with_opening Zero text = text
+with_opening One text = codes "calc(" ++ text
+with_opening More text = text

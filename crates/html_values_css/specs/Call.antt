@@ -8,7 +8,7 @@ use Rattle.html_values_css.specs.declared.call.Call.{Call}
 use Rattle.html_values_css.specs.declared.writer.CssWriter.{CssWriter}
 use Rattle.html_values_css.specs.contracts.writer.CssWriter as writer
 use Rattle.html_values_css.specs.Sink.{StartsWith}
-use Rattle.html_values_css.specs.Writer.{State, state}
+use Rattle.html_values_css.specs.Writer.{WriterState, writer_state}
 
 abbrev pub separator_text : Separator → List ℕ
 separator_text Space = codes " "
@@ -19,11 +19,11 @@ abbrev pub before_argument : Bool → Separator → List ℕ
 before_argument has_argument separator = if has_argument then separator_text separator else []
 
 -- what a writer keeps through a refused call
-abbrev pub Keeps : {S : Type 0} → State S → State S → Type 0
-Keeps old new = StartsWith new.text old.text × (new.failed ≡ old.failed) × (new.sink ≡ old.sink)
+abbrev pub KeepsWriter : {S : Type 0} → WriterState S → WriterState S → Type 0
+KeepsWriter old new = StartsWith new.text old.text × (new.failed ≡ old.failed) × (new.sink ≡ old.sink)
 
 abbrev pub writer_rests : (S : RattleType) → MutBor (CssWriter S.Denot)
     → Result (Call S.Denot) AllocError → Fml
 writer_rests S w r =
     RestsIfErr (writer.the_row S) w (λ c. c.out.ghost_name) r
-    (λ last. Keeps (state w.now) (state last))
+    (λ last. KeepsWriter (writer_state w.now) (writer_state last))

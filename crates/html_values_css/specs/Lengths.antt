@@ -4,7 +4,7 @@ use Rattle.std.specs.Prelude.{◌≡◌, ℕ, suc, ◌≤◌, ◌<◌, ◌+◌, 
 use Rattle.std.specs.List.{take_while, prefix_len}
 use Rattle.std.specs.Char.{digit_value}
 use Rattle.std.specs.Str.Parse.{digits_value}
-use Rattle.html_names.specs.Names.{listed}
+use Rattle.html_names.specs.Names.{listed_names}
 use Rattle.html_values_css.specs.Quantities.{IsQuantity}
 use Rattle.html_values_css.specs.Sums.{length_text, rel_text}
 
@@ -17,14 +17,14 @@ pub record Amounts : Type 0 where
 abbrev pub nothing : Amounts
 nothing = record { ratio = pos 0; em = pos 0; abs = pos 0 }
 
-abbrev pub negated : Amounts → Amounts
-negated a = record { ratio = neg_ℤ a.ratio; em = neg_ℤ a.em; abs = neg_ℤ a.abs }
+abbrev pub negative_amounts : Amounts → Amounts
+negative_amounts a = record { ratio = neg_ℤ a.ratio; em = neg_ℤ a.em; abs = neg_ℤ a.abs }
 
-abbrev pub added : Amounts → Amounts → Amounts
-added a b = record { ratio = a.ratio +ℤ b.ratio; em = a.em +ℤ b.em; abs = a.abs +ℤ b.abs }
+abbrev pub amounts_sum : Amounts → Amounts → Amounts
+amounts_sum a b = record { ratio = a.ratio +ℤ b.ratio; em = a.em +ℤ b.em; abs = a.abs +ℤ b.abs }
 
 abbrev pub both : Option Amounts → Option Amounts → Option Amounts
-both (Some a) (Some b) = Some (added a b)
+both (Some a) (Some b) = Some (amounts_sum a b)
 both (Some a) None = None
 both None b = None
 
@@ -57,43 +57,43 @@ behind n [] = None
 behind n (c ∷ cs) = if c == 46 then in_unit (after_digits cs) (n + decimals 100000 (digits_of cs))
     else in_unit (c ∷ cs) n
 
-abbrev pub unsigned : List ℕ → List ℕ → Option Amounts
-unsigned [] rest = None
-unsigned (d ∷ ds) rest = behind (digits_value 10 (d ∷ ds) * 1000000) rest
+abbrev pub unsigned_value : List ℕ → List ℕ → Option Amounts
+unsigned_value [] rest = None
+unsigned_value (d ∷ ds) rest = behind (digits_value 10 (d ∷ ds) * 1000000) rest
 
 -- an optional minus, a decimal, a unit
 abbrev pub part_value : List ℕ → Option Amounts
 part_value [] = None
 part_value (c ∷ cs) =
-    if c == 45 then option_map negated (unsigned (digits_of cs) (after_digits cs))
-    else unsigned (digits_of (c ∷ cs)) (after_digits (c ∷ cs))
+    if c == 45 then option_map negative_amounts (unsigned_value (digits_of cs) (after_digits cs))
+    else unsigned_value (digits_of (c ∷ cs)) (after_digits (c ∷ cs))
 
 -- the words of a sum: a part, and then signs and parts
-abbrev pub signed : List ℕ → Option Amounts → Option Amounts
-signed sign value = if bytes_eq sign (codes "+") then value
-    else (if bytes_eq sign (codes "-") then option_map negated value else None)
+abbrev pub value_with_sign : List ℕ → Option Amounts → Option Amounts
+value_with_sign sign value = if bytes_eq sign (codes "+") then value
+    else (if bytes_eq sign (codes "-") then option_map negative_amounts value else None)
 
 abbrev pub terms : List (List ℕ) → Option Amounts
 terms [] = Some nothing
 terms (sign ∷ []) = None
-terms (sign ∷ part ∷ words) = both (signed sign (part_value part)) (terms words)
+terms (sign ∷ part ∷ words) = both (value_with_sign sign (part_value part)) (terms words)
 
 abbrev pub sum_value : List (List ℕ) → Option Amounts
 sum_value [] = None
 sum_value (part ∷ words) = both (part_value part) (terms words)
 
 -- a text without the `)` at its end
-abbrev pub unclosed : List ℕ → Option (List ℕ)
-unclosed [] = None
-unclosed (c ∷ []) = if c == 41 then Some [] else None
-unclosed (c ∷ d ∷ cs) = option_map (λ body. c ∷ body) (unclosed (d ∷ cs))
+abbrev pub before_close : List ℕ → Option (List ℕ)
+before_close [] = None
+before_close (c ∷ []) = if c == 41 then Some [] else None
+before_close (c ∷ d ∷ cs) = option_map (λ body. c ∷ body) (before_close (d ∷ cs))
 
 -- what stands in `calc(..)`
 abbrev pub calc_body : List ℕ → Option (List ℕ)
-calc_body text = if bytes_eq (take 5 text) (codes "calc(") then unclosed (drop 5 text) else None
+calc_body text = if bytes_eq (take 5 text) (codes "calc(") then before_close (drop 5 text) else None
 
 abbrev pub of_body : List ℕ → Option (List ℕ) → Option Amounts
-of_body text (Some body) = sum_value (listed body)
+of_body text (Some body) = sum_value (listed_names body)
 of_body text None = part_value text
 
 -- `0` is zero; a part has its own value; `calc(..)` is the signed sum of its parts, which spaces

@@ -2,7 +2,7 @@
 use Rattle.std.specs.Prelude.{◌≡◌, ℕ, List, [], ◌∷◌, Result}
 use Rattle.std.specs.declared.alloc.AllocError.{AllocError}
 use Rattle.html_values_css.specs.Colors.{color_text}
-use Rattle.html_values_css.specs.Sink.{AddsAtMost, Answers}
+use Rattle.html_values_css.specs.Sink.{AddsAtMost, SinkAnswers}
 use Rattle.html_values_css.specs.declared.sink.Warning.{Warning}
 use Rattle.html_values_css.specs.declared.sink.Warning.TheVariants as warning
 use Rattle.html_values_css.specs.declared.paint.Paint.{Paint}
@@ -26,7 +26,7 @@ PaintWarns old new Gradient = AddsAtMost old new warning.Gradient
 PaintWarns old new Tiling = AddsAtMost old new warning.Tiling
 
 -- and the sink's outcome is the call's
-abbrev pub PaintGives : {S : Type 0} → Answers S → (old new : S) → Result (Unit {0}) AllocError
+abbrev pub PaintGives : {S : Type 0} → SinkAnswers S → (old new : S) → Result (Unit {0}) AllocError
     → Paint → Type 0
 PaintGives gives old new r (Solid c) = Unit {0}
 PaintGives gives old new r Gradient = gives old warning.Gradient r new

@@ -7,16 +7,16 @@ use Rattle.html_names.specs.Texts.{TextPair}
 use Rattle.html_values_css.specs.Properties.{IsListed, value_of, with_value, without, inline_text}
 
 -- the properties after these are pushed, one after another
-abbrev pub pushed : List TextPair → List TextPair → List TextPair
-pushed old [] = old
-pushed old (p ∷ ps) = pushed (with_value old p.0 p.1) ps
+abbrev pub properties_after : List TextPair → List TextPair → List TextPair
+properties_after old [] = old
+properties_after old (p ∷ ps) = properties_after (with_value old p.0 p.1) ps
 
 -- pushed in any order, distinct names give the same properties, and so the same text
 abbrev pub AnyOrder : Type 0
 AnyOrder = (old first second : List TextPair) → IsListed old → IsDistinct bytes_eq (keys_of first)
     → IsPermutation first second
-    → (pushed old first ≡ pushed old second) × (inline_text (pushed old first)
-    ≡ inline_text (pushed old second))
+    → (properties_after old first ≡ properties_after old second) × (inline_text (properties_after old first)
+    ≡ inline_text (properties_after old second))
 
 -- a push gives that name its value, and no other name another
 abbrev pub PushSets : Type 0

@@ -16,8 +16,8 @@ is_negative (pos n) = false
 is_negative (negsuc n) = true
 
 -- hundreds of millionths, rounded half away from zero
-abbrev pub rounded : ℤ → ℕ
-rounded z = (unsigned_abs z + 50) / 100
+abbrev pub nearest_hundreds : ℤ → ℕ
+nearest_hundreds z = (unsigned_abs z + 50) / 100
 
 -- the digits of n parts of 10^k, without the zeros at the end
 abbrev pub fraction_digits : ℕ → ℕ → List ℕ
@@ -37,8 +37,8 @@ point_text k (suc n) = codes "." ++ fraction_digits k (suc n)
 
 -- hundreds of millionths, with the last k digits behind the point
 abbrev pub fixed_text : ℕ → ℤ → List ℕ
-fixed_text k z = sign_text z (rounded z) ++ decimal (rounded z / 10 ^ k)
-    ++ point_text k (rounded z % 10 ^ k)
+fixed_text k z = sign_text z (nearest_hundreds z) ++ decimal (nearest_hundreds z / 10 ^ k)
+    ++ point_text k (nearest_hundreds z % 10 ^ k)
 
 -- millionths of a point, of an em, of a degree, and of one
 abbrev pub abs_text : ℤ → List ℕ

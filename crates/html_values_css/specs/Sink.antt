@@ -9,27 +9,27 @@ abbrev pub StartsWith : {A : Type 0} → List A → List A → Type 0
 StartsWith xs front = take (length front) xs ≡ front
 
 -- the list has the warning at its end, unless an allocation failed
-abbrev pub Keeps : List Warning → Warning → Result (Unit {0}) AllocError → List Warning → Type 0
-Keeps old warning (Ok u) new = new ≡ old ++ warning ∷ []
-Keeps old warning (Err e) new = new ≡ old
+abbrev pub KeepsWarning : List Warning → Warning → Result (Unit {0}) AllocError → List Warning → Type 0
+KeepsWarning old warning (Ok u) new = new ≡ old ++ warning ∷ []
+KeepsWarning old warning (Err e) new = new ≡ old
 
 -- the list stays, or has the warning at its end
 abbrev pub AddsAtMost : List Warning → List Warning → Warning → Type 0
 AddsAtMost old new warning = (new ≡ old) ⊎ (new ≡ old ++ warning ∷ [])
 
 -- what `emit` makes of a sink: the sink before, the warning, the outcome, the sink after
-abbrev pub Answers : Type 0 → Type 1
-Answers S = S → Warning → Result (Unit {0}) AllocError → S → Type 0
+abbrev pub SinkAnswers : Type 0 → Type 1
+SinkAnswers S = S → Warning → Result (Unit {0}) AllocError → S → Type 0
 
 -- a sink that was handed a warning: what it made of it, its list, and which borrow it is
-pub record Takes {S : Type 0} (warnings : S → List Warning) (borrow : S → Option GName)
-    (emit_gives : Answers S) (old : S) (warning : Warning) (r : Result (Unit {0}) AllocError)
+pub record TakesWarning {S : Type 0} (warnings : S → List Warning) (borrow : S → Option GName)
+    (emit_gives : SinkAnswers S) (old : S) (warning : Warning) (r : Result (Unit {0}) AllocError)
     (new : S) : Type 0 where
   pub gives : emit_gives old warning r new
   pub adds : AddsAtMost (warnings old) (warnings new) warning
   pub same_borrow : borrow new ≡ borrow old
 
-module _ {S : Type 0} (takes : Answers S) where
+module _ {S : Type 0} (takes : SinkAnswers S) where
   -- the sink took these in order, and refused none
   abbrev pub Given : S → List Warning → S → Type 0
   Given old [] new = new ≡ old
@@ -55,13 +55,13 @@ module _ {S : Type 0} (takes : Answers S) where
 abbrev pub GivenVector : Type 0
 GivenVector = (borrow : Vec Warning Global → Option GName) (old new : Vec Warning Global)
     (ws : List Warning)
-    → Given (Takes (λ v. v.items) borrow (λ v w r u. Keeps v.items w r u.items)) old ws new
+    → Given (TakesWarning (λ v. v.items) borrow (λ v w r u. KeepsWarning v.items w r u.items)) old ws new
     → new.items ≡ old.items ++ ws
 
 -- after a call that hands warnings to a sink, the sink's list begins as before, and it is the same
 -- borrow
-abbrev pub HandsBegin : {S : Type 0} → (S → List Warning) → (S → Option GName) → Answers S → Type 0
+abbrev pub HandsBegin : {S : Type 0} → (S → List Warning) → (S → Option GName) → SinkAnswers S → Type 0
 HandsBegin {S} warnings borrow emit_gives = (r : Result (Unit {0}) AllocError) (old new : S)
     (ws : List Warning)
-    → Hands (Takes warnings borrow emit_gives) r old ws new
+    → Hands (TakesWarning warnings borrow emit_gives) r old ws new
     → StartsWith (warnings new) (warnings old) × (borrow new ≡ borrow old)

@@ -19,14 +19,14 @@ abbrev pub following : Part → List ℕ
 following p = if is_negative p.number then codes " - " ++ p.opposite_text else codes " + " ++ p.text
 
 -- none is `0`, one stands alone, and more stand in `calc`
-abbrev pub enclosed : List Part → List ℕ
-enclosed [] = codes "0"
-enclosed (p ∷ []) = p.text
-enclosed (p ∷ q ∷ ps) = codes "calc(" ++ p.text ++ flat_map following (q ∷ ps) ++ codes ")"
+abbrev pub whole_sum : List Part → List ℕ
+whole_sum [] = codes "0"
+whole_sum (p ∷ []) = p.text
+whole_sum (p ∷ q ∷ ps) = codes "calc(" ++ p.text ++ flat_map following (q ∷ ps) ++ codes ")"
 
 -- parts of exactly zero are dropped
 abbrev pub sum_text : List Part → List ℕ
-sum_text parts = enclosed (filter (λ p. not (is_zero p.number)) parts)
+sum_text parts = whole_sum (filter (λ p. not (is_zero p.number)) parts)
 
 -- a quantity as a part
 abbrev pub quantity_part : (ℤ → List ℕ) → ℤ → Part
@@ -73,14 +73,14 @@ abbrev pub next_warnings : Parts → Part → List Warning
 next_warnings parts p = if is_zero p.number then [] else part_warnings parts p
 
 -- what closes the sum
-abbrev pub closed : Parts → List ℕ
-closed Zero = codes "0"
-closed One = []
-closed More = codes ")"
+abbrev pub sum_end : Parts → List ℕ
+sum_end Zero = codes "0"
+sum_end One = []
+sum_end More = codes ")"
 
 -- what a sum with these parts writes, step by step, from what it has written so far
 abbrev pub written_sum : Parts → List ℕ → List Part → List ℕ
-written_sum parts own [] = own ++ closed parts
+written_sum parts own [] = own ++ sum_end parts
 written_sum parts own (p ∷ ps) = written_sum (next_parts parts p) (next_text parts own p) ps
 
 -- part by part, a sum writes its text

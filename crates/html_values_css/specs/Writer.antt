@@ -2,12 +2,12 @@
 use Rattle.std.specs.Prelude.{◌≡◌, ℕ, List, [], ◌∷◌, ◌++◌, Bool, true, false, ◌||◌, Result, OnOk, OnErr}
 use Rattle.std.specs.declared.alloc.AllocError.{AllocError}
 use Rattle.html_names.specs.Texts.{text_view}
-use Rattle.html_values_css.specs.Sink.{StartsWith, Answers, Hands}
+use Rattle.html_values_css.specs.Sink.{StartsWith, SinkAnswers, Hands}
 use Rattle.html_values_css.specs.declared.sink.Warning.{Warning}
 use Rattle.html_values_css.specs.declared.writer.CssWriter.{CssWriter}
 
 -- a writer as its callers see it: its text, whether a value failed, and its sink
-pub record State (S : Type 0) : Type 0 where
+pub record WriterState (S : Type 0) : Type 0 where
   pub text : List ℕ
   pub failed : Bool
   pub sink : S
@@ -15,10 +15,10 @@ pub record State (S : Type 0) : Type 0 where
 abbrev pub text_of : {S : Type 0} → CssWriter S → List ℕ
 text_of w = text_view w.text
 
-abbrev pub state : {S : Type 0} → CssWriter S → State S
-state w = record { text = text_of w; failed = w.failed; sink = w.sink }
+abbrev pub writer_state : {S : Type 0} → CssWriter S → WriterState S
+writer_state w = record { text = text_of w; failed = w.failed; sink = w.sink }
 
-abbrev pub empty : {S : Type 0} → S → State S
+abbrev pub empty : {S : Type 0} → S → WriterState S
 empty sink = record { text = []; failed = false; sink = sink }
 
 -- a value fails where it warns
@@ -28,8 +28,8 @@ fails (w ∷ ws) = true
 
 -- The text grows by `text`, or by a beginning of whatever where the call is refused. The sink is
 -- handed the warnings. Where there are none, the flag stays.
-pub record Emits {S : Type 0} (takes : Answers S) (r : Result (Unit {0}) AllocError)
-    (old new : State S) (text : List ℕ) (warnings : List Warning) : Type 0 where
+pub record Emits {S : Type 0} (takes : SinkAnswers S) (r : Result (Unit {0}) AllocError)
+    (old new : WriterState S) (text : List ℕ) (warnings : List Warning) : Type 0 where
   pub appended : OnOk r (new.text ≡ old.text ++ text)
   pub kept : StartsWith new.text old.text
   pub failed : OnOk r (new.failed ≡ (old.failed || fails warnings))
@@ -38,8 +38,8 @@ pub record Emits {S : Type 0} (takes : Answers S) (r : Result (Unit {0}) AllocEr
 
 -- A step of a sum: what the sum itself has written becomes `text`; where the step is refused, it
 -- has still what it had at its beginning.
-pub record Adds {S : Type 0} (takes : Answers S) (r : Result (Unit {0}) AllocError)
-    (old new : State S) (text : List ℕ) (warnings : List Warning) : Type 0 where
+pub record SumsUp {S : Type 0} (takes : SinkAnswers S) (r : Result (Unit {0}) AllocError)
+    (old new : WriterState S) (text : List ℕ) (warnings : List Warning) : Type 0 where
   pub written : OnOk r (new.text ≡ text)
   pub kept : OnErr r (StartsWith new.text old.text)
   pub failed : OnOk r (new.failed ≡ (old.failed || fails warnings))

@@ -1,6 +1,6 @@
 ghost use Rattle.std.specs.Prelude.{◌≡◌, [], chars, if◌then◌else◌, OnOk, OnErr, IfOk, IfErr};
 ghost use Rattle.html_values_css.specs.Properties.{with_value};
-ghost use Rattle.html_values_css.specs.Sink.{Takes, Hands, Given, Interrupted};
+ghost use Rattle.html_values_css.specs.Sink.{TakesWarning, Hands, Given, Interrupted};
 ghost use Rattle.html_values_css.specs.Writer.{fails};
 
 use crate::properties::Properties;
@@ -62,8 +62,8 @@ impl<S: WarningSink> PropertiesBuilder<S> {
         ensures ok { OnOk result (self.new.properties ≡ (if fails (T.warnings value.now)
             then self.old.properties else with_value self.old.properties (chars name.now)
             (T.text value.now))) }
-        ensures err { OnErr result (self.new.properties ≡ self.old.properties) }
-        ensures given { Hands (Takes S.warnings S.borrow S.emit_gives) result self.old.sink
+        ensures kept { OnErr result (self.new.properties ≡ self.old.properties) }
+        ensures given { Hands (TakesWarning S.warnings S.borrow S.emit_gives) result self.old.sink
             (T.warnings value.now) self.new.sink }
     {
         let alloc = self.properties.allocator();
@@ -90,10 +90,10 @@ impl<S: WarningSink> PropertiesBuilder<S> {
             then self.properties else with_value self.properties (chars name.now)
             (T.text value.now))) }
         ensures back { IfErr result (λ refused. refused.back.properties ≡ self.properties) }
-        ensures given { IfOk result (λ made. Given (Takes S.warnings S.borrow S.emit_gives)
+        ensures given { IfOk result (λ made. Given (TakesWarning S.warnings S.borrow S.emit_gives)
             self.sink (T.warnings value.now) made.sink) }
         ensures given_back { IfErr result (λ refused.
-            Interrupted (Takes S.warnings S.borrow S.emit_gives) self.sink
+            Interrupted (TakesWarning S.warnings S.borrow S.emit_gives) self.sink
             (T.warnings value.now) refused.back.sink) }
     {
         match self.push(name, value) {

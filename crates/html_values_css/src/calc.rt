@@ -90,7 +90,7 @@ pub(crate) enum Parts {
 }
 
 impl Parts {
-    ghost use Rattle.html_values_css.specs.Sums.{next, closed};
+    ghost use Rattle.html_values_css.specs.Sums.{next, sum_end};
 
     fn next(self) -> Parts
         ensures { result ≡ next self }
@@ -103,7 +103,7 @@ impl Parts {
 
     /// What closes the sum.
     fn closing(self) -> &'static str
-        ensures { result.now ≡ closed self }
+        ensures { result.now ≡ sum_end self }
     {
         match self {
             Parts::Zero => "0",
@@ -127,7 +127,7 @@ impl<S: WarningSink> CssWriter<S> {
     ghost use Rattle.std.specs.Prelude.{[]};
     ghost use Rattle.html_values_css.specs.Calc.{text_before, written_from};
     ghost use Rattle.html_values_css.specs.Sums.{Zero};
-    ghost use Rattle.html_values_css.specs.Writer.{state, text_of};
+    ghost use Rattle.html_values_css.specs.Writer.{writer_state, text_of};
 
     /// Begins a sum: `calc(..)` around two parts or more, a single part alone, and `0` for none.
     /// Parts of exactly zero are dropped.
@@ -135,7 +135,7 @@ impl<S: WarningSink> CssWriter<S> {
         ensures same_writer { result.out.ghost_name ≡ self.entry.ghost_name }
         ensures before { text_before result.start result.out.now ≡ text_of self.old }
         ensures nothing { written_from result.start result.out.now
-            ≡ record (state self.old) { text = [] } }
+            ≡ record (writer_state self.old) { text = [] } }
         ensures parts { result.parts ≡ Zero }
     {
         let start = self.text.as_str().len();
@@ -149,9 +149,9 @@ impl<S: WarningSink> CssWriter<S> {
 
 impl<S: WarningSink> Calc<'_, S> {
     ghost use Rattle.html_values_css.specs.Calc.{text_before, written_from, part_of};
-    ghost use Rattle.html_values_css.specs.Sums.{next_parts, next_text, next_warnings, closed};
-    ghost use Rattle.html_values_css.specs.Writer.{state, text_of, Emits, Adds};
-    ghost use Rattle.html_values_css.specs.Sink.{StartsWith, Takes};
+    ghost use Rattle.html_values_css.specs.Sums.{next_parts, next_text, next_warnings, sum_end};
+    ghost use Rattle.html_values_css.specs.Writer.{writer_state, text_of, Emits, SumsUp};
+    ghost use Rattle.html_values_css.specs.Sink.{StartsWith, TakesWarning};
     ghost use Rattle.std.specs.Prelude.{[]};
 
     /// Adds a part, unless it is exactly zero.
@@ -165,7 +165,7 @@ impl<S: WarningSink> Calc<'_, S> {
             (part_of T.number T.text T.warnings T.opposite value.now)) }
         ensures adds { let part = part_of T.number T.text T.warnings T.opposite value.now in
             let old = written_from self.old.start self.old.out.now in
-            Adds (Takes S.warnings S.borrow S.emit_gives) result old
+            SumsUp (TakesWarning S.warnings S.borrow S.emit_gives) result old
             (written_from self.new.start self.new.out.now)
             (next_text self.old.parts old.text part) (next_warnings self.old.parts part) }
     {
@@ -180,12 +180,12 @@ impl<S: WarningSink> Calc<'_, S> {
 
     /// Closes the sum: what it has written and its closing text follow what stood before it.
     pub fn finish(self) -> Result<(), AllocError>
-        ensures closing { Emits (Takes S.warnings S.borrow S.emit_gives) result
-            (state self.entry.out.now) (state self.exit.0.now) (closed self.entry.parts) [] }
+        ensures closing { Emits (TakesWarning S.warnings S.borrow S.emit_gives) result
+            (writer_state self.entry.out.now) (writer_state self.exit.0.now) (sum_end self.entry.parts) [] }
         ensures whole { let old = written_from self.entry.start self.entry.out.now in
-            Emits (Takes S.warnings S.borrow S.emit_gives) result
+            Emits (TakesWarning S.warnings S.borrow S.emit_gives) result
             (record old { text = text_before self.entry.start self.entry.out.now })
-            (state self.exit.0.now) (old.text ++ closed self.entry.parts) [] }
+            (writer_state self.exit.0.now) (old.text ++ sum_end self.entry.parts) [] }
     {
         let closing = self.parts.closing();
         self.out.write_ascii(closing)
@@ -193,10 +193,10 @@ impl<S: WarningSink> Calc<'_, S> {
 }
 
 impl<S: WarningSink> CssWriter<S> {
-    ghost use Rattle.html_values_css.specs.Calc.{written_from, Keeps, part_of, appended, opened};
-    ghost use Rattle.html_values_css.specs.Sink.{Takes};
+    ghost use Rattle.html_values_css.specs.Calc.{written_from, KeepsFront, part_of, next_part_text, with_opening};
+    ghost use Rattle.html_values_css.specs.Sink.{TakesWarning};
     ghost use Rattle.html_values_css.specs.Sums.{with_part, part_warnings};
-    ghost use Rattle.html_values_css.specs.Writer.{state, Emits, Adds};
+    ghost use Rattle.html_values_css.specs.Writer.{writer_state, Emits, SumsUp};
     ghost use Rattle.std.specs.Prelude.{[]};
 
     /// Adds a part that is not zero to the sum that begins at `start`.
@@ -208,10 +208,10 @@ impl<S: WarningSink> CssWriter<S> {
     ) -> Result<(), AllocError>
         requires seam { ∥ IsUtf8 (take start (string_bytes self.old.text)) ∥₁ }
         requires within { start ≤ length (string_bytes self.old.text) }
-        ensures keeps { Keeps start self.old self.new }
+        ensures keeps { KeepsFront start self.old self.new }
         ensures adds { let part = part_of T.number T.text T.warnings T.opposite value.now in
             let old = written_from start self.old in
-            Adds (Takes S.warnings S.borrow S.emit_gives) result old (written_from start self.new)
+            SumsUp (TakesWarning S.warnings S.borrow S.emit_gives) result old (written_from start self.new)
             (with_part parts old.text part) (part_warnings parts part) }
     {
         self.append_from(start, parts, value)?;
@@ -227,18 +227,18 @@ impl<S: WarningSink> CssWriter<S> {
     ) -> Result<(), AllocError>
         requires seam { ∥ IsUtf8 (take start (string_bytes self.old.text)) ∥₁ }
         requires within { start ≤ length (string_bytes self.old.text) }
-        ensures keeps { Keeps start self.old self.new }
+        ensures keeps { KeepsFront start self.old self.new }
         ensures emits { let part = part_of T.number T.text T.warnings T.opposite value.now in
-            Emits (Takes S.warnings S.borrow S.emit_gives) result (written_from start self.old)
-            (written_from start self.new) (appended parts part) (part_warnings parts part) }
+            Emits (TakesWarning S.warnings S.borrow S.emit_gives) result (written_from start self.old)
+            (written_from start self.new) (next_part_text parts part) (part_warnings parts part) }
     {
         self.append_part(parts, value)
     }
 
     fn append_part<T: CalcPart>(&mut self, parts: Parts, value: &T) -> Result<(), AllocError>
         ensures { let part = part_of T.number T.text T.warnings T.opposite value.now in
-            Emits (Takes S.warnings S.borrow S.emit_gives) result (state self.old) (state self.new)
-            (appended parts part) (part_warnings parts part) }
+            Emits (TakesWarning S.warnings S.borrow S.emit_gives) result (writer_state self.old) (writer_state self.new)
+            (next_part_text parts part) (part_warnings parts part) }
     {
         if parts == Parts::Zero {
             return value.emit(self);
@@ -255,10 +255,10 @@ impl<S: WarningSink> CssWriter<S> {
     fn open_sum(&mut self, start: usize, parts: Parts) -> Result<(), AllocError>
         requires seam { ∥ IsUtf8 (take start (string_bytes self.old.text)) ∥₁ }
         requires within { start ≤ length (string_bytes self.old.text) }
-        ensures keeps { Keeps start self.old self.new }
+        ensures keeps { KeepsFront start self.old self.new }
         ensures adds { let old = written_from start self.old in
-            Adds (Takes S.warnings S.borrow S.emit_gives) result old (written_from start self.new)
-            (opened parts old.text) [] }
+            SumsUp (TakesWarning S.warnings S.borrow S.emit_gives) result old (written_from start self.new)
+            (with_opening parts old.text) [] }
     {
         if parts == Parts::One {
             self.insert(start, "calc(")?;

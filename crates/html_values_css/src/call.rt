@@ -1,7 +1,7 @@
 ghost use Rattle.std.specs.Prelude.{◌≡◌, ◌++◌, codes, chars, [], true, false, IfOk, Ok};
-ghost use Rattle.html_values_css.specs.Sink.{Takes};
+ghost use Rattle.html_values_css.specs.Sink.{TakesWarning};
 ghost use Rattle.std.specs.Borrow.{sem};
-ghost use Rattle.html_values_css.specs.Writer.{state, Emits};
+ghost use Rattle.html_values_css.specs.Writer.{writer_state, Emits};
 ghost use Rattle.html_values_css.specs.Call.{separator_text, before_argument, writer_rests};
 
 use crate::sink::WarningSink;
@@ -42,8 +42,8 @@ impl<S: WarningSink> CssWriter<S> {
     /// Begins the call of that name: its arguments are separated by `separator`.
     pub fn call(&mut self, name: &str, separator: Separator) -> Result<Call<'_, S>, AllocError>
         ensures same_writer { IfOk result (λ c. c.out.ghost_name ≡ self.entry.ghost_name) }
-        ensures opened { IfOk result (λ c. Emits (Takes S.warnings S.borrow S.emit_gives) (Ok tt)
-            (state self.old) (state c.out.now) (chars name.now ++ codes "(") []
+        ensures opened { IfOk result (λ c. Emits (TakesWarning S.warnings S.borrow S.emit_gives) (Ok tt)
+            (writer_state self.old) (writer_state c.out.now) (chars name.now ++ codes "(") []
             × (c.separator ≡ separator) × (c.has_argument ≡ false)) }
         ensures* refused { sem 𝓛 (writer_rests S.row self.entry result) }
     {
@@ -58,8 +58,8 @@ impl<S: WarningSink> CssWriter<S> {
     }
 
     fn open(&mut self, name: &str) -> Result<(), AllocError>
-        ensures { Emits (Takes S.warnings S.borrow S.emit_gives) result
-            (state self.old) (state self.new) (chars name.now ++ codes "(") [] }
+        ensures { Emits (TakesWarning S.warnings S.borrow S.emit_gives) result
+            (writer_state self.old) (writer_state self.new) (chars name.now ++ codes "(") [] }
     {
         self.write(name)?;
         self.write_ascii("(")
@@ -72,8 +72,8 @@ impl<S: WarningSink> Call<'_, S> {
         ensures same_writer { self.new.out.ghost_name ≡ self.old.out.ghost_name }
         ensures separator { self.new.separator ≡ self.old.separator }
         ensures begun { self.new.has_argument ≡ true }
-        ensures emits { Emits (Takes S.warnings S.borrow S.emit_gives) result
-            (state self.old.out.now) (state self.new.out.now)
+        ensures emits { Emits (TakesWarning S.warnings S.borrow S.emit_gives) result
+            (writer_state self.old.out.now) (writer_state self.new.out.now)
             (before_argument self.old.has_argument self.old.separator ++ T.text value.now)
             (T.warnings value.now) }
     {
@@ -85,8 +85,8 @@ impl<S: WarningSink> Call<'_, S> {
         ensures same_writer { self.new.out.ghost_name ≡ self.old.out.ghost_name }
         ensures separator { self.new.separator ≡ self.old.separator }
         ensures begun { self.new.has_argument ≡ true }
-        ensures emits { Emits (Takes S.warnings S.borrow S.emit_gives) result
-            (state self.old.out.now) (state self.new.out.now)
+        ensures emits { Emits (TakesWarning S.warnings S.borrow S.emit_gives) result
+            (writer_state self.old.out.now) (writer_state self.new.out.now)
             (before_argument self.old.has_argument separator ++ T.text value.now)
             (T.warnings value.now) }
     {
@@ -100,8 +100,8 @@ impl<S: WarningSink> Call<'_, S> {
 
     /// Closes the call.
     pub fn finish(self) -> Result<(), AllocError>
-        ensures { Emits (Takes S.warnings S.borrow S.emit_gives) result (state self.entry.out.now)
-            (state self.exit.0.now) (codes ")") [] }
+        ensures { Emits (TakesWarning S.warnings S.borrow S.emit_gives) result (writer_state self.entry.out.now)
+            (writer_state self.exit.0.now) (codes ")") [] }
     {
         self.out.write_ascii(")")
     }

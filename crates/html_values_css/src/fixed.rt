@@ -1,5 +1,5 @@
 ghost use Rattle.std.specs.Prelude.{◌≡◌, ◌++◌, ◌<◌, ◌^◌, IfOk, OnOk, string_bytes};
-ghost use Rattle.html_values_css.specs.Quantities.{fixed_text, fraction_digits, sign_text, point_text, rounded};
+ghost use Rattle.html_values_css.specs.Quantities.{fixed_text, fraction_digits, sign_text, point_text, nearest_hundreds};
 
 use std::alloc::{AllocError, Global};
 
@@ -21,7 +21,7 @@ pub(crate) fn fixed(alloc: Global, millionths: i64, decimals: u32) -> Result<Str
 }
 
 fn round(millionths: i64) -> u64
-    ensures { result ≡ rounded millionths }
+    ensures { result ≡ nearest_hundreds millionths }
 {
     (millionths.unsigned_abs() + 50) / 100
 }

@@ -1,8 +1,8 @@
 ghost use Rattle.std.specs.Prelude.{◌≡◌, ℕ, [], IfOk, OnOk, ◌++◌, ◌<◌, string_bytes};
 ghost use Rattle.html_names.specs.Texts.{text_view};
 ghost use Rattle.html_values_css.specs.Colors.{hex_byte, alpha_text};
-ghost use Rattle.html_values_css.specs.Sink.{Takes};
-ghost use Rattle.html_values_css.specs.Writer.{state, Emits};
+ghost use Rattle.html_values_css.specs.Sink.{TakesWarning};
+ghost use Rattle.html_values_css.specs.Writer.{writer_state, Emits};
 
 use crate::sink::{Warning, WarningSink};
 use crate::to_css::ToCss;
@@ -97,8 +97,8 @@ impl ToCss for Paint {
     ghost warnings = { paint_warnings };
 
     fn emit<S: WarningSink>(&self, out: &mut CssWriter<S>) -> Result<(), AllocError>
-        ensures emits { Emits (Takes S.warnings S.borrow S.emit_gives) result
-            (state out.old) (state out.new) (paint_text self.now) (paint_warnings self.now) }
+        ensures emits { Emits (TakesWarning S.warnings S.borrow S.emit_gives) result
+            (writer_state out.old) (writer_state out.new) (paint_text self.now) (paint_warnings self.now) }
         ensures warns { PaintWarns (S.warnings out.old.sink) (S.warnings out.new.sink) self.now }
         ensures gives { PaintGives S.emit_gives out.old.sink out.new.sink result self.now }
     {

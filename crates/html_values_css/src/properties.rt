@@ -59,7 +59,7 @@ impl Properties {
     pub fn push(&mut self, name: &str, value: String) -> Result<(), Refused<String>>
         ensures ok { OnOk result (self.new
             ≡ with_value self.old (chars name.now) (text_view value)) }
-        ensures err { OnErr result (self.new ≡ self.old) }
+        ensures kept { OnErr result (self.new ≡ self.old) }
         ensures back { IfErr result (λ refused. refused.back ≡ value) }
     {
         put(&mut self.list, name, value)
@@ -140,10 +140,10 @@ impl Eq for Properties {
 }
 
 impl Hash for Properties {
-    ghost use Rattle.html_names.specs.Hashes.{pairs_fed};
+    ghost use Rattle.html_names.specs.Hashes.{pairs_writes};
     ghost use Rattle.html_values_css.specs.Hashes.{equal_fed};
 
-    ghost hash_input = { λ p. pairs_fed p };
+    ghost hash_input = { λ p. pairs_writes p };
 
     ghost respects_eq = { equal_fed };
 
@@ -173,7 +173,7 @@ fn put(list: &mut Vec<Property>, name: &str, value: String) -> Result<(), Refuse
     requires { IsListed (list_view list.old.items) }
     ensures ok { OnOk result (list_view list.new.items ≡ with_value (list_view list.old.items)
         (chars name.now) (text_view value)) }
-    ensures err { OnErr result (list_view list.new.items ≡ list_view list.old.items) }
+    ensures kept { OnErr result (list_view list.new.items ≡ list_view list.old.items) }
     ensures back { IfErr result (λ refused. refused.back ≡ value) }
 {
     match search(list, name) {
@@ -195,7 +195,7 @@ fn put_at(
     requires { IsGap by_name name_of list.old.items (chars name.now) at }
     ensures ok { OnOk result (list_view list.new.items ≡ with_value (list_view list.old.items)
         (chars name.now) (text_view value)) }
-    ensures err { OnErr result (list_view list.new.items ≡ list_view list.old.items) }
+    ensures kept { OnErr result (list_view list.new.items ≡ list_view list.old.items) }
     ensures back { IfErr result (λ refused. refused.back ≡ value) }
 {
     let Ok(name) = String::from_str(*list.allocator(), name) else {

@@ -2,7 +2,7 @@ ghost use Rattle.std.specs.Prelude.{◌≡◌, List, [], ◌∷◌, Ok, Option, 
 ghost use base.Fml.{GName};
 ghost use Rattle.html_values_css.specs.declared.sink.Warning.{Warning};
 ghost use Rattle.std.specs.declared.alloc.AllocError.{AllocError};
-ghost use Rattle.html_values_css.specs.Sink.{AddsAtMost, Keeps, Takes, Hands};
+ghost use Rattle.html_values_css.specs.Sink.{AddsAtMost, KeepsWarning, TakesWarning, Hands};
 
 use std::alloc::AllocError;
 use thiserror::Error;
@@ -27,7 +27,7 @@ pub enum Warning {
 ///
 /// ```
 /// ghost use Rattle.std.specs.Prelude.{None};
-/// ghost use Rattle.html_values.specs.Sink.{Keeps};
+/// ghost use Rattle.html_values.specs.Sink.{KeepsWarning};
 ///
 /// use html_values::{Warning, WarningSink};
 /// use std::alloc::AllocError;
@@ -43,7 +43,7 @@ pub enum Warning {
 ///     ghost warnings = { λ kept. kept.warnings.items };
 ///
 ///     ghost emit_gives = { λ old warning result new.
-///         Keeps old.warnings.items warning result new.warnings.items };
+///         KeepsWarning old.warnings.items warning result new.warnings.items };
 ///
 ///     ghost borrow = { λ _. None };
 ///
@@ -74,7 +74,7 @@ pub trait WarningSink {
 impl WarningSink for Vec<Warning> {
     ghost warnings = { λ v. v.items };
 
-    ghost emit_gives = { λ v warning result w. Keeps v.items warning result w.items };
+    ghost emit_gives = { λ v warning result w. KeepsWarning v.items warning result w.items };
 
     ghost borrow = { λ _. None };
 
@@ -112,7 +112,7 @@ impl<S: WarningSink> WarningSink for &mut S {
 
 /// Hands each warning to the sink.
 pub(crate) fn pass_on<S: WarningSink>(warnings: &[Warning], sink: &mut S) -> Result<(), AllocError>
-    ensures { Hands (Takes S.warnings S.borrow S.emit_gives) result sink.old warnings.now sink.new }
+    ensures { Hands (TakesWarning S.warnings S.borrow S.emit_gives) result sink.old warnings.now sink.new }
 {
     for warning in warnings {
         sink.emit(*warning)?;

@@ -1,8 +1,8 @@
 ghost use Rattle.std.specs.Prelude.{◌≡◌, ℕ, List, [], IfOk, chars, codes, ◌++◌};
 ghost use Rattle.html_names.specs.Texts.{text_view};
 ghost use Rattle.html_names.specs.Displays.{text_of};
-ghost use Rattle.html_values_css.specs.Sink.{Takes, Hands};
-ghost use Rattle.html_values_css.specs.Writer.{state, Emits};
+ghost use Rattle.html_values_css.specs.Sink.{TakesWarning, Hands};
+ghost use Rattle.html_values_css.specs.Writer.{writer_state, Emits};
 ghost use Rattle.html_values_css.specs.declared.sink.Warning.{Warning};
 
 use crate::sink::{Warning, WarningSink, pass_on};
@@ -51,14 +51,14 @@ pub trait ToCss {
 
     /// Appends the value's text, and hands its warnings to the writer's sink.
     fn emit<S: WarningSink>(&self, out: &mut CssWriter<S>) -> Result<(), AllocError>
-        ensures { Emits (Takes S.warnings S.borrow S.emit_gives) result
-            (state out.old) (state out.new) (text self.now) (warnings self.now) };
+        ensures { Emits (TakesWarning S.warnings S.borrow S.emit_gives) result
+            (writer_state out.old) (writer_state out.new) (text self.now) (warnings self.now) };
 
     /// The value's text. Its warnings go to the sink, in order. Where the sink refuses one, or an
     /// allocation fails, the sink was handed a beginning of them.
     fn to_css<S: WarningSink>(&self, alloc: Global, sink: &mut S) -> Result<String, AllocError>
         ensures text { IfOk result (λ css. text_view css ≡ text self.now) }
-        ensures given { Hands (Takes S.warnings S.borrow S.emit_gives) result
+        ensures given { Hands (TakesWarning S.warnings S.borrow S.emit_gives) result
             sink.old (warnings self.now) sink.new }
     {
         let mut out = CssWriter::new(alloc, Vec::new(alloc));

@@ -3,8 +3,8 @@ ghost use Rattle.std.specs.Str.{IsUtf8};
 ghost use Rattle.html_names.specs.Names.{is_ascii};
 ghost use Rattle.html_names.specs.Texts.{text_view};
 ghost use Rattle.html_values_css.specs.Quantities.{IsQuantity, fixed_text};
-ghost use Rattle.html_values_css.specs.Sink.{AddsAtMost, Takes};
-ghost use Rattle.html_values_css.specs.Writer.{state, empty, Emits, text_of};
+ghost use Rattle.html_values_css.specs.Sink.{AddsAtMost, TakesWarning};
+ghost use Rattle.html_values_css.specs.Writer.{writer_state, empty, Emits, text_of};
 
 use crate::fixed::fixed;
 use crate::sink::{Warning, WarningSink};
@@ -25,7 +25,7 @@ impl<S: WarningSink> CssWriter<S> {
     /// A writer with an empty text.
     #[tactic(auto, using(std::proofs::StrCases::chars_of_empty))]
     pub fn new(alloc: Global, sink: S) -> CssWriter<S>
-        ensures { state result ≡ empty sink }
+        ensures { writer_state result ≡ empty sink }
     {
         CssWriter {
             text: String::new(alloc),
@@ -50,8 +50,8 @@ impl<S: WarningSink> CssWriter<S> {
 
     /// Appends a text as it is.
     pub fn write(&mut self, text: &str) -> Result<(), AllocError>
-        ensures { Emits (Takes S.warnings S.borrow S.emit_gives) result
-            (state self.old) (state self.new) (chars text.now) [] }
+        ensures { Emits (TakesWarning S.warnings S.borrow S.emit_gives) result
+            (writer_state self.old) (writer_state self.new) (chars text.now) [] }
     {
         self.text.push_str(text)
     }
@@ -60,8 +60,8 @@ impl<S: WarningSink> CssWriter<S> {
     #[tactic(auto, using(html_names::proofs::Lists::chars_ascii))]
     pub(crate) fn write_ascii(&mut self, text: &str) -> Result<(), AllocError>
         requires { IsTrue (is_ascii text.now) }
-        ensures { Emits (Takes S.warnings S.borrow S.emit_gives) result
-            (state self.old) (state self.new) text.now [] }
+        ensures { Emits (TakesWarning S.warnings S.borrow S.emit_gives) result
+            (writer_state self.old) (writer_state self.new) text.now [] }
     {
         self.write(text)
     }
@@ -71,8 +71,8 @@ impl<S: WarningSink> CssWriter<S> {
     pub(crate) fn write_fixed(&mut self, millionths: i64, decimals: u32) -> Result<(), AllocError>
         requires few { decimals < 5 }
         requires quantity { IsQuantity millionths }
-        ensures { Emits (Takes S.warnings S.borrow S.emit_gives) result
-            (state self.old) (state self.new) (fixed_text decimals millionths) [] }
+        ensures { Emits (TakesWarning S.warnings S.borrow S.emit_gives) result
+            (writer_state self.old) (writer_state self.new) (fixed_text decimals millionths) [] }
     {
         let text = fixed(*self.text.allocator(), millionths, decimals)?;
         self.write(text.as_str())
@@ -80,16 +80,16 @@ impl<S: WarningSink> CssWriter<S> {
 
     /// Appends a value's text.
     pub fn emit<T: ToCss>(&mut self, value: &T) -> Result<(), AllocError>
-        ensures { Emits (Takes S.warnings S.borrow S.emit_gives) result
-            (state self.old) (state self.new) (T.text value.now) (T.warnings value.now) }
+        ensures { Emits (TakesWarning S.warnings S.borrow S.emit_gives) result
+            (writer_state self.old) (writer_state self.new) (T.text value.now) (T.warnings value.now) }
     {
         value.emit(self)
     }
 
     /// Hands a warning to the sink, and sets `failed`.
     pub fn fail(&mut self, warning: Warning) -> Result<(), AllocError>
-        ensures emits { Emits (Takes S.warnings S.borrow S.emit_gives) result
-            (state self.old) (state self.new) [] (warning ∷ []) }
+        ensures emits { Emits (TakesWarning S.warnings S.borrow S.emit_gives) result
+            (writer_state self.old) (writer_state self.new) [] (warning ∷ []) }
         ensures warns { AddsAtMost (S.warnings self.old.sink) (S.warnings self.new.sink) warning }
         ensures gives { S.emit_gives self.old.sink warning result self.new.sink }
     {
@@ -104,7 +104,7 @@ impl<S: WarningSink> CssWriter<S> {
         requires within { at ≤ length (string_bytes self.old.text) }
         ensures ok { OnOk result (string_bytes self.new.text ≡ take at (string_bytes self.old.text)
             ++ (text.now ++ drop at (string_bytes self.old.text))) }
-        ensures err { OnErr result (string_bytes self.new.text ≡ string_bytes self.old.text) }
+        ensures kept { OnErr result (string_bytes self.new.text ≡ string_bytes self.old.text) }
         ensures failed { self.new.failed ≡ self.old.failed }
         ensures sink { self.new.sink ≡ self.old.sink }
     {

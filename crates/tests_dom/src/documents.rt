@@ -1,7 +1,7 @@
 //! Tests of documents.
 
 use crate::asserts::{around, assert_number, assert_text, text_of};
-use html_dom_document::laws::{equal_infos, equal_locales};
+use html_dom_document::laws::document::{equal_infos, equal_locales};
 use html_dom_document::{DocumentInfo, HtmlDocument, HtmlOutput, Locale};
 use html_dom_tree::{HtmlElement, HtmlNode, Location, Span, Tag};
 use html_names::tag;

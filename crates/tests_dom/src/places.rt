@@ -1,7 +1,7 @@
 //! Tests of positions and links in a tree.
 
 use crate::asserts::{add, around, assert_number, assert_text, nested, text_of};
-use html_dom_introspect::{HtmlIntrospector, HtmlPosition, HtmlSliceExt};
+use html_dom_document::{HtmlIntrospector, HtmlPosition, HtmlSliceExt};
 use html_dom_tree::{
     Frame, FrameItem, HtmlElement, HtmlFrame, HtmlNode, Location, Point, Span, Tag,
 };

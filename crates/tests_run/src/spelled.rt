@@ -1,6 +1,6 @@
 //! What JSON values spell, apart from a run.
 
-use html_tool_spell::{element_in, items_in};
+use html_tool_run::{element_in, items_in};
 use serde_json::Value;
 use std::alloc::Global;
 use std::process::Abort;
@@ -9,7 +9,7 @@ fn value_of(rt: &impl Abort, alloc: Global, text: &str) -> Value {
     Value::from_str(alloc, text).expect(rt, "a value")
 }
 
-/// The example of `html_tool_spell`.
+/// The example of what JSON spells.
 #[test]
 fn elements_and_items_are_spelled(rt: HostRuntime) {
     let alloc = rt.alloc();

@@ -403,6 +403,7 @@ fn displays(rt: HostRuntime) {
         assert_text(&rt, display.as_str(), text);
         assert!(rt; display.is_tabular() == *is_tabular, "{text}");
     }
+    assert!(rt; Display::ListItem.is_border() && !Display::Inline.is_border());
 }
 
 #[test]

@@ -2,8 +2,8 @@
 pub use Rattle.typst_html_encode.specs.Collapsing
 pub use Rattle.typst_html_encode.specs.Conversions
 pub use Rattle.typst_html_encode.specs.FaultViews
-pub use Rattle.typst_html_encode.specs.Faults
-pub use Rattle.typst_html_encode.specs.Frames
+pub use Rattle.typst_html_encode.specs.ExportFaults
+pub use Rattle.typst_html_encode.specs.FrameWriters
 pub use Rattle.typst_html_encode.specs.Indented
 pub use Rattle.typst_html_encode.specs.IndentsCollapse
 pub use Rattle.typst_html_encode.specs.Layout

@@ -6,7 +6,7 @@ use Rattle.std.specs.Str.Pattern.{FindsChar}
 use Rattle.std.proofs.lemmas.Bool.Decides.{nat_tests}
 use Rattle.std.proofs.lemmas.List.{take-append-drop}
 use Rattle.std.proofs.lemmas.Str.{IsCharBoundary-before_ascii, IsUtf8-take, IsUtf8-drop, IsUtf8-past_char, chars-append, chars_from_encodes, chars_past_char}
-use Rattle.typst_html_encode.specs.Closing as ending
+use Rattle.typst_html_encode.specs.ClosingTags as ending
 use lib.Utf8.{encode}
 
 -- no other character has `<` for its small letter
@@ -14,12 +14,12 @@ less_alone : (c : ℕ) → eqb c 60 ≡ false → eqb (to_ascii_lowercase c) 60 
 less_alone c h = grind (arith, nat_tests)
 
 holds_past : (xs cs ds : List ℕ) → NonePass (λ d. eqb d 60) cs →
-    ending.holds (60 ∷ xs) (cs ++ 60 ∷ ds)
-    ≡ (ending.begins (60 ∷ xs) (60 ∷ ds) || ending.holds (60 ∷ xs) ds)
+    ending.has_closing (60 ∷ xs) (cs ++ 60 ∷ ds)
+    ≡ (ending.begins_closing (60 ∷ xs) (60 ∷ ds) || ending.has_closing (60 ∷ xs) ds)
 holds_past xs [] ds h = refl
 holds_past xs (c ∷ cs) ds h = rw (less_alone c h.0) (holds_past xs cs ds h.1)
 
-holds_nowhere : (xs cs : List ℕ) → NonePass (λ d. eqb d 60) cs → ending.holds (60 ∷ xs) cs ≡ false
+holds_nowhere : (xs cs : List ℕ) → NonePass (λ d. eqb d 60) cs → ending.has_closing (60 ∷ xs) cs ≡ false
 holds_nowhere xs [] h = refl
 holds_nowhere xs (c ∷ cs) h = rw (less_alone c h.0) (holds_nowhere xs cs h.1)
 
@@ -37,7 +37,7 @@ module _ (bs after : List ℕ) (i j : ℕ) (u : IsUtf8 bs) (found : FindsChar 60
   after_utf8 = IsUtf8-past_char (drop i bs) after 60 (IsUtf8-drop bs i u cut) seam
 
   pub holds_at : (name : List ℕ) → ending.holds_closing name (chars bs)
-      ≡ (ending.begins (ending.closing name) (60 ∷ chars after)
+      ≡ (ending.begins_closing (ending.closing name) (60 ∷ chars after)
       || ending.holds_closing name (chars after))
   holds_at name =
       let front : found.0.0 ≡ chars (take i bs) =

@@ -1,6 +1,6 @@
 -- The first fault of a list is the first of a longer one.
 use Rattle.std.proofs.Common.{List, ◌++◌, ap}
-use Rattle.typst_html_encode.specs.Faults.{BeginsWith, IsFirst}
+use Rattle.typst_html_encode.specs.ExportFaults.{BeginsWith, IsFirst}
 use Rattle.typst_html_encode.specs.declared.fault.ExportFault.{ExportFault}
 use Rattle.typst_html_encode.specs.declared.fault.ExportFault.TheVariants as fault
 

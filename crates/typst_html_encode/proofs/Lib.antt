@@ -1,3 +1,4 @@
+pub mod BlankReferences
 pub mod Closings
 pub mod Escapes
 pub mod Firsts

@@ -6,7 +6,7 @@ use Rattle.std.specs.List.{AllByRecursion}
 use Rattle.std.specs.Str.Lines.{lines}
 use Rattle.std.proofs.lemmas.Bool.{cases_Bool, and_parts, or_parts, or_from, not-true}
 use Rattle.html_names.specs.Kinds.{is_raw}
-use Rattle.typst_html_encode.specs.Closing.{is_tag_end, closing, begins, holds, holds_closing}
+use Rattle.typst_html_encode.specs.ClosingTags.{is_tag_end, closing, begins_closing, has_closing, holds_closing}
 use Rattle.typst_html_encode.specs.Layout.{spaces, indent, by_lines, keeps_lines, lines_text}
 use Rattle.typst_html_encode.proofs.RawNames.{of_raw}
 use Rattle.typst_html_encode.proofs.Lines.{lines_are}
@@ -35,12 +35,12 @@ lines_after outer inner (l ∷ ls) =
 module _ (xs : List ℕ) (feed : lacks 10 (60 ∷ xs) ≡ true) where
   -- the text with a line feed holds no such tag
   abbrev Ended : List ℕ → Type 0
-  Ended s = holds (60 ∷ xs) (s ++ 10 ∷ []) ≡ false
+  Ended s = has_closing (60 ∷ xs) (s ++ 10 ∷ []) ≡ false
 
   module _ (e : ℕ) (low : to_ascii_lowercase e ≡ e) (ends : is_tag_end e ≡ true)
       (lacking : lacks e (60 ∷ xs) ≡ true) where
     swapped : (c q r : List ℕ) → lacks e c ≡ true → lacks 10 c ≡ true →
-        begins c (q ++ e ∷ r) ≡ begins c (q ++ 10 ∷ [])
+        begins_closing c (q ++ e ∷ r) ≡ begins_closing c (q ++ 10 ∷ [])
     unfolding is_tag_end
     swapped [] [] r k l = ends
     swapped [] (y ∷ q) r k l = refl
@@ -55,7 +55,7 @@ module _ (xs : List ℕ) (feed : lacks 10 (60 ∷ xs) ≡ true) where
         (swapped c q r (and_parts (not (e == x)) (lacks e c) k).1
         (and_parts (not (10 == x)) (lacks 10 c) l).1)
 
-    begins_none : (r : List ℕ) → begins (60 ∷ xs) (e ∷ r) ≡ false
+    begins_none : (r : List ℕ) → begins_closing (60 ∷ xs) (e ∷ r) ≡ false
     begins_none r = rw (
       low,
       not-true (e == 60)
@@ -63,32 +63,32 @@ module _ (xs : List ℕ) (feed : lacks 10 (60 ∷ xs) ≡ true) where
     ) refl
 
     -- cut at the character
-    cut : (q r : List ℕ) → holds (60 ∷ xs) (q ++ e ∷ r) ≡ false →
-        Ended q × (holds (60 ∷ xs) r ≡ false)
-    cut [] r h = (refl, (or_parts (begins (60 ∷ xs) (e ∷ r)) (holds (60 ∷ xs) r) h).1)
+    cut : (q r : List ℕ) → has_closing (60 ∷ xs) (q ++ e ∷ r) ≡ false →
+        Ended q × (has_closing (60 ∷ xs) r ≡ false)
+    cut [] r h = (refl, (or_parts (begins_closing (60 ∷ xs) (e ∷ r)) (has_closing (60 ∷ xs) r) h).1)
     cut (y ∷ q) r h =
-        let p = or_parts (begins (60 ∷ xs) (y ∷ (q ++ e ∷ r))) (holds (60 ∷ xs) (q ++ e ∷ r)) h in
+        let p = or_parts (begins_closing (60 ∷ xs) (y ∷ (q ++ e ∷ r))) (has_closing (60 ∷ xs) (q ++ e ∷ r)) h in
         let rest = cut q r p.1 in (
-          or_from (begins (60 ∷ xs) (y ∷ (q ++ 10 ∷ []))) (holds (60 ∷ xs) (q ++ 10 ∷ []))
+          or_from (begins_closing (60 ∷ xs) (y ∷ (q ++ 10 ∷ []))) (has_closing (60 ∷ xs) (q ++ 10 ∷ []))
               (sym (swapped (60 ∷ xs) (y ∷ q) r lacking feed) ∙ p.0) rest.0,
           rest.1,
         )
 
-    uncut : (q r : List ℕ) → Ended q → holds (60 ∷ xs) r ≡ false →
-        holds (60 ∷ xs) (q ++ e ∷ r) ≡ false
-    uncut [] r h k = or_from (begins (60 ∷ xs) (e ∷ r)) (holds (60 ∷ xs) r) (begins_none r) k
+    uncut : (q r : List ℕ) → Ended q → has_closing (60 ∷ xs) r ≡ false →
+        has_closing (60 ∷ xs) (q ++ e ∷ r) ≡ false
+    uncut [] r h k = or_from (begins_closing (60 ∷ xs) (e ∷ r)) (has_closing (60 ∷ xs) r) (begins_none r) k
     uncut (y ∷ q) r h k =
-        let p = or_parts (begins (60 ∷ xs) (y ∷ (q ++ 10 ∷ [])))
-        (holds (60 ∷ xs) (q ++ 10 ∷ [])) h in
-        or_from (begins (60 ∷ xs) (y ∷ (q ++ e ∷ r))) (holds (60 ∷ xs) (q ++ e ∷ r))
+        let p = or_parts (begins_closing (60 ∷ xs) (y ∷ (q ++ 10 ∷ [])))
+        (has_closing (60 ∷ xs) (q ++ 10 ∷ [])) h in
+        or_from (begins_closing (60 ∷ xs) (y ∷ (q ++ e ∷ r))) (has_closing (60 ∷ xs) (q ++ e ∷ r))
         (swapped (60 ∷ xs) (y ∷ q) r lacking feed ∙ p.0) (uncut q r p.1 k)
 
-  spaces_hold : (level : ℕ) (r : List ℕ) → holds (60 ∷ xs) r ≡ false →
-      holds (60 ∷ xs) (spaces level ++ r) ≡ false
+  spaces_hold : (level : ℕ) (r : List ℕ) → has_closing (60 ∷ xs) r ≡ false →
+      has_closing (60 ∷ xs) (spaces level ++ r) ≡ false
   spaces_hold zero r h = h
   spaces_hold (suc level) r h = spaces_hold level r h
 
-  blanks_hold : (level : ℕ) → holds (60 ∷ xs) (spaces level) ≡ false
+  blanks_hold : (level : ℕ) → has_closing (60 ∷ xs) (spaces level) ≡ false
   blanks_hold level = rw (← append-nil (spaces level)) (spaces_hold level [] refl)
 
   module _ (back : lacks 13 (60 ∷ xs) ≡ true) where
@@ -101,7 +101,7 @@ module _ (xs : List ℕ) (feed : lacks 10 (60 ∷ xs) ≡ true) where
     return_ends = refl
 
     ended_after : (outer inner : ℕ) (ls : List (List ℕ)) → AllByRecursion Ended ls →
-        holds (60 ∷ xs) (after_feed outer inner ls) ≡ false
+        has_closing (60 ∷ xs) (after_feed outer inner ls) ≡ false
     ended_after outer inner [] h = blanks_hold outer
     ended_after outer inner (l ∷ ls) h = spaces_hold inner (l ++ 10 ∷ after_feed outer inner ls)
         (uncut 10 refl feed_ends feed l (after_feed outer inner ls) h.0
@@ -111,18 +111,18 @@ module _ (xs : List ℕ) (feed : lacks 10 (60 ∷ xs) ≡ true) where
     lines_ended s h =
         lines_are Ended
         (λ q k. (cut 13 refl return_ends back q (10 ∷ [])
-        (subst (λ t. holds (60 ∷ xs) t ≡ false) (append_assoc q (13 ∷ []) (10 ∷ [])) k)).0)
+        (subst (λ t. has_closing (60 ∷ xs) t ≡ false) (append_assoc q (13 ∷ []) (10 ∷ [])) k)).0)
         Ended (λ q k. k)
         (λ q r k. cut 10 refl feed_ends feed q (r ++ 10 ∷ [])
-        (subst (λ t. holds (60 ∷ xs) t ≡ false) (append_assoc q (10 ∷ r) (10 ∷ [])) k)) s h
+        (subst (λ t. has_closing (60 ∷ xs) t ≡ false) (append_assoc q (10 ∷ r) (10 ∷ [])) k)) s h
 
     kept_end : (level : ℕ) (s : List ℕ) → Ended s →
-        holds (60 ∷ xs) (10 ∷ (s ++ indent level)) ≡ false
+        has_closing (60 ∷ xs) (10 ∷ (s ++ indent level)) ≡ false
     unfolding indent
     kept_end level s k = uncut 10 refl feed_ends feed s (spaces level) k (blanks_hold level)
 
     written_ended : (level : ℕ) (name s : List ℕ) → Ended s →
-        holds (60 ∷ xs) (lines_text level name s) ≡ false
+        has_closing (60 ∷ xs) (lines_text level name s) ≡ false
     unfolding lines_text
     written_ended level name s k =
         elim (cases_Bool (keeps_lines name s)) [

@@ -11,7 +11,7 @@ use Rattle.html_dom_flat.specs.declared.flat_node.FlatNode.TheVariants.{Tag, Tex
 use Rattle.html_dom_flat.proofs.Flats.{count_some, length_all, spelled_flat}
 use Rattle.typst_html_encode.specs.Layout.{node_wants_pretty, nodes_want_pretty}
 use Rattle.typst_html_encode.specs.Siblings.{IsSpelling, end_of}
-use Rattle.typst_html_encode.specs.Walk.{node_with, place_after}
+use Rattle.typst_html_encode.specs.WriterWalk.{node_with, place_after}
 use Rattle.typst_html_encode.proofs.Turns.{Comes, comes, node_children, count_children, children_taken, others_left}
 
 -- the first node of a list that spells, and those after it

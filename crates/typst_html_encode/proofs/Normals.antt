@@ -4,7 +4,7 @@ use Rattle.std.proofs.lemmas.List.{append-nil}
 use Rattle.html_dom_tree.specs.Tree.{TextPair, tag_node, text_node, element_node, frame_node, NodesView, none, node}
 use Rattle.typst_html_encode.specs.Text.{nodes_raw_text}
 use Rattle.html_dom_tree.specs.PlainTree.{words, branch, Plains, no_plains, plain, put_words, nodes_normal}
-use Rattle.typst_html_encode.specs.Faults.{nodes_raw_faults, text_faults}
+use Rattle.typst_html_encode.specs.ExportFaults.{nodes_raw_faults, text_faults}
 use Rattle.typst_html_encode.specs.declared.escape.Escaping.{Escaping}
 use Rattle.typst_html_encode.specs.Reader.{◌then◌, with_text}
 use Rattle.typst_html_encode.proofs.Runs.{right_empty}

@@ -7,20 +7,20 @@ use Rattle.std.proofs.lemmas.Bool.Decides.{nat_tests}
 use Rattle.std.proofs.lemmas.List.{append-nil, take-append-drop, take_at, drop_at, drop-append-le, map-append, length-map}
 use Rattle.std.proofs.lemmas.Slice.Eq.{bytes_eq-Decides}
 use Rattle.html_names.specs.Characters.{all, IsOf, is_tag_char}
-use Rattle.typst_html_encode.specs.Closing.{is_tag_end, closing, begins, holds, holds_closing, ends_closing, ends_exact}
+use Rattle.typst_html_encode.specs.ClosingTags.{is_tag_end, closing, begins_closing, has_closing, holds_closing, ends_closing, ends_exact}
 use Rattle.html_dom_tree.specs.Tree.{TextPair}
 use Rattle.html_dom_tree.specs.PlainTree.{no_plains}
 use Rattle.typst_html_encode.specs.Reader.{Raw, Open, with_text, complete, run, step}
 use Rattle.typst_html_encode.proofs.Runs.{read_on, all_of, grows}
 
-holds_at : (k a s : List ℕ) → 0 < length s → begins k s ≡ true → holds k (a ++ s) ≡ true
+holds_at : (k a s : List ℕ) → 0 < length s → begins_closing k s ≡ true → has_closing k (a ++ s) ≡ true
 holds_at k [] [] l h = absurd (omega arith)
-holds_at k [] (c ∷ cs) l h = or_left (begins k (c ∷ cs)) (holds k cs) h
-holds_at k (x ∷ a) s l h = or_right (begins k (x ∷ (a ++ s))) (holds k (a ++ s))
+holds_at k [] (c ∷ cs) l h = or_left (begins_closing k (c ∷ cs)) (has_closing k cs) h
+holds_at k (x ∷ a) s l h = or_right (begins_closing k (x ∷ (a ++ s))) (has_closing k (a ++ s))
     (holds_at k a s l h)
 
 begins_own : (b : List ℕ) (c : ℕ) (rest : List ℕ) →
-    begins (map to_ascii_lowercase b) (b ++ c ∷ rest) ≡ is_tag_end c
+    begins_closing (map to_ascii_lowercase b) (b ++ c ∷ rest) ≡ is_tag_end c
 begins_own [] c rest = refl
 begins_own (d ∷ b) c rest = let same = eq-eqb (to_ascii_lowercase d)
     (to_ascii_lowercase d) refl in rw same (begins_own b c rest)
@@ -36,8 +36,8 @@ ends_holds name text c rest e h =
     (bytes_eq-Decides (map to_ascii_lowercase b) (closing name)).0 h in
     let split : (text ++ c ∷ rest) ≡ a ++ (b ++ c ∷ rest) =
     ap (λ t. t ++ c ∷ rest) (sym (take-append-drop n text)) ∙ append_assoc a b (c ∷ rest) in
-    let first : begins (closing name) (b ++ c ∷ rest) ≡ true =
-    ap (λ k. begins k (b ++ c ∷ rest)) (sym same) ∙ (begins_own b c rest ∙ e) in
+    let first : begins_closing (closing name) (b ++ c ∷ rest) ≡ true =
+    ap (λ k. begins_closing k (b ++ c ∷ rest)) (sym same) ∙ (begins_own b c rest ∙ e) in
     ap (holds_closing name) split ∙ holds_at (closing name) a (b ++ c ∷ rest)
     (omega (arith, length-append b (c ∷ rest))) first
 

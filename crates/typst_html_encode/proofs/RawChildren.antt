@@ -8,9 +8,9 @@ use Rattle.html_dom_flat.specs.FlatViews.{flat_node_view, flat_nodes_view}
 use Rattle.html_dom_flat.specs.declared.flat_node.FlatNode.{FlatNode}
 use Rattle.typst_html_encode.proofs.Escapes.{escaped_text-append}
 use Rattle.typst_html_encode.proofs.Firsts.{first_of_more}
-use Rattle.typst_html_encode.specs.Faults.{IsFirst, node_raw_faults, nodes_raw_faults}
+use Rattle.typst_html_encode.specs.ExportFaults.{IsFirst, node_raw_faults, nodes_raw_faults}
 use Rattle.typst_html_encode.specs.Text.{escaped_text, node_raw_text, nodes_raw_text}
-use Rattle.typst_html_encode.specs.Walk.{node_with}
+use Rattle.typst_html_encode.specs.WriterWalk.{node_with}
 use Rattle.typst_html_encode.specs.declared.escape.Escaping.{Escaping}
 use Rattle.typst_html_encode.specs.declared.fault.ExportFault.{ExportFault}
 

@@ -4,8 +4,8 @@ use Rattle.std.specs.Prelude.{if◌then◌else◌}
 use Rattle.html_dom_tree.specs.PlainTree.{Plains, no_plains, plain, words, branch, put_words, nodes_normal}
 use Rattle.html_dom_tree.specs.Tree.{Head, tag_node, text_node, element_node, frame_node, NodesView, none, node}
 use Rattle.typst_html_encode.specs.Content.{content_kind, by_kind}
-use Rattle.typst_html_encode.specs.Faults.{attrs_faults, node_faults, node_raw_faults, nodes_faults, nodes_raw_faults, raw_content_faults, closing_faults, void_faults}
-use Rattle.typst_html_encode.specs.Frames.{Frames}
+use Rattle.typst_html_encode.specs.ExportFaults.{attrs_faults, node_faults, node_raw_faults, nodes_faults, nodes_raw_faults, raw_content_faults, closing_faults, void_faults}
+use Rattle.typst_html_encode.specs.FrameWriters.{Frames}
 use Rattle.typst_html_encode.specs.Indented.{content_layout, node_layout, nodes_layout, raw_layout, with_indent}
 use Rattle.typst_html_encode.specs.Layout.{deeper, due_after, has_indent, indent, is_by_lines, is_pretty_inside, lines_text, margin_inside}
 use Rattle.typst_html_encode.specs.ReadIds.{plains_ids, LayoutKeepsIds}

@@ -8,7 +8,7 @@ use Rattle.html_names.specs.Kinds.{is_void, is_foreign_self_closing, is_raw, is_
 use Rattle.html_dom_tree.specs.Tree.{Head, tag_node, text_node, element_node, frame_node, NodesView, none, node, ElementView}
 use Rattle.typst_html_encode.specs.References.{numeric, reference_to}
 use Rattle.typst_html_encode.specs.declared.escape.Escaping.TheVariants as escaping
-use Rattle.typst_html_encode.specs.Closing.{holds_closing}
+use Rattle.typst_html_encode.specs.ClosingTags.{holds_closing}
 use Rattle.typst_html_encode.specs.Content.{content_kind, by_kind}
 use Rattle.typst_html_encode.specs.declared.fault.ExportFault.{ExportFault}
 use Rattle.typst_html_encode.specs.declared.fault.ExportFault.TheVariants as fault
@@ -17,10 +17,10 @@ use Rattle.typst_html_encode.specs.declared.options.HtmlOptions.{HtmlOptions}
 use Rattle.typst_html_encode.specs.Text.{root_margin, plain_options, pretty_options, char_text, escaped_text, escaping_of, attrs_text, tag_close, end_tag_text, ends_at_once, begins_with_feed, feed_text, nodes_raw_text, node_text, nodes_text, document_text}
 use Rattle.typst_html_encode.specs.Layout.{deeper, margin_inside, spaces, indent, indent_where, feed_where, wants_pretty_around, is_pretty_inside, has_indent, is_by_lines, lines_text, raw_text}
 use Rattle.typst_html_encode.specs.Indented.{with_indent, raw_layout, node_layout, nodes_layout, content_layout, element_layout, RawEndsWell, NodeEndsWell, NodesEndWell, ElementEndsWell}
-use Rattle.typst_html_encode.specs.Faults.{attrs_faults, void_faults, nodes_raw_faults, closing_faults, raw_content_faults, text_faults, node_faults, nodes_faults, document_faults}
+use Rattle.typst_html_encode.specs.ExportFaults.{attrs_faults, void_faults, nodes_raw_faults, closing_faults, raw_content_faults, text_faults, node_faults, nodes_faults, document_faults}
 use Rattle.html_dom_tree.specs.PlainTree.{Plain, branch, no_plains, plain, put_words, nodes_normal, element_normal}
-use Rattle.typst_html_encode.specs.Reader.{drops_feed, ◌then◌, Outside, Content, Fresh, Less, Open, State, with_text, complete, holds_text_alone, run, step, answer, read}
-use Rattle.typst_html_encode.specs.Frames.{Frames}
+use Rattle.typst_html_encode.specs.Reader.{drops_feed, ◌then◌, Outside, Content, Fresh, Less, Open, ReaderState, with_text, complete, holds_text_alone, run, step, final_root, read}
+use Rattle.typst_html_encode.specs.FrameWriters.{Frames}
 use Rattle.html_dom_tree.specs.FrameFree.{NodeIsFrameFree, NodesAreFrameFree, ElementIsFrameFree}
 use Rattle.typst_html_encode.specs.ReadingBack.{HeadIsNamed, NodeIsNamed, NodesAreNamed, ElementIsNamed, PlainReadsBack, PrettyReadsBack, ReadsBack}
 use Rattle.typst_html_encode.proofs.Runs.{read_on, left_empty, right_empty, test_fails}
@@ -79,7 +79,7 @@ indent_read level text s = spaces_read level (text ++ 10 ∷ []) s
     ∙ ap (λ t. Content t s) (append_assoc text (10 ∷ []) (spaces level))
 
 -- within an element: what has been gathered of its children after these
-abbrev gathered : List ℕ → Open → List Open → NodesView → State
+abbrev gathered : List ℕ → Open → List Open → NodesView → ReaderState
 gathered text o os ns = let j = joined o.children text ns in Content j.1
     (record o { children = j.0 } ∷ os)
 
@@ -394,7 +394,7 @@ module _ (frames : Frames) where
       (rest_faults margin h kids) no_faults) refl frameless ended_well.0
       (λ escapes clean. nodes_read kids h.pre_span true (margin_inside margin h kids) []
       (own h) [] escapes named.1 frameless ended_well.1 clean) in
-      ap answer (begun options.pretty (tail margin h kids ++ last)
+      ap final_root (begun options.pretty (tail margin h kids ++ last)
       ∙ read_on (Less []) (Outside (Some root)) (Outside (Some root))
       (tail margin h kids) last read_root (ended options.pretty (Some root)))
 

@@ -11,12 +11,12 @@ use Rattle.std.proofs.lemmas.List.{append-nil}
 use Rattle.std.proofs.lemmas.Slice.Eq.{bytes_eq-Decides}
 use Rattle.html_names.specs.Characters.{all, is_text_char, is_element_text_char}
 use Rattle.html_dom_tree.specs.Tree.{tag_node, text_node, element_node, frame_node, NodesView, none, node}
-use Rattle.typst_html_encode.specs.References.{numeric, numbered, reference, reference_to}
+use Rattle.typst_html_encode.specs.References.{numeric, numbered_char, reference, reference_to}
 use Rattle.typst_html_encode.specs.Text.{char_text, escaped_text, escaping_of, nodes_raw_text}
 use Rattle.typst_html_encode.specs.declared.escape.Escaping.{Escaping}
 use Rattle.typst_html_encode.specs.declared.fault.ExportFault.TheVariants as fault
-use Rattle.typst_html_encode.specs.Faults.{is_reference, is_bad, char_faults, text_faults, nodes_raw_faults}
-use Rattle.typst_html_encode.specs.Reader.{Content, Reference, Open, State, or_stop, run, step}
+use Rattle.typst_html_encode.specs.ExportFaults.{is_reference, is_bad, char_faults, text_faults, nodes_raw_faults}
+use Rattle.typst_html_encode.specs.Reader.{Content, Reference, Open, ReaderState, or_stop, run, step}
 use Rattle.typst_html_encode.proofs.Runs.{grows, read_on, left_empty, right_empty, test_fails}
 use lib.Utf8.{scalar, scalar_fits}
 
@@ -36,7 +36,7 @@ unfolding numeric
 numeric_is c = refl
 
 -- the number of the digits that are written
-pub numbered-digits : (c : ℕ) → scalar c ≡ true → 0 < c → numbered (digits 16 false c) ≡ Some c
+pub numbered-digits : (c : ℕ) → scalar c ≡ true → 0 < c → numbered_char (digits 16 false c) ≡ Some c
 numbered-digits c s h =
     let small = scalar_fits c s in
     let v : digits_value 16 (digits 16 false c) ≡ c =
@@ -87,14 +87,14 @@ is_not true h = cc
 is_not false h = refl
 
 -- states that hold what stands since `&`, and the state after the reference
-module _ (since : List ℕ → State) (done : ℕ → State)
+module _ (since : List ℕ → ReaderState) (done : ℕ → ReaderState)
     (next : (xs : List ℕ) (c : ℕ) → step (since xs) c
     ≡ (if eqb c 59 then or_stop (reference xs) done else since (xs ++ c ∷ []))) where
   more_since : (xs : List ℕ) (c : ℕ) → is_no_semicolon c ≡ true →
       step (since xs) c ≡ since (xs ++ c ∷ [])
   more_since xs c h = next xs c ∙ rw (is_not (eqb c 59) h) refl
 
-  pub reference_read : (before : State) → step before 38 ≡ since [] → (c : ℕ) → scalar c ≡ true →
+  pub reference_read : (before : ReaderState) → step before 38 ≡ since [] → (c : ℕ) → scalar c ≡ true →
       0 < c →
       run before (reference_to c) ≡ done c
   reference_read before start c ok positive =

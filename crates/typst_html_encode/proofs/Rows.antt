@@ -4,9 +4,9 @@ use Rattle.std.specs.Fmt.{digits}
 use Rattle.html_names.specs.Names.{stands_in}
 use Rattle.html_names.specs.Kinds.{is_void, is_foreign_self_closing, is_raw, is_escapable_raw}
 use Rattle.html_dom_tree.specs.PlainTree.{branch, no_plains}
-use Rattle.typst_html_encode.specs.Closing.{is_tag_end}
+use Rattle.typst_html_encode.specs.ClosingTags.{is_tag_end}
 use Rattle.typst_html_encode.specs.Reader.{drops_feed, read}
-use Rattle.typst_html_encode.specs.Rows.{paragraph_of}
+use Rattle.typst_html_encode.specs.ReaderRows.{paragraph_of}
 
 pub quotes : read (codes "<!DOCTYPE html><p title='x'></p>") ≡ None
 unfolding is_void is_raw is_escapable_raw is_foreign_self_closing stands_in drops_feed is_tag_end

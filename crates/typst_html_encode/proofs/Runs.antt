@@ -4,18 +4,18 @@ use Rattle.std.specs.Prelude.{if◌then◌else◌}
 use Rattle.std.proofs.lemmas.Bool.{and_parts, and_from}
 use Rattle.std.proofs.lemmas.List.{append-nil}
 use Rattle.html_names.specs.Characters.{all, IsOf}
-use Rattle.typst_html_encode.specs.Reader.{State, run, step}
+use Rattle.typst_html_encode.specs.Reader.{ReaderState, run, step}
 
-pub run-append : (s : State) (xs ys : List ℕ) → run s (xs ++ ys) ≡ run (run s xs) ys
+pub run-append : (s : ReaderState) (xs ys : List ℕ) → run s (xs ++ ys) ≡ run (run s xs) ys
 run-append s [] ys = refl
 run-append s (x ∷ xs) ys = run-append (step s x) xs ys
 
 -- first xs and then ys
-pub read_on : (s t u : State) (xs ys : List ℕ) → run s xs ≡ t → run t ys ≡ u → run s (xs ++ ys) ≡ u
+pub read_on : (s t u : ReaderState) (xs ys : List ℕ) → run s xs ≡ t → run t ys ≡ u → run s (xs ++ ys) ≡ u
 read_on s t u xs ys h k = run-append s xs ys ∙ (ap (λ r. run r ys) h ∙ k)
 
 -- a state that holds what it has read so far
-module _ (f : List ℕ → State) where
+module _ (f : List ℕ → ReaderState) where
   pub grows : (ok : ℕ → Bool) → ((xs : List ℕ) (c : ℕ) → ok c ≡ true →
       step (f xs) c ≡ f (xs ++ c ∷ [])) → (xs cs : List ℕ) → all ok cs ≡ true →
       run (f xs) cs ≡ f (xs ++ cs)

@@ -8,8 +8,8 @@ use Rattle.std.proofs.lemmas.Str.{IsUtf8-nil, IsUtf8-append, IsUtf8-encode, IsUt
 use Rattle.std.proofs.lemmas.Str.Ascii.{IsAscii-nil, IsAscii-cons}
 use Rattle.std.specs.Str.{IsUtf8, IsAscii}
 use Rattle.html_names.specs.Characters.{all}
-use Rattle.typst_html_encode.specs.Faults.{is_bad, is_reference, text_faults}
-use Rattle.typst_html_encode.specs.Stretches.{is_common, is_plain, PassesCommon, PassesPlain}
+use Rattle.typst_html_encode.specs.ExportFaults.{is_bad, is_reference, text_faults}
+use Rattle.typst_html_encode.specs.PlainStretches.{is_common, is_plain, PassesCommon, PassesPlain}
 use Rattle.typst_html_encode.specs.Text.{stands_as_is, escaped_text}
 use Rattle.typst_html_encode.specs.declared.escape.Escaping.{Escaping}
 use Rattle.typst_html_encode.specs.declared.escape.Escaping.TheVariants as escaping

@@ -12,16 +12,16 @@ use Rattle.html_dom_tree.specs.Tree.{TextPair}
 use Rattle.html_dom_tree.specs.PlainTree.{no_plains}
 use Rattle.typst_html_encode.specs.declared.escape.Escaping.TheVariants as escaping
 use Rattle.typst_html_encode.specs.Text.{char_text, escaped_text, value_text, attrs_text, tag_close}
-use Rattle.typst_html_encode.specs.Reader.{State, Content, Less, StartName, Space, AttrName, Equals, Value, ValueReference, Quoted, EndName, Open, with_text, complete, opened, close, holds_text_alone, run, step}
+use Rattle.typst_html_encode.specs.Reader.{ReaderState, Content, Less, StartName, Space, AttrName, Equals, Value, ValueReference, Quoted, EndName, Open, with_text, complete, after_start_tag, close, holds_text_alone, run, step}
 use Rattle.typst_html_encode.specs.ReadingBack.{PairIsNamed}
-use Rattle.typst_html_encode.specs.Faults.{text_faults, attrs_faults}
+use Rattle.typst_html_encode.specs.ExportFaults.{text_faults, attrs_faults}
 use Rattle.typst_html_encode.proofs.References.{is_not, reference_read, text_scalar, text_positive, text_good}
 use Rattle.typst_html_encode.proofs.Runs.{grows, read_on, all_of, left_empty, right_empty}
 
 -- a start tag is read
-abbrev pub started : List ℕ → List TextPair → List Open → State
+abbrev pub started : List ℕ → List TextPair → List Open → ReaderState
 started name attrs s = if is_foreign_self_closing name then complete name attrs no_plains s
-    else opened name attrs s
+    else after_start_tag name attrs s
 
 attr_32 : is_attr_char 32 ≡ false
 attr_32 = refl

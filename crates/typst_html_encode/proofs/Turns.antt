@@ -7,12 +7,12 @@ use Rattle.html_dom_tree.specs.Tree.{Head, NodeView, tag_node, text_node, elemen
 use Rattle.typst_html_encode.proofs.Firsts.{first_of_more}
 use Rattle.typst_html_encode.proofs.Walk.{entered_text, entered_faults, skipped_text, skipped_faults, skipped_named, first_in_node, rest_flat_first, rest_ends_after, rest_text_first, rest_faults_first, rest_named_first, rest_open_with}
 use Rattle.typst_html_encode.proofs.Runs.{left_empty}
-use Rattle.typst_html_encode.specs.Faults.{IsFirst, node_faults, nodes_faults}
-use Rattle.typst_html_encode.specs.Frames.{Frames}
+use Rattle.typst_html_encode.specs.ExportFaults.{IsFirst, node_faults, nodes_faults}
+use Rattle.typst_html_encode.specs.FrameWriters.{Frames}
 use Rattle.typst_html_encode.specs.Layout.{indent_where, due_after, margin_inside}
 use Rattle.typst_html_encode.specs.ReadingBack.{NodeIsNamed, NodesAreNamed}
 use Rattle.typst_html_encode.specs.Text.{end_tag_text, node_text, nodes_text}
-use Rattle.typst_html_encode.specs.Walk.{first_text, first_faults, FirstIsNamed, is_entered, node_is_entered, node_with, place_after, OpenElementView, open_element, opening, Rest, outside, inside, rest_open, rest_flat, RestEnds, outside_text, rest_text, rest_faults, RestIsNamed, rest_nodes, rest_with, next_pre_span, next_margin, next_has_indent, EndsLater, Stands}
+use Rattle.typst_html_encode.specs.WriterWalk.{first_text, first_faults, FirstIsNamed, is_element_entered, node_is_entered, node_with, place_after, OpenElementView, open_element, opening, Rest, outside, inside, rest_elements, rest_flat, RestEnds, outside_text, rest_text, rest_faults, RestIsNamed, rest_nodes, rest_with, next_pre_span, next_margin, next_has_indent, EndsLater, IsAt}
 use Rattle.typst_html_encode.specs.declared.fault.ExportFault.{ExportFault}
 use Rattle.typst_html_encode.specs.declared.layout.Margin.{Margin}
 use Rattle.html_dom_flat.specs.Flat.{FlatNodeView, flat_tag, flat_text, flat_frame, flat_element, node_count, nodes_count, node_flat, nodes_flat, spelled_nodes}
@@ -99,7 +99,7 @@ module _ {place : ℕ} {f : FlatNodeView} {fs others : List FlatNodeView} {n : N
 
 -- what is left is not nothing, and its first node is that of the list
 pub next_node : (rest : Rest) (place : ℕ) (f : FlatNodeView) (fs : List FlatNodeView) →
-    f ∷ fs ≡ rest_flat place rest → RestEnds place rest → EndsLater place (rest_open rest) →
+    f ∷ fs ≡ rest_flat place rest → RestEnds place rest → EndsLater place (rest_elements rest) →
     (n : NodeView) × (ns : NodesView) × (rest_nodes rest ≡ node n ns)
 unfolding nodes_flat nodes_count
 next_node (outside none) place f fs e ends later = cc
@@ -127,7 +127,7 @@ pub record WritesNode (frames : Frames) (outer : Margin) (opened : List OpenElem
   pub named : FirstIsNamed n
 
 none_open : (place : ℕ) (rest : Rest) → [] ≡ rest_flat place rest → RestEnds place rest →
-    EndsLater place (rest_open rest) → rest_open rest ≡ []
+    EndsLater place (rest_elements rest) → rest_elements rest ≡ []
 unfolding nodes_count
 none_open place (outside ns) flat_is ends later = refl
 none_open place (inside h past margin after ns rest) flat_is ends later =
@@ -137,7 +137,7 @@ none_open place (inside h past margin after ns rest) flat_is ends later =
     absurd (ends_now past place (ends.0 ∙ count ∙ add-zero place) later)
 
 finished_rest : (frames : Frames) (outer : Margin) (whole : NodesView) (start : List ℕ)
-    (place : ℕ) (due : Bool) (text : List ℕ) (rest : Rest) → [] ≡ rest_open rest →
+    (place : ℕ) (due : Bool) (text : List ℕ) (rest : Rest) → [] ≡ rest_elements rest →
     [] ≡ rest_flat place rest →
     text ++ rest_text frames outer due rest ≡ start ++ outside_text frames outer whole →
     rest_faults frames outer rest ≡ nodes_faults frames false outer.pretty whole →
@@ -158,13 +158,13 @@ finished_rest frames outer whole start place due text (outside ns)
 module _ {frames : Frames} {outer : Margin} {whole : NodesView} {start : List ℕ} where
   leaves_rest : (place : ℕ) (due : Bool) (o : OpenElementView) (os : List OpenElementView)
       (flat : List FlatNodeView) (text new_text : List ℕ) (rest : Rest) →
-      o ∷ os ≡ rest_open rest → flat ≡ rest_flat place rest → RestEnds place rest →
+      o ∷ os ≡ rest_elements rest → flat ≡ rest_flat place rest → RestEnds place rest →
       text ++ rest_text frames outer due rest ≡ start ++ outside_text frames outer whole →
       rest_faults frames outer rest ≡ nodes_faults frames false outer.pretty whole →
       (RestIsNamed rest → NodesAreNamed whole) →
       o.past ≡ place →
       new_text ≡ text ++ (indent_where o.margin.pretty o.margin.level ++ end_tag_text o.name) →
-      Stands frames outer whole start place o.due_after os flat new_text
+      IsAt frames outer whole start place o.due_after os flat new_text
   unfolding nodes_flat nodes_count nodes_text nodes_faults NodesAreNamed
   leaves_rest place due o os flat text new_text (outside ns)
       opened_are flat_is ends told clean named here wrote = cc
@@ -176,7 +176,7 @@ module _ {frames : Frames} {outer : Margin} {whole : NodesView} {start : List �
   leaves_rest place due o os flat text new_text (inside h past margin after none rest)
       opened_are flat_is ends told clean named here wrote =
       let is : o ≡ open_element h past margin after = cc in
-      let others : os ≡ rest_open rest = cc in
+      let others : os ≡ rest_elements rest = cc in
       let at : past ≡ place = sym (ap (λ x. x.past) is) ∙ here in
       record {
         rest = rest;
@@ -191,17 +191,17 @@ module _ {frames : Frames} {outer : Margin} {whole : NodesView} {start : List �
   -- the walk leaves the innermost open element
   pub leaves : {place : ℕ} {due : Bool} {opened : List OpenElementView} {o : OpenElementView}
       {os : List OpenElementView} {flat : List FlatNodeView} {text new_text : List ℕ} →
-      Stands frames outer whole start place due opened flat text → opened ≡ o ∷ os →
+      IsAt frames outer whole start place due opened flat text → opened ≡ o ∷ os →
       o.past ≡ place →
       new_text ≡ text ++ (indent_where o.margin.pretty o.margin.level ++ end_tag_text o.name) →
-      Stands frames outer whole start place o.due_after os flat new_text
+      IsAt frames outer whole start place o.due_after os flat new_text
   leaves s first here wrote =
       leaves_rest _ _ _ _ _ _ _ s.rest (sym first ∙ s.opened_are) s.flat_is s.ends s.told s.clean
       s.named here wrote
 
   -- nothing is left at the end of the list, where no element is open that does not end there
   pub finished : {place : ℕ} {due : Bool} {opened : List OpenElementView} {text : List ℕ} →
-      Stands frames outer whole start place due opened [] text → EndsLater place opened →
+      IsAt frames outer whole start place due opened [] text → EndsLater place opened →
       (text ≡ start ++ outside_text frames outer whole)
       × (nodes_faults frames false outer.pretty whole ≡ []) × NodesAreNamed whole
   finished {place} s later =
@@ -212,7 +212,7 @@ module _ {frames : Frames} {outer : Margin} {whole : NodesView} {start : List �
   -- the walk comes to a node of the list
   module _ {place : ℕ} {due : Bool} {opened : List OpenElementView} {f : FlatNodeView}
       {fs : List FlatNodeView} {text : List ℕ} {kids : NodesView}
-      (stands : Stands frames outer whole start place due opened (f ∷ fs) text)
+      (stands : IsAt frames outer whole start place due opened (f ∷ fs) text)
       (later : EndsLater place opened)
       (kids_are : kids ≡ spelled_nodes (place + 1) (take (place_after place f - (place + 1)) fs))
     where
@@ -281,7 +281,7 @@ module _ {frames : Frames} {outer : Margin} {whole : NodesView} {start : List �
           ++ rest_faults frames outer left ≡ nodes_faults frames false outer.pretty whole)
           (sym stands.opened_are) (sym first ∙ stands.clean)
 
-      opened_after : opened ≡ rest_open left
+      opened_after : opened ≡ rest_elements left
       opened_after = stands.opened_are ∙ sym (rest_open_with next.others stands.rest)
 
       ends_after : RestEnds after left
@@ -295,7 +295,7 @@ module _ {frames : Frames} {outer : Margin} {whole : NodesView} {start : List �
       -- a node that is written whole
       pub passes : {new_text : List ℕ} → node_is_entered here ≡ false →
           WritesNode frames outer opened due here text new_text →
-          Stands frames outer whole start after (due_after due here) opened
+          IsAt frames outer whole start after (due_after due here) opened
           (drop (after - (place + 1)) fs) new_text
       passes skipped w =
           let pre_span = next_pre_span opened in
@@ -324,15 +324,15 @@ module _ {frames : Frames} {outer : Margin} {whole : NodesView} {start : List �
   -- the walk enters an element of the list
   module _ {place : ℕ} {due : Bool} {opened : List OpenElementView} {h : Head} {past : ℕ}
       {fs : List FlatNodeView} {text : List ℕ} {kids : NodesView}
-      (stands : Stands frames outer whole start place due opened (flat_element h past ∷ fs) text)
+      (stands : IsAt frames outer whole start place due opened (flat_element h past ∷ fs) text)
       (later : EndsLater place opened)
       (kids_are : kids ≡ spelled_nodes (place + 1) (take (past - (place + 1)) fs)) where
     abbrev element : NodeView
     element = element_node h kids
 
-    pub enters : {new_text : List ℕ} → is_entered h ≡ true →
+    pub enters : {new_text : List ℕ} → is_element_entered h ≡ true →
         WritesNode frames outer opened due element text new_text →
-        Stands frames outer whole start (place + 1) true
+        IsAt frames outer whole start (place + 1) true
         (opening h past kids (next_margin outer opened) due ∷ opened) fs new_text
     unfolding NodeIsNamed
     enters {new_text} entered w =

@@ -8,13 +8,13 @@ use Rattle.html_dom_flat.specs.FlatViews.{flat_node_view, flat_nodes_view}
 use Rattle.html_dom_flat.specs.declared.flat_node.FlatNode.{FlatNode}
 use Rattle.html_dom_flat.proofs.Flats.{count_some}
 use Rattle.typst_html_encode.proofs.Turns.{WritesNode, passes, enters, refused, place_is, finished}
-use Rattle.typst_html_encode.specs.Faults.{IsFirst, nodes_faults}
-use Rattle.typst_html_encode.specs.Frames.{Frames}
+use Rattle.typst_html_encode.specs.ExportFaults.{IsFirst, nodes_faults}
+use Rattle.typst_html_encode.specs.FrameWriters.{Frames}
 use Rattle.typst_html_encode.specs.Layout.{indent_where, due_after}
 use Rattle.typst_html_encode.specs.OpenElements.{open_element_view, Enters}
 use Rattle.typst_html_encode.specs.ReadingBack.{NodesAreNamed}
 use Rattle.typst_html_encode.specs.Siblings.{node_flat_view, node_view, siblings_view, IsNodeAt}
-use Rattle.typst_html_encode.specs.Walk.{first_text, first_faults, FirstIsNamed, node_is_entered, node_with, place_after, OpenElementView, next_pre_span, next_margin, next_has_indent, EndsLater, outside_text, Stands}
+use Rattle.typst_html_encode.specs.WriterWalk.{first_text, first_faults, FirstIsNamed, node_is_entered, node_with, place_after, OpenElementView, next_pre_span, next_margin, next_has_indent, EndsLater, outside_text, IsAt}
 use Rattle.typst_html_encode.specs.declared.fault.ExportFault.{ExportFault}
 use Rattle.typst_html_encode.specs.declared.layout.Margin.{Margin}
 use Rattle.typst_html_encode.specs.declared.open_elements.OpenElement.{OpenElement}
@@ -23,24 +23,24 @@ use Rattle.typst_html_encode.specs.declared.siblings.Node.{Node}
 enters_any : {frames : Frames} {outer : Margin} {whole : NodesView} {start : List ℕ} {place : ℕ}
     {due : Bool} {opened : List OpenElementView} (f : FlatNodeView) {fs : List FlatNodeView}
     {text : List ℕ} {kids : NodesView} (o : OpenElement) {new_text : List ℕ} →
-    Stands frames outer whole start place due opened (f ∷ fs) text → EndsLater place opened →
+    IsAt frames outer whole start place due opened (f ∷ fs) text → EndsLater place opened →
     kids ≡ spelled_nodes (place + 1) (take (place_after place f - (place + 1)) fs) →
     Enters (Some o) f kids (next_margin outer opened) due →
     WritesNode frames outer opened due (node_with f kids) text new_text →
-    Stands frames outer whole start (place + 1) true (open_element_view o ∷ opened) fs new_text
+    IsAt frames outer whole start (place + 1) true (open_element_view o ∷ opened) fs new_text
 enters_any (flat_tag t) o stands later kids_are entered wrote = absurd entered
 enters_any (flat_text s span) o stands later kids_are entered wrote = absurd entered
 enters_any (flat_frame b) o stands later kids_are entered wrote = absurd entered
 enters_any {frames} {outer} {whole} {start} {place} {due} {opened} (flat_element h past) {fs}
     {text} {kids} o {new_text} stands later kids_are entered wrote =
-    subst (λ v. Stands frames outer whole start (place + 1) true (v ∷ opened) fs new_text)
+    subst (λ v. IsAt frames outer whole start (place + 1) true (v ∷ opened) fs new_text)
     (sym entered.1) (enters stands later kids_are entered.0 wrote)
 
 -- the program's walk comes to a node: no open element ends at its place
 module _ {frames : Frames} {outer : Margin} {whole : NodesView} {start : List ℕ}
     {names : NamesView} {nodes : List FlatNode} {place : ℕ} {due : Bool}
     {before opened : List OpenElementView} {text : List ℕ} {n : Node}
-    (stood : Stands frames outer whole start place due before
+    (stood : IsAt frames outer whole start place due before
     (flat_nodes_view names (drop place nodes)) text)
     (ends_later : EndsLater place before) (kept : opened ≡ before)
     (at : IsNodeAt names nodes place n) where
@@ -59,9 +59,9 @@ module _ {frames : Frames} {outer : Margin} {whole : NodesView} {start : List �
   later : EndsLater place opened
   later = subst (EndsLater place) (sym kept) ends_later
 
-  here : Stands frames outer whole start place due opened (f ∷ fs) text
-  here = subst (λ os. Stands frames outer whole start place due os (f ∷ fs) text) (sym kept)
-      (subst (λ xs. Stands frames outer whole start place due before xs text) at.list stood)
+  here : IsAt frames outer whole start place due opened (f ∷ fs) text
+  here = subst (λ os. IsAt frames outer whole start place due os (f ∷ fs) text) (sym kept)
+      (subst (λ xs. IsAt frames outer whole start place due before xs text) at.list stood)
 
   kids_are : kids ≡ spelled_nodes (place + 1) (take (place_after place f - (place + 1)) fs)
   kids_are =
@@ -106,7 +106,7 @@ module _ {frames : Frames} {outer : Margin} {whole : NodesView} {start : List �
   pub visits_whole : {new_due : Bool} {new_text : List ℕ} → node_is_entered (node_view n) ≡ false →
       WritesNode frames outer opened due (node_view n) text new_text →
       new_due ≡ due_after due (node_view n) →
-      Stands frames outer whole start n.past new_due opened
+      IsAt frames outer whole start n.past new_due opened
       (flat_nodes_view names (drop n.past nodes)) new_text
   visits_whole skipped w is_due =
       rw (is_due, ← left_after, at.past) (passes here later kids_are skipped w)
@@ -116,17 +116,17 @@ module _ {frames : Frames} {outer : Margin} {whole : NodesView} {start : List �
       (o : OpenElement) → m ≡ margin → Enters (Some o) f kids m due →
       WritesNode frames outer opened due (node_view n) text new_text →
       new_opened ≡ open_element_view o ∷ opened →
-      Stands frames outer whole start (place + 1) true new_opened fs new_text
+      IsAt frames outer whole start (place + 1) true new_opened fs new_text
   visits_start {m} {new_opened} {new_text} o is_margin entered w is_opened =
       let entered_here = subst (λ m. Enters (Some o) f kids m due) is_margin entered in
-      subst (λ os. Stands frames outer whole start (place + 1) true os fs new_text)
+      subst (λ os. IsAt frames outer whole start (place + 1) true os fs new_text)
       (sym is_opened) (enters_any f o here later kids_are entered_here w)
 
 -- the walk is at the end of the nodes, and no element is open that ends there
 pub all_visited : {frames : Frames} {outer : Margin} {whole : NodesView} {start : List ℕ}
     (names : NamesView) (nodes : List FlatNode) {place : ℕ} {due : Bool}
     {opened : List OpenElementView} {text : List ℕ} →
-    Stands frames outer whole start place due opened
+    IsAt frames outer whole start place due opened
     (flat_nodes_view names (drop place nodes)) text →
     EndsLater place opened → length nodes ≤ place →
     (text ≡ start ++ outside_text frames outer whole)
@@ -135,4 +135,4 @@ all_visited {frames} {outer} {whole} {start} names nodes {place} {due} {opened} 
     stands later beyond =
     let nothing = ap (flat_nodes_view names) (drop_all place nodes beyond) in
     finished
-    (subst (λ xs. Stands frames outer whole start place due opened xs text) nothing stands) later
+    (subst (λ xs. IsAt frames outer whole start place due opened xs text) nothing stands) later

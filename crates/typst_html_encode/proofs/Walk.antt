@@ -8,12 +8,12 @@ use Rattle.typst_html_encode.proofs.Runs.{right_empty}
 use Rattle.typst_html_encode.specs.Content.{content_kind, by_kind}
 use Rattle.typst_html_encode.specs.declared.content.ContentKind.{ContentKind}
 use Rattle.typst_html_encode.specs.declared.content.ContentKind.TheVariants.{Raw, EscapableRaw, Nodes}
-use Rattle.typst_html_encode.specs.Faults.{IsFirst, element_faults, attrs_faults, void_faults, raw_content_faults, nodes_raw_faults, node_faults, nodes_faults}
-use Rattle.typst_html_encode.specs.Frames.{Frames}
+use Rattle.typst_html_encode.specs.ExportFaults.{IsFirst, element_faults, attrs_faults, void_faults, raw_content_faults, nodes_raw_faults, node_faults, nodes_faults}
+use Rattle.typst_html_encode.specs.FrameWriters.{Frames}
 use Rattle.typst_html_encode.specs.Layout.{raw_text, due_after, indent_where, margin_inside, is_pretty_inside}
 use Rattle.typst_html_encode.specs.ReadingBack.{NodeIsNamed, NodesAreNamed, ElementIsNamed}
 use Rattle.typst_html_encode.specs.Text.{element_text, start_tag_text, end_tag_text, ends_at_once, feed_text, escaped_text, nodes_raw_text, node_text, nodes_text}
-use Rattle.typst_html_encode.specs.Walk.{is_entered, first_text, first_faults, FirstIsNamed, Rest, outside, inside, node_is_entered, rest_open, rest_flat, RestEnds, outside_text, rest_text, rest_faults, RestIsNamed, rest_nodes, rest_with, next_pre_span, next_margin, next_has_indent}
+use Rattle.typst_html_encode.specs.WriterWalk.{is_element_entered, first_text, first_faults, FirstIsNamed, Rest, outside, inside, node_is_entered, rest_elements, rest_flat, RestEnds, outside_text, rest_text, rest_faults, RestIsNamed, rest_nodes, rest_with, next_pre_span, next_margin, next_has_indent}
 use Rattle.typst_html_encode.specs.Endings.{Adds}
 use Rattle.typst_html_encode.specs.declared.escape.Escaping.TheVariants as escaping
 use Rattle.typst_html_encode.specs.declared.fault.ExportFault.{ExportFault}
@@ -40,7 +40,7 @@ when_skipped P at_once raw escapable false EscapableRaw e = escapable
 when_skipped P at_once raw escapable false Nodes e = cc
 
 pub entered_text : (frames : Frames) (pre_span : Bool) (margin : Margin) (h : Head)
-    (ns : NodesView) → is_entered h ≡ true →
+    (ns : NodesView) → is_element_entered h ≡ true →
     node_text frames pre_span margin (element_node h ns)
     ≡ first_text frames pre_span margin (element_node h ns)
     ++ (nodes_text frames h.pre_span true (margin_inside margin h ns) ns ++ end_tag_text h.name)
@@ -51,7 +51,7 @@ entered_text frames pre_span margin h ns e =
     (sym (append_assoc (start_tag_text h) (feed_text h ns) _))
 
 pub entered_faults : (frames : Frames) (pre_span pretty : Bool) (h : Head) (ns : NodesView) →
-    is_entered h ≡ true →
+    is_element_entered h ≡ true →
     node_faults frames pre_span pretty (element_node h ns)
     ≡ first_faults frames pre_span pretty (element_node h ns)
     ++ nodes_faults frames h.pre_span (pretty && is_pretty_inside h ns) ns
@@ -112,7 +112,7 @@ skipped_named frames pre_span pretty (element_node h ns) e named clean = (
 skipped_named frames pre_span pretty (frame_node f) e named clean = tt
 
 first_in_element : (frames : Frames) (pre_span pretty : Bool) (h : Head) (ns : NodesView)
-    (e : ExportFault) (b : Bool) → is_entered h ≡ b →
+    (e : ExportFault) (b : Bool) → is_element_entered h ≡ b →
     IsFirst e (first_faults frames pre_span pretty (element_node h ns)) →
     IsFirst e (node_faults frames pre_span pretty (element_node h ns))
 first_in_element frames pre_span pretty h ns e true entered is =
@@ -130,7 +130,7 @@ unfolding node_faults
 first_in_node frames pre_span pretty (tag_node t) e is = is
 first_in_node frames pre_span pretty (text_node s span) e is = is
 first_in_node frames pre_span pretty (element_node h ns) e is =
-    first_in_element frames pre_span pretty h ns e (is_entered h) refl is
+    first_in_element frames pre_span pretty h ns e (is_element_entered h) refl is
 first_in_node frames pre_span pretty (frame_node f) e is = is
 
 -- the first node of what is left, and what comes after it
@@ -162,10 +162,10 @@ module _ (frames : Frames) (outer : Margin) (n : NodeView) (ns : NodesView) wher
   )
 
   pub rest_text_first : (rest : Rest) (due : Bool) → rest_nodes rest ≡ node n ns →
-      let margin = next_margin outer (rest_open rest) in
+      let margin = next_margin outer (rest_elements rest) in
       rest_text frames outer due rest
-      ≡ indent_where (next_has_indent (rest_open rest) due n) margin.level
-      ++ (node_text frames (next_pre_span (rest_open rest)) margin n
+      ≡ indent_where (next_has_indent (rest_elements rest) due n) margin.level
+      ++ (node_text frames (next_pre_span (rest_elements rest)) margin n
       ++ rest_text frames outer (due_after due n) (rest_with ns rest))
   unfolding nodes_text
   rest_text_first (outside ms) due e = ap (outside_text frames outer) e
@@ -176,8 +176,8 @@ module _ (frames : Frames) (outer : Margin) (n : NodeView) (ns : NodesView) wher
 
   pub rest_faults_first : (rest : Rest) → rest_nodes rest ≡ node n ns →
       rest_faults frames outer rest
-      ≡ node_faults frames (next_pre_span (rest_open rest))
-      (next_margin outer (rest_open rest)).pretty n ++ rest_faults frames outer (rest_with ns rest)
+      ≡ node_faults frames (next_pre_span (rest_elements rest))
+      (next_margin outer (rest_elements rest)).pretty n ++ rest_faults frames outer (rest_with ns rest)
   unfolding nodes_faults
   rest_faults_first (outside ms) e = ap (nodes_faults frames false outer.pretty) e
   rest_faults_first (inside h past margin after ms rest) e =
@@ -192,7 +192,7 @@ module _ (frames : Frames) (outer : Margin) (n : NodeView) (ns : NodesView) wher
   rest_named_first (inside h past margin after ms rest) e one others =
       (subst NodesAreNamed (sym e) (one, others.0), others.1)
 
-pub rest_open_with : (ns : NodesView) (rest : Rest) → rest_open (rest_with ns rest) ≡ rest_open rest
+pub rest_open_with : (ns : NodesView) (rest : Rest) → rest_elements (rest_with ns rest) ≡ rest_elements rest
 rest_open_with ns (outside ms) = refl
 rest_open_with ns (inside h past margin due ms rest) = refl
 

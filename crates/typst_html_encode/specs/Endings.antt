@@ -4,7 +4,7 @@ use Rattle.std.specs.Prelude.{ℕ, List, [], Result, String}
 use Rattle.std.specs.declared.alloc.Global.{Global}
 use Rattle.html_names.specs.Endings.{GivesBy, AddsBy}
 use Rattle.html_names.specs.Texts.{text_view}
-use Rattle.typst_html_encode.specs.Faults.{IsFirst}
+use Rattle.typst_html_encode.specs.ExportFaults.{IsFirst}
 use Rattle.typst_html_encode.specs.declared.fault.ExportFault.{ExportFault}
 
 -- a text is answered

@@ -2,7 +2,7 @@
 use Rattle.std.specs.Prelude.{◌≡◌, ℕ, List, ◌∷◌, map}
 use native.Mathlib.Decide.{ℕ_discrete}
 use Rattle.html_names.specs.Equal.{text_discrete}
-use Rattle.html_names.specs.Faults.{name_fault_discrete}
+use Rattle.html_names.specs.NameFaults.{name_fault_discrete}
 use Rattle.html_names.specs.declared.fault.NameFault.{NameFault}
 use Rattle.html_values_css.specs.CastFaults.{cast_fault_discrete}
 use Rattle.html_values_css.specs.declared.cast_fault.CastFault.{CastFault}

@@ -6,8 +6,8 @@ use Rattle.html_dom_tree.specs.PlainTree.{element_normal}
 use Rattle.html_dom_tree.specs.Tree.{ElementView}
 use Rattle.html_dom_tree.specs.Views.{text_view}
 use Rattle.typst_html_encode.specs.Endings.{Gives}
-use Rattle.typst_html_encode.specs.Faults.{document_faults}
-use Rattle.typst_html_encode.specs.Frames.{Frames}
+use Rattle.typst_html_encode.specs.ExportFaults.{document_faults}
+use Rattle.typst_html_encode.specs.FrameWriters.{Frames}
 use Rattle.typst_html_encode.specs.Indented.{element_layout, ElementEndsWell}
 use Rattle.typst_html_encode.specs.Reader.{read}
 use Rattle.typst_html_encode.specs.Text.{document_text}

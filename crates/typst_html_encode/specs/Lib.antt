@@ -1,11 +1,11 @@
-pub mod Closing
+pub mod ClosingTags
 pub mod Collapsing
 pub mod Content
 pub mod Conversions
 pub mod Endings
 pub mod FaultViews
-pub mod Faults
-pub mod Frames
+pub mod ExportFaults
+pub mod FrameWriters
 pub mod HtmlTexts
 pub mod Indented
 pub mod IndentsCollapse
@@ -15,8 +15,8 @@ pub mod ReadingBack
 pub mod ReadIds
 pub mod Reader
 pub mod References
-pub mod Rows
+pub mod ReaderRows
 pub mod Siblings
-pub mod Stretches
+pub mod PlainStretches
 pub mod Text
-pub mod Walk
+pub mod WriterWalk

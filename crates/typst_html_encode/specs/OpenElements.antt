@@ -2,7 +2,7 @@
 use Rattle.std.specs.Prelude.{◌≡◌, Bool, true, false, Option, Some, None}
 use Rattle.html_dom_tree.specs.Tree.{NodesView}
 use Rattle.html_dom_flat.specs.Flat.{FlatNodeView, flat_tag, flat_text, flat_frame, flat_element}
-use Rattle.typst_html_encode.specs.Walk.{OpenElementView, opening, is_entered, node_is_entered, node_with}
+use Rattle.typst_html_encode.specs.WriterWalk.{OpenElementView, opening, is_element_entered, node_is_entered, node_with}
 use Rattle.typst_html_encode.specs.declared.layout.Margin.{Margin}
 use Rattle.typst_html_encode.specs.declared.open_elements.OpenElement.{OpenElement}
 
@@ -22,4 +22,4 @@ Enters (Some o) (flat_tag t) ns margin due = ⊥
 Enters (Some o) (flat_text s span) ns margin due = ⊥
 Enters (Some o) (flat_frame f) ns margin due = ⊥
 Enters (Some o) (flat_element h past) ns margin due =
-    (is_entered h ≡ true) × (open_element_view o ≡ opening h past ns margin due)
+    (is_element_entered h ≡ true) × (open_element_view o ≡ opening h past ns margin due)

@@ -3,8 +3,8 @@ use Rattle.std.specs.Prelude.{◌≡◌, ℕ, List, [], ◌++◌, codes, Option,
 use Rattle.html_dom_tree.specs.Attributes.{first}
 use Rattle.html_dom_tree.specs.PlainTree.{Plain, words, branch, Plains, no_plains, plain, nodes_normal}
 use Rattle.html_dom_tree.specs.Tree.{ElementView}
-use Rattle.typst_html_encode.specs.Faults.{document_faults}
-use Rattle.typst_html_encode.specs.Frames.{Frames}
+use Rattle.typst_html_encode.specs.ExportFaults.{document_faults}
+use Rattle.typst_html_encode.specs.FrameWriters.{Frames}
 use Rattle.typst_html_encode.specs.Indented.{element_layout}
 use Rattle.typst_html_encode.specs.declared.options.HtmlOptions.{HtmlOptions}
 

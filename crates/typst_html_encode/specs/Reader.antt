@@ -8,7 +8,7 @@ use Rattle.html_names.specs.Kinds.{is_void, is_foreign_self_closing, is_raw, is_
 use Rattle.html_dom_tree.specs.Tree.{TextPair}
 use Rattle.html_dom_tree.specs.PlainTree.{Plain, words, branch, Plains, no_plains, plain}
 use Rattle.typst_html_encode.specs.References.{reference}
-use Rattle.typst_html_encode.specs.Closing.{is_tag_end, ends_closing, ends_exact, before_closing}
+use Rattle.typst_html_encode.specs.ClosingTags.{is_tag_end, ends_closing, ends_exact, before_closing}
 
 -- after the start tag of these elements a line feed is dropped (HTML Standard 13.1.2.5)
 unfoldable pub drops_feed : List ℕ → Bool
@@ -25,34 +25,34 @@ pub record Open : Type 0 where
   pub attrs : List TextPair
   pub children : Plains
 
-pub data State : Type 0 where
+pub data ReaderState : Type 0 where
   -- outside the root, which may have been read
-  Outside : (root : Option Plain) → State
+  Outside : (root : Option Plain) → ReaderState
   -- within an element: the text since its last child
-  Content : (text : List ℕ) (stack : List Open) → State
+  Content : (text : List ℕ) (stack : List Open) → ReaderState
   -- right after a start tag at which a line feed is dropped
-  Fresh : (stack : List Open) → State
+  Fresh : (stack : List Open) → ReaderState
   -- after `&`: the text before it, and what stands since
-  Reference : (text since : List ℕ) (stack : List Open) → State
+  Reference : (text since : List ℕ) (stack : List Open) → ReaderState
   -- within a raw element, which is not on the stack: all that stands since its start tag
-  Raw : (name : List ℕ) (attrs : List TextPair) (text : List ℕ) (stack : List Open) → State
+  Raw : (name : List ℕ) (attrs : List TextPair) (text : List ℕ) (stack : List Open) → ReaderState
   -- after `<`
-  Less : (stack : List Open) → State
-  StartName : (name : List ℕ) (stack : List Open) → State
+  Less : (stack : List Open) → ReaderState
+  StartName : (name : List ℕ) (stack : List Open) → ReaderState
   -- after the space before an attribute
-  Space : (name : List ℕ) (attrs : List TextPair) (stack : List Open) → State
-  AttrName : (name : List ℕ) (attrs : List TextPair) (attr : List ℕ) (stack : List Open) → State
+  Space : (name : List ℕ) (attrs : List TextPair) (stack : List Open) → ReaderState
+  AttrName : (name : List ℕ) (attrs : List TextPair) (attr : List ℕ) (stack : List Open) → ReaderState
   -- after `=`
-  Equals : (name : List ℕ) (attrs : List TextPair) (attr : List ℕ) (stack : List Open) → State
-  Value : (name : List ℕ) (attrs : List TextPair) (attr value : List ℕ) (stack : List Open) → State
+  Equals : (name : List ℕ) (attrs : List TextPair) (attr : List ℕ) (stack : List Open) → ReaderState
+  Value : (name : List ℕ) (attrs : List TextPair) (attr value : List ℕ) (stack : List Open) → ReaderState
   ValueReference : (name : List ℕ) (attrs : List TextPair) (attr value since : List ℕ)
-      (stack : List Open) → State
+      (stack : List Open) → ReaderState
   -- after a value
-  Quoted : (name : List ℕ) (attrs : List TextPair) (stack : List Open) → State
+  Quoted : (name : List ℕ) (attrs : List TextPair) (stack : List Open) → ReaderState
   -- after the `/` of a start tag
-  Slash : (name : List ℕ) (attrs : List TextPair) (stack : List Open) → State
-  EndName : (name : List ℕ) (stack : List Open) → State
-  Stop : State
+  Slash : (name : List ℕ) (attrs : List TextPair) (stack : List Open) → ReaderState
+  EndName : (name : List ℕ) (stack : List Open) → ReaderState
+  Stop : ReaderState
 
 -- children with a text at the end, where there is one
 abbrev pub with_text : List ℕ → Plains → Plains
@@ -65,7 +65,7 @@ add_text text [] = []
 add_text text (o ∷ os) = record o { children = with_text text o.children } ∷ os
 
 -- an element is complete
-abbrev pub complete : List ℕ → List TextPair → Plains → List Open → State
+abbrev pub complete : List ℕ → List TextPair → Plains → List Open → ReaderState
 complete name attrs kids [] = Outside (Some (branch name attrs kids))
 complete name attrs kids (o ∷ os) = Content []
     (record o { children = o.children then plain (branch name attrs kids) no_plains } ∷ os)
@@ -76,38 +76,38 @@ holds_text_alone [] = false
 holds_text_alone (o ∷ os) = is_escapable_raw o.name
 
 -- a start tag without `/` is read
-abbrev pub opened : List ℕ → List TextPair → List Open → State
-opened name attrs stack = if is_void name then complete name attrs no_plains stack
+abbrev pub after_start_tag : List ℕ → List TextPair → List Open → ReaderState
+after_start_tag name attrs stack = if is_void name then complete name attrs no_plains stack
     else (if is_raw name then Raw name attrs [] stack
     else (if drops_feed name then Fresh (record { name = name; attrs = attrs; children = no_plains }
     ∷ stack)
     else Content [] (record { name = name; attrs = attrs; children = no_plains } ∷ stack)))
 
 -- what follows the name or an attribute in a start tag
-abbrev pub after : List ℕ → List TextPair → List Open → ℕ → State
+abbrev pub after : List ℕ → List TextPair → List Open → ℕ → ReaderState
 after name attrs stack c = if c == 32 then Space name attrs stack
     else (if is_foreign_self_closing name then (if c == 47 then Slash name attrs stack else Stop)
-    else (if c == 62 then opened name attrs stack else Stop))
+    else (if c == 62 then after_start_tag name attrs stack else Stop))
 
-abbrev pub close : List ℕ → List Open → State
+abbrev pub close : List ℕ → List Open → ReaderState
 close name [] = Stop
 close name (o ∷ os) = if bytes_eq name o.name then complete o.name o.attrs o.children os else Stop
 
-abbrev pub or_stop : Option ℕ → (ℕ → State) → State
+abbrev pub or_stop : Option ℕ → (ℕ → ReaderState) → ReaderState
 or_stop None f = Stop
 or_stop (Some c) f = f c
 
 -- a character of a text
-abbrev pub in_content : List ℕ → List Open → ℕ → State
+abbrev pub in_content : List ℕ → List Open → ℕ → ReaderState
 in_content text stack c = if c == 60 then Less (add_text text stack)
     else (if c == 38 then Reference text [] stack else Content (text ++ c ∷ []) stack)
 
 -- after `<` outside the root
-abbrev pub before_root : Option Plain → State
+abbrev pub before_root : Option Plain → ReaderState
 before_root None = Less []
 before_root (Some root) = Stop
 
-abbrev pub step : State → ℕ → State
+abbrev pub step : ReaderState → ℕ → ReaderState
 step (Outside root) c = if is_blank c then Outside root
     else (if c == 60 then before_root root else Stop)
 step (Content text stack) c = in_content text stack c
@@ -143,16 +143,16 @@ step (EndName name stack) c = if is_tag_char c then EndName (name ++ c ∷ []) s
     else (if c == 62 then close name stack else Stop)
 step Stop c = Stop
 
-abbrev pub run : State → List ℕ → State
+abbrev pub run : ReaderState → List ℕ → ReaderState
 run s [] = s
 run s (c ∷ cs) = run (step s c) cs
 
 -- the root, once all is read
-abbrev pub answer : State → Option Plain
-answer (Outside root) = root
-answer _ = None
+abbrev pub final_root : ReaderState → Option Plain
+final_root (Outside root) = root
+final_root _ = None
 
 -- the element that the text spells
 abbrev pub read : List ℕ → Option Plain
 read text = if bytes_eq (take 15 text) (codes "<!DOCTYPE html>")
-    then answer (run (Outside None) (drop 15 text)) else None
+    then final_root (run (Outside None) (drop 15 text)) else None

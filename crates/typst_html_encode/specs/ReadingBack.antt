@@ -5,8 +5,8 @@ use Rattle.html_names.specs.Characters.{is_tag_char, is_attr_char, IsOf}
 use Rattle.html_dom_tree.specs.FrameFree.{ElementIsFrameFree}
 use Rattle.html_dom_tree.specs.Tree.{TextPair, Head, NodeView, tag_node, text_node, element_node, frame_node, NodesView, none, node, ElementView}
 use Rattle.html_dom_tree.specs.PlainTree.{element_normal}
-use Rattle.typst_html_encode.specs.Faults.{document_faults}
-use Rattle.typst_html_encode.specs.Frames.{Frames}
+use Rattle.typst_html_encode.specs.ExportFaults.{document_faults}
+use Rattle.typst_html_encode.specs.FrameWriters.{Frames}
 use Rattle.typst_html_encode.specs.Indented.{element_layout, ElementEndsWell}
 use Rattle.typst_html_encode.specs.Reader.{read}
 use Rattle.typst_html_encode.specs.Text.{plain_options, pretty_options, document_text}

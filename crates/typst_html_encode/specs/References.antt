@@ -17,14 +17,14 @@ reference_to c = if c == 38 then codes "&amp;"
     else (if c == 34 then codes "&quot;" else (if c == 39 then codes "&apos;" else numeric c))))
 
 -- the character that `&#x` digits `;` stands for: the digits are the one spelling of the number
-abbrev pub numbered : List ℕ → Option ℕ
-numbered ds = let c = digits_value 16 ds in if scalar c && nat_lt 0 c && bytes_eq ds
+abbrev pub numbered_char : List ℕ → Option ℕ
+numbered_char ds = let c = digits_value 16 ds in if scalar c && nat_lt 0 c && bytes_eq ds
     (digits 16 false c) then Some c else None
 
 abbrev pub reference_by_number : List ℕ → Option ℕ
 reference_by_number [] = None
 reference_by_number (x ∷ []) = None
-reference_by_number (x ∷ y ∷ ds) = if x == 35 && y == 120 then numbered ds else None
+reference_by_number (x ∷ y ∷ ds) = if x == 35 && y == 120 then numbered_char ds else None
 
 -- what stands between `&` and `;`, as a character
 abbrev pub reference : List ℕ → Option ℕ

@@ -6,7 +6,7 @@ use Rattle.html_dom_flat.specs.FlatViews.{flat_head, flat_node_view, flat_nodes_
 use Rattle.html_dom_flat.specs.declared.flat_node.FlatNode.{FlatNode}
 use Rattle.html_dom_flat.specs.declared.flat_node.FlatNode.TheVariants as flat
 use Rattle.html_names.specs.NameTables.{NamesView}
-use Rattle.typst_html_encode.specs.Walk.{node_with, place_after}
+use Rattle.typst_html_encode.specs.WriterWalk.{node_with, place_after}
 use Rattle.typst_html_encode.specs.declared.siblings.Element.{Element}
 use Rattle.typst_html_encode.specs.declared.siblings.ElementHead.{ElementHead}
 use Rattle.typst_html_encode.specs.declared.siblings.Node.{Node}

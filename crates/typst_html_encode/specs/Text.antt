@@ -4,7 +4,7 @@ use Rattle.html_names.specs.Characters.{is_element_text_char, is_value_char}
 use Rattle.html_names.specs.Kinds.{is_void, is_foreign_self_closing}
 use Rattle.html_dom_tree.specs.Tree.{TextPair, Head, NodeView, tag_node, text_node, element_node, frame_node, NodesView, none, node, ElementView}
 use Rattle.typst_html_encode.specs.Content.{content_kind, by_kind}
-use Rattle.typst_html_encode.specs.Frames.{Frames}
+use Rattle.typst_html_encode.specs.FrameWriters.{Frames}
 use Rattle.typst_html_encode.specs.Layout.{deeper, margin_inside, indent_where, feed_where, has_indent, due_after, raw_text, frame_text}
 use Rattle.typst_html_encode.specs.Reader.{drops_feed}
 use Rattle.typst_html_encode.specs.References.{reference_to}

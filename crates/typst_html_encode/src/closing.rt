@@ -2,10 +2,10 @@
 
 ghost use Rattle.std.specs.Prelude.{◌≡◌, ◌∷◌, chars, map};
 ghost use Rattle.std.specs.Char.{to_ascii_lowercase};
-ghost use Rattle.typst_html_encode.specs.Closing as ending;
+ghost use Rattle.typst_html_encode.specs.ClosingTags as ending;
 
 /// Whether the character ends the name in a closing tag.
-#[tactic(auto, unfolding(crate::specs::Closing::is_tag_end))]
+#[tactic(auto, unfolding(crate::specs::ClosingTags::is_tag_end))]
 fn is_tag_end(c: char) -> bool
     ensures { result ≡ ending.is_tag_end c }
 {
@@ -14,7 +14,7 @@ fn is_tag_end(c: char) -> bool
 
 /// Whether the text begins with the name, in any ASCII case, and then a character that ends it.
 fn begins_with_name(name: &str, text: &str) -> bool
-    ensures { result ≡ ending.begins (map to_ascii_lowercase (chars name.now)) (chars text.now) }
+    ensures { result ≡ ending.begins_closing (map to_ascii_lowercase (chars name.now)) (chars text.now) }
 {
     let mut left = text.chars();
     for expected in name.chars() {
@@ -33,7 +33,7 @@ fn begins_with_name(name: &str, text: &str) -> bool
 
 /// Whether a `<` and the text after it begin with the closing tag of an element of that name.
 fn closes(name: &str, text: &str) -> bool
-    ensures { result ≡ ending.begins (ending.closing (chars name.now)) (60 ∷ chars text.now) }
+    ensures { result ≡ ending.begins_closing (ending.closing (chars name.now)) (60 ∷ chars text.now) }
 {
     let mut left = text.chars();
     match left.next() {

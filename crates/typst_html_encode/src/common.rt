@@ -1,7 +1,7 @@
 //! Stretches of the characters that most texts are made of.
 
 ghost use Rattle.std.specs.Prelude.{◌≡◌};
-ghost use Rattle.typst_html_encode.specs.Stretches.{is_common, PassesCommon};
+ghost use Rattle.typst_html_encode.specs.PlainStretches.{is_common, PassesCommon};
 
 /// 1 at each byte that is a common character.
 static COMMON: [u8; 256] = [

@@ -1,9 +1,9 @@
 //! How texts are written.
 
 ghost use Rattle.std.specs.Prelude.{◌≡◌, ◌++◌, false, OnOk, IfOk, chars};
-ghost use Rattle.typst_html_encode.specs.Faults.{is_bad, is_reference, char_faults, text_faults};
+ghost use Rattle.typst_html_encode.specs.ExportFaults.{is_bad, is_reference, char_faults, text_faults};
 ghost use Rattle.typst_html_encode.specs.References.{reference_to};
-ghost use Rattle.typst_html_encode.specs.Stretches.{is_plain, PassesPlain, WritesUpTo};
+ghost use Rattle.typst_html_encode.specs.PlainStretches.{is_plain, PassesPlain, WritesUpTo};
 ghost use Rattle.typst_html_encode.specs.Text.{stands_as_is, char_text, escaped_text};
 ghost use Rattle.typst_html_encode.specs.Endings.{Adds};
 
@@ -37,11 +37,13 @@ fn is_bad(escaping: Escaping, c: char) -> bool
 }
 
 /// Writes a character as a reference.
-#[tactic(auto, unfolding(crate::specs::References::numeric), using(std::proofs::Common::append_assoc))]
+#[tactic(auto, unfolding(crate::specs::References::numeric), using(crate::proofs::BlankReferences::reference_steps))]
 fn write_reference(out: &mut Output, c: char) -> Result<(), AllocError>
     ensures { OnOk result (out.new ≡ out.old ++ reference_to c) }
 {
     match c {
+        ' ' => out.push_ascii("&#x20;"),
+        '\t' => out.push_ascii("&#x9;"),
         '&' => out.push_ascii("&amp;"),
         '<' => out.push_ascii("&lt;"),
         '>' => out.push_ascii("&gt;"),

@@ -3,7 +3,7 @@ ghost use Rattle.html_dom_tree.specs.PlainTree.{element_normal};
 ghost use Rattle.html_dom_tree.specs.Tree.{ElementView, node, none, element_node};
 ghost use Rattle.html_dom_tree.specs.Views.{text_view, element_view};
 ghost use Rattle.html_dom_flat.specs.FlatTrees.{tree_nodes};
-ghost use Rattle.typst_html_encode.specs.Faults.{document_faults};
+ghost use Rattle.typst_html_encode.specs.ExportFaults.{document_faults};
 ghost use Rattle.typst_html_encode.specs.Indented.{element_layout, ElementEndsWell};
 ghost use Rattle.typst_html_encode.specs.Reader.{read};
 ghost use Rattle.html_dom_tree.specs.FrameFree.{ElementIsFrameFree};

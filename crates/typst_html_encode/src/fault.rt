@@ -1,5 +1,5 @@
 ghost use Rattle.std.specs.Prelude.{◌≡◌, ◌↔◌, IsTrue};
-ghost use Rattle.typst_html_encode.specs.Faults.{first_span};
+ghost use Rattle.typst_html_encode.specs.ExportFaults.{first_span};
 ghost use Rattle.typst_html_encode.specs.FaultViews.{export_fault_view, spans_view};
 
 use crate::frame::FrameFault;
@@ -85,7 +85,7 @@ pub enum ExportFault {
 }
 
 impl ExportFault {
-    ghost use Rattle.typst_html_encode.specs.Faults.{number_of, span_of};
+    ghost use Rattle.typst_html_encode.specs.ExportFaults.{number_of, span_of};
 
     /// The fault's number: 0 for out of memory, from 8 on in the order of the variants up to
     /// `FrameRefused`, and that of the fault below for the last three.

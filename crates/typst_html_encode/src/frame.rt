@@ -1,7 +1,7 @@
 ghost use Rattle.std.specs.Prelude.{◌≡◌, ℕ, List, Bool, Option};
 ghost use Rattle.html_dom_tree.specs.Frames.{HtmlFrameView};
 ghost use Rattle.html_dom_tree.specs.FrameViews.{html_frame_view};
-ghost use Rattle.typst_html_encode.specs.Frames.{Draws};
+ghost use Rattle.typst_html_encode.specs.FrameWriters.{Draws};
 
 use html_dom_tree::HtmlFrame;
 use html_names::Refused;
@@ -20,7 +20,7 @@ pub enum FrameFault {
 }
 
 impl FrameFault {
-    ghost use Rattle.typst_html_encode.specs.Frames.{frame_fault_number};
+    ghost use Rattle.typst_html_encode.specs.FrameWriters.{frame_fault_number};
 
     /// The fault's number: 0 for out of memory, and 15 for a refusal, as `ExportFault` has it.
     pub fn number(&self) -> u8
@@ -77,7 +77,7 @@ pub trait FrameWriter {
 
 /// Refuses every frame.
 impl FrameWriter for () {
-    ghost use Rattle.typst_html_encode.specs.Frames.{no_frames};
+    ghost use Rattle.typst_html_encode.specs.FrameWriters.{no_frames};
 
     ghost drawing = { λ _. no_frames };
 

@@ -7,7 +7,7 @@ ghost use Rattle.typst_html_encode.specs.FaultViews.{export_fault_view};
 ghost use Rattle.typst_html_encode.specs.IndentsCollapse.{BodyCollapses, ContentCollapses};
 ghost use Rattle.typst_html_encode.specs.ReadingBack.{ReadsBack, SameTextSameForm};
 ghost use Rattle.typst_html_encode.specs.Reader.{read};
-ghost use Rattle.typst_html_encode.specs.Rows.{paragraph_of};
+ghost use Rattle.typst_html_encode.specs.ReaderRows.{paragraph_of};
 
 use crate::fault::ExportFault;
 use crate::frame::FrameFault;

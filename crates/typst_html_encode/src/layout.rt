@@ -9,7 +9,7 @@ ghost use Rattle.html_dom_tree.specs.Tree.{none};
 ghost use Rattle.html_dom_tree.specs.Views.{text_view};
 ghost use Rattle.html_dom_flat.specs.FlatViews.{flat_node_view, is_node_given};
 ghost use Rattle.typst_html_encode.specs.Siblings.{head_view, node_view, siblings_view};
-ghost use Rattle.typst_html_encode.specs.Walk.{node_with};
+ghost use Rattle.typst_html_encode.specs.WriterWalk.{node_with};
 ghost use Rattle.typst_html_encode.specs.Layout.{deeper, margin_inside, is_of_lines};
 ghost use Rattle.typst_html_encode.specs.Layout.{allows_pretty_inside, wants_pretty_around};
 ghost use Rattle.typst_html_encode.specs.Layout.{node_wants_pretty, nodes_want_pretty, is_pretty_inside};

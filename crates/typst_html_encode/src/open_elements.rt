@@ -3,7 +3,7 @@
 ghost use Rattle.std.specs.Prelude.{◌≡◌, ◌∷◌, [], OnOk, IfOk, IfSome, IfNone};
 ghost use Rattle.typst_html_encode.specs.OpenElements.{open_element_view};
 ghost use Rattle.typst_html_encode.specs.Siblings.{node_view};
-ghost use Rattle.typst_html_encode.specs.Walk.{EndsLater, next_pre_span, next_margin, next_has_indent};
+ghost use Rattle.typst_html_encode.specs.WriterWalk.{EndsLater, next_pre_span, next_margin, next_has_indent};
 
 use crate::layout::{Margin, has_indent};
 use crate::siblings::Node;
@@ -37,7 +37,7 @@ pub(crate) struct OpenElements<'a> {
 impl<'a> Model for OpenElements<'a> {
     ghost use Rattle.std.specs.Prelude.{List, map, reverse};
     ghost use Rattle.typst_html_encode.specs.OpenElements.{open_element_view};
-    ghost use Rattle.typst_html_encode.specs.Walk.{OpenElementView};
+    ghost use Rattle.typst_html_encode.specs.WriterWalk.{OpenElementView};
 
     ghost Value = { List OpenElementView };
 

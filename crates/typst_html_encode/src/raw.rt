@@ -4,11 +4,11 @@ ghost use Rattle.std.specs.Prelude.{◌≡◌, ◌++◌, OnOk, chars};
 ghost use Rattle.html_names.specs.NameTables.{NamesView};
 ghost use Rattle.html_dom_tree.specs.Tree.{none};
 ghost use Rattle.html_dom_flat.specs.FlatViews.{flat_node_view};
-ghost use Rattle.typst_html_encode.specs.Faults.{node_raw_faults, nodes_raw_faults, raw_content_faults};
+ghost use Rattle.typst_html_encode.specs.ExportFaults.{node_raw_faults, nodes_raw_faults, raw_content_faults};
 ghost use Rattle.typst_html_encode.specs.Layout.{lines_text, raw_text};
 ghost use Rattle.typst_html_encode.specs.Siblings.{head_view, siblings_view};
 ghost use Rattle.typst_html_encode.specs.Text.{escaped_text, node_raw_text, nodes_raw_text};
-ghost use Rattle.typst_html_encode.specs.Walk.{node_with};
+ghost use Rattle.typst_html_encode.specs.WriterWalk.{node_with};
 ghost use Rattle.typst_html_encode.specs.Endings.{Adds, Gives};
 
 use crate::closing::holds_closing;

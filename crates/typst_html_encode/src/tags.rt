@@ -2,7 +2,7 @@
 
 ghost use Rattle.std.specs.Prelude.{◌≡◌, ◌++◌, OnOk};
 ghost use Rattle.html_dom_tree.specs.Views.{text_view};
-ghost use Rattle.typst_html_encode.specs.Faults.{text_faults, attrs_faults};
+ghost use Rattle.typst_html_encode.specs.ExportFaults.{text_faults, attrs_faults};
 ghost use Rattle.typst_html_encode.specs.Reader.{drops_feed};
 ghost use Rattle.typst_html_encode.specs.ReadingBack.{PairsAreNamed, HeadIsNamed};
 ghost use Rattle.typst_html_encode.specs.Siblings.{head_view, siblings_view};
@@ -76,6 +76,7 @@ pub(crate) fn write_start(out: &mut Output, head: &ElementHead) -> Result<(), Ex
 }
 
 /// Writes the end tag.
+#[inline(always)]
 pub(crate) fn write_end(out: &mut Output, tag: &HtmlTag) -> Result<(), AllocError>
     ensures { OnOk result (out.new ≡ out.old ++ end_tag_text tag.now) }
 {

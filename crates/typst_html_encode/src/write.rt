@@ -3,14 +3,14 @@
 ghost use Rattle.std.specs.Prelude.{◌≡◌, ◌++◌, OnOk, Some, chars, false};
 ghost use Rattle.html_dom_tree.specs.FrameViews.{html_frame_view};
 ghost use Rattle.html_dom_flat.specs.FlatTrees.{tree_nodes};
-ghost use Rattle.typst_html_encode.specs.Faults.{void_faults, frame_faults, nodes_faults};
+ghost use Rattle.typst_html_encode.specs.ExportFaults.{void_faults, frame_faults, nodes_faults};
 ghost use Rattle.typst_html_encode.specs.Layout.{indent_where, frame_text};
 ghost use Rattle.typst_html_encode.specs.OpenElements.{open_element_view, Enters};
 ghost use Rattle.typst_html_encode.specs.ReadingBack.{HeadIsNamed, NodesAreNamed};
 ghost use Rattle.typst_html_encode.specs.Siblings.{head_view, flat_element_view, node_flat_view, node_view, siblings_view};
 ghost use Rattle.typst_html_encode.specs.Text.{escaping_of, end_tag_text};
-ghost use Rattle.typst_html_encode.specs.Walk.{first_text, first_faults, FirstIsNamed};
-ghost use Rattle.typst_html_encode.specs.Walk.{outside_text, element_first_text, element_first_faults};
+ghost use Rattle.typst_html_encode.specs.WriterWalk.{first_text, first_faults, FirstIsNamed};
+ghost use Rattle.typst_html_encode.specs.WriterWalk.{outside_text, element_first_text, element_first_faults};
 ghost use Rattle.typst_html_encode.specs.Endings.{Adds, Passes};
 
 use crate::content::ContentKind;
@@ -123,14 +123,18 @@ fn write_first<F: FrameWriter>(
 {
     match node.flat {
         FlatNode::Tag(_) => Ok(()),
-        FlatNode::Text(text, span) => write_text(out, escaping(pre_span), text.as_str(), *span),
+        FlatNode::Text(text, span) => {
+            write_text(out, escaping(pre_span), text.as_str(), *span)?;
+            Ok(())
+        }
         FlatNode::Element(flat) => {
             let children = node.children;
             let head = ElementHead {
                 names: children.names,
                 flat,
             };
-            write_element(out, &Element { head, children }, margin)
+            write_element(out, &Element { head, children }, margin)?;
+            Ok(())
         }
         FlatNode::Frame(frame) => write_frame(alloc, out, frame, margin, frames),
     }

@@ -1,7 +1,7 @@
 -- The tree that links lead into is one to which anchors were added.
 use Rattle.std.proofs.Common.{ℕ, List, [], ◌∷◌, drop, Option, None, Some}
 use Rattle.html_dom_tree.specs.Tree.{TagView, Head, tag_node, text_node, element_node, frame_node, NodesView, none, node, ElementView}
-use Rattle.html_dom_link.specs.Anchors.{with_id, text_in, span_before, nodes_size, nodes_anchored, element_namings, element_anchored}
+use Rattle.html_dom_link.specs.Anchors.{with_id, text_in_span, span_before, nodes_size, nodes_with_anchors, element_namings, element_with_anchors}
 use Rattle.html_dom_link.specs.Events.{Targets}
 use Rattle.html_dom_link.specs.Namings.{Naming}
 use Rattle.typst_html_spaces.specs.Anchored.{Anchored, at_end, at_tag, after_tag, at_text, around_text, at_element, of_element, at_frame, new_id, IsAny}
@@ -22,7 +22,7 @@ module _ (P : List ℕ → Type 0) where
 
   text_anchored : (made : Option (List ℕ)) (s : List ℕ) (span : ℕ) (ns ms : NodesView) →
       Passing P made → Anchored P ns ms →
-      Anchored P (node (text_node s span) ns) (node (text_in made s span) ms)
+      Anchored P (node (text_node s span) ns) (node (text_in_span made s span) ms)
   text_anchored None s span ns ms p r = at_text r
   text_anchored (Some n) s span ns ms p r = around_text n span p r
 
@@ -36,17 +36,17 @@ module _ (P : List ℕ → Type 0) where
   MadePasses c = Passing P c.made
 
   pub nodes_are_anchored : (ns : NodesView) (cs : List Naming) → Each MadePasses cs →
-      Anchored P ns (nodes_anchored cs ns)
-  unfolding nodes_anchored
+      Anchored P ns (nodes_with_anchors cs ns)
+  unfolding nodes_with_anchors
   nodes_are_anchored none cs e = at_end
   nodes_are_anchored (node n ns) [] e = unanchored (node n ns)
   nodes_are_anchored (node (tag_node t) ns) (c ∷ cs) e =
-      tag_anchored c.made t ns (nodes_anchored cs ns) e.0 (nodes_are_anchored ns cs e.1)
+      tag_anchored c.made t ns (nodes_with_anchors cs ns) e.0 (nodes_are_anchored ns cs e.1)
   nodes_are_anchored (node (text_node s span) ns) (c ∷ cs) e =
-      text_anchored c.made s span ns (nodes_anchored cs ns) e.0 (nodes_are_anchored ns cs e.1)
+      text_anchored c.made s span ns (nodes_with_anchors cs ns) e.0 (nodes_are_anchored ns cs e.1)
   nodes_are_anchored (node (element_node h kids) ns) (c ∷ cs) e =
-      head_anchored c.made h kids (nodes_anchored cs kids) ns
-      (nodes_anchored (drop (nodes_size kids) cs) ns) e.0 (nodes_are_anchored kids cs e.1)
+      head_anchored c.made h kids (nodes_with_anchors cs kids) ns
+      (nodes_with_anchors (drop (nodes_size kids) cs) ns) e.0 (nodes_are_anchored kids cs e.1)
       (nodes_are_anchored ns (drop (nodes_size kids) cs)
       (Each-drop MadePasses (nodes_size kids) cs e.1))
   nodes_are_anchored (node (frame_node f) ns) (c ∷ cs) e =
@@ -61,7 +61,7 @@ any_passes (c ∷ cs) = (any_made c.made, any_passes cs)
     any_made (Some n) = tt
 
 pub root_anchored : (x : Targets) (e : ElementView) →
-    Anchored IsAny e.1 (element_anchored x e).1
-unfolding element_anchored
+    Anchored IsAny e.1 (element_with_anchors x e).1
+unfolding element_with_anchors
 root_anchored x e =
     nodes_are_anchored IsAny e.1 (element_namings x e) (any_passes (element_namings x e))

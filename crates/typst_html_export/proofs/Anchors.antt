@@ -5,10 +5,10 @@ use Rattle.html_dom_tree.specs.Tree.{ElementView}
 use Rattle.html_names.specs.Names.{stands_in}
 use Rattle.html_dom_document.specs.Documents.{DocumentView, document_root}
 use Rattle.html_dom_link.specs.Events.{Targets}
-use Rattle.html_dom_link.specs.Anchors.{element_anchored}
+use Rattle.html_dom_link.specs.Anchors.{element_with_anchors}
 use Rattle.html_dom_link.specs.Answered.{first_ids}
 use Rattle.html_dom_link.specs.GivenLinks.{KnownAnchorsAreShown}
-use Rattle.html_dom_link.specs.LinkAnchors.{document_anchor, document_anchored, document_targets}
+use Rattle.html_dom_link.specs.LinkAnchors.{document_anchor, document_with_new_anchors, document_targets}
 use Rattle.html_dom_link.specs.Serving.{KnownAnchorsServe}
 use Rattle.html_dom_link.proofs.ChangedRoots.{root_has_anchors}
 use Rattle.html_dom_link.proofs.Consequences.{answers_are_first_ids}
@@ -17,15 +17,15 @@ use Rattle.typst_html_spaces.proofs.ReadableNodes.{anchors_keep_frame_free}
 use Rattle.typst_html_export.proofs.AnchoredRoots.{root_anchored}
 use Rattle.typst_html_export.proofs.LinkedRoots.{anchors_keep_atoms}
 use Rattle.typst_html_export.specs.LinkedRoots.{HaveSameAtoms}
-use Rattle.typst_html_export.specs.Linked.{document_linked, document_with_anchors, AnchorsAreFirstIds}
+use Rattle.typst_html_export.specs.Linked.{document_with_known_anchors, document_with_anchors, AnchorsAreFirstIds}
 
 -- anchors take no frame away
-root_free_before : (x : Targets) (e : ElementView) → ElementIsFrameFree (element_anchored x e) →
+root_free_before : (x : Targets) (e : ElementView) → ElementIsFrameFree (element_with_anchors x e) →
     ElementIsFrameFree e
-root_free_before x e f = (anchors_keep_frame_free e.1 (element_anchored x e).1 (root_anchored x e)).0 f
+root_free_before x e f = (anchors_keep_frame_free e.1 (element_with_anchors x e).1 (root_anchored x e)).0 f
 
 module _ (is_target : ℕ → Bool) (d : DocumentView) where
-  linked_ids : AnchorsAreFirstIds (document_linked is_target d)
+  linked_ids : AnchorsAreFirstIds (document_with_known_anchors is_target d)
   linked_ids free l n is =
       let x = document_targets is_target d in
       let e = document_root d in
@@ -42,14 +42,14 @@ anchors_are_first_ids d = linked_ids d.introspector.is_link_target d
 pub known_anchors_are_shown : (d : DocumentView) → KnownAnchorsAreShown (document_with_anchors d)
 known_anchors_are_shown d =
     let is_target = d.introspector.is_link_target in
-    anchors_are_shown is_target d (document_anchored is_target d) (document_anchor is_target d)
+    anchors_are_shown is_target d (document_with_new_anchors is_target d) (document_anchor is_target d)
     refl refl
 
 -- and it is the name of what serves its location
 pub known_anchors_serve : (d : DocumentView) → KnownAnchorsServe (document_with_anchors d)
 known_anchors_serve d =
     let is_target = d.introspector.is_link_target in
-    anchors_are_serving is_target d (document_anchored is_target d) (document_anchor is_target d)
+    anchors_are_serving is_target d (document_with_new_anchors is_target d) (document_anchor is_target d)
     refl refl
 
 -- anchors are not seen

@@ -1,14 +1,14 @@
 -- The parts of an assembled document are those of the whole.
 use Rattle.std.proofs.Common.{◌≡◌, ℕ, List, [], ◌∷◌, ◌++◌, refl, sym, ap, subst, ◌∙◌}
-use Rattle.html_dom_tree.specs.Styled.{nodes_styled}
+use Rattle.html_dom_tree.specs.Styled.{styled_nodes}
 use Rattle.html_dom_tree.specs.Tree.{NodesView}
 use Rattle.html_dom_document.specs.Documents.{InfoView}
 use Rattle.typst_html_encode.specs.FaultViews.{ExportFaultView, not_alone, IsFirstView}
 use Rattle.typst_html_encode.specs.declared.fault.ExportFault.{ExportFault}
 use Rattle.html_flow_convert.specs.Depth.{items_too_deep}
 use Rattle.html_flow_convert.specs.Items.{ItemsView, no_items, item}
-use Rattle.typst_html_export.specs.Assembled.{Outline, own_html, own_body, nothing_own, own_among_others, document_outline, first_own, shown_count, output_by, assembled_output, output_styled, item_spans, note_faults, outline_faults, depth_faults, assembly_faults}
-use Rattle.typst_html_export.specs.Roots.{root_styled}
+use Rattle.typst_html_export.specs.Assembled.{Outline, own_html, own_body, nothing_own, own_among_others, document_outline, first_own, shown_count, output_by, assembled_output, styled_output, item_spans, note_faults, outline_faults, depth_faults, assembly_faults}
+use Rattle.typst_html_export.specs.Roots.{styled_root}
 use Rattle.typst_html_export.proofs.Firsts.{first_of_more, first_after_none, none_after_none}
 use Rattle.typst_html_export.proofs.Outlines.{own_found, own_stands}
 use Rattle.typst_html_export.proofs.StyledRoots.{lone_styled}
@@ -64,8 +64,8 @@ module _ (limit : ℕ) (content : NodesView) (notes : ItemsView) where
 -- the styles of the root are those of all nodes
 styled_by : (o : Outline) (info : InfoView) (content notes : NodesView)
     → o ≡ document_outline content
-    → root_styled (output_by o info content notes) ≡ output_styled (output_by o info content notes)
-unfolding nodes_styled
+    → styled_root (output_by o info content notes) ≡ styled_output (output_by o info content notes)
+unfolding styled_nodes
 styled_by (own_html place) info content notes e =
     let found = own_found (shown_count content) (first_own content) place e in
     ap (λ ns. record { nodes = ns; root = place })
@@ -75,6 +75,6 @@ styled_by nothing_own info content notes e = refl
 styled_by (own_among_others name span) info content notes e = refl
 
 pub assembled_styled : (info : InfoView) (content notes : NodesView)
-    → root_styled (assembled_output info content notes)
-    ≡ output_styled (assembled_output info content notes)
+    → styled_root (assembled_output info content notes)
+    ≡ styled_output (assembled_output info content notes)
 assembled_styled info content notes = styled_by (document_outline content) info content notes refl

@@ -7,7 +7,7 @@ use Rattle.html_names.specs.Characters.{all, is_text_char}
 use Rattle.html_dom_tree.specs.Tags.{starts, ends}
 use Rattle.html_dom_tree.specs.Tree.{tag_node, text_node, element_node, frame_node, NodesView, none, node}
 use Rattle.typst_html_encode.proofs.Stretches.{all_append}
-use Rattle.html_dom_link.specs.NewNames.{Name, numbered, first_free, stem_of, first_number, free_name, new_name}
+use Rattle.html_dom_link.specs.NewNames.{Name, name_with_number, first_free, stem_of, first_number, free_name, new_name}
 use Rattle.html_dom_link.specs.Events.{Start, Event, other_start, target_start, end_tag, element, text, html_frame, Targets, start_event, events}
 use Rattle.html_dom_link.specs.Groups.{serves, waiting_after, cut_at, cuts, own_name, first_label, label_of, label_for}
 use Rattle.html_dom_link.specs.Namings.{made_for, used_after, namings}
@@ -41,7 +41,7 @@ decimal_is_text = decimal_by_steps (λ m ds. all is_text_char ds ≡ true)
 -- names
 
 numbered_is_clean : (stem : Name) (n : ℕ) → n < 2 ^ 64 → IsCleanValue stem →
-    IsCleanValue (numbered stem n)
+    IsCleanValue (name_with_number stem n)
 numbered_is_clean stem n h e = all_append is_text_char stem (codes "-" ++ decimal n) e
     (all_append is_text_char (codes "-") (decimal n) refl (decimal_is_text n h))
 

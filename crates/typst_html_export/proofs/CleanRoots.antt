@@ -9,20 +9,20 @@ use Rattle.html_names.specs.Characters.{all, is_text_char}
 use Rattle.html_names.specs.Kinds.{is_void, is_raw, is_escapable_raw, is_foreign_self_closing}
 use Rattle.html_names.specs.Names.{stands_in}
 use Rattle.html_names.specs.Texts.{TextPair}
-use Rattle.html_dom_tree.specs.Styled.{node_styled, nodes_styled}
+use Rattle.html_dom_tree.specs.Styled.{styled_node, styled_nodes}
 use Rattle.html_dom_tree.specs.Tree.{Head, NodeView, tag_node, text_node, element_node, frame_node, NodesView, none, node, ElementView}
 use Rattle.html_dom_tree.specs.Views.{nodes_of}
 use Rattle.html_dom_document.specs.Documents.{LocaleView, InfoView}
 use Rattle.typst_html_encode.specs.FaultViews.{export_fault_view}
-use Rattle.typst_html_encode.specs.Faults.{node_faults, nodes_faults}
-use Rattle.typst_html_encode.specs.Faults as writing
-use Rattle.typst_html_encode.specs.Frames.{Frames}
+use Rattle.typst_html_encode.specs.ExportFaults.{node_faults, nodes_faults}
+use Rattle.typst_html_encode.specs.ExportFaults as writing
+use Rattle.typst_html_encode.specs.FrameWriters.{Frames}
 use Rattle.typst_html_encode.specs.Layout.{is_pretty_inside}
 use Rattle.typst_html_encode.specs.Text.{ends_at_once, escaping_of}
 use Rattle.typst_html_encode.proofs.Stretches.{all_append}
 use Rattle.typst_html_encode.specs.declared.options.HtmlOptions.{HtmlOptions}
 use Rattle.html_flow_convert.specs.Items.{ItemsView, no_items}
-use Rattle.html_dom_link.specs.Anchors.{nodes_size, nodes_anchored, element_anchored}
+use Rattle.html_dom_link.specs.Anchors.{nodes_size, nodes_with_anchors, element_with_anchors}
 use Rattle.html_dom_link.specs.Events.{Event, Targets, events}
 use Rattle.html_dom_link.specs.Groups.{cuts}
 use Rattle.html_dom_link.specs.Namings.{namings}
@@ -61,10 +61,10 @@ abbrev mutual
 
 quiet_kept : (x : Targets) (ns : NodesView) → AreQuiet ns → (used : Name → Bool)
     (more : List Event) →
-    (nodes_anchored (namings used (cuts [] (events x ns ++ more))) ns ≡ ns)
+    (nodes_with_anchors (namings used (cuts [] (events x ns ++ more))) ns ≡ ns)
     × (drop (nodes_size ns) (namings used (cuts [] (events x ns ++ more)))
     ≡ namings used (cuts [] more))
-unfolding events nodes_anchored nodes_size
+unfolding events nodes_with_anchors nodes_size
 quiet_kept x none q used more = (refl, refl)
 quiet_kept x (node (tag_node t) ns) q used more = absurd q.0
 quiet_kept x (node (text_node s span) ns) q used more =
@@ -110,9 +110,9 @@ root_of_both top h g kids inside =
 
 body_anchored : (x : Targets) (top h g : Head) (kids inside : NodesView) → AreQuiet kids →
     are_clean_nodes false inside ≡ true →
-    (new : NodesView) × (element_anchored x (root_of_both top h g kids inside)
+    (new : NodesView) × (element_with_anchors x (root_of_both top h g kids inside)
     ≡ root_of_both top h g kids new) × (are_clean_nodes false new ≡ true)
-unfolding element_anchored nodes_anchored events
+unfolding element_with_anchors nodes_with_anchors events
 body_anchored x top h g kids inside q c =
     let used : Name → Bool = stands_in (element_names (root_of_both top h g kids inside)) in
     let es = events x inside ++ [] in
@@ -120,9 +120,9 @@ body_anchored x top h g kids inside q c =
     let passing : Each (MadePasses IsCleanValue) (namings used (cuts [] es)) =
     subst (λ fs. Each (MadePasses IsCleanValue) (namings used (cuts [] fs)))
     (sym (append-nil (events x inside))) (clean_namings x used inside false c) in (
-      nodes_anchored (namings used (cuts [] es)) inside,
+      nodes_with_anchors (namings used (cuts [] es)) inside,
       rw (kept.0, kept.1) refl,
-      anchors_keep_clean_nodes false inside (nodes_anchored (namings used (cuts [] es)) inside)
+      anchors_keep_clean_nodes false inside (nodes_with_anchors (namings used (cuts [] es)) inside)
           (nodes_are_anchored IsCleanValue inside (namings used (cuts [] es)) passing) c,
     )
 
@@ -141,17 +141,17 @@ element_written frames pre_span pretty h ns values at_once raw escapable inside 
 -- entries of a head
 
 record IsEntry (n : NodeView) : Type 0 where
-  quiet : IsQuiet (node_styled n)
-  written : (frames : Frames) (pretty : Bool) → node_faults frames false pretty (node_styled n) ≡ []
+  quiet : IsQuiet (styled_node n)
+  written : (frames : Frames) (pretty : Bool) → node_faults frames false pretty (styled_node n) ≡ []
 
 meta_entry : (attrs : List TextPair) → are_clean_values attrs ≡ true →
     IsEntry (made_node (codes "meta") attrs none)
-unfolding node_styled node_faults is_void is_foreign_self_closing stands_in
+unfolding styled_node node_faults is_void is_foreign_self_closing stands_in
 meta_entry attrs e =
     record { quiet = tt; written = λ frames pretty. rw (no_attrs_faults 0 attrs e) refl }
 
 title_entry : (t : List ℕ) → all is_text_char t ≡ true → IsEntry (title_node t)
-unfolding node_styled node_faults is_void is_foreign_self_closing is_raw is_escapable_raw stands_in
+unfolding styled_node node_faults is_void is_foreign_self_closing is_raw is_escapable_raw stands_in
 title_entry t e = record {
   quiet = (tt, tt);
   written = λ frames pretty. rw (no_faults_of (escaping_of false) 0 t (plain_clean t e)) refl;
@@ -238,14 +238,14 @@ all_entries info parts =
       ),
     )
 
-entries_quiet : (ns : List NodeView) → Each IsEntry ns → AreQuiet (nodes_styled (nodes_of ns))
-unfolding nodes_styled
+entries_quiet : (ns : List NodeView) → Each IsEntry ns → AreQuiet (styled_nodes (nodes_of ns))
+unfolding styled_nodes
 entries_quiet [] e = tt
 entries_quiet (n ∷ ns) e = (e.0.quiet, entries_quiet ns e.1)
 
 entries_written : (frames : Frames) (pretty : Bool) (ns : List NodeView) → Each IsEntry ns →
-    nodes_faults frames false pretty (nodes_styled (nodes_of ns)) ≡ []
-unfolding nodes_styled nodes_faults
+    nodes_faults frames false pretty (styled_nodes (nodes_of ns)) ≡ []
+unfolding styled_nodes nodes_faults
 entries_written frames pretty [] e = refl
 entries_written frames pretty (n ∷ ns) e =
     rw (e.0.written frames pretty, entries_written frames pretty ns e.1) refl
@@ -291,11 +291,11 @@ root_written frames pretty lang kids inside e own below =
     ) refl)
 
 abbrev entries_of : InfoView → NodesView
-entries_of info = nodes_styled (nodes_of (charset_node ∷ viewport_node ∷ entry_nodes info))
+entries_of info = styled_nodes (nodes_of (charset_node ∷ viewport_node ∷ entry_nodes info))
 
 root_is_made : (info : InfoView) (ns : NodesView) →
-    root_over info ns ≡ made_root (lang_text info.locale) (entries_of info) (nodes_styled ns)
-unfolding node_styled
+    root_over info ns ≡ made_root (lang_text info.locale) (entries_of info) (styled_nodes ns)
+unfolding styled_node
 root_is_made info ns = refl
 
 -- the root of such a document: its body is clean
@@ -312,10 +312,10 @@ clean_body info items parts plain clean =
     let root = linked_root_is info items plain in
     let anchored = body_anchored root.0 (made_root (lang_text info.locale) none none).0
     (plain_made (codes "head") []) (plain_made (codes "body") []) (entries_of info)
-    (nodes_styled ns) (entries_quiet entries (all_entries info parts))
+    (styled_nodes ns) (entries_quiet entries (all_entries info parts))
     (clean_items_make_clean_nodes None items refl plain clean) in (
       anchored.0,
-      root.1 ∙ (ap (element_anchored root.0) (root_is_made info ns) ∙ anchored.1),
+      root.1 ∙ (ap (element_with_anchors root.0) (root_is_made info ns) ∙ anchored.1),
       anchored.2,
     )
 

@@ -3,7 +3,7 @@ use Rattle.std.proofs.Common.{◌≡◌, ℕ, ◌+◌, ◌<◌, ◌≤◌, List,
 use Rattle.std.proofs.lemmas.List.{at_drop_all}
 use Rattle.html_dom_tree.specs.Views.{node_view, nodes_view}
 use Rattle.html_dom_tree.specs.declared.node.HtmlNode.{HtmlNode}
-use Rattle.html_flow_whitespace.specs.Nodes.{is_tag}
+use Rattle.html_flow_convert.specs.Nodes.{is_tag}
 use Rattle.typst_html_export.specs.Assembled.{shown_count}
 use Rattle.typst_html_export.proofs.Nodes.{from_place}
 

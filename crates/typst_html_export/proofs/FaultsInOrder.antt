@@ -5,9 +5,9 @@ use Rattle.html_dom_tree.specs.Tree.{NodesView}
 use Rattle.html_dom_document.specs.Documents.{DocumentView, InfoView, document_root}
 use Rattle.html_dom_document.specs.Views.{document_view}
 use Rattle.html_dom_document.specs.declared.document.HtmlDocument.{HtmlDocument}
-use Rattle.typst_html_encode.specs.Faults.{BeginsWith, IsFirst}
-use Rattle.typst_html_encode.specs.Faults as writing
-use Rattle.typst_html_encode.specs.Frames.{Frames}
+use Rattle.typst_html_encode.specs.ExportFaults.{BeginsWith, IsFirst}
+use Rattle.typst_html_encode.specs.ExportFaults as writing
+use Rattle.typst_html_encode.specs.FrameWriters.{Frames}
 use Rattle.typst_html_encode.specs.Text.{document_text}
 use Rattle.typst_html_encode.specs.Endings.{Gives}
 use Rattle.typst_html_encode.specs.declared.options.HtmlOptions.{HtmlOptions}
@@ -16,8 +16,8 @@ use Rattle.typst_html_encode.specs.declared.fault.ExportFault.{ExportFault}
 use Rattle.typst_html_encode.specs.declared.fault.ExportFault.TheVariants as fault
 use Rattle.html_flow_convert.specs.Depth.{items_too_deep}
 use Rattle.html_flow_convert.specs.Items.{ItemsView}
-use Rattle.typst_html_export.specs.Assembled.{assembled_document, assembly_faults, depth_faults, document_around, document_faults, document_nodes}
-use Rattle.typst_html_export.specs.Assembles.{Assembles}
+use Rattle.typst_html_export.specs.Assembled.{assembled_document, assembly_faults, depth_faults, document_around, items_document_faults, document_nodes}
+use Rattle.typst_html_export.specs.Assembles.{GivesDocument}
 use Rattle.typst_html_export.specs.Exported.{root_faults}
 use Rattle.typst_html_export.proofs.Firsts.{first_after_none, none_after_none}
 
@@ -40,7 +40,7 @@ first_written e made fs none h = first_after_none e made (views fs) none (first_
 -- what is answered for a document that was made of items
 written : (r : Result (String Global) ExportFault) (wanted : List ℕ) (made : List ExportFaultView)
     (fs : List ExportFault) → made ≡ [] → Gives r wanted fs
-    → Assembles text_view r wanted (made ++ views fs)
+    → GivesDocument text_view r wanted (made ++ views fs)
 written (Ok s) wanted made fs none m =
     record { made = m.made; clean = none_after_none made (views fs) none (ap views m.clean); fault = tt }
 written (Err e) wanted made fs none m =
@@ -48,21 +48,21 @@ written (Err e) wanted made fs none m =
 
 pub exported : (frames : Frames) (options : HtmlOptions) (limit : ℕ) (items notes : ItemsView)
     (d expected : DocumentView) (r : Result (String Global) ExportFault) → d ≡ expected →
-    document_faults limit items notes ≡ []
+    items_document_faults limit items notes ≡ []
     → Gives r (document_text frames options (document_root d))
     (writing.document_faults frames options (document_root d))
-    → Assembles text_view r (document_text frames options (document_root expected))
-    (document_faults limit items notes ++ root_faults frames options (document_root expected))
+    → GivesDocument text_view r (document_text frames options (document_root expected))
+    (items_document_faults limit items notes ++ root_faults frames options (document_root expected))
 exported frames options limit items notes d expected r is none m =
-    subst (λ v. Assembles text_view r (document_text frames options (document_root v))
-    (document_faults limit items notes ++ root_faults frames options (document_root v))) is
-    (written r (document_text frames options (document_root d)) (document_faults limit items notes)
+    subst (λ v. GivesDocument text_view r (document_text frames options (document_root v))
+    (items_document_faults limit items notes ++ root_faults frames options (document_root v))) is
+    (written r (document_text frames options (document_root d)) (items_document_faults limit items notes)
     (writing.document_faults frames options (document_root d)) none m)
 
 -- what is answered for the nodes of items, none of which stands too deep
 around_nodes : (r : Result HtmlDocument ExportFault) (d : DocumentView)
-    (deep fs : List ExportFaultView) → deep ≡ [] → Assembles document_view r d fs →
-    Assembles document_view r d (deep ++ fs)
+    (deep fs : List ExportFaultView) → deep ≡ [] → GivesDocument document_view r d fs →
+    GivesDocument document_view r d (deep ++ fs)
 around_nodes (Ok made) d deep fs none m =
     record { made = m.made; clean = none_after_none deep fs none m.clean; fault = tt }
 around_nodes (Err e) d deep fs none m =
@@ -71,13 +71,13 @@ around_nodes (Err e) d deep fs none m =
 pub around_items : (limit : ℕ) (info : InfoView) (items notes : ItemsView) (content : NodesView)
     (r : Result HtmlDocument ExportFault) → content ≡ document_nodes items →
     depth_faults (items_too_deep 0 limit items) ≡ [] →
-    Assembles document_view r (document_around info content notes)
+    GivesDocument document_view r (document_around info content notes)
     (assembly_faults limit content notes) →
-    Assembles document_view r (assembled_document info items notes)
-    (document_faults limit items notes)
+    GivesDocument document_view r (assembled_document info items notes)
+    (items_document_faults limit items notes)
 around_items limit info items notes content r is none m =
     around_nodes r (assembled_document info items notes)
     (depth_faults (items_too_deep 0 limit items))
     (assembly_faults limit (document_nodes items) notes) none
-    (subst (λ ns. Assembles document_view r (document_around info ns notes)
+    (subst (λ ns. GivesDocument document_view r (document_around info ns notes)
     (assembly_faults limit ns notes)) is m)

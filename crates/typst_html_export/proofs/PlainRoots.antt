@@ -3,14 +3,14 @@ use Rattle.std.proofs.Common.{◌≡◌, ℕ, true, false, List, [], ◌∷◌, 
 use Rattle.std.proofs.lemmas.Bool.{and_parts}
 use Rattle.html_names.specs.Kinds.{is_raw}
 use Rattle.html_names.specs.Names.{stands_in}
-use Rattle.html_dom_tree.specs.Styled.{head_styled, node_styled, nodes_styled}
+use Rattle.html_dom_tree.specs.Styled.{head_with_style, styled_node, styled_nodes}
 use Rattle.html_dom_tree.specs.Tree.{NodeView, tag_node, text_node, element_node, frame_node, NodesView, none, node, ElementView, new_element}
 use Rattle.html_dom_tree.specs.Views.{nodes_of}
-use Rattle.html_flow_whitespace.specs.Protected.{nodes_protected}
-use Rattle.html_flow_whitespace.specs.Runs.{front, after_front}
+use Rattle.html_flow_convert.specs.Protected.{nodes_by_answers}
+use Rattle.html_flow_convert.specs.Runs.{front, after_front}
 use Rattle.typst_html_encode.specs.IndentsCollapse.{body_of}
 use Rattle.html_dom_document.specs.Documents.{InfoView, OutputView, DocumentView, node_of, root_of, given_root, with_root, document_root}
-use Rattle.html_dom_link.specs.Anchors.{element_anchored}
+use Rattle.html_dom_link.specs.Anchors.{element_with_anchors}
 use Rattle.html_dom_link.specs.Events.{Targets}
 use Rattle.html_dom_link.specs.LinkAnchors.{document_targets}
 use Rattle.html_flow_convert.specs.Converted.{item_nodes}
@@ -65,28 +65,28 @@ nodes_of_list none = refl
 nodes_of_list (node n ns) = ap (node n) (nodes_of_list ns)
 
 no_notes : (ns : NodesView) → both_nodes ns (document_nodes no_items) ≡ ns
-unfolding node_list item_nodes front after_front nodes_protected
+unfolding node_list item_nodes front after_front nodes_by_answers
 no_notes ns = ap nodes_of (append-nil (node_list ns)) ∙ nodes_of_list ns
 
 -- the root that is made, with styles
 
 abbrev pub root_over : InfoView → NodesView → ElementView
 root_over info ns = (
-  head_styled (record (new_element (codes "html")).0 {
+  head_with_style (record (new_element (codes "html")).0 {
     attrs = (codes "lang", lang_text info.locale) ∷ [];
   }),
-  nodes_styled (node (head_node info) (node (body_node ns) none)),
+  styled_nodes (node (head_node info) (node (body_node ns) none)),
 )
 
 output_is : (info : InfoView) (items : ItemsView) → is_plain_flow items ≡ true →
     document_output info items no_items
     ≡ record { nodes = node (node_of (root_over info (document_nodes items))) none; root = 0 }
-unfolding node_styled
+unfolding styled_node
 output_is info items e = rw (outline items e, no_notes (document_nodes items)) refl
 
 pub body_is : (info : InfoView) (ns : NodesView) →
-    body_of (root_over info ns).1 ≡ Some (nodes_styled ns)
-unfolding node_styled
+    body_of (root_over info ns).1 ≡ Some (styled_nodes ns)
+unfolding styled_node
 body_is info ns = refl
 
 -- it can be read back: there is no frame and no raw element
@@ -153,13 +153,13 @@ assembled_root_is info items e = ap (λ o. given_root (root_of o)) (output_is in
 
 pub linked_root_is : (info : InfoView) (items : ItemsView) → is_plain_flow items ≡ true →
     (x : Targets) × (document_root (linked_document info items no_items)
-    ≡ element_anchored x (root_over info (document_nodes items)))
+    ≡ element_with_anchors x (root_over info (document_nodes items)))
 linked_root_is info items e =
     let d : DocumentView = assembled_document info items no_items in
     let x : Targets = document_targets d.introspector.is_link_target d in (
       x,
       with_new_root (document_output info items no_items) (root_over info (document_nodes items))
-          (output_is info items e) (λ root. element_anchored x root),
+          (output_is info items e) (λ root. element_with_anchors x root),
     )
   where
     with_new_root : (o : OutputView) (root : ElementView) →

@@ -5,13 +5,13 @@ use Rattle.html_dom_tree.specs.PlainTree.{nodes_normal, element_normal}
 use Rattle.html_dom_tree.specs.Tree.{tag_node, text_node, element_node, frame_node, NodesView, none, node, ElementView}
 use Rattle.html_dom_tree.specs.Views.{text_view}
 use Rattle.html_dom_document.specs.Documents.{DocumentView, document_root}
-use Rattle.html_dom_link.specs.Answered.{first_ids, names_shown}
-use Rattle.html_dom_link.specs.GivenLinks.{GivenLinksLead, LeadsAmong, document_given}
+use Rattle.html_dom_link.specs.Answered.{first_ids, shown_names}
+use Rattle.html_dom_link.specs.GivenLinks.{GivenLinksLead, LeadsAmong, document_given_links}
 use Rattle.html_dom_link.specs.Links.{document_with_links}
 use Rattle.html_dom_link.proofs.Consequences.{shown_first}
 use Rattle.typst_html_encode.specs.Endings.{Gives}
-use Rattle.typst_html_encode.specs.Faults as writing
-use Rattle.typst_html_encode.specs.Frames.{Frames}
+use Rattle.typst_html_encode.specs.ExportFaults as writing
+use Rattle.typst_html_encode.specs.FrameWriters.{Frames}
 use Rattle.typst_html_encode.specs.Indented.{element_layout, ElementEndsWell}
 use Rattle.typst_html_encode.specs.ReadIds.{plains_ids, read_ids}
 use Rattle.typst_html_encode.specs.Reader.{read}
@@ -36,7 +36,7 @@ read_by : (frames : Frames) (root : ElementView) (options : HtmlOptions) (text :
     writing.document_faults frames options root ≡ [] →
     (options.pretty ≡ false → read text ≡ Some (element_normal root)) →
     (options.pretty ≡ true → read text ≡ Some (element_normal (element_layout root))) →
-    read_ids (read text) ≡ names_shown root.1
+    read_ids (read text) ≡ shown_names root.1
 read_by frames root options text false is free clean plainly prettily =
     ap read_ids (plainly is) ∙ (normal_ids root.1 ∙ sym (shown_first root.1 free))
 read_by frames root options text true is free clean plainly prettily =
@@ -53,7 +53,7 @@ pub links_lead_when_read : (frames : Frames) (options : HtmlOptions) (old new : 
     read text ≡ Some (element_normal (element_layout (document_root new)))) →
     GivenLinksLead old new → GivenLinksLeadWhenRead old new text
 links_lead_when_read frames options old new text free clean plainly prettily lead =
-    subst (λ names. All (LeadsAmong new.introspector.anchor names) (document_given old new))
+    subst (λ names. All (LeadsAmong new.introspector.anchor names) (document_given_links old new))
     (sym (read_by frames (document_root new) options text options.pretty refl free clean plainly
     prettily)) lead
 

@@ -2,25 +2,25 @@
 use Rattle.std.proofs.Common.{◌≡◌, Bool, true, false, [], None, Some, ap, sym, subst, ◌∙◌}
 use Rattle.std.proofs.lemmas.Bool.{both_ways}
 use Rattle.html_names.specs.Kinds.{is_raw}
-use Rattle.html_dom_tree.specs.Styled.{nodes_styled}
+use Rattle.html_dom_tree.specs.Styled.{styled_nodes}
 use Rattle.html_dom_tree.specs.PlainTree.{nodes_normal}
 use Rattle.html_dom_tree.specs.Tree.{Head, NodesView, ElementView}
 use Rattle.typst_html_encode.specs.Collapsing.{collapsed_pieces}
-use Rattle.typst_html_encode.specs.Faults as writing
-use Rattle.typst_html_encode.specs.Frames.{Frames}
+use Rattle.typst_html_encode.specs.ExportFaults as writing
+use Rattle.typst_html_encode.specs.FrameWriters.{Frames}
 use Rattle.typst_html_encode.specs.Indented.{NodeEndsWell}
 use Rattle.typst_html_encode.specs.IndentsCollapse.{NodesAreEdged, body_of}
 use Rattle.typst_html_encode.specs.ReadingBack.{ElementIsNamed}
 use Rattle.typst_html_encode.specs.Text.{document_text}
 use Rattle.html_dom_document.specs.Documents.{InfoView, DocumentView, document_root}
-use Rattle.html_dom_link.specs.Anchors.{element_anchored}
+use Rattle.html_dom_link.specs.Anchors.{element_with_anchors}
 use Rattle.html_dom_link.specs.Links.{Anchors, nodes_with_links, root_with_links}
 use Rattle.html_flow_convert.specs.Items.{ItemsView, no_items}
 use Rattle.typst_html_encode.proofs.ReadingBack.{reads_back}
 use Rattle.typst_html_spaces.specs.Anchored.{Anchored, IsAny}
 use Rattle.typst_html_spaces.specs.ItemText.{items_text}
 use Rattle.typst_html_spaces.specs.PlainFlow.{is_plain_flow}
-use Rattle.typst_html_spaces.specs.SeenBody.{plains_seen, tree_seen, text_seen}
+use Rattle.typst_html_spaces.specs.SeenBody.{seen_plains, seen_tree, seen_text}
 use Rattle.typst_html_spaces.proofs.Anchored.{anchors_are_unseen, anchors_keep_edges}
 use Rattle.typst_html_spaces.proofs.PlainNodes.{makes_plain_nodes, plain_readable}
 use Rattle.typst_html_spaces.specs.ReadableNodes.{AreReadable}
@@ -43,7 +43,7 @@ record ShowsItems (root : ElementView) (items : ItemsView) : Type 0 where
   body : NodesView
   body_is : body_of root.1 ≡ Some body
   edged : NodesAreEdged body
-  seen : plains_seen (nodes_normal body) ≡ items_text items
+  seen : seen_plains (nodes_normal body) ≡ items_text items
 
 shown_read : (root : ElementView) (items : ItemsView) → ShowsItems root items → IsReadAs root items
 unfolding NodeEndsWell
@@ -82,7 +82,7 @@ made_shown info items e =
     record {
       not_raw = html_not_raw;
       readable = root_readable info ns (plain_readable ns made.0);
-      body = nodes_styled ns;
+      body = styled_nodes ns;
       body_is = body_is info ns;
       edged = made.1;
       seen = spaces_stay None items e;
@@ -90,12 +90,12 @@ made_shown info items e =
 
 linked_shown : (info : InfoView) (items : ItemsView) → is_plain_flow items ≡ true →
     ShowsItems (linked_root info items no_items) items
-unfolding element_anchored
+unfolding element_with_anchors
 linked_shown info items e =
     let is = linked_root_is info items e in
     let old : ElementView = root_over info (document_nodes items) in
     subst (λ r. ShowsItems r items) (sym is.1)
-    (still_shown old.0 old.1 (element_anchored is.0 old).1 items (root_anchored is.0 old)
+    (still_shown old.0 old.1 (element_with_anchors is.0 old).1 items (root_anchored is.0 old)
     (made_shown info items e))
 
 pub plain_documents_are_read : PlainDocumentsAreRead
@@ -114,11 +114,11 @@ plain_linked_documents_are_read info items e anchor =
 text_is_seen : (frames : Frames) (root : ElementView) (items : ItemsView) → IsReadAs root items →
     ElementIsNamed root → (pretty : Bool) →
     writing.document_faults frames (record { pretty = pretty }) root ≡ [] →
-    text_seen (document_text frames (record { pretty = pretty }) root) ≡ Some (items_text items)
+    seen_text (document_text frames (record { pretty = pretty }) root) ≡ Some (items_text items)
 text_is_seen frames root items is named false clean =
-    ap tree_seen ((reads_back frames).0 root named is.frame_free clean) ∙ is.plain
+    ap seen_tree ((reads_back frames).0 root named is.frame_free clean) ∙ is.plain
 text_is_seen frames root items is named true clean =
-    ap tree_seen ((reads_back frames).1 root named is.frame_free is.ends_well clean) ∙ is.pretty
+    ap seen_tree ((reads_back frames).1 root named is.frame_free is.ends_well clean) ∙ is.pretty
 
 pub plain_documents_are_seen : PlainDocumentsAreSeen
 plain_documents_are_seen info items e frames options named clean =

@@ -10,7 +10,7 @@ use Rattle.typst_html_encode.specs.declared.fault.ExportFault.{ExportFault}
 use Rattle.html_flow_convert.specs.Items.{ItemsView, no_items}
 use Rattle.typst_html_spaces.specs.ItemText.{items_text}
 use Rattle.typst_html_spaces.specs.PlainFlow.{is_plain_flow}
-use Rattle.typst_html_spaces.specs.SeenBody.{tree_seen, text_seen}
+use Rattle.typst_html_spaces.specs.SeenBody.{seen_tree, seen_text}
 use Rattle.typst_html_export.specs.SpacesInDocuments.{IsReadAs, SpacesAreSeen}
 
 module _ (root : ElementView) (items : ItemsView) where
@@ -23,10 +23,10 @@ module _ (root : ElementView) (items : ItemsView) where
   seen_by : (pretty : Bool) (text : List ℕ) →
       (pretty ≡ false → ElementIsFrameFree root → plainly_read text) →
       (pretty ≡ true → ElementIsFrameFree root → ElementEndsWell true root → prettily_read text) →
-      IsReadAs root items → text_seen text ≡ Some (items_text items)
-  seen_by false text plain indented is = ap tree_seen (plain refl is.frame_free) ∙ is.plain
+      IsReadAs root items → seen_text text ≡ Some (items_text items)
+  seen_by false text plain indented is = ap seen_tree (plain refl is.frame_free) ∙ is.plain
   seen_by true text plain indented is =
-      ap tree_seen (indented refl is.frame_free is.ends_well) ∙ is.pretty
+      ap seen_tree (indented refl is.frame_free is.ends_well) ∙ is.pretty
 
   pub spaces_are_seen : (pretty : Bool) (r : Result (String Global) ExportFault)
       (notes : ItemsView) →

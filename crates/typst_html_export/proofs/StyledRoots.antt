@@ -1,14 +1,14 @@
 -- Where the other nodes are tags, the styles of the root are those of all nodes.
 use Rattle.std.proofs.Common.{◌≡◌, ℕ, zero, suc, ◌<◌, true, refl, ap, sym, true≢false, arith}
-use Rattle.html_dom_tree.specs.Styled.{head_styled, nodes_styled, element_styled}
+use Rattle.html_dom_tree.specs.Styled.{head_with_style, styled_nodes, styled_element}
 use Rattle.html_dom_tree.specs.Tree.{tag_node, text_node, element_node, frame_node, NodesView, none, node}
 use Rattle.html_dom_document.specs.Documents.{element_at, is_element_at, with_element}
 use Rattle.typst_html_export.specs.Assembled.{shown_count}
 use Rattle.html_dom_document.specs.Documents.{given_root}
 
 -- tags have no styles
-tags_styled : (ns : NodesView) → shown_count ns ≡ 0 → nodes_styled ns ≡ ns
-unfolding shown_count nodes_styled
+tags_styled : (ns : NodesView) → shown_count ns ≡ 0 → styled_nodes ns ≡ ns
+unfolding shown_count styled_nodes
 tags_styled none e = refl
 tags_styled (node (tag_node t) ns) e = ap (node (tag_node t)) (tags_styled ns e)
 tags_styled (node (text_node s span) ns) e = absurd (omega (arith, e))
@@ -26,11 +26,11 @@ element_counts (node (element_node h kids) ns) p there = omega arith
 element_counts (node (frame_node f) ns) p there = omega arith
 
 abbrev root_styled_at : NodesView → ℕ → NodesView
-root_styled_at ns p = with_element ns p (element_styled (given_root (element_at ns p)))
+root_styled_at ns p = with_element ns p (styled_element (given_root (element_at ns p)))
 
 pub lone_styled : (ns : NodesView) (p : ℕ) → shown_count ns ≡ 1 → is_element_at ns p ≡ true
-    → root_styled_at ns p ≡ nodes_styled ns
-unfolding shown_count nodes_styled
+    → root_styled_at ns p ≡ styled_nodes ns
+unfolding shown_count styled_nodes
 lone_styled none p one there = refl
 lone_styled (node (tag_node t) ns) zero one there = absurd (true≢false (sym there))
 lone_styled (node (tag_node t) ns) (suc p) one there =
@@ -39,7 +39,7 @@ lone_styled (node (text_node s span) ns) zero one there = absurd (true≢false (
 lone_styled (node (text_node s span) ns) (suc p) one there =
     absurd (omega (arith, one, element_counts ns p there))
 lone_styled (node (element_node h kids) ns) zero one there =
-    ap (node (element_node (head_styled h) (nodes_styled kids))) (sym (tags_styled ns (omega (arith, one))))
+    ap (node (element_node (head_with_style h) (styled_nodes kids))) (sym (tags_styled ns (omega (arith, one))))
 lone_styled (node (element_node h kids) ns) (suc p) one there =
     absurd (omega (arith, one, element_counts ns p there))
 lone_styled (node (frame_node f) ns) zero one there = absurd (true≢false (sym there))

@@ -8,7 +8,7 @@ use Rattle.std.specs.Prelude.{String}
 use Rattle.std.specs.declared.alloc.Global.{Global}
 use Rattle.html_dom_tree.specs.Tree.{tag_node, text_node, element_node, frame_node, NodesView, none, node}
 use Rattle.html_dom_tree.specs.declared.introspection.Location.{Location}
-use Rattle.html_dom_introspect.specs.Introspectors.{has, text_in}
+use Rattle.html_dom_document.specs.Introspectors.{has_location, location_text}
 use Rattle.html_dom_document.specs.Documents.{DocumentView, document_root, element_at, given_root, is_element_at, with_element}
 use Rattle.html_dom_link.specs.LinkAnchors.{document_anchor, document_targets}
 use Rattle.html_dom_link.proofs.Consequences.{no_target_no_change}
@@ -25,12 +25,12 @@ put_again (node (frame_node f) ns) zero there = cc
 put_again (node n ns) (suc i) there = ap (node n) (put_again ns i there)
 
 -- nothing is in a set without members
-pub nothing_in : (set : BTreeSet Location) → btree_set_len set ≡ 0 → (l : ℕ) → has set l ≡ false
+pub nothing_in : (set : BTreeSet Location) → btree_set_len set ≡ 0 → (l : ℕ) → has_location set l ≡ false
 nothing_in set short l = let no_keys = nil_from_length set.keys short in rw no_keys refl
 
 -- nor is a text of any location in a map without entries
 pub no_text_in : (map : BTreeMap Location (String Global)) → IsEmpty map →
-    text_in map ≡ (λ l. None)
+    location_text map ≡ (λ l. None)
 no_text_in map empty = fun_ext (λ l. rw empty refl)
 
 pub without_targets : (d : DocumentView) →

@@ -2,11 +2,11 @@
 -- Standard 4.1 to 4.3): what stands around the nodes, and what is refused.
 use Rattle.std.specs.Prelude.{ℕ, ◌+◌, Bool, ◌||◌, ◌==◌, List, [], ◌∷◌, ◌++◌, codes, bytes_eq, if◌then◌else◌, Option, Some, None, option_map, map}
 use Rattle.html_dom_tree.specs.Attributes.{or_else}
-use Rattle.html_dom_tree.specs.Styled.{nodes_styled}
+use Rattle.html_dom_tree.specs.Styled.{styled_nodes}
 use Rattle.html_dom_tree.specs.Tree.{Head, NodeView, tag_node, text_node, element_node, frame_node, NodesView, none, node}
 use Rattle.html_dom_tree.specs.Views.{nodes_of}
 use Rattle.html_dom_document.specs.Documents.{InfoView, OutputView, DocumentView, new_document}
-use Rattle.html_flow_whitespace.specs.Nodes.{is_tag}
+use Rattle.html_flow_convert.specs.Nodes.{is_tag}
 use Rattle.html_flow_convert.specs.Converted.{converted_nodes}
 use Rattle.html_flow_convert.specs.Depth.{items_too_deep}
 use Rattle.html_flow_convert.specs.Items.{ItemsView, no_items, item, item_span}
@@ -87,8 +87,8 @@ output_by (own_among_others name span) info content notes = html_output info con
 abbrev pub assembled_output : InfoView → (content notes : NodesView) → OutputView
 assembled_output info content notes = output_by (document_outline content) info content notes
 
-abbrev pub output_styled : OutputView → OutputView
-output_styled o = record o { nodes = nodes_styled o.nodes }
+abbrev pub styled_output : OutputView → OutputView
+styled_output o = record o { nodes = styled_nodes o.nodes }
 
 -- the nodes of a document's items or of its footnotes
 abbrev pub document_nodes : ItemsView → NodesView
@@ -97,7 +97,7 @@ document_nodes items = converted_nodes Block Normal None items
 -- the document around nodes, of what is known of it, and of footnotes
 abbrev pub output_around : InfoView → (content : NodesView) (notes : ItemsView) → OutputView
 output_around info content notes =
-    output_styled (assembled_output info content (document_nodes notes))
+    styled_output (assembled_output info content (document_nodes notes))
 
 abbrev pub document_around : InfoView → (content : NodesView) (notes : ItemsView) → DocumentView
 document_around info content notes = new_document (output_around info content notes) info
@@ -135,6 +135,6 @@ assembly_faults limit content notes =
     outline_faults (document_outline content) notes ++ depth_faults (items_too_deep 1 limit notes)
 
 -- all faults for which no document is made of items, in the order in which it is refused
-abbrev pub document_faults : (limit : ℕ) (items notes : ItemsView) → List ExportFaultView
-document_faults limit items notes = depth_faults (items_too_deep 0 limit items)
+abbrev pub items_document_faults : (limit : ℕ) (items notes : ItemsView) → List ExportFaultView
+items_document_faults limit items notes = depth_faults (items_too_deep 0 limit items)
     ++ assembly_faults limit (document_nodes items) notes

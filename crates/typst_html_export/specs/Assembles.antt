@@ -5,7 +5,7 @@ use Rattle.typst_html_encode.specs.declared.fault.ExportFault.{ExportFault}
 use Rattle.typst_html_encode.specs.declared.fault.ExportFault.TheVariants.{OutOfMemory}
 
 -- with that value and no fault, or with the first fault; out of memory may come before
-pub record Assembles {A B : Type 0} (view : A → B) (r : Result A ExportFault) (value : B)
+pub record GivesDocument {A B : Type 0} (view : A → B) (r : Result A ExportFault) (value : B)
     (faults : List ExportFaultView) : Type 0 where
   pub made : IfOk r (λ a. view a ≡ value)
   pub clean : OnOk r (faults ≡ [])
@@ -17,4 +17,4 @@ FailsByMemoryAlone r = IfErr r (λ e. e ≡ OutOfMemory)
 
 -- nothing is answered
 abbrev pub Passes : Result (Unit {0}) ExportFault → List ExportFaultView → Type 0
-Passes r faults = Assembles (λ done. done) r tt faults
+Passes r faults = GivesDocument (λ done. done) r tt faults

@@ -5,7 +5,7 @@ use Rattle.std.specs.List.{list_all}
 use Rattle.html_names.specs.Characters.{all, is_text_char}
 use Rattle.html_dom_document.specs.Documents.{LocaleView, InfoView}
 use Rattle.html_dom_link.specs.Links.{Anchors, root_with_links}
-use Rattle.typst_html_encode.specs.Frames.{Frames}
+use Rattle.typst_html_encode.specs.FrameWriters.{Frames}
 use Rattle.typst_html_encode.specs.declared.options.HtmlOptions.{HtmlOptions}
 use Rattle.html_flow_convert.specs.Items.{ItemsView, no_items}
 use Rattle.typst_html_spaces.specs.CleanItems.{are_clean_items}

@@ -3,13 +3,13 @@ use Rattle.std.specs.Prelude.{ℕ, List, ◌++◌, map}
 use Rattle.html_dom_tree.specs.Tree.{ElementView}
 use Rattle.html_dom_document.specs.Documents.{InfoView, DocumentView, document_root}
 use Rattle.html_dom_link.specs.Links.{document_with_links}
-use Rattle.typst_html_encode.specs.Faults as writing
+use Rattle.typst_html_encode.specs.ExportFaults as writing
 use Rattle.typst_html_encode.specs.FaultViews.{ExportFaultView, export_fault_view}
-use Rattle.typst_html_encode.specs.Frames.{Frames}
+use Rattle.typst_html_encode.specs.FrameWriters.{Frames}
 use Rattle.typst_html_encode.specs.Text.{document_text}
 use Rattle.typst_html_encode.specs.declared.options.HtmlOptions.{HtmlOptions}
 use Rattle.html_flow_convert.specs.Items.{ItemsView}
-use Rattle.typst_html_export.specs.Assembled.{document_faults}
+use Rattle.typst_html_export.specs.Assembled.{items_document_faults}
 use Rattle.typst_html_export.specs.Linked.{linked_document}
 
 abbrev pub linked_root : InfoView → (items notes : ItemsView) → ElementView
@@ -40,11 +40,11 @@ root_faults frames options root =
 -- writing its tree
 abbrev pub export_faults : (limit : ℕ) → Frames → HtmlOptions → InfoView → (items notes : ItemsView)
     → List ExportFaultView
-export_faults limit frames options info items notes = document_faults limit items notes
+export_faults limit frames options info items notes = items_document_faults limit items notes
     ++ root_faults frames options (linked_root info items notes)
 
 -- the same where links are resolved before it is written
 abbrev pub export_linked_faults : (limit : ℕ) → Frames → HtmlOptions → InfoView
     → (items notes : ItemsView) → List ExportFaultView
-export_linked_faults limit frames options info items notes = document_faults limit items notes
+export_linked_faults limit frames options info items notes = items_document_faults limit items notes
     ++ root_faults frames options (resolved_root info items notes)

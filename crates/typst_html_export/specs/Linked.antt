@@ -5,18 +5,18 @@ use Rattle.html_names.specs.Names.{stands_in}
 use Rattle.html_dom_document.specs.Documents.{InfoView, DocumentView, document_root}
 use Rattle.html_flow_convert.specs.Items.{ItemsView}
 use Rattle.html_dom_link.specs.Answered.{first_ids}
-use Rattle.html_dom_link.specs.LinkAnchors.{document_anchored, document_anchor}
+use Rattle.html_dom_link.specs.LinkAnchors.{document_with_new_anchors, document_anchor}
 use Rattle.typst_html_export.specs.Assembled.{assembled_document}
 
 -- a document with anchors for these locations, and with what they are called
-abbrev pub document_linked : (is_target : ℕ → Bool) → DocumentView → DocumentView
-document_linked is_target d = record (document_anchored is_target d) {
+abbrev pub document_with_known_anchors : (is_target : ℕ → Bool) → DocumentView → DocumentView
+document_with_known_anchors is_target d = record (document_with_new_anchors is_target d) {
   introspector = record d.introspector { anchor = document_anchor is_target d };
 }
 
 -- with anchors for all locations to which links were recorded
 abbrev pub document_with_anchors : DocumentView → DocumentView
-document_with_anchors d = document_linked d.introspector.is_link_target d
+document_with_anchors d = document_with_known_anchors d.introspector.is_link_target d
 
 abbrev pub linked_document : InfoView → (items notes : ItemsView) → DocumentView
 linked_document info items notes = document_with_anchors (assembled_document info items notes)

@@ -3,7 +3,7 @@ use Rattle.std.specs.Prelude.{◌≡◌, ◌↔◌, Bool}
 use Rattle.html_dom_tree.specs.FrameFree.{ElementIsFrameFree}
 use Rattle.html_dom_tree.specs.PlainTree.{nodes_normal}
 use Rattle.html_dom_tree.specs.Tree.{ElementView}
-use Rattle.html_dom_link.specs.Anchors.{element_anchored}
+use Rattle.html_dom_link.specs.Anchors.{element_with_anchors}
 use Rattle.html_dom_link.specs.Events.{Targets}
 use Rattle.html_dom_link.specs.Links.{Anchors, root_with_links}
 use Rattle.typst_html_encode.specs.Collapsing.{plains_atoms}
@@ -16,7 +16,7 @@ HaveSameAtoms e old = (preserved : Bool) →
 
 -- a tree with anchors has those of the tree without
 abbrev pub AnchorsKeepAtoms : Type 0
-AnchorsKeepAtoms = (x : Targets) (e : ElementView) → HaveSameAtoms (element_anchored x e) e
+AnchorsKeepAtoms = (x : Targets) (e : ElementView) → HaveSameAtoms (element_with_anchors x e) e
 
 -- and so has one with the `href` of its links
 abbrev pub LinksKeepAtoms : Type 0

@@ -2,7 +2,7 @@
 use Rattle.std.specs.Prelude.{◌≡◌, ℕ, true, List, All}
 use Rattle.html_dom_tree.specs.FrameFree.{ElementIsFrameFree}
 use Rattle.html_dom_document.specs.Documents.{DocumentView, document_root}
-use Rattle.html_dom_link.specs.GivenLinks.{LeadsAmong, document_given}
+use Rattle.html_dom_link.specs.GivenLinks.{LeadsAmong, document_given_links}
 use Rattle.typst_html_encode.specs.Indented.{ElementEndsWell}
 use Rattle.typst_html_encode.specs.ReadIds.{read_ids}
 use Rattle.typst_html_encode.specs.Reader.{read}
@@ -12,7 +12,7 @@ use Rattle.typst_html_encode.specs.declared.options.HtmlOptions.{HtmlOptions}
 -- leads to the anchor of its destination, which is the first `id` of an element that is read
 abbrev pub GivenLinksLeadWhenRead : (old new : DocumentView) → (text : List ℕ) → Type 0
 GivenLinksLeadWhenRead old new text =
-    All (LeadsAmong new.introspector.anchor (read_ids (read text))) (document_given old new)
+    All (LeadsAmong new.introspector.anchor (read_ids (read text))) (document_given_links old new)
 
 -- a root whose text can be read: it has no frame, and pretty writing puts no raw text on lines of its
 -- own that ends in a closing tag without its last character

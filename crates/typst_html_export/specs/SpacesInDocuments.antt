@@ -2,8 +2,8 @@
 use Rattle.std.specs.Prelude.{◌≡◌, ℕ, true, List, [], Some}
 use Rattle.html_dom_tree.specs.PlainTree.{element_normal}
 use Rattle.html_dom_tree.specs.Tree.{ElementView}
-use Rattle.typst_html_encode.specs.Faults as writing
-use Rattle.typst_html_encode.specs.Frames.{Frames}
+use Rattle.typst_html_encode.specs.ExportFaults as writing
+use Rattle.typst_html_encode.specs.FrameWriters.{Frames}
 use Rattle.typst_html_encode.specs.Indented.{element_layout, ElementEndsWell}
 use Rattle.html_dom_tree.specs.FrameFree.{ElementIsFrameFree}
 use Rattle.typst_html_encode.specs.ReadingBack.{ElementIsNamed}
@@ -15,8 +15,8 @@ use Rattle.html_flow_convert.specs.Depth.{items_too_deep}
 use Rattle.html_flow_convert.specs.Items.{ItemsView, no_items}
 use Rattle.typst_html_spaces.specs.ItemText.{items_text}
 use Rattle.typst_html_spaces.specs.PlainFlow.{is_plain_flow}
-use Rattle.typst_html_spaces.specs.SeenBody.{tree_seen, text_seen}
-use Rattle.typst_html_export.specs.Assembled.{document_faults}
+use Rattle.typst_html_spaces.specs.SeenBody.{seen_tree, seen_text}
+use Rattle.typst_html_export.specs.Assembled.{items_document_faults}
 use Rattle.typst_html_export.specs.Exported.{linked_root}
 
 -- items in plain flow without footnotes, none of which stands too deep
@@ -28,14 +28,14 @@ pub record ArePlainItems (limit : ℕ) (items notes : ItemsView) : Type 0 where
 -- of them a document is made
 abbrev pub PlainDocumentsAreMade : Type 0
 PlainDocumentsAreMade = (limit : ℕ) (items notes : ItemsView) → ArePlainItems limit items notes →
-    document_faults limit items notes ≡ []
+    items_document_faults limit items notes ≡ []
 
 -- what is seen of the text of a document's root, plain or pretty, is the text of these items, if
 -- the root has no fault
 abbrev pub IsSeenAs : ElementView → ItemsView → Type 0
 IsSeenAs root items = (frames : Frames) (options : HtmlOptions) → ElementIsNamed root →
     writing.document_faults frames options root ≡ [] →
-    text_seen (document_text frames options root) ≡ Some (items_text items)
+    seen_text (document_text frames options root) ≡ Some (items_text items)
 
 -- of a document that is made of items in plain flow, with its anchors
 abbrev pub PlainDocumentsAreSeen : Type 0
@@ -52,8 +52,8 @@ PlainLinkedDocumentsAreSeen = (info : InfoView) (items : ItemsView) → is_plain
 pub record IsReadAs (root : ElementView) (items : ItemsView) : Type 0 where
   pub frame_free : ElementIsFrameFree root
   pub ends_well : ElementEndsWell true root
-  pub plain : tree_seen (Some (element_normal root)) ≡ Some (items_text items)
-  pub pretty : tree_seen (Some (element_normal (element_layout root))) ≡ Some (items_text items)
+  pub plain : seen_tree (Some (element_normal root)) ≡ Some (items_text items)
+  pub pretty : seen_tree (Some (element_normal (element_layout root))) ≡ Some (items_text items)
 
 -- so is the root of a document that is made of items in plain flow, with its anchors
 abbrev pub PlainDocumentsAreRead : Type 0
@@ -73,4 +73,4 @@ SpacesAreLeft d items notes = is_plain_flow items ≡ true → notes ≡ no_item
 -- and in a text exactly the items' text is seen
 abbrev pub SpacesAreSeen : (text : List ℕ) → (items notes : ItemsView) → Type 0
 SpacesAreSeen text items notes = is_plain_flow items ≡ true → notes ≡ no_items →
-    text_seen text ≡ Some (items_text items)
+    seen_text text ≡ Some (items_text items)

@@ -10,19 +10,19 @@ ghost use Rattle.html_dom_document.specs.Documents.{document_root};
 ghost use Rattle.html_dom_document.specs.Positions.{PositionsLead};
 ghost use Rattle.html_dom_document.specs.Views.{document_view, info_view, output_view};
 ghost use Rattle.typst_html_encode.specs.FaultViews.{spans_view};
-ghost use Rattle.html_flow_whitespace.specs.Nodes.{is_tag};
+ghost use Rattle.html_flow_convert.specs.Nodes.{is_tag};
 ghost use Rattle.html_flow_convert.specs.Depth.{items_too_deep};
 ghost use Rattle.html_flow_convert.specs.Items.{no_items};
 ghost use Rattle.html_flow_convert.specs.Views.{items_view};
 ghost use Rattle.typst_html_export.specs.Assembled.{assembled_document, assembled_output, document_around, document_nodes};
 ghost use Rattle.typst_html_export.specs.Assembled.{first_own, is_html, is_own, own_head, document_outline, shown_count};
 ghost use Rattle.typst_html_export.specs.Assembled.{body_node, both_nodes, html_output};
-ghost use Rattle.typst_html_export.specs.Assembled.{assembly_faults, depth_faults, document_faults, item_spans, note_faults, outline_faults};
-ghost use Rattle.typst_html_export.specs.Assembles.{Assembles, FailsByMemoryAlone, Passes};
+ghost use Rattle.typst_html_export.specs.Assembled.{assembly_faults, depth_faults, items_document_faults, item_spans, note_faults, outline_faults};
+ghost use Rattle.typst_html_export.specs.Assembles.{GivesDocument, FailsByMemoryAlone, Passes};
 ghost use Rattle.typst_html_export.specs.Linked.{document_with_anchors, linked_document, AnchorsAreFirstIds};
 ghost use Rattle.typst_html_export.specs.LinkedRoots.{HaveSameAtoms};
 ghost use Rattle.typst_html_export.specs.Outlines.{outline_view, own_view};
-ghost use Rattle.typst_html_export.specs.Roots.{root_styled};
+ghost use Rattle.typst_html_export.specs.Roots.{styled_root};
 ghost use Rattle.typst_html_export.specs.SpacesInDocuments.{ArePlainItems, SpacesAreLeft};
 
 use crate::head::{head_node, lang_text};
@@ -70,9 +70,9 @@ pub fn html_document(
 ) -> Result<HtmlDocument, ExportFault>
     requires some_limit { 1 ≤ limit }
     requires low_limit { limit ≤ 10000 }
-    ensures made { Assembles document_view result
+    ensures made { GivesDocument document_view result
         (linked_document (info_view info.now) (items_view items.now) (items_view footnotes.now))
-        (document_faults limit (items_view items.now) (items_view footnotes.now)) }
+        (items_document_faults limit (items_view items.now) (items_view footnotes.now)) }
     ensures anchors { IfOk result (λ document. AnchorsAreFirstIds (document_view document)) }
     ensures shown { IfOk result (λ document. KnownAnchorsAreShown (document_view document)) }
     ensures serves { IfOk result (λ document. KnownAnchorsServe (document_view document)) }
@@ -147,9 +147,9 @@ pub fn html_document_for_bundle(
 ) -> Result<HtmlDocument, ExportFault>
     requires some_limit { 1 ≤ limit }
     requires low_limit { limit ≤ 10000 }
-    ensures made { Assembles document_view result
+    ensures made { GivesDocument document_view result
         (assembled_document (info_view info.now) (items_view items.now) (items_view footnotes.now))
-        (document_faults limit (items_view items.now) (items_view footnotes.now)) }
+        (items_document_faults limit (items_view items.now) (items_view footnotes.now)) }
     ensures leads { IfOk result (λ document. PositionsLead (document_view document)) }
     // Of items in plain flow, without footnotes, exactly their text is seen.
     ensures spaces { IfOk result (λ document. SpacesAreLeft (document_view document)
@@ -170,9 +170,9 @@ pub(crate) fn document_of_items(
 ) -> Result<HtmlDocument, ExportFault>
     requires some_limit { 1 ≤ limit }
     requires low_limit { limit ≤ 10000 }
-    ensures { Assembles document_view result
+    ensures { GivesDocument document_view result
         (linked_document (info_view info.now) (items_view items.items) (items_view footnotes.now))
-        (document_faults limit (items_view items.items) (items_view footnotes.now)) }
+        (items_document_faults limit (items_view items.items) (items_view footnotes.now)) }
 {
     let content = moved(alloc, items, limit)?;
     let document = document_around(alloc, content, info, footnotes, limit)?;
@@ -189,7 +189,7 @@ fn document_around(
 ) -> Result<HtmlDocument, ExportFault>
     requires some_limit { 1 ≤ limit }
     requires low_limit { limit ≤ 10000 }
-    ensures made { Assembles document_view result
+    ensures made { GivesDocument document_view result
         (document_around (info_view info.now) (nodes_view content.items) (items_view footnotes.now))
         (assembly_faults limit (nodes_view content.items) (items_view footnotes.now)) }
     ensures leads { IfOk result (λ document. PositionsLead (document_view document)) }
@@ -203,7 +203,7 @@ fn document_around(
 fn moved(alloc: Global, items: Vec<Pair>, limit: usize) -> Result<Vec<HtmlNode>, ExportFault>
     requires some_limit { 1 ≤ limit }
     requires low_limit { limit ≤ 10000 }
-    ensures { Assembles (λ made. nodes_view made.items) result
+    ensures { GivesDocument (λ made. nodes_view made.items) result
         (document_nodes (items_view items.items))
         (depth_faults (items_too_deep 0 limit (items_view items.items))) }
 {
@@ -222,7 +222,7 @@ fn converted(
     requires within { depth ≤ limit }
     requires some_limit { 1 ≤ limit }
     requires low_limit { limit ≤ 10000 }
-    ensures { Assembles (λ made. nodes_view made.items) result
+    ensures { GivesDocument (λ made. nodes_view made.items) result
         (document_nodes (items_view items.now))
         (depth_faults (items_too_deep depth limit (items_view items.now))) }
 {
@@ -241,7 +241,7 @@ fn assembled(
 ) -> Result<HtmlOutput, ExportFault>
     requires some_limit { 1 ≤ limit }
     requires low_limit { limit ≤ 10000 }
-    ensures { Assembles output_view result
+    ensures { GivesDocument output_view result
         (assembled_output (info_view info.now) (nodes_view content.items)
         (document_nodes (items_view footnotes.now)))
         (assembly_faults limit (nodes_view content.items) (items_view footnotes.now)) }
@@ -276,7 +276,7 @@ enum Outline {
 
 /// What a document of these nodes has of its own; an `html` or `body` among others is refused.
 fn document_outline(nodes: &[HtmlNode]) -> Result<Outline, ExportFault>
-    ensures { Assembles outline_view result (document_outline (nodes_view nodes.now))
+    ensures { GivesDocument outline_view result (document_outline (nodes_view nodes.now))
         (outline_faults (document_outline (nodes_view nodes.now)) no_items) }
 {
     let Some((place, element)) = first_own(nodes) else {
@@ -422,7 +422,7 @@ fn html_output(
 
 /// The output with the css of each element of its root in the attribute `style`.
 fn styled(alloc: Global, mut output: HtmlOutput) -> Result<HtmlOutput, AllocError>
-    ensures { IfOk result (λ made. output_view made ≡ root_styled (output_view output)) }
+    ensures { IfOk result (λ made. output_view made ≡ styled_root (output_view output)) }
 {
     let root = output.root_mut();
     let bare = mem::replace(root, HtmlElement::new(alloc, tag::html));

@@ -5,7 +5,7 @@ ghost use Rattle.html_dom_tree.specs.PlainTree.{element_normal};
 ghost use Rattle.html_dom_tree.specs.Views.{text_view, element_view};
 ghost use Rattle.html_dom_document.specs.Views.{document_view, info_view};
 ghost use Rattle.typst_html_encode.specs.FaultViews.{IsFirstView};
-ghost use Rattle.typst_html_encode.specs.Faults.{document_faults};
+ghost use Rattle.typst_html_encode.specs.ExportFaults.{document_faults};
 ghost use Rattle.typst_html_encode.specs.HtmlTexts.{IsHtmlOf};
 ghost use Rattle.typst_html_encode.specs.Indented.{element_layout, ElementEndsWell};
 ghost use Rattle.typst_html_encode.specs.Reader.{read};
@@ -19,7 +19,7 @@ ghost use Rattle.html_dom_link.specs.Links.{document_dead_links};
 ghost use Rattle.html_flow_convert.specs.Views.{items_view};
 ghost use Rattle.typst_html_spaces.specs.CleanItems.{are_clean_items};
 ghost use Rattle.typst_html_export.specs.Assembled.{assembled_document};
-ghost use Rattle.typst_html_export.specs.Assembles.{Assembles, FailsByMemoryAlone};
+ghost use Rattle.typst_html_export.specs.Assembles.{GivesDocument, FailsByMemoryAlone};
 ghost use Rattle.typst_html_export.specs.CleanInfo.{is_clean_info};
 ghost use Rattle.typst_html_export.specs.Exported.{export_faults, export_linked_faults, export_linked_text, export_text};
 ghost use Rattle.typst_html_export.specs.Exported.{linked_root, resolved_document, resolved_root, root_faults};
@@ -111,7 +111,7 @@ pub fn export<F: FrameWriter>(
 ) -> Result<String, ExportFault>
     requires some_limit { 1 ≤ limit }
     requires low_limit { limit ≤ 10000 }
-    ensures makes { Assembles text_view result
+    ensures makes { GivesDocument text_view result
         (export_text (F.drawing frames.now) options.now
         (info_view info.now) (items_view items.now) (items_view footnotes.now))
         (export_faults limit (F.drawing frames.now) options.now
@@ -172,7 +172,7 @@ pub fn export_linked<F: FrameWriter>(
 ) -> Result<String, ExportFault>
     requires some_limit { 1 ≤ limit }
     requires low_limit { limit ≤ 10000 }
-    ensures makes { Assembles text_view result
+    ensures makes { GivesDocument text_view result
         (export_linked_text (F.drawing frames.now) options.now
         (info_view info.now) (items_view items.now) (items_view footnotes.now))
         (export_linked_faults limit (F.drawing frames.now) options.now
@@ -237,7 +237,7 @@ pub fn export_items<F: FrameWriter>(
 ) -> Result<String, ExportFault>
     requires some_limit { 1 ≤ limit }
     requires low_limit { limit ≤ 10000 }
-    ensures { Assembles text_view result
+    ensures { GivesDocument text_view result
         (export_text (F.drawing frames.now) options.now
         (info_view info.now) (items_view items.items) (items_view footnotes.now))
         (export_faults limit (F.drawing frames.now) options.now

@@ -5,10 +5,10 @@ use Rattle.html_names.specs.Displays.{default_display}
 use Rattle.html_names.specs.Kinds.{is_replaced, is_line_break}
 use Rattle.html_names.specs.Names.{stands_in}
 use Rattle.html_names.specs.Texts.{TextPair}
-use Rattle.html_dom_tree.specs.Styled.{attrs_styled}
+use Rattle.html_dom_tree.specs.Styled.{styled_attrs}
 use Rattle.html_dom_tree.specs.Tree.{Head, NodeView, tag_node, text_node, element_node, frame_node, NodesView, none, node}
 use Rattle.typst_html_encode.specs.Collapsing.{Piece, has_border}
-use Rattle.html_flow_convert.specs.LoneNode.{DisplayChangeView, node_displayed, css_displayed, node_list, are_tags, lone_node, block_change, block_change_of, changed_or_in, block_head, block_nodes}
+use Rattle.html_flow_convert.specs.LoneNode.{DisplayChangeView, node_with_display, css_with_display, node_list, are_tags, lone_node, block_change, block_change_of, changed_or_in, block_head, block_nodes}
 use Rattle.typst_html_spaces.specs.AtomContexts.{SameButEdges}
 use Rattle.typst_html_spaces.specs.ItemText.{between_edges}
 use Rattle.typst_html_spaces.proofs.Edges.{same-equal, same-trans, same-edged}
@@ -27,7 +27,7 @@ tags_pieces (node (element_node h kids) ns) e = absurd (false≢true e)
 tags_pieces (node (frame_node f) ns) e = absurd (false≢true e)
 
 displayed_tags : (change : DisplayChangeView) (ns : NodesView) → are_tags ns ≡ true →
-    list_pieces (map (node_displayed change) (node_list ns)) ≡ []
+    list_pieces (map (node_with_display change) (node_list ns)) ≡ []
 unfolding node_list
 displayed_tags change none e = refl
 displayed_tags change (node (tag_node t) ns) e = displayed_tags change ns e
@@ -41,8 +41,8 @@ not_lone n m false e = cc
 
 abbrev IsSeenAs : DisplayChangeView → NodesView → NodeView → Type 0
 IsSeenAs change ns n =
-    (list_pieces (map (node_displayed change) (node_list ns))
-    ≡ node_pieces (node_displayed change n))
+    (list_pieces (map (node_with_display change) (node_list ns))
+    ≡ node_pieces (node_with_display change n))
     × (nodes_pieces ns ≡ node_pieces n)
 
 lone_alone_seen : (change : DisplayChangeView) (m n : NodeView) (ns : NodesView) →
@@ -50,8 +50,8 @@ lone_alone_seen : (change : DisplayChangeView) (m n : NodeView) (ns : NodesView)
 unfolding node_list
 lone_alone_seen change m n ns e f =
     rw f (
-      ap (λ ps. node_pieces (node_displayed change n) ++ ps) (displayed_tags change ns e)
-          ∙ append-nil (node_pieces (node_displayed change n)),
+      ap (λ ps. node_pieces (node_with_display change n) ++ ps) (displayed_tags change ns e)
+          ∙ append-nil (node_pieces (node_with_display change n)),
       ap (λ ps. node_pieces n ++ ps) (tags_pieces ns e) ∙ append-nil (node_pieces n),
     )
 
@@ -111,21 +111,21 @@ no_break h kids ns e f =
     ]
 
 displayed_block : (h : Head) (kids ns : NodesView) (change : DisplayChangeView) →
-    lone_node ns ≡ Some (element_node h kids) → StandsForBlock h (css_displayed change h.css) →
+    lone_node ns ≡ Some (element_node h kids) → StandsForBlock h (css_with_display change h.css) →
     holds_one_break (nodes_content ns) ≡ false →
-    IsBlock (map (node_displayed change) (node_list ns)) (nodes_pieces ns)
+    IsBlock (map (node_with_display change) (node_list ns)) (nodes_pieces ns)
 displayed_block h kids ns change e s f =
-    let new : List NodeView = map (node_displayed change) (node_list ns) in
+    let new : List NodeView = map (node_with_display change) (node_list ns) in
     let seen : IsSeenAs change ns (element_node h kids) =
     lone_seen change ns (element_node h kids) e in
     let core : List Piece = inner_pieces h.name (nodes_pieces kids) in
-    let b : Bool = has_border h.name (attrs_styled h.css h.attrs) in
+    let b : Bool = has_border h.name (styled_attrs h.css h.attrs) in
     let u : is_line_break h.name ≡ false = no_break h kids ns e f in
     let after : list_pieces new ≡ between_edges core =
-    seen.0 ∙ (unbroken h.name (attrs_styled (css_displayed change h.css) h.attrs)
+    seen.0 ∙ (unbroken h.name (styled_attrs (css_with_display change h.css) h.attrs)
     (nodes_pieces kids) u ∙ ap (λ x. edged x core) s.borders) in
     let before : nodes_pieces ns ≡ edged b core =
-    seen.1 ∙ unbroken h.name (attrs_styled h.css h.attrs) (nodes_pieces kids) u in
+    seen.1 ∙ unbroken h.name (styled_attrs h.css h.attrs) (nodes_pieces kids) u in
     record {
       same = same-trans (list_pieces new) (between_edges core) (between_edges (nodes_pieces ns))
           (same-equal (list_pieces new) (between_edges core) after)

@@ -5,11 +5,11 @@ use Rattle.html_names.specs.Characters.{all, is_text_char}
 use Rattle.html_names.specs.Kinds.{is_void}
 use Rattle.html_names.specs.Names.{stands_in}
 use Rattle.html_dom_tree.specs.Tree.{Head, element_node, NodesView}
-use Rattle.html_flow_whitespace.specs.Nodes.{plain_head, pre_wrap_head, is_one}
-use Rattle.html_flow_whitespace.specs.Pieces.{PieceView, stretch, alone, line_break, is_in_stretch, in_stretch, is_carriage_return, outside_stretch, pieces_after, piece_node}
+use Rattle.html_flow_convert.specs.Nodes.{plain_head, pre_wrap_head, is_one}
+use Rattle.html_flow_convert.specs.Pieces.{PieceView, stretch, alone, line_break, is_in_stretch, in_stretch, is_carriage_return, outside_stretch, pieces_after, piece_node}
 use Rattle.html_flow_convert.specs.Converted.{RoleText, item_role, passes_role, role_pairs, element_head, body_level, body_whitespace, body_role, text_item_nodes, item_nodes, items_nodes, body_nodes, converted_nodes}
 use Rattle.html_flow_convert.specs.Items.{RoleView, inherits, sets, unsets, ElemHead, ItemView, tag_item, element_item, space_item, text_item, hole_item, break_item, box_item, block_item, frame_item, ItemsView, no_items, item, BodyView, absent, present}
-use Rattle.html_flow_convert.specs.LoneNode.{DisplayChangeView, css_displayed, block_change, block_head}
+use Rattle.html_flow_convert.specs.LoneNode.{DisplayChangeView, css_with_display, block_change, block_head}
 use Rattle.html_flow_convert.specs.declared.convert.ConversionLevel.{ConversionLevel}
 use Rattle.html_flow_convert.specs.declared.convert.ConversionLevel.TheVariants.{Block}
 use Rattle.html_flow_convert.specs.declared.convert.Whitespace.{Whitespace}
@@ -60,7 +60,7 @@ clean_break span = record { made = break_made span; values = refl; void = λ e. 
 
 clean_lone : (h : Head) (kids : NodesView) (change : DisplayChangeView) →
     CleanHead h (is_empty kids) → block_change (element_node h kids) ≡ Some change →
-    CleanHead (record h { css = css_displayed change h.css }) (is_empty kids)
+    CleanHead (record h { css = css_with_display change h.css }) (is_empty kids)
 clean_lone h kids change c e = record {
   made = (stands_for_block h kids change c.made e).made;
   values = c.values;

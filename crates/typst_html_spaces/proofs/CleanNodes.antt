@@ -7,11 +7,11 @@ use Rattle.html_names.specs.Displays.{default_display}
 use Rattle.html_names.specs.Names.{stands_in}
 use Rattle.html_names.specs.Texts.{TextPair}
 use Rattle.html_dom_tree.specs.Attributes.{first}
-use Rattle.html_dom_tree.specs.Styled.{attrs_styled, head_styled, node_styled, nodes_styled}
+use Rattle.html_dom_tree.specs.Styled.{styled_attrs, head_with_style, styled_node, styled_nodes}
 use Rattle.html_dom_tree.specs.Tags.{TagView}
 use Rattle.html_dom_tree.specs.Tree.{Head, NodeView, tag_node, text_node, element_node, frame_node, NodesView, none, node}
-use Rattle.typst_html_encode.specs.Faults.{is_reference, is_bad, char_faults, text_faults, attrs_faults, void_faults, node_faults, nodes_faults}
-use Rattle.typst_html_encode.specs.Frames.{Frames}
+use Rattle.typst_html_encode.specs.ExportFaults.{is_reference, is_bad, char_faults, text_faults, attrs_faults, void_faults, node_faults, nodes_faults}
+use Rattle.typst_html_encode.specs.FrameWriters.{Frames}
 use Rattle.typst_html_encode.specs.Text.{ends_at_once, escaping_of}
 use Rattle.typst_html_spaces.specs.CleanNodes.{is_clean_tag, are_clean_values, is_no_return, is_clean_content, is_empty, is_clean_head, is_clean_node, are_clean_nodes, CleanNodesAreWritten}
 use Rattle.typst_html_spaces.specs.PlainFlow.{is_plain_name}
@@ -84,7 +84,7 @@ clean_values-append (p ∷ ps) qs e f =
     rw (both.0) (clean_values-append ps qs both.1 f)
 
 made_values : (c : MadeCss) (attrs : List TextPair) → first attrs (codes "style") ≡ None →
-    are_clean_values attrs ≡ true → are_clean_values (attrs_styled (made_css c) attrs) ≡ true
+    are_clean_values attrs ≡ true → are_clean_values (styled_attrs (made_css c) attrs) ≡ true
 made_values plain attrs n e = e
 made_values block attrs n e = rw n (clean_values-append attrs _ e refl)
 made_values wrap attrs n e = rw n (clean_values-append attrs _ e refl)
@@ -125,22 +125,22 @@ AreClean = HoldsOfAll CleanHead CleanText CleanTag
 
 -- those that conversion makes, with their css in attributes
 
-styled_empty : (ns : NodesView) → is_empty (nodes_styled ns) ≡ is_empty ns
-unfolding nodes_styled
+styled_empty : (ns : NodesView) → is_empty (styled_nodes ns) ≡ is_empty ns
+unfolding styled_nodes
 styled_empty none = refl
 styled_empty (node n ns) = refl
 
 styled_head : (h : Head) (ns : NodesView) → CleanHead h (is_empty ns) →
-    is_clean_head (head_styled h) (nodes_styled ns) ≡ true
+    is_clean_head (head_with_style h) (styled_nodes ns) ≡ true
 styled_head h ns c =
-    let values : are_clean_values (attrs_styled h.css h.attrs) ≡ true =
+    let values : are_clean_values (styled_attrs h.css h.attrs) ≡ true =
     rw (c.made.css_is) (made_values c.made.kind h.attrs c.made.no_style c.values) in
     rw (c.made.named, values, styled_empty ns) (implies (is_void h.name) (is_empty ns) c.void)
 
 mutual
-  unfolding node_styled is_clean_node
+  unfolding styled_node is_clean_node
 
-  node_is_clean : (n : NodeView) (p : Bool) → IsClean p n → is_clean_node p (node_styled n) ≡ true
+  node_is_clean : (n : NodeView) (p : Bool) → IsClean p n → is_clean_node p (styled_node n) ≡ true
   node_is_clean (tag_node t) p c = c
   node_is_clean (text_node s span) p c = c
   node_is_clean (element_node h ns) p c =
@@ -148,7 +148,7 @@ mutual
   node_is_clean (frame_node f) p c = absurd c
 
   pub nodes_are_clean : (ns : NodesView) (p : Bool) → AreClean p ns →
-      are_clean_nodes p (nodes_styled ns) ≡ true
+      are_clean_nodes p (styled_nodes ns) ≡ true
   nodes_are_clean none p c = refl
   nodes_are_clean (node n ns) p c = rw (node_is_clean n p c.0) (nodes_are_clean ns p c.1)
 

@@ -6,12 +6,12 @@ use Rattle.std.proofs.lemmas.Bool.{cases_Bool, false≢true, or_left, or_cases}
 use Rattle.html_dom_tree.specs.Tags.{TagView}
 use Rattle.html_dom_tree.specs.Tree.{Head, NodeView, tag_node, text_node, element_node, frame_node, NodesView, none, node}
 use Rattle.html_dom_tree.specs.Views.{nodes_of}
-use Rattle.html_flow_whitespace.specs.BareSpaces.{node_things, nodes_things, is_entered}
-use Rattle.html_flow_whitespace.specs.Nodes.{pre_wrap_head, is_one, is_tag}
-use Rattle.html_flow_whitespace.specs.Protected.{text_protected}
-use Rattle.html_flow_whitespace.specs.Runs.{is_blank_node, first_span, are_kept, run_nodes, front_nodes, front, after_front, nodes_with_runs}
+use Rattle.html_flow_convert.specs.BareSpaces.{node_things, nodes_things, is_entered}
+use Rattle.html_flow_convert.specs.Nodes.{pre_wrap_head, is_one, is_tag}
+use Rattle.html_flow_convert.specs.Protected.{text_by_answer}
+use Rattle.html_flow_convert.specs.Runs.{is_blank_node, first_span, are_kept, run_nodes, front_nodes, front, after_front, nodes_with_runs}
 use Rattle.html_flow_convert.specs.Converted.{list_nodes}
-use Rattle.html_flow_convert.specs.LoneNode.{node_list, are_tags, lone_node, DisplayChangeView, css_displayed, node_displayed, block_change, changed_or_in, block_change_of, block_head, block_nodes}
+use Rattle.html_flow_convert.specs.LoneNode.{node_list, are_tags, lone_node, DisplayChangeView, css_with_display, node_with_display, block_change, changed_or_in, block_change_of, block_head, block_nodes}
 use Rattle.html_flow_convert.specs.declared.convert.ConversionLevel.{ConversionLevel}
 use Rattle.html_flow_convert.specs.declared.convert.ConversionLevel.TheVariants.{Block, Inline}
 use Rattle.html_flow_convert.specs.declared.convert.Whitespace.{Whitespace}
@@ -49,7 +49,7 @@ module _ (OfHead : Head → (is_empty : Bool) → Type 0)
     pub block : (span : ℕ) (b : Bool) → OfHead (block_head span) b
     pub lone : (h : Head) (kids : NodesView) (change : DisplayChangeView) →
         OfHead h (is_empty kids) → block_change (element_node h kids) ≡ Some change →
-        OfHead (record h { css = css_displayed change h.css }) (is_empty kids)
+        OfHead (record h { css = css_with_display change h.css }) (is_empty kids)
 
   pub of_each : (p : Bool) (ms : List NodeView) → Each (HoldsOf p) ms → HoldsOfAll p (nodes_of ms)
   of_each p [] r = tt
@@ -127,7 +127,7 @@ module _ (OfHead : Head → (is_empty : Bool) → Type 0)
   -- protected spaces
 
   of_lone_space : (p b : Bool) (s : List ℕ) (span : ℕ) → is_one 32 s ≡ true → OfText p s →
-      Of p (text_protected b s span)
+      Of p (text_by_answer b s span)
   of_lone_space p true s span e r = r
   of_lone_space p false s span e r =
       (way.wrap span false, (way.blank s (or_left (is_one 32 s) (is_one 9 s) e), tt))
@@ -172,7 +172,7 @@ module _ (OfHead : Head → (is_empty : Bool) → Type 0)
   -- blocks
 
   of_tags : (change : DisplayChangeView) (ns : NodesView) → are_tags ns ≡ true → OfAll false ns →
-      Each (Of false) (map (node_displayed change) (node_list ns))
+      Each (Of false) (map (node_with_display change) (node_list ns))
   unfolding node_list
   of_tags change none e r = tt
   of_tags change (node (tag_node t) ns) e r = (r.0, of_tags change ns e r.1)
@@ -182,7 +182,7 @@ module _ (OfHead : Head → (is_empty : Bool) → Type 0)
 
   of_changed : (ns : NodesView) (n : NodeView) (change : DisplayChangeView) →
       lone_node ns ≡ Some n → block_change n ≡ Some change → OfAll false ns →
-      Each (Of false) (map (node_displayed change) (node_list ns))
+      Each (Of false) (map (node_with_display change) (node_list ns))
   unfolding node_list lone_node
   of_changed none n change e c r = cc
   of_changed (node (tag_node t) ns) n change e c r = (r.0, of_changed ns n change e c r.1)

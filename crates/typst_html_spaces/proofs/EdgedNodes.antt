@@ -9,7 +9,7 @@ use Rattle.html_names.specs.Texts.{TextPair}
 use Rattle.html_names.specs.declared.property.Display.{Display}
 use Rattle.html_names.specs.declared.property.Display.TheVariants as display
 use Rattle.html_dom_tree.specs.Attributes.{first}
-use Rattle.html_dom_tree.specs.Styled.{attrs_styled, head_styled, node_styled, nodes_styled}
+use Rattle.html_dom_tree.specs.Styled.{styled_attrs, head_with_style, styled_node, styled_nodes}
 use Rattle.html_dom_tree.specs.Tree.{Head, tag_node, text_node, element_node, frame_node, NodesView, none, node}
 use Rattle.typst_html_encode.specs.Collapsing.{preserves, has_border_display}
 use Rattle.typst_html_encode.specs.IndentsCollapse.{HeadIsEdged, NodesAreEdged}
@@ -159,19 +159,19 @@ not_raw name p = elim (cases_Bool (is_raw name)) [
   | inr e ↦ e
 ]
 
-pub made_is_edged : (h : Head) → MadeHead h → HeadIsEdged (head_styled h)
+pub made_is_edged : (h : Head) → MadeHead h → HeadIsEdged (head_with_style h)
 made_is_edged h m = (
   not_raw h.name m.named,
-  around_border (head_styled h) m.named,
+  around_border (head_with_style h) m.named,
   λ e. let b = inside_border h.name m.named e in (
     b,
-    kept_by m.kind h.name (attrs_styled h.css h.attrs) (border_no_wrap h m b)
+    kept_by m.kind h.name (styled_attrs h.css h.attrs) (border_no_wrap h m b)
         (inside_no_pre h.name e) (head_style_is h m),
   ),
 )
 
-pub made_are_edged : (ns : NodesView) (p : Bool) → AreMade p ns → NodesAreEdged (nodes_styled ns)
-unfolding node_styled
+pub made_are_edged : (ns : NodesView) (p : Bool) → AreMade p ns → NodesAreEdged (styled_nodes ns)
+unfolding styled_node
 made_are_edged none p r = tt
 made_are_edged (node (tag_node t) ns) p r = made_are_edged ns p r.1
 made_are_edged (node (text_node s span) ns) p r = made_are_edged ns p r.1
@@ -180,7 +180,7 @@ made_are_edged (node (element_node h kids) ns) p r =
 made_are_edged (node (frame_node f) ns) p r = absurd r.0
 
 pub converted_are_edged : (role : RoleText) (items : ItemsView) → is_plain_flow items ≡ true →
-    NodesAreEdged (nodes_styled (converted_nodes Block Normal role items))
+    NodesAreEdged (styled_nodes (converted_nodes Block Normal role items))
 converted_are_edged role items e =
     made_are_edged (converted_nodes Block Normal role items) false
     (list_made Block Normal (items_nodes Normal role items) (items_made Normal role items e))

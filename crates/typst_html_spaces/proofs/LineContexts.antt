@@ -3,10 +3,10 @@ use Rattle.std.proofs.Common.{◌≡◌, Bool, true, false, ◌&&◌, List, [], 
 use Rattle.std.proofs.Math.Seq.{drop-append_seam}
 use Rattle.std.proofs.lemmas.Bool.{cases_Bool}
 use Rattle.html_dom_tree.specs.Tree.{NodeView, tag_node, text_node, element_node, frame_node, NodesView, none, node}
-use Rattle.html_flow_whitespace.specs.BareSpaces.{Thing, border, visible, space, node_things, nodes_things, is_entered, is_in_line, is_visible_first, bare_after}
-use Rattle.html_flow_whitespace.specs.Nodes.{is_one}
-use Rattle.html_flow_whitespace.specs.Protected.{space_count, node_protected, nodes_protected}
-use Rattle.html_flow_whitespace.proofs.Protecting.{opened_things}
+use Rattle.html_flow_convert.specs.BareSpaces.{Thing, border, visible, space, node_things, nodes_things, is_entered, is_in_line, is_visible_first, bare_after}
+use Rattle.html_flow_convert.specs.Nodes.{is_one}
+use Rattle.html_flow_convert.specs.Protected.{space_count, node_by_answers, nodes_by_answers}
+use Rattle.html_flow_convert.proofs.Protecting.{opened_things}
 use Rattle.typst_html_spaces.specs.LineContexts.{visible_at, line_past, bare_between, node_between, nodes_between, ProtectsByContext}
 
 pub visible_at-append : (ts us : List Thing) (after : Bool) →
@@ -68,10 +68,10 @@ own_dropped before after ts bs =
     ∙ drop-append_seam (bare_between before after ts) bs
 
 mutual
-  unfolding node_things node_protected
+  unfolding node_things node_by_answers
 
   by_answers : (n : NodeView) (before after : Bool) (bs : List Bool) →
-      node_protected (bare_between before after (node_things n) ++ bs) n
+      node_by_answers (bare_between before after (node_things n) ++ bs) n
       ≡ node_between before after n
   by_answers (tag_node t) before after bs = refl
   by_answers (text_node s span) before after bs =
@@ -79,7 +79,7 @@ mutual
   by_answers (element_node h ns) before after bs =
       elim (cases_Bool (is_entered h)) [
         | inl e ↦
-            rw e (ap (λ ts. element_node h (nodes_protected (bare_between before after ts ++ bs) ns))
+            rw e (ap (λ ts. element_node h (nodes_by_answers (bare_between before after ts ++ bs) ns))
             (opened_things h (nodes_things ns) e)
             ∙ ap (element_node h) (by_answers_all ns before after bs))
         | inr e ↦ rw e refl
@@ -87,7 +87,7 @@ mutual
   by_answers (frame_node f) before after bs = refl
 
   by_answers_all : (ns : NodesView) (before after : Bool) (bs : List Bool) →
-      nodes_protected (bare_between before after (nodes_things ns) ++ bs) ns
+      nodes_by_answers (bare_between before after (nodes_things ns) ++ bs) ns
       ≡ nodes_between before after ns
   by_answers_all none before after bs = refl
   by_answers_all (node n ns) before after bs =
@@ -99,15 +99,15 @@ mutual
       ≡ own ++ others =
       ap (λ l. l ++ bs) (bare_between-append before after (node_things n) (nodes_things ns))
       ∙ append_assoc own (bare_between line after (nodes_things ns)) bs in
-      ap (λ l. nodes_protected l (node n ns)) split
-      ∙ (ap (λ m. node m (nodes_protected (drop (space_count (node_things n)) (own ++ others)) ns))
+      ap (λ l. nodes_by_answers l (node n ns)) split
+      ∙ (ap (λ m. node m (nodes_by_answers (drop (space_count (node_things n)) (own ++ others)) ns))
       (by_answers n before seen others)
-      ∙ (ap (λ l. node (node_between before seen n) (nodes_protected l ns))
+      ∙ (ap (λ l. node (node_between before seen n) (nodes_by_answers l ns))
       (own_dropped before seen (node_things n) others)
       ∙ ap (node (node_between before seen n)) (by_answers_all ns line after bs)))
 
 pub protects_by_context : ProtectsByContext
 protects_by_context ns =
-    ap (λ bs. nodes_protected bs ns) (bare_by_context None (nodes_things ns)
+    ap (λ bs. nodes_by_answers bs ns) (bare_by_context None (nodes_things ns)
     ∙ sym (append-nil (bare_between false false (nodes_things ns))))
     ∙ by_answers_all ns false false []

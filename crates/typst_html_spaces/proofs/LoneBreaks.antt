@@ -7,14 +7,14 @@ use Rattle.html_names.specs.Names.{stands_in}
 use Rattle.html_dom_tree.specs.Tree.{NodeView, tag_node, text_node, element_node, frame_node, NodesView, none, node}
 use Rattle.html_dom_tree.specs.Views.{nodes_of}
 use Rattle.typst_html_encode.specs.Collapsing.{Piece, char, thing, line, edge}
-use Rattle.html_flow_whitespace.specs.BareSpaces.{node_things, bare_spaces, is_entered}
-use Rattle.html_flow_whitespace.specs.Nodes.{is_one}
-use Rattle.html_flow_whitespace.specs.Pieces.{PieceView, stretch, alone, line_break, is_in_stretch, in_stretch, is_carriage_return, pieces_after, piece_node}
-use Rattle.html_flow_whitespace.specs.Protected.{space_count, is_bare, node_protected, nodes_protected}
-use Rattle.html_flow_whitespace.specs.Runs.{is_blank_node, are_kept, run_nodes, nodes_with_runs}
+use Rattle.html_flow_convert.specs.BareSpaces.{node_things, bare_spaces, is_entered}
+use Rattle.html_flow_convert.specs.Nodes.{is_one}
+use Rattle.html_flow_convert.specs.Pieces.{PieceView, stretch, alone, line_break, is_in_stretch, in_stretch, is_carriage_return, pieces_after, piece_node}
+use Rattle.html_flow_convert.specs.Protected.{space_count, is_bare, node_by_answers, nodes_by_answers}
+use Rattle.html_flow_convert.specs.Runs.{is_blank_node, are_kept, run_nodes, nodes_with_runs}
 use Rattle.html_flow_convert.specs.Converted.{text_item_nodes, list_nodes}
 use Rattle.html_flow_convert.specs.Items.{ItemView, text_item, ItemsView, no_items, item, BodyView, absent, present}
-use Rattle.html_flow_convert.specs.LoneNode.{node_list, are_tags, lone_node, DisplayChangeView, node_displayed}
+use Rattle.html_flow_convert.specs.LoneNode.{node_list, are_tags, lone_node, DisplayChangeView, node_with_display}
 use Rattle.html_flow_convert.specs.declared.convert.ConversionLevel.{ConversionLevel}
 use Rattle.html_flow_convert.specs.declared.convert.ConversionLevel.TheVariants.{Block, Inline}
 use Rattle.html_flow_convert.specs.declared.convert.Whitespace.{Whitespace}
@@ -111,8 +111,8 @@ run_content ns =
 -- spaces in spans of their own
 
 protected_content : (bare : List Bool) (n : NodeView) →
-    node_content (node_protected bare n) ≡ node_content n
-unfolding node_protected stands_in
+    node_content (node_by_answers bare n) ≡ node_content n
+unfolding node_by_answers stands_in
 protected_content bare (tag_node t) = refl
 protected_content bare (text_node s span) =
     elim (cases_Bool (is_one 32 s)) [
@@ -124,12 +124,12 @@ protected_content bare (element_node h ns) =
 protected_content bare (frame_node f) = refl
 
 nodes_protected_content : (bare : List Bool) (ns : NodesView) →
-    nodes_content (nodes_protected bare ns) ≡ nodes_content ns
-unfolding node_protected
+    nodes_content (nodes_by_answers bare ns) ≡ nodes_content ns
+unfolding node_by_answers
 nodes_protected_content bare none = refl
 nodes_protected_content bare (node n ns) =
     let left : List Bool = drop (space_count (node_things n)) bare in
-    ap (λ v. add v (nodes_content (nodes_protected left ns))) (protected_content bare n)
+    ap (λ v. add v (nodes_content (nodes_by_answers left ns))) (protected_content bare n)
     ∙ ap (add (node_content n)) (nodes_protected_content left ns)
 
 pub list_nodes_content : (level : ConversionLevel) (whitespace : Whitespace) (ns : List NodeView) →
@@ -345,18 +345,18 @@ text_at_most Normal s span =
 -- a block whose body is not one break
 
 displayed_content : (change : DisplayChangeView) (n : NodeView) →
-    node_content (node_displayed change n) ≡ node_content n
+    node_content (node_with_display change n) ≡ node_content n
 displayed_content change (tag_node t) = refl
 displayed_content change (text_node s span) = refl
 displayed_content change (element_node h ns) = refl
 displayed_content change (frame_node f) = refl
 
 pub all_displayed_content : (change : DisplayChangeView) (ns : NodesView) →
-    list_content (map (node_displayed change) (node_list ns)) ≡ nodes_content ns
+    list_content (map (node_with_display change) (node_list ns)) ≡ nodes_content ns
 unfolding node_list
 all_displayed_content change none = refl
 all_displayed_content change (node n ns) =
-    ap (λ v. add v (list_content (map (node_displayed change) (node_list ns))))
+    ap (λ v. add v (list_content (map (node_with_display change) (node_list ns))))
     (displayed_content change n)
     ∙ ap (add (node_content n)) (all_displayed_content change ns)
 

@@ -13,10 +13,10 @@ use Rattle.html_names.specs.declared.property.Display.{Display}
 use Rattle.html_names.specs.declared.property.Display.TheVariants as display
 use Rattle.html_values_css.specs.Properties.{with_value, without}
 use Rattle.html_dom_tree.specs.Attributes.{first}
-use Rattle.html_dom_tree.specs.Styled.{attrs_styled}
+use Rattle.html_dom_tree.specs.Styled.{styled_attrs}
 use Rattle.html_dom_tree.specs.Tree.{Head, element_node, NodesView}
-use Rattle.html_flow_whitespace.specs.BareSpaces.{is_border, makes_block}
-use Rattle.html_flow_convert.specs.LoneNode.{DisplayChangeView, removed, set_to, css_displayed, change_by_display, block_change}
+use Rattle.html_flow_convert.specs.BareSpaces.{is_border, makes_block}
+use Rattle.html_flow_convert.specs.LoneNode.{DisplayChangeView, removed, set_to, css_with_display, change_by_display, block_change}
 use Rattle.typst_html_encode.specs.Collapsing.{preserves, has_border, style_is}
 use Rattle.typst_html_spaces.specs.PlainFlow.{is_inline, is_plain_name, unplain_names}
 
@@ -56,7 +56,7 @@ style_added (p ∷ ps) text e =
     ]
 
 pub made_style_is : (c : MadeCss) (attrs : List TextPair) → first attrs (codes "style") ≡ None →
-    first (attrs_styled (made_css c) attrs) (codes "style") ≡ made_style c
+    first (styled_attrs (made_css c) attrs) (codes "style") ≡ made_style c
 made_style_is plain attrs e = e
 made_style_is block attrs e = rw e (style_added attrs (codes "display: block") e)
 made_style_is wrap attrs e = rw e (style_added attrs (codes "white-space: pre-wrap") e)
@@ -73,8 +73,8 @@ pub record MadeHead (h : Head) : Type 0 where
   pub in_line : is_wrap kind ≡ true → shows_border (default_display h.name) ≡ false
 
 pub head_style_is : (h : Head) (m : MadeHead h) →
-    first (attrs_styled h.css h.attrs) (codes "style") ≡ made_style m.kind
-head_style_is h m = ap (λ c. first (attrs_styled c h.attrs) (codes "style")) m.css_is
+    first (styled_attrs h.css h.attrs) (codes "style") ≡ made_style m.kind
+head_style_is h m = ap (λ c. first (styled_attrs c h.attrs) (codes "style")) m.css_is
     ∙ made_style_is m.kind h.attrs m.no_style
 
 -- `display` in css
@@ -262,9 +262,9 @@ name_is_border h e = or_right (makes_block h.css) (is_whitespace_collapsing h.na
 -- the element with its new css
 pub record StandsForBlock (h : Head) (css : List TextPair) : Type 0 where
   pub made : MadeHead (record h { css = css })
-  pub borders : has_border h.name (attrs_styled css h.attrs) ≡ true
-  pub preserved : preserves h.name (attrs_styled css h.attrs)
-      ≡ preserves h.name (attrs_styled h.css h.attrs)
+  pub borders : has_border h.name (styled_attrs css h.attrs) ≡ true
+  pub preserved : preserves h.name (styled_attrs css h.attrs)
+      ≡ preserves h.name (styled_attrs h.css h.attrs)
   pub is_one : is_border (record h { css = css }) ≡ true
 
 set_block : (h : Head) (m : MadeHead h) (css : List TextPair) →
@@ -282,8 +282,8 @@ set_block h m css e =
     let style = head_style_is (record h { css = css }) made in
     record {
       made = made;
-      borders = style_border h.name (attrs_styled css h.attrs) m.kind style;
-      preserved = block_preserves h.name (attrs_styled css h.attrs) (attrs_styled h.css h.attrs)
+      borders = style_border h.name (styled_attrs css h.attrs) m.kind style;
+      preserved = block_preserves h.name (styled_attrs css h.attrs) (styled_attrs h.css h.attrs)
           m.kind style (head_style_is h m);
       is_one = css_border h m.kind css c;
     }
@@ -303,22 +303,22 @@ drop_block h m css e s =
     } in
     record {
       made = made;
-      borders = name_border h.name (attrs_styled css h.attrs) s;
-      preserved = removed_preserves h.name (attrs_styled css h.attrs)
-          (attrs_styled h.css h.attrs) m.kind (head_style_is (record h { css = css }) made)
+      borders = name_border h.name (styled_attrs css h.attrs) s;
+      preserved = removed_preserves h.name (styled_attrs css h.attrs)
+          (styled_attrs h.css h.attrs) m.kind (head_style_is (record h { css = css }) made)
           (head_style_is h m);
       is_one = name_is_border (record h { css = css }) s;
     }
 
 pub stands_for_block : (h : Head) (ns : NodesView) (c : DisplayChangeView) → MadeHead h →
-    block_change (element_node h ns) ≡ Some c → StandsForBlock h (css_displayed c h.css)
+    block_change (element_node h ns) ≡ Some c → StandsForBlock h (css_with_display c h.css)
 stands_for_block h ns c m e =
     let f : change_by_display (default_display h.name) ≡ Some c =
     rw (plain_is_no_math h.name m.named) at e in
     elim (change_cases (default_display h.name) c f) [
-      | inl g ↦ rw g (set_block h m (css_displayed (set_to (codes "block")) h.css) refl)
+      | inl g ↦ rw g (set_block h m (css_with_display (set_to (codes "block")) h.css) refl)
       | inr g ↦ elim (g.1) [
-        | inl s ↦ rw g.0 (drop_block h m (css_displayed removed h.css) refl s)
+        | inl s ↦ rw g.0 (drop_block h m (css_with_display removed h.css) refl s)
         | inr s ↦ absurd (false≢true (sym (plain_is_there h.name m.named) ∙ s))
       ]
     ]

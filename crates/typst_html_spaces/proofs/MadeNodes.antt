@@ -5,8 +5,8 @@ use Rattle.html_names.specs.Displays.{default_display}
 use Rattle.html_names.specs.Kinds.{is_replaced, shows_border}
 use Rattle.html_names.specs.Names.{stands_in}
 use Rattle.html_dom_tree.specs.Tree.{NodeView, NodesView}
-use Rattle.html_flow_whitespace.specs.Nodes.{plain_head, pre_wrap_head}
-use Rattle.html_flow_whitespace.specs.Pieces.{PieceView, stretch, alone, line_break, piece_node, pieces}
+use Rattle.html_flow_convert.specs.Nodes.{plain_head, pre_wrap_head}
+use Rattle.html_flow_convert.specs.Pieces.{PieceView, stretch, alone, line_break, piece_node, pieces}
 use Rattle.html_flow_convert.specs.Converted.{RoleText, item_role, body_level, body_whitespace, body_role, text_item_nodes, list_nodes, item_nodes, items_nodes, body_nodes}
 use Rattle.html_flow_convert.specs.Items.{ItemView, tag_item, element_item, space_item, text_item, hole_item, break_item, box_item, block_item, frame_item, ItemsView, no_items, item, BodyView, absent, present}
 use Rattle.html_flow_convert.specs.LoneNode.{block_head, block_nodes}

@@ -6,14 +6,14 @@ use Rattle.html_names.specs.Characters.{is_blank, is_ignorable}
 use Rattle.html_names.specs.Displays.{default_display}
 use Rattle.html_names.specs.Kinds.{is_replaced, is_line_break}
 use Rattle.html_names.specs.Names.{stands_in}
-use Rattle.html_dom_tree.specs.Styled.{attrs_styled, node_styled, nodes_styled}
+use Rattle.html_dom_tree.specs.Styled.{styled_attrs, styled_node, styled_nodes}
 use Rattle.html_dom_tree.specs.Tree.{NodeView, tag_node, text_node, element_node, frame_node, NodesView, none, node, TextPair}
 use Rattle.html_dom_tree.specs.Views.{nodes_of}
 use Rattle.typst_html_encode.specs.Collapsing.{Atom, visible, ignorable, collapsible, kept, border, object, Piece, char, thing, line, edge, char_atom, text_atoms, preserves, has_border, bordered_atoms, element_atoms}
 use Rattle.typst_html_encode.proofs.NodeAtoms.{node_atoms, nodes_atoms}
-use Rattle.html_flow_whitespace.specs.BareSpaces.{node_things, is_entered}
-use Rattle.html_flow_whitespace.specs.Nodes.{pre_wrap_head, is_one}
-use Rattle.html_flow_whitespace.specs.Protected.{space_count, is_bare, text_protected, node_protected, nodes_protected}
+use Rattle.html_flow_convert.specs.BareSpaces.{node_things, is_entered}
+use Rattle.html_flow_convert.specs.Nodes.{pre_wrap_head, is_one}
+use Rattle.html_flow_convert.specs.Protected.{space_count, is_bare, text_by_answer, node_by_answers, nodes_by_answers}
 use Rattle.typst_html_spaces.specs.AtomContexts.{own_piece, own_pieces}
 use Rattle.typst_html_spaces.specs.ItemText.{between_edges}
 
@@ -33,7 +33,7 @@ abbrev mutual
   node_pieces (tag_node t) = []
   node_pieces (text_node s span) = map char s
   node_pieces (element_node h ns) =
-      head_pieces h.name (attrs_styled h.css h.attrs) (nodes_pieces ns)
+      head_pieces h.name (styled_attrs h.css h.attrs) (nodes_pieces ns)
   node_pieces (frame_node f) = []
 
   pub nodes_pieces : NodesView → List Piece
@@ -87,24 +87,24 @@ head_own name attrs xs =
     ]
 
 mutual
-  unfolding node_styled
+  unfolding styled_node
 
   pub node_own : (k : Bool) (n : NodeView) →
-      own_pieces (node_atoms k (node_styled n)) ≡ node_pieces n
+      own_pieces (node_atoms k (styled_node n)) ≡ node_pieces n
   node_own k (tag_node t) = refl
   node_own k (text_node s span) = text_own k s
   node_own k (element_node h ns) =
-      let attrs : List TextPair = attrs_styled h.css h.attrs in
-      head_own h.name attrs (nodes_atoms (k || preserves h.name attrs) (nodes_styled ns))
+      let attrs : List TextPair = styled_attrs h.css h.attrs in
+      head_own h.name attrs (nodes_atoms (k || preserves h.name attrs) (styled_nodes ns))
       ∙ ap (head_pieces h.name attrs) (nodes_own (k || preserves h.name attrs) ns)
   node_own k (frame_node f) = refl
 
   pub nodes_own : (k : Bool) (ns : NodesView) →
-      own_pieces (nodes_atoms k (nodes_styled ns)) ≡ nodes_pieces ns
+      own_pieces (nodes_atoms k (styled_nodes ns)) ≡ nodes_pieces ns
   nodes_own k none = refl
   nodes_own k (node n ns) =
-      map-append own_piece (node_atoms k (node_styled n)) (nodes_atoms k (nodes_styled ns))
-      ∙ (ap (λ ps. ps ++ own_pieces (nodes_atoms k (nodes_styled ns))) (node_own k n)
+      map-append own_piece (node_atoms k (styled_node n)) (nodes_atoms k (styled_nodes ns))
+      ∙ (ap (λ ps. ps ++ own_pieces (nodes_atoms k (styled_nodes ns))) (node_own k n)
       ∙ ap (λ ps. node_pieces n ++ ps) (nodes_own k ns))
 
 -- lists of nodes
@@ -125,16 +125,16 @@ pre_wrap_pieces span ns = refl
 -- spaces in spans of their own
 
 text_protected_pieces : (b : Bool) (s : List ℕ) (span : ℕ) →
-    node_pieces (text_protected b s span) ≡ map char s
+    node_pieces (text_by_answer b s span) ≡ map char s
 text_protected_pieces true s span = refl
 text_protected_pieces false s span =
     pre_wrap_pieces span (node (text_node s span) none) ∙ append-nil (map char s)
 
 mutual
-  unfolding node_protected
+  unfolding node_by_answers
 
   node_protected_pieces : (bare : List Bool) (n : NodeView) →
-      node_pieces (node_protected bare n) ≡ node_pieces n
+      node_pieces (node_by_answers bare n) ≡ node_pieces n
   node_protected_pieces bare (tag_node t) = refl
   node_protected_pieces bare (text_node s span) =
       elim (cases_Bool (is_one 32 s)) [
@@ -143,16 +143,16 @@ mutual
       ]
   node_protected_pieces bare (element_node h ns) =
       elim (cases_Bool (is_entered h)) [
-        | inl e ↦ rw e (ap (head_pieces h.name (attrs_styled h.css h.attrs))
+        | inl e ↦ rw e (ap (head_pieces h.name (styled_attrs h.css h.attrs))
             (nodes_protected_pieces bare ns))
         | inr e ↦ rw e refl
       ]
   node_protected_pieces bare (frame_node f) = refl
 
   pub nodes_protected_pieces : (bare : List Bool) (ns : NodesView) →
-      nodes_pieces (nodes_protected bare ns) ≡ nodes_pieces ns
+      nodes_pieces (nodes_by_answers bare ns) ≡ nodes_pieces ns
   nodes_protected_pieces bare none = refl
   nodes_protected_pieces bare (node n ns) =
       let left : List Bool = drop (space_count (node_things n)) bare in
-      ap (λ ps. ps ++ nodes_pieces (nodes_protected left ns)) (node_protected_pieces bare n)
+      ap (λ ps. ps ++ nodes_pieces (nodes_by_answers left ns)) (node_protected_pieces bare n)
       ∙ ap (λ ps. node_pieces n ++ ps) (nodes_protected_pieces left ns)

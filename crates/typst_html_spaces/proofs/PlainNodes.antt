@@ -5,7 +5,7 @@ use Rattle.std.proofs.lemmas.Slice.Eq.{bytes_eq-Decides}
 use Rattle.html_names.specs.Displays.{default_display}
 use Rattle.html_names.specs.Kinds.{is_raw, is_replaced}
 use Rattle.html_names.specs.Names.{stands_in}
-use Rattle.html_dom_tree.specs.Styled.{nodes_styled}
+use Rattle.html_dom_tree.specs.Styled.{styled_nodes}
 use Rattle.html_dom_tree.specs.Tree.{NodeView, tag_node, text_node, element_node, frame_node, NodesView, none, node}
 use Rattle.html_flow_convert.specs.Converted.{items_nodes, converted_nodes}
 use Rattle.html_flow_convert.specs.declared.convert.ConversionLevel.TheVariants.{Block}
@@ -88,4 +88,4 @@ plain_readable (node (frame_node f) ns) e = absurd (true≢false (sym e))
 
 pub can_be_read : PlainNodesCanBeRead
 can_be_read ns e =
-    readable_can_be_read (nodes_styled ns) (styled_readable ns (plain_readable ns e))
+    readable_can_be_read (styled_nodes ns) (styled_readable ns (plain_readable ns e))

@@ -6,7 +6,7 @@ use Rattle.html_names.specs.Displays.{default_display}
 use Rattle.html_names.specs.Kinds.{is_replaced, replaced_names, is_line_break, shows_border}
 use Rattle.html_names.specs.Names.{stands_in}
 use Rattle.html_names.specs.Texts.{TextPair}
-use Rattle.html_dom_tree.specs.Attributes.{first, has}
+use Rattle.html_dom_tree.specs.Attributes.{first, has_name}
 use Rattle.typst_html_encode.specs.Collapsing.{has_border}
 use Rattle.html_flow_convert.specs.Converted.{RoleText, passes_role, role_pairs, element_head}
 use Rattle.html_flow_convert.specs.Items.{ElemHead}
@@ -30,13 +30,13 @@ pub record PlainHead (h : ElemHead) : Type 0 where
 pub plain_head : (h : ElemHead) → is_plain_head h ≡ true → PlainHead h
 plain_head h e =
     let both = and_parts (is_plain_name h.name && has_no_css h.css)
-    (not (has h.attrs (codes "style"))) e in
+    (not (has_name h.attrs (codes "style"))) e in
     let front = and_parts (is_plain_name h.name) (has_no_css h.css) both.0 in
     record {
       named = front.0;
       no_css = no_css h.css front.1;
       no_style = no_value (first h.attrs (codes "style"))
-          (not-true (has h.attrs (codes "style")) both.1);
+          (not-true (has_name h.attrs (codes "style")) both.1);
     }
 
 -- with a role it is made as plain flow makes it

@@ -3,7 +3,7 @@ use Rattle.std.proofs.Common.{◌≡◌, ℕ, Bool, true, false, ◌&&◌, cond,
 use Rattle.std.proofs.lemmas.Bool.{both_ways}
 use Rattle.html_names.specs.Kinds.{is_raw}
 use Rattle.html_names.specs.Names.{stands_in}
-use Rattle.html_dom_tree.specs.Styled.{node_styled, nodes_styled}
+use Rattle.html_dom_tree.specs.Styled.{styled_node, styled_nodes}
 use Rattle.html_dom_tree.specs.Tree.{tag_node, text_node, element_node, frame_node, NodesView, none, node}
 use Rattle.typst_html_encode.specs.Indented.{NodeEndsWell, NodesEndWell}
 use Rattle.typst_html_encode.specs.IndentsCollapse.{body_of}
@@ -36,8 +36,8 @@ readable_end_well (node (element_node h kids) ns) r pretty = (
 )
 readable_end_well (node (frame_node f) ns) r pretty = absurd r.0
 
-pub styled_readable : (ns : NodesView) → AreReadable ns → AreReadable (nodes_styled ns)
-unfolding node_styled
+pub styled_readable : (ns : NodesView) → AreReadable ns → AreReadable (styled_nodes ns)
+unfolding styled_node
 styled_readable none r = tt
 styled_readable (node (tag_node t) ns) r = (tt, styled_readable ns r.1)
 styled_readable (node (text_node s span) ns) r = (tt, styled_readable ns r.1)

@@ -4,12 +4,12 @@ use Rattle.std.proofs.lemmas.Bool.{cases_Bool, false≢true}
 use Rattle.html_names.specs.Displays.{default_display}
 use Rattle.html_names.specs.Kinds.{is_replaced, is_line_break}
 use Rattle.html_names.specs.Names.{stands_in}
-use Rattle.html_dom_tree.specs.Styled.{attrs_styled, node_styled, nodes_styled}
+use Rattle.html_dom_tree.specs.Styled.{styled_attrs, styled_node, styled_nodes}
 use Rattle.html_dom_tree.specs.Tree.{TextPair, Head, NodeView, tag_node, text_node, element_node, frame_node, NodesView, none, node}
-use Rattle.html_flow_whitespace.specs.BareSpaces.{is_border}
+use Rattle.html_flow_convert.specs.BareSpaces.{is_border}
 use Rattle.typst_html_encode.specs.Collapsing.{Atom, object, preserves, has_border, bordered_atoms}
 use Rattle.typst_html_encode.proofs.NodeAtoms.{nodes_atoms}
-use Rattle.html_flow_convert.specs.LoneNode.{node_list, are_tags, lone_node, DisplayChangeView, css_displayed, node_displayed, block_change, changed_or_in, block_change_of, block_head, block_nodes}
+use Rattle.html_flow_convert.specs.LoneNode.{node_list, are_tags, lone_node, DisplayChangeView, css_with_display, node_with_display, block_change, changed_or_in, block_change_of, block_head, block_nodes}
 use Rattle.typst_html_spaces.specs.AtomContexts.{AtomsStay, support_at}
 use Rattle.typst_html_spaces.proofs.AtomContexts.{AtomsStay-front, AtomsStay-bordered, AtomsStay-inside}
 use Rattle.typst_html_spaces.proofs.DeepNodes.{text_is_not_alone}
@@ -29,10 +29,10 @@ inside_border false xs s = s
 standing_stays : (h : Head) (css : List TextPair) (kids : NodesView) → StandsForBlock h css →
     AtomsStay false false (head_atoms h kids) →
     (b a : Bool) → AtomsStay b a (head_atoms (record h { css = css }) kids)
-unfolding node_styled
+unfolding styled_node
 standing_stays h css kids new s b a =
-    let attrs = attrs_styled h.css h.attrs in
-    let inside = nodes_atoms (preserves h.name attrs) (nodes_styled kids) in
+    let attrs = styled_attrs h.css h.attrs in
+    let inside = nodes_atoms (preserves h.name attrs) (styled_nodes kids) in
     let core = cond (is_replaced h.name) (object h.name ∷ []) inside in
     elim (cases_Bool (is_line_break h.name)) [
       | inl e ↦ rw e (tt, tt)
@@ -42,8 +42,8 @@ standing_stays h css kids new s b a =
           (inside_border (has_border h.name attrs) core f))
     ]
 
-tags_atoms : (ns : NodesView) → are_tags ns ≡ true → nodes_atoms false (nodes_styled ns) ≡ []
-unfolding node_styled
+tags_atoms : (ns : NodesView) → are_tags ns ≡ true → nodes_atoms false (styled_nodes ns) ≡ []
+unfolding styled_node
 tags_atoms none e = refl
 tags_atoms (node (tag_node t) ns) e = tags_atoms ns e
 tags_atoms (node (text_node s span) ns) e = absurd (false≢true e)
@@ -51,7 +51,7 @@ tags_atoms (node (element_node h kids) ns) e = absurd (false≢true e)
 tags_atoms (node (frame_node f) ns) e = absurd (false≢true e)
 
 tags_ready : (change : DisplayChangeView) (ns : NodesView) → are_tags ns ≡ true →
-    Each Ready (map (node_displayed change) (node_list ns))
+    Each Ready (map (node_with_display change) (node_list ns))
 unfolding node_list
 tags_ready change none e = tt
 tags_ready change (node (tag_node t) ns) e = (tag_ready t, tags_ready change ns e)
@@ -61,19 +61,19 @@ tags_ready change (node (frame_node f) ns) e = absurd (false≢true e)
 
 -- the atoms of a list stay between borders
 abbrev pub Stay : NodesView → Type 0
-Stay ns = AtomsStay false false (nodes_atoms false (nodes_styled ns))
+Stay ns = AtomsStay false false (nodes_atoms false (styled_nodes ns))
 
 first_stays : (h : Head) (kids ns : NodesView) → are_tags ns ≡ true →
     Stay (node (element_node h kids) ns) → AtomsStay false false (head_atoms h kids)
-unfolding node_styled
+unfolding styled_node
 first_stays h kids ns e s =
     rw (ap (λ xs. support_at xs false) (tags_atoms ns e))
-    at (AtomsStay-front false false (head_atoms h kids) (nodes_atoms false (nodes_styled ns)) s)
+    at (AtomsStay-front false false (head_atoms h kids) (nodes_atoms false (styled_nodes ns)) s)
 
 changed_ready : (ns : NodesView) (n : NodeView) (change : DisplayChangeView) →
     lone_node ns ≡ Some n → block_change n ≡ Some change → AreMade false ns → Stay ns →
-    Each Ready (map (node_displayed change) (node_list ns))
-unfolding node_list lone_node node_styled
+    Each Ready (map (node_with_display change) (node_list ns))
+unfolding node_list lone_node styled_node
 changed_ready none n change e c r s = cc
 changed_ready (node (tag_node t) ns) n change e c r s =
     (tag_ready t, changed_ready ns n change e c r.1 s)
@@ -85,7 +85,7 @@ changed_ready (node (element_node h kids) ns) n change e c r s =
           let f : Some (element_node h kids) ≡ Some n = rw t at e in
           let is : element_node h kids ≡ n = cc in
           let own : block_change (element_node h kids) ≡ Some change = ap block_change is ∙ c in
-          let css = css_displayed change h.css in
+          let css = css_with_display change h.css in
           let new = stands_for_block h kids change r.0.0 own in (
             border_ready (record h { css = css }) kids new.is_one
                 (standing_stays h css kids new (first_stays h kids ns t s)),
@@ -102,14 +102,14 @@ unfolding is_border default_display stands_in
 div_border span = refl
 
 div_atoms : (span : ℕ) (ns : NodesView) →
-    head_atoms (block_head span) ns ≡ bordered_atoms true (nodes_atoms false (nodes_styled ns))
-unfolding node_styled preserves has_border default_display stands_in is_replaced
+    head_atoms (block_head span) ns ≡ bordered_atoms true (nodes_atoms false (styled_nodes ns))
+unfolding styled_node preserves has_border default_display stands_in is_replaced
 div_atoms span ns = refl
 
 div_ready : (span : ℕ) (ns : NodesView) → Stay ns → Ready (element_node (block_head span) ns)
 div_ready span ns s = border_ready (block_head span) ns (div_border span)
     (λ b a. rw (div_atoms span ns)
-    (AtomsStay-bordered b a (nodes_atoms false (nodes_styled ns)) s))
+    (AtomsStay-bordered b a (nodes_atoms false (styled_nodes ns)) s))
 
 block_by : (span : ℕ) (ns : NodesView) (o : Option NodeView) (c : Option DisplayChangeView) →
     lone_node ns ≡ o → block_change_of o ≡ c → AreMade false ns → Stay ns →

@@ -8,11 +8,11 @@ use Rattle.html_names.specs.Kinds.{is_replaced, is_line_break, is_raw, raw_names
 use Rattle.html_names.specs.Names.{stands_in}
 use Rattle.html_names.specs.Texts.{TextPair}
 use Rattle.html_dom_tree.specs.Attributes.{first}
-use Rattle.html_dom_tree.specs.Styled.{attrs_styled, node_styled, nodes_styled}
+use Rattle.html_dom_tree.specs.Styled.{styled_attrs, styled_node, styled_nodes}
 use Rattle.html_dom_tree.specs.Tree.{Head, NodeView, tag_node, text_node, element_node, frame_node, NodesView, none, node}
 use Rattle.html_dom_tree.specs.Views.{nodes_of}
-use Rattle.html_flow_whitespace.specs.BareSpaces.{is_border, makes_block, is_entered}
-use Rattle.html_flow_whitespace.specs.Runs.{nodes_with_runs}
+use Rattle.html_flow_convert.specs.BareSpaces.{is_border, makes_block, is_entered}
+use Rattle.html_flow_convert.specs.Runs.{nodes_with_runs}
 use Rattle.typst_html_encode.specs.Collapsing.{Atom, object, char_atom, text_atoms, preserves, has_border, element_atoms}
 use Rattle.typst_html_encode.proofs.NodeAtoms.{node_atoms, nodes_atoms}
 use Rattle.html_flow_convert.specs.Converted.{RoleText, is_preformatted, body_level, body_whitespace, body_role, element_head, items_nodes, body_nodes}
@@ -138,7 +138,7 @@ inline_body role (present items) = refl
 
 pub block_body_stays : (role : RoleText) (body : BodyView) → Each Ready (body_runs role body) →
     Stay (body_nodes Block Normal role body)
-unfolding body_nodes nodes_styled
+unfolding body_nodes styled_nodes
 block_body_stays role absent r = tt
 block_body_stays role (present items) r =
     protected_stay (nodes_with_runs (items_nodes Normal role items)) r
@@ -162,13 +162,13 @@ module _ (role : RoleText) (h : ElemHead) (body : BodyView) (p : PlainHead h)
   own = element_head role h
 
   abbrev attrs : List TextPair
-  attrs = attrs_styled own.css own.attrs
+  attrs = styled_attrs own.css own.attrs
 
   abbrev kids : NodesView
   kids = body_nodes (body_level h) (body_whitespace Normal h) (body_role role h) body
 
   abbrev inside : List Atom
-  inside = nodes_atoms (preserves h.name attrs) (nodes_styled kids)
+  inside = nodes_atoms (preserves h.name attrs) (styled_nodes kids)
 
   no_style : first attrs (codes "style") ≡ None
   no_style = rw (p.no_css) (element_made role h p).no_style
@@ -177,8 +177,8 @@ module _ (role : RoleText) (h : ElemHead) (body : BodyView) (p : PlainHead h)
   no_block = rw (p.no_css) refl
 
   own_atoms : (ns : NodesView) → head_atoms own ns
-      ≡ element_atoms h.name attrs (nodes_atoms (preserves h.name attrs) (nodes_styled ns))
-  unfolding node_styled
+      ≡ element_atoms h.name attrs (nodes_atoms (preserves h.name attrs) (styled_nodes ns))
+  unfolding styled_node
   own_atoms ns = refl
 
   -- the nodes of the body, where white space collapses
@@ -189,7 +189,7 @@ module _ (role : RoleText) (h : ElemHead) (body : BodyView) (p : PlainHead h)
 
   inside_stays : shows_border (default_display h.name) ≡ true → AtomsStay false false inside
   inside_stays e = elim (cases_Bool (preserves h.name attrs)) [
-    | inl k ↦ rw k (kept_nodes (nodes_styled kids) false false)
+    | inl k ↦ rw k (kept_nodes (styled_nodes kids) false false)
     | inr k ↦
         let pre : bytes_eq h.name (codes "pre") ≡ false =
         sym (preserves_by_name h.name attrs no_style) ∙ k in
@@ -222,7 +222,7 @@ module _ (role : RoleText) (h : ElemHead) (body : BodyView) (p : PlainHead h)
 
   core_atoms : shows_border (default_display h.name) ≡ false → is_line_break h.name ≡ false →
       (ns : NodesView) → head_atoms own ns ≡ cond (is_replaced h.name) (object h.name ∷ [])
-      (nodes_atoms (preserves h.name attrs) (nodes_styled ns))
+      (nodes_atoms (preserves h.name attrs) (styled_nodes ns))
   core_atoms e f ns =
       own_atoms ns ∙ rw (f, plain_border h.name attrs no_style ∙ e) refl
 
@@ -237,7 +237,7 @@ module _ (role : RoleText) (h : ElemHead) (body : BodyView) (p : PlainHead h)
 
   open_atoms : shows_border (default_display h.name) ≡ false → is_line_break h.name ≡ false →
       is_replaced h.name ≡ false → (ns : NodesView) →
-      head_atoms own ns ≡ nodes_atoms false (nodes_styled ns)
+      head_atoms own ns ≡ nodes_atoms false (styled_nodes ns)
   open_atoms e f g ns =
       let flows : preserves h.name attrs ≡ false =
       preserves_by_name h.name attrs no_style ∙ no_border_no_pre h.name e in

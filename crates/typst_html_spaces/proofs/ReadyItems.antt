@@ -1,7 +1,7 @@
 -- The walk goes past the nodes of items in plain flow.
 use Rattle.std.proofs.Common.{◌≡◌, true, not, inr}
 use Rattle.std.proofs.lemmas.Bool.{false≢true, and_parts}
-use Rattle.html_flow_whitespace.specs.Runs.{nodes_with_runs}
+use Rattle.html_flow_convert.specs.Runs.{nodes_with_runs}
 use Rattle.html_flow_convert.specs.Converted.{RoleText, item_role, body_whitespace, body_role, item_nodes, items_nodes, body_nodes, converted_nodes}
 use Rattle.html_flow_convert.specs.Items.{ItemView, tag_item, element_item, space_item, text_item, hole_item, break_item, box_item, block_item, frame_item, ItemsView, no_items, item, BodyView, absent, present}
 use Rattle.html_flow_convert.specs.LoneNode.{block_nodes}

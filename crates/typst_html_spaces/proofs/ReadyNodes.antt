@@ -4,13 +4,13 @@ use Rattle.std.proofs.lemmas.Bool.{and_right}
 use Rattle.html_names.specs.Displays.{default_display}
 use Rattle.html_names.specs.Kinds.{is_replaced}
 use Rattle.html_names.specs.Names.{stands_in}
-use Rattle.html_dom_tree.specs.Styled.{node_styled, nodes_styled}
+use Rattle.html_dom_tree.specs.Styled.{styled_node, styled_nodes}
 use Rattle.html_dom_tree.specs.Tree.{TagView, Head, tag_node, text_node, element_node, NodeView, NodesView, none}
 use Rattle.html_dom_tree.specs.Views.{nodes_of}
-use Rattle.html_flow_whitespace.specs.BareSpaces.{border, visible, space, text_things, node_things, nodes_things, is_border, is_entered}
-use Rattle.html_flow_whitespace.specs.Nodes.{plain_head, pre_wrap_head, break_node, is_one}
-use Rattle.html_flow_whitespace.specs.Protected.{text_protected}
-use Rattle.html_flow_whitespace.proofs.Protecting.{opened_things}
+use Rattle.html_flow_convert.specs.BareSpaces.{border, visible, space, text_things, node_things, nodes_things, is_border, is_entered}
+use Rattle.html_flow_convert.specs.Nodes.{plain_head, pre_wrap_head, break_node, is_one}
+use Rattle.html_flow_convert.specs.Protected.{text_by_answer}
+use Rattle.html_flow_convert.proofs.Protecting.{opened_things}
 use Rattle.typst_html_encode.specs.Collapsing.{Atom, collapsible, kept, object, break, text_atoms, preserves, has_border}
 use Rattle.typst_html_encode.proofs.NodeAtoms.{node_atoms, nodes_atoms}
 use Rattle.typst_html_spaces.specs.AtomContexts.{AtomsStay}
@@ -20,12 +20,12 @@ use Rattle.typst_html_spaces.proofs.Walks.{walks_as, Unseen, walks_unseen, Seen,
 
 -- the atoms of an element as conversion leaves it
 abbrev pub head_atoms : Head → NodesView → List Atom
-head_atoms h ns = node_atoms false (node_styled (element_node h ns))
+head_atoms h ns = node_atoms false (styled_node (element_node h ns))
 
 -- a `span` in which white space stays
 pub wrap_atoms : (span : ℕ) (ns : NodesView) →
-    head_atoms (pre_wrap_head span) ns ≡ nodes_atoms true (nodes_styled ns)
-unfolding node_styled preserves has_border default_display stands_in is_replaced
+    head_atoms (pre_wrap_head span) ns ≡ nodes_atoms true (styled_nodes ns)
+unfolding styled_node preserves has_border default_display stands_in is_replaced
 wrap_atoms span ns = refl
 
 wrap_things : (span : ℕ) (ns : NodesView) →
@@ -42,14 +42,14 @@ shut_between : (h : Head) (ns : NodesView) → is_entered h ≡ false → (befor
 shut_between h ns e before after = rw e refl
 
 pub tag_ready : (t : TagView) → Ready (tag_node t)
-unfolding node_things node_styled
+unfolding node_things styled_node
 tag_ready t = walks_unseen [] nothing_unseen
 
 -- texts
 
 text_stays : (s : List ℕ) (span : ℕ) → is_one 32 s ≡ false → (before after : Bool) →
     atoms_between (text_node s span) before after ≡ text_atoms false s
-unfolding node_styled
+unfolding styled_node
 text_stays s span e before after = rw e refl
 
 pub unseen_text : (s : List ℕ) (span : ℕ) → is_one 32 s ≡ false → text_things s ≡ [] →
@@ -67,9 +67,9 @@ seen_text s span e t u = walks_as (text_things s) (visible ∷ []) (atoms_betwee
     (walks_seen (text_atoms false s) u)
 
 space_atoms : (span : ℕ) (b : Bool) →
-    node_atoms false (node_styled (text_protected b (32 ∷ []) span))
+    node_atoms false (styled_node (text_by_answer b (32 ∷ []) span))
     ≡ (if b then collapsible 32 else kept 32) ∷ []
-unfolding node_styled preserves has_border default_display stands_in is_replaced
+unfolding styled_node preserves has_border default_display stands_in is_replaced
 space_atoms span true = refl
 space_atoms span false = refl
 
@@ -83,17 +83,17 @@ space_ready span = walks_as (space ∷ []) (space ∷ []) (atoms_between (text_n
 shut_atoms : (h : Head) (ns : NodesView) → is_entered h ≡ false → (before after : Bool) →
     atoms_between (element_node h ns) before after ≡ head_atoms h ns
 shut_atoms h ns e before after =
-    ap (λ m. node_atoms false (node_styled m)) (shut_between h ns e before after)
+    ap (λ m. node_atoms false (styled_node m)) (shut_between h ns e before after)
 
-pub wrap_ready : (span : ℕ) (ns : NodesView) → Unseen (nodes_atoms true (nodes_styled ns)) →
+pub wrap_ready : (span : ℕ) (ns : NodesView) → Unseen (nodes_atoms true (styled_nodes ns)) →
     Ready (element_node (pre_wrap_head span) ns)
 wrap_ready span ns u =
     let m = element_node (pre_wrap_head span) ns in
-    walks_as (node_things m) [] (atoms_between m) (λ before after. nodes_atoms true (nodes_styled ns))
+    walks_as (node_things m) [] (atoms_between m) (λ before after. nodes_atoms true (styled_nodes ns))
     (wrap_things span ns)
     (λ before after. shut_atoms (pre_wrap_head span) ns (wrap_is_shut span) before after
     ∙ wrap_atoms span ns)
-    (walks_unseen (nodes_atoms true (nodes_styled ns)) u)
+    (walks_unseen (nodes_atoms true (styled_nodes ns)) u)
 
 border_is_shut : (h : Head) → is_border h ≡ true → is_entered h ≡ false
 unfolding is_entered
@@ -111,8 +111,8 @@ border_ready h ns e s =
     walks_as (node_things m) (border ∷ []) (atoms_between m) (λ before after. head_atoms h ns)
     (border_things h ns e) (shut_atoms h ns (border_is_shut h e)) (walks_border (head_atoms h ns) s)
 
-break_atoms : (span : ℕ) → node_atoms false (node_styled (break_node span)) ≡ break ∷ []
-unfolding node_styled stands_in
+break_atoms : (span : ℕ) → node_atoms false (styled_node (break_node span)) ≡ break ∷ []
+unfolding styled_node stands_in
 break_atoms span = refl
 
 break_is_border : (span : ℕ) → is_border (plain_head (codes "br") [] span) ≡ true
@@ -156,14 +156,14 @@ unfolding node_things
 entered_things h ns e = opened_things h (nodes_things ns) e
 
 pub entered_ready : (h : Head) (ms : List NodeView) → is_entered h ≡ true →
-    ((ns : NodesView) → head_atoms h ns ≡ nodes_atoms false (nodes_styled ns)) → Each Ready ms →
+    ((ns : NodesView) → head_atoms h ns ≡ nodes_atoms false (styled_nodes ns)) → Each Ready ms →
     Ready (element_node h (nodes_of ms))
 entered_ready h ms e inside r =
     let ns = nodes_of ms in
     let m = element_node h ns in
     walks_as (node_things m) (nodes_things ns) (atoms_between m)
-    (λ before after. nodes_atoms false (nodes_styled (nodes_between before after ns)))
+    (λ before after. nodes_atoms false (styled_nodes (nodes_between before after ns)))
     (entered_things h ns e)
-    (λ before after. ap (λ x. node_atoms false (node_styled x)) (entered_between h ns e before after)
+    (λ before after. ap (λ x. node_atoms false (styled_node x)) (entered_between h ns e before after)
     ∙ inside (nodes_between before after ns))
     (walks_nodes ms r)

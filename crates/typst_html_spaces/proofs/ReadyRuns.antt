@@ -2,11 +2,11 @@
 use Rattle.std.proofs.Common.{◌≡◌, ℕ, true, false, ◌||◌, List, [], ◌∷◌, ◌++◌, inl, inr, refl, ap, ◌∙◌, sym}
 use Rattle.std.specs.List.{filter}
 use Rattle.std.proofs.lemmas.Bool.{cases_Bool, false≢true, or_parts, or_cases, eqb-true}
-use Rattle.html_dom_tree.specs.Styled.{nodes_styled}
+use Rattle.html_dom_tree.specs.Styled.{styled_nodes}
 use Rattle.html_dom_tree.specs.Tree.{NodeView, tag_node, text_node, element_node, frame_node}
 use Rattle.html_dom_tree.specs.Views.{nodes_of}
-use Rattle.html_flow_whitespace.specs.Nodes.{is_one, is_tag}
-use Rattle.html_flow_whitespace.specs.Runs.{is_space, is_tab, is_blank_node, first_span, are_kept, run_nodes, front_nodes, front, after_front, nodes_with_runs}
+use Rattle.html_flow_convert.specs.Nodes.{is_one, is_tag}
+use Rattle.html_flow_convert.specs.Runs.{is_space, is_tab, is_blank_node, first_span, are_kept, run_nodes, front_nodes, front, after_front, nodes_with_runs}
 use Rattle.typst_html_encode.specs.Collapsing.{Atom, kept, text_atoms}
 use Rattle.typst_html_encode.proofs.NodeAtoms.{nodes_atoms}
 use Rattle.typst_html_spaces.proofs.Each.{Each, Each-append}
@@ -46,12 +46,12 @@ blank_unseen s xs e u = elim (or_cases (is_one 32 s) (is_one 9 s) e) [
   | inr f ↦ rw (one_char 9 s f) (kept_before 9 xs u)
 ]
 
-run_unseen : (ns : List NodeView) → Each IsInRun ns → Unseen (nodes_atoms true (nodes_styled (nodes_of ns)))
-unfolding nodes_styled
+run_unseen : (ns : List NodeView) → Each IsInRun ns → Unseen (nodes_atoms true (styled_nodes (nodes_of ns)))
+unfolding styled_nodes
 run_unseen [] r = nothing_unseen
 run_unseen (tag_node t ∷ ns) r = run_unseen ns r.1
 run_unseen (text_node s span ∷ ns) r =
-    blank_unseen s (nodes_atoms true (nodes_styled (nodes_of ns))) (text_part s r.0) (run_unseen ns r.1)
+    blank_unseen s (nodes_atoms true (styled_nodes (nodes_of ns))) (text_part s r.0) (run_unseen ns r.1)
   where
     text_part : (s : List ℕ) → ((is_one 32 s || is_one 9 s) || false) ≡ true →
         (is_one 32 s || is_one 9 s) ≡ true

@@ -4,8 +4,8 @@ use Rattle.std.proofs.lemmas.Bool.{cases_Bool}
 use Rattle.std.specs.List.{filter}
 use Rattle.html_dom_tree.specs.Tree.{NodeView}
 use Rattle.html_dom_tree.specs.Views.{nodes_of}
-use Rattle.html_flow_whitespace.specs.Nodes.{is_tag}
-use Rattle.html_flow_whitespace.specs.Runs.{is_blank_node, are_kept, first_span, run_nodes, front_nodes, front, after_front, nodes_with_runs}
+use Rattle.html_flow_convert.specs.Nodes.{is_tag}
+use Rattle.html_flow_convert.specs.Runs.{is_blank_node, are_kept, first_span, run_nodes, front_nodes, front, after_front, nodes_with_runs}
 use Rattle.typst_html_spaces.proofs.OwnPieces.{list_pieces, list_pieces-append, pre_wrap_pieces}
 
 module _ {M : Type 0} (total : List NodeView → M) (add : M → M → M)

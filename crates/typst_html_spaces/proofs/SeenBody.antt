@@ -2,9 +2,9 @@
 use Rattle.std.proofs.Common.{◌≡◌, Bool, true, false, Some, ap, ◌∙◌}
 use Rattle.html_names.specs.Kinds.{is_raw}
 use Rattle.html_dom_tree.specs.PlainTree.{nodes_normal, element_normal}
-use Rattle.html_dom_tree.specs.Styled.{nodes_styled}
+use Rattle.html_dom_tree.specs.Styled.{styled_nodes}
 use Rattle.html_dom_tree.specs.Tree.{NodesView, ElementView}
-use Rattle.typst_html_encode.specs.Frames.{Frames}
+use Rattle.typst_html_encode.specs.FrameWriters.{Frames}
 use Rattle.typst_html_encode.specs.Indented.{element_layout}
 use Rattle.typst_html_encode.specs.IndentsCollapse.{NodesAreEdged, body_of}
 use Rattle.typst_html_encode.specs.Text.{document_text, plain_options, pretty_options}
@@ -13,40 +13,40 @@ use Rattle.typst_html_encode.proofs.ReadingBack.{reads_back}
 use Rattle.html_flow_convert.specs.Converted.{converted_nodes}
 use Rattle.html_flow_convert.specs.declared.convert.ConversionLevel.TheVariants.{Block}
 use Rattle.html_flow_convert.specs.declared.convert.Whitespace.TheVariants.{Normal}
-use Rattle.typst_html_spaces.specs.SeenBody.{plains_seen, body_seen, tree_seen, text_seen, CanBeRead, BodyIsSeen, ItemsAreSeen}
+use Rattle.typst_html_spaces.specs.SeenBody.{seen_plains, seen_body, seen_tree, seen_text, CanBeRead, BodyIsSeen, ItemsAreSeen}
 use Rattle.typst_html_spaces.proofs.EdgedNodes.{converted_are_edged}
 use Rattle.typst_html_spaces.proofs.SpacesStay.{spaces_stay}
 
 -- of the tree that a root's text reads as
 
 module _ (e : ElementView) (body : NodesView) (is : body_of e.1 ≡ Some body) where
-  pub plain_tree_seen : tree_seen (Some (element_normal e)) ≡ Some (plains_seen (nodes_normal body))
-  plain_tree_seen = ap body_seen (body_normal e.1 body is)
+  pub plain_tree_seen : seen_tree (Some (element_normal e)) ≡ Some (seen_plains (nodes_normal body))
+  plain_tree_seen = ap seen_body (body_normal e.1 body is)
 
   pub pretty_tree_seen : is_raw e.0.name ≡ false → NodesAreEdged body →
-      tree_seen (Some (element_normal (element_layout e))) ≡ Some (plains_seen (nodes_normal body))
+      seen_tree (Some (element_normal (element_layout e))) ≡ Some (seen_plains (nodes_normal body))
   pretty_tree_seen not_raw edged =
       let inside = body_collapses e body not_raw is edged in
-      ap body_seen inside.1 ∙ ap Some inside.2
+      ap seen_body inside.1 ∙ ap Some inside.2
 
 -- of the text
 
 module _ (frames : Frames) (e : ElementView) (body : NodesView) (is : body_of e.1 ≡ Some body)
     (edged : NodesAreEdged body) where
   plain_seen : CanBeRead frames plain_options e →
-      text_seen (document_text frames plain_options e) ≡ Some (plains_seen (nodes_normal body))
+      seen_text (document_text frames plain_options e) ≡ Some (seen_plains (nodes_normal body))
   plain_seen c =
-      ap tree_seen ((reads_back frames).0 e c.named c.frame_free c.clean) ∙ plain_tree_seen e body is
+      ap seen_tree ((reads_back frames).0 e c.named c.frame_free c.clean) ∙ plain_tree_seen e body is
 
   pretty_seen : CanBeRead frames pretty_options e →
-      text_seen (document_text frames pretty_options e) ≡ Some (plains_seen (nodes_normal body))
+      seen_text (document_text frames pretty_options e) ≡ Some (seen_plains (nodes_normal body))
   pretty_seen c =
-      ap tree_seen ((reads_back frames).1 e c.named c.frame_free c.ends_well c.clean)
+      ap seen_tree ((reads_back frames).1 e c.named c.frame_free c.ends_well c.clean)
       ∙ pretty_tree_seen e body is c.not_raw edged
 
   seen_by : (pretty : Bool) → CanBeRead frames (record { pretty = pretty }) e →
-      text_seen (document_text frames (record { pretty = pretty }) e)
-      ≡ Some (plains_seen (nodes_normal body))
+      seen_text (document_text frames (record { pretty = pretty }) e)
+      ≡ Some (seen_plains (nodes_normal body))
   seen_by false c = plain_seen c
   seen_by true c = pretty_seen c
 
@@ -56,5 +56,5 @@ body_is_seen frames options e body c is edged = seen_by frames e body is edged o
 pub items_are_seen : ItemsAreSeen
 items_are_seen frames options e role items p c is =
     let body = converted_nodes Block Normal role items in
-    body_is_seen frames options e (nodes_styled body) c is (converted_are_edged role items p)
+    body_is_seen frames options e (styled_nodes body) c is (converted_are_edged role items p)
     ∙ ap Some (spaces_stay role items p)

@@ -1,6 +1,6 @@
 -- Spaces stay: each atom of the nodes stays, and each by itself they are the items' text.
 use Rattle.std.proofs.Common.{◌≡◌, false, ap, ◌∙◌}
-use Rattle.html_dom_tree.specs.Styled.{nodes_styled}
+use Rattle.html_dom_tree.specs.Styled.{styled_nodes}
 use Rattle.html_dom_tree.specs.Tree.{NodesView}
 use Rattle.typst_html_encode.specs.Collapsing.{merged_edges, collapsed_pieces}
 use Rattle.typst_html_encode.proofs.IndentsCollapse.{content_collapses}
@@ -17,11 +17,11 @@ use Rattle.typst_html_spaces.proofs.OwnPieces.{nodes_pieces, nodes_own}
 use Rattle.typst_html_spaces.proofs.ReadyItems.{items_stay}
 
 -- nodes whose atoms all stay
-seen_own : (ns : NodesView) → AtomsStay false false (nodes_atoms false (nodes_styled ns)) →
+seen_own : (ns : NodesView) → AtomsStay false false (nodes_atoms false (styled_nodes ns)) →
     seen_pieces ns ≡ merged_edges false (nodes_pieces ns)
 seen_own ns s =
-    ap collapsed_pieces (normal_atoms (nodes_styled ns) false)
-    ∙ (own_collapsed (nodes_atoms false (nodes_styled ns)) s
+    ap collapsed_pieces (normal_atoms (styled_nodes ns) false)
+    ∙ (own_collapsed (nodes_atoms false (styled_nodes ns)) s
     ∙ ap (merged_edges false) (nodes_own false ns))
 
 pub spaces_stay : SpacesStay
@@ -32,6 +32,6 @@ spaces_stay role items e =
 -- indents are not seen
 pub pretty_spaces_stay : PrettySpacesStay
 pretty_spaces_stay role items level h e r =
-    content_collapses level h (nodes_styled (converted_nodes Block Normal role items)) r
+    content_collapses level h (styled_nodes (converted_nodes Block Normal role items)) r
     (converted_are_edged role items e)
     ∙ spaces_stay role items e

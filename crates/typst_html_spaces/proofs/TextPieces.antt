@@ -7,10 +7,10 @@ use Rattle.html_names.specs.Names.{stands_in}
 use Rattle.html_dom_tree.specs.Tree.{NodeView}
 use Rattle.html_dom_tree.specs.Views.{nodes_of}
 use Rattle.typst_html_encode.specs.Collapsing.{Piece, char, line}
-use Rattle.html_flow_whitespace.specs.BareSpaces.{bare_spaces}
-use Rattle.html_flow_whitespace.specs.Nodes.{break_node}
-use Rattle.html_flow_whitespace.specs.Pieces.{PieceView, stretch, alone, line_break, is_normal, is_normal_there, first_char, is_in_stretch, in_stretch, is_carriage_return, pieces_after, piece_node}
-use Rattle.html_flow_whitespace.specs.Runs.{nodes_with_runs}
+use Rattle.html_flow_convert.specs.BareSpaces.{bare_spaces}
+use Rattle.html_flow_convert.specs.Nodes.{break_node}
+use Rattle.html_flow_convert.specs.Pieces.{PieceView, stretch, alone, line_break, is_normal, is_normal_there, first_char, is_in_stretch, in_stretch, is_carriage_return, pieces_after, piece_node}
+use Rattle.html_flow_convert.specs.Runs.{nodes_with_runs}
 use Rattle.html_flow_convert.specs.Converted.{list_nodes, text_item_nodes, break_item_node}
 use Rattle.html_flow_convert.specs.declared.convert.ConversionLevel.{ConversionLevel}
 use Rattle.html_flow_convert.specs.declared.convert.ConversionLevel.TheVariants.{Block, Inline}

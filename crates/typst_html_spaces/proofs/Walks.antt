@@ -2,11 +2,11 @@
 -- a space that stays.
 use Rattle.std.proofs.Common.{◌≡◌, Bool, true, false, ◌&&◌, List, [], ◌∷◌, ◌++◌, inl, inr, refl, ap, ◌∙◌, sym, if◌then◌else◌}
 use Rattle.std.proofs.lemmas.Bool.{cases_Bool, false≢true, and_parts, and_right}
-use Rattle.html_dom_tree.specs.Styled.{node_styled, nodes_styled}
+use Rattle.html_dom_tree.specs.Styled.{styled_node, styled_nodes}
 use Rattle.html_dom_tree.specs.Tree.{NodeView}
 use Rattle.html_dom_tree.specs.Views.{nodes_of}
-use Rattle.html_flow_whitespace.specs.BareSpaces.{Thing, border, visible, space, node_things, nodes_things}
-use Rattle.html_flow_whitespace.specs.Protected.{protected_nodes}
+use Rattle.html_flow_convert.specs.BareSpaces.{Thing, border, visible, space, node_things, nodes_things}
+use Rattle.html_flow_convert.specs.Protected.{protected_nodes}
 use Rattle.typst_html_encode.specs.Collapsing.{Atom, collapsible, kept}
 use Rattle.typst_html_encode.proofs.NodeAtoms.{node_atoms, nodes_atoms}
 use Rattle.typst_html_spaces.specs.AtomContexts.{support_at, support_past, AtomsStay}
@@ -114,7 +114,7 @@ walks_space = record {
 
 -- the atoms of a node between others
 abbrev pub atoms_between : NodeView → (before after : Bool) → List Atom
-atoms_between m before after = node_atoms false (node_styled (node_between before after m))
+atoms_between m before after = node_atoms false (styled_node (node_between before after m))
 
 -- a node whose lone spaces are not decided yet
 abbrev pub Ready : NodeView → Type 0
@@ -124,16 +124,16 @@ pub nothing_unseen : Unseen []
 nothing_unseen = record { at = refl; past = refl; stay = λ b a. tt }
 
 pub walks_nodes : (ms : List NodeView) → Each Ready ms → Walks (nodes_things (nodes_of ms))
-    (λ before after. nodes_atoms false (nodes_styled (nodes_between before after (nodes_of ms))))
-unfolding nodes_things nodes_styled
+    (λ before after. nodes_atoms false (styled_nodes (nodes_between before after (nodes_of ms))))
+unfolding nodes_things styled_nodes
 walks_nodes [] r = walks_unseen [] nothing_unseen
 walks_nodes (m ∷ ms) r = walks_both (node_things m) (nodes_things (nodes_of ms)) (atoms_between m)
-    (λ before after. nodes_atoms false (nodes_styled (nodes_between before after (nodes_of ms))))
+    (λ before after. nodes_atoms false (styled_nodes (nodes_between before after (nodes_of ms))))
     r.0 (walks_nodes ms r.1)
 
 -- a list whose lone spaces are decided
 pub protected_stay : (ms : List NodeView) → Each Ready ms →
-    AtomsStay false false (nodes_atoms false (nodes_styled (protected_nodes (nodes_of ms))))
+    AtomsStay false false (nodes_atoms false (styled_nodes (protected_nodes (nodes_of ms))))
 protected_stay ms r =
     rw (protects_by_context (nodes_of ms)) ((walks_nodes ms r).stay false false false false
     (λ e. e) (λ e f. absurd (false≢true e)))

@@ -3,7 +3,7 @@
 use Rattle.std.specs.Prelude.{◌≡◌, Bool, true, false, not, ◌&&◌, ◌||◌}
 use Rattle.html_names.specs.Characters.{all, is_text_char}
 use Rattle.html_names.specs.Kinds.{is_void}
-use Rattle.html_dom_tree.specs.Styled.{nodes_styled}
+use Rattle.html_dom_tree.specs.Styled.{styled_nodes}
 use Rattle.html_flow_convert.specs.Converted.{RoleText, converted_nodes}
 use Rattle.html_flow_convert.specs.Items.{RoleView, inherits, sets, unsets, ItemView, tag_item, element_item, space_item, text_item, hole_item, break_item, box_item, block_item, frame_item, ItemsView, no_items, item, BodyView, absent, present}
 use Rattle.html_flow_convert.specs.declared.convert.ConversionLevel.TheVariants.{Block}
@@ -46,4 +46,4 @@ unfoldable mutual
 abbrev pub CleanItemsMakeCleanNodes : Type 0
 CleanItemsMakeCleanNodes = (role : RoleText) (items : ItemsView) → is_clean_text role ≡ true →
     is_plain_flow items ≡ true → are_clean_items items ≡ true →
-    are_clean_nodes false (nodes_styled (converted_nodes Block Normal role items)) ≡ true
+    are_clean_nodes false (styled_nodes (converted_nodes Block Normal role items)) ≡ true

@@ -7,8 +7,8 @@ use Rattle.html_names.specs.Kinds.{is_void}
 use Rattle.html_names.specs.Texts.{TextPair}
 use Rattle.html_dom_tree.specs.Tags.{TagView, starts, ends}
 use Rattle.html_dom_tree.specs.Tree.{Head, NodeView, tag_node, text_node, element_node, frame_node, NodesView, none, node}
-use Rattle.typst_html_encode.specs.Faults.{nodes_faults}
-use Rattle.typst_html_encode.specs.Frames.{Frames}
+use Rattle.typst_html_encode.specs.ExportFaults.{nodes_faults}
+use Rattle.typst_html_encode.specs.FrameWriters.{Frames}
 use Rattle.typst_html_spaces.specs.Anchored.{Anchored}
 use Rattle.typst_html_spaces.specs.PlainFlow.{is_plain_name}
 

@@ -7,6 +7,6 @@ pub mod LineContexts
 pub mod PlainFlow
 pub mod PlainNodes
 pub mod ReadableNodes
-pub mod Rows
+pub mod SeenRows
 pub mod SeenBody
 pub mod SpacesStay

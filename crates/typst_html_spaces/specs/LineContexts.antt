@@ -3,9 +3,9 @@
 -- visible.
 use Rattle.std.specs.Prelude.{◌≡◌, Bool, true, false, ◌&&◌, List, [], ◌∷◌, if◌then◌else◌}
 use Rattle.html_dom_tree.specs.Tree.{NodeView, tag_node, text_node, element_node, frame_node, NodesView, none, node}
-use Rattle.html_flow_whitespace.specs.BareSpaces.{Thing, border, visible, space, is_entered, node_things, nodes_things}
-use Rattle.html_flow_whitespace.specs.Nodes.{is_one}
-use Rattle.html_flow_whitespace.specs.Protected.{text_protected, protected_nodes}
+use Rattle.html_flow_convert.specs.BareSpaces.{Thing, border, visible, space, is_entered, node_things, nodes_things}
+use Rattle.html_flow_convert.specs.Nodes.{is_one}
+use Rattle.html_flow_convert.specs.Protected.{text_by_answer, protected_nodes}
 
 -- whether the first thing is visible, where that is known of what follows the list
 abbrev pub visible_at : List Thing → (after : Bool) → Bool
@@ -34,7 +34,7 @@ abbrev mutual
   pub node_between : (before after : Bool) → NodeView → NodeView
   node_between before after (tag_node t) = tag_node t
   node_between before after (text_node s span) =
-      if is_one 32 s then text_protected (before && after) s span else text_node s span
+      if is_one 32 s then text_by_answer (before && after) s span else text_node s span
   node_between before after (element_node h ns) =
       if is_entered h then element_node h (nodes_between before after ns) else element_node h ns
   node_between before after (frame_node f) = frame_node f

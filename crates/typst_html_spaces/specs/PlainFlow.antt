@@ -2,11 +2,11 @@
 use Rattle.std.specs.Prelude.{ℕ, Bool, true, false, not, ◌&&◌, ◌||◌, List, [], ◌∷◌, codes, bytes_eq, if◌then◌else◌, Option, Some}
 use Rattle.html_names.specs.Displays.{default_display}
 use Rattle.html_names.specs.Kinds.{is_replaced, is_line_break, shows_border}
-use Rattle.html_names.specs.Names.{listed, stands_in}
+use Rattle.html_names.specs.Names.{listed_names, stands_in}
 use Rattle.html_names.specs.Texts.{TextPair}
 use Rattle.html_names.specs.declared.property.Display.{Display}
 use Rattle.html_names.specs.declared.property.Display.TheVariants as display
-use Rattle.html_dom_tree.specs.Attributes.{has}
+use Rattle.html_dom_tree.specs.Attributes.{has_name}
 use Rattle.html_flow_convert.specs.Converted.{body_whitespace}
 use Rattle.html_flow_convert.specs.Items.{ElemHead, ItemView, tag_item, element_item, space_item, text_item, hole_item, break_item, box_item, block_item, frame_item, ItemsView, no_items, item, BodyView, absent, present}
 use Rattle.html_flow_convert.specs.declared.convert.Whitespace.{Whitespace}
@@ -18,7 +18,7 @@ is_inline _ = false
 
 -- what shows nothing in text, or has a place of its own in a document
 abbrev pub unplain_names : List (List ℕ)
-unplain_names = listed (codes "noscript html body")
+unplain_names = listed_names (codes "noscript html body")
 
 unfoldable pub is_plain_name : List ℕ → Bool
 is_plain_name name =
@@ -31,7 +31,7 @@ has_no_css (p ∷ ps) = false
 
 -- an element without a style of its own
 abbrev pub is_plain_head : ElemHead → Bool
-is_plain_head h = is_plain_name h.name && has_no_css h.css && not (has h.attrs (codes "style"))
+is_plain_head h = is_plain_name h.name && has_no_css h.css && not (has_name h.attrs (codes "style"))
 
 -- a tag, a hole or an empty text
 abbrev pub is_nothing : ItemView → Bool

@@ -1,7 +1,7 @@
 -- Nodes of plain flow: elements of plain names alone, and no frame.
 use Rattle.std.specs.Prelude.{◌≡◌, ℕ, Bool, true, false, ◌&&◌, List, codes, bytes_eq}
 use Rattle.html_names.specs.Kinds.{is_raw}
-use Rattle.html_dom_tree.specs.Styled.{nodes_styled}
+use Rattle.html_dom_tree.specs.Styled.{styled_nodes}
 use Rattle.html_dom_tree.specs.Tree.{NodeView, tag_node, text_node, element_node, frame_node, NodesView, none, node}
 use Rattle.typst_html_encode.specs.Indented.{NodesEndWell}
 use Rattle.typst_html_encode.specs.IndentsCollapse.{NodesAreEdged}
@@ -28,13 +28,13 @@ unfoldable mutual
 abbrev pub PlainFlowMakesPlainNodes : Type 0
 PlainFlowMakesPlainNodes = (role : RoleText) (items : ItemsView) → is_plain_flow items ≡ true →
     (are_plain_nodes (converted_nodes Block Normal role items) ≡ true)
-    × NodesAreEdged (nodes_styled (converted_nodes Block Normal role items))
+    × NodesAreEdged (styled_nodes (converted_nodes Block Normal role items))
 
 -- such nodes can be read back: they have no frame and no raw element
 abbrev pub PlainNodesCanBeRead : Type 0
 PlainNodesCanBeRead = (ns : NodesView) → are_plain_nodes ns ≡ true →
-    NodesAreFrameFree (nodes_styled ns)
-    × ((pretty : Bool) → NodesEndWell pretty (nodes_styled ns))
+    NodesAreFrameFree (styled_nodes ns)
+    × ((pretty : Bool) → NodesEndWell pretty (styled_nodes ns))
 
 -- none of them is a document's root or its body
 abbrev pub PlainNamesAreInside : Type 0

@@ -2,11 +2,11 @@
 use Rattle.std.specs.Prelude.{◌≡◌, ℕ, true, false, List, [], Option, Some, None}
 use Rattle.html_names.specs.Kinds.{is_raw}
 use Rattle.html_dom_tree.specs.PlainTree.{Plain, words, branch, Plains, nodes_normal}
-use Rattle.html_dom_tree.specs.Styled.{nodes_styled}
+use Rattle.html_dom_tree.specs.Styled.{styled_nodes}
 use Rattle.html_dom_tree.specs.Tree.{NodesView, ElementView}
 use Rattle.typst_html_encode.specs.Collapsing.{Piece, plains_atoms, collapsed_pieces}
-use Rattle.typst_html_encode.specs.Faults.{document_faults}
-use Rattle.typst_html_encode.specs.Frames.{Frames}
+use Rattle.typst_html_encode.specs.ExportFaults.{document_faults}
+use Rattle.typst_html_encode.specs.FrameWriters.{Frames}
 use Rattle.typst_html_encode.specs.Indented.{ElementEndsWell}
 use Rattle.typst_html_encode.specs.IndentsCollapse.{NodesAreEdged, body_of, body_in}
 use Rattle.typst_html_encode.specs.Reader.{read}
@@ -26,20 +26,20 @@ abbrev pub tree_body : Plain → Option Plains
 tree_body (words t) = None
 tree_body (branch name attrs kids) = body_in kids
 
-abbrev pub plains_seen : Plains → List Piece
-plains_seen ps = collapsed_pieces (plains_atoms false ps)
+abbrev pub seen_plains : Plains → List Piece
+seen_plains ps = collapsed_pieces (plains_atoms false ps)
 
-abbrev pub body_seen : Option Plains → Option (List Piece)
-body_seen None = None
-body_seen (Some body) = Some (plains_seen body)
+abbrev pub seen_body : Option Plains → Option (List Piece)
+seen_body None = None
+seen_body (Some body) = Some (seen_plains body)
 
 -- what is seen of the body of the tree that a text reads as
-abbrev pub tree_seen : Option Plain → Option (List Piece)
-tree_seen None = None
-tree_seen (Some tree) = body_seen (tree_body tree)
+abbrev pub seen_tree : Option Plain → Option (List Piece)
+seen_tree None = None
+seen_tree (Some tree) = seen_body (tree_body tree)
 
-abbrev pub text_seen : (text : List ℕ) → Option (List Piece)
-text_seen text = tree_seen (read text)
+abbrev pub seen_text : (text : List ℕ) → Option (List Piece)
+seen_text text = seen_tree (read text)
 
 -- a root that can be read back
 pub record CanBeRead (frames : Frames) (options : HtmlOptions) (e : ElementView) : Type 0 where
@@ -54,12 +54,12 @@ pub record CanBeRead (frames : Frames) (options : HtmlOptions) (e : ElementView)
 abbrev pub BodyIsSeen : Type 0
 BodyIsSeen = (frames : Frames) (options : HtmlOptions) (e : ElementView) (body : NodesView) →
     CanBeRead frames options e → body_of e.1 ≡ Some body → NodesAreEdged body →
-    text_seen (document_text frames options e) ≡ Some (plains_seen (nodes_normal body))
+    seen_text (document_text frames options e) ≡ Some (seen_plains (nodes_normal body))
 
 -- a document whose body is made of items in plain flow: in its text, plain or pretty, exactly their
 -- text is seen
 abbrev pub ItemsAreSeen : Type 0
 ItemsAreSeen = (frames : Frames) (options : HtmlOptions) (e : ElementView) (role : RoleText)
     (items : ItemsView) → is_plain_flow items ≡ true → CanBeRead frames options e →
-    body_of e.1 ≡ Some (nodes_styled (converted_nodes Block Normal role items)) →
-    text_seen (document_text frames options e) ≡ Some (items_text items)
+    body_of e.1 ≡ Some (styled_nodes (converted_nodes Block Normal role items)) →
+    seen_text (document_text frames options e) ≡ Some (items_text items)

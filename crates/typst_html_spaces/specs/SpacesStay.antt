@@ -2,7 +2,7 @@
 -- items' text.
 use Rattle.std.specs.Prelude.{◌≡◌, ℕ, true, false, List}
 use Rattle.html_dom_tree.specs.PlainTree.{nodes_normal}
-use Rattle.html_dom_tree.specs.Styled.{nodes_styled}
+use Rattle.html_dom_tree.specs.Styled.{styled_nodes}
 use Rattle.html_names.specs.Kinds.{is_raw}
 use Rattle.html_dom_tree.specs.Tree.{Head, NodesView}
 use Rattle.typst_html_encode.specs.Collapsing.{Piece, plains_atoms, collapsed_pieces}
@@ -16,7 +16,7 @@ use Rattle.typst_html_spaces.specs.PlainFlow.{is_plain_flow}
 
 -- what is seen of nodes, with their css as `style` attributes
 abbrev pub seen_pieces : NodesView → List Piece
-seen_pieces ns = collapsed_pieces (plains_atoms false (nodes_normal (nodes_styled ns)))
+seen_pieces ns = collapsed_pieces (plains_atoms false (nodes_normal (styled_nodes ns)))
 
 -- no space of items in plain flow goes, and none is added
 abbrev pub SpacesStay : Type 0
@@ -29,4 +29,4 @@ PrettySpacesStay = (role : RoleText) (items : ItemsView) (level : ℕ) (h : Head
     is_plain_flow items ≡ true → is_raw h.name ≡ false →
     collapsed_pieces (plains_atoms false (nodes_normal
     (content_layout (record { pretty = true; level = level }) h
-    (nodes_styled (converted_nodes Block Normal role items))))) ≡ items_text items
+    (styled_nodes (converted_nodes Block Normal role items))))) ≡ items_text items

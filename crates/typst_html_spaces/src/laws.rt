@@ -2,7 +2,7 @@
 
 ghost use Rattle.typst_html_spaces.specs.Anchored.{AnchorsAreUnseen, AnchorsKeepEdges, AnchorsKeepPlainNodes};
 ghost use Rattle.typst_html_spaces.specs.AtomContexts.{CollapsesByContext, PiecesOfBoth};
-ghost use Rattle.typst_html_spaces.specs.Rows.{AreSeen, AreNotPlain, lines, blocks, lists_and_tables, others};
+ghost use Rattle.typst_html_spaces.specs.SeenRows.{AreSeen, AreNotPlain, lines, blocks, lists_and_tables, others};
 ghost use Rattle.typst_html_spaces.specs.CleanItems.{CleanItemsMakeCleanNodes};
 ghost use Rattle.typst_html_spaces.specs.CleanNodes.{AnchorsKeepCleanNodes, CleanNodesAreWritten};
 ghost use Rattle.typst_html_spaces.specs.LineContexts.{ProtectsByContext};

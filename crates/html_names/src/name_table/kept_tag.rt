@@ -3,8 +3,8 @@ ghost use Rattle.html_names.specs.Kinds as kinds;
 ghost use Rattle.html_names.specs.Displays.{default_display};
 
 use crate::html_tag::HtmlTag;
+use crate::kind::{is_escapable_raw, is_foreign_self_closing, is_raw, is_void};
 use crate::property::Display;
-use crate::tag::{is_escapable_raw, is_foreign_self_closing, is_raw, is_void};
 use std::alloc::AllocError;
 use std::marker::Model;
 

@@ -15,11 +15,11 @@ struct Shelf {
 
 impl WarningSink for Shelf {
     ghost use Rattle.std.specs.Prelude.{◌≡◌, None};
-    ghost use Rattle.html_values_css.specs.Sink.{Keeps};
+    ghost use Rattle.html_values_css.specs.Sink.{KeepsWarning};
 
     ghost warnings = { λ shelf. shelf.taken.items };
 
-    ghost emit_gives = { λ old warning result new. Keeps old.taken.items warning result new.taken.items };
+    ghost emit_gives = { λ old warning result new. KeepsWarning old.taken.items warning result new.taken.items };
 
     ghost borrow = { λ _. None };
 

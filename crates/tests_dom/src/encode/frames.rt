@@ -2,7 +2,7 @@
 
 ghost use Rattle.std.specs.Prelude.{◌==◌, [], Some, None, if◌then◌else◌};
 ghost use Rattle.html_dom_tree.specs.Views.{text_view};
-ghost use Rattle.typst_html_encode.specs.Frames.{picture_of};
+ghost use Rattle.typst_html_encode.specs.FrameWriters.{picture_of};
 
 use crate::asserts::{add, tag_of, text_of};
 use crate::encode::large::long_text;

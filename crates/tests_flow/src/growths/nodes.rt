@@ -2,10 +2,10 @@
 
 use crate::growths::given::{assert_growths, element_of, list_of, start_of, text_node_of};
 use crate::growths::shown::{is_shown, shown_of};
+use html_dom_document::HtmlIntrospector;
 use html_dom_flat::FlatTree;
-use html_dom_introspect::HtmlIntrospector;
 use html_dom_tree::{HtmlElement, HtmlNode, Location};
-use html_flow_whitespace::bare_spaces;
+use html_flow_convert::bare_spaces;
 use std::alloc::{AllocError, Global};
 use std::process::Abort;
 use tests_growth::{Answer, Growth, made, refused};

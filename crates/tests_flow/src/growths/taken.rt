@@ -3,7 +3,7 @@
 use crate::asserts::text_of;
 use crate::growths::given::{add, assert_growths, element_of, list_of, start_of};
 use html_dom_tree::{HtmlElement, HtmlNode, Span, with_inline_styles};
-use html_flow_whitespace::{keep_runs, protect_spaces, push_text_nodes};
+use html_flow_convert::{keep_runs, protect_spaces, push_text_nodes};
 use html_names::{attr, tag};
 use std::alloc::{AllocError, Global};
 use std::process::Abort;

@@ -1,7 +1,7 @@
 //! A sink of one's own.
 
 ghost use Rattle.std.specs.Prelude.{None};
-ghost use Rattle.html_values.specs.Sink.{Keeps};
+ghost use Rattle.html_values.specs.Sink.{KeepsWarning};
 
 use html_values::{Warning, WarningSink};
 use std::alloc::AllocError;
@@ -17,7 +17,7 @@ impl WarningSink for Kept {
     ghost warnings = { λ kept. kept.warnings.items };
 
     ghost emit_gives = { λ old warning result new.
-        Keeps old.warnings.items warning result new.warnings.items };
+        KeepsWarning old.warnings.items warning result new.warnings.items };
 
     ghost borrow = { λ _. None };
 

@@ -3,10 +3,10 @@ use Rattle.html_dom_tree.specs.Views.{nodes_view, element_view}
 use Rattle.html_dom_tree.specs.declared.node.HtmlElement.{HtmlElement}
 use Rattle.html_dom_document.specs.Views.{document_view}
 use Rattle.html_dom_document.specs.Documents.{document_root}
-use Rattle.html_dom_introspect.specs.Introspectors.{has, introspector_view}
+use Rattle.html_dom_document.specs.Introspectors.{has_location, introspector_view}
 use Rattle.html_dom_link.specs.LinkAnchors.{targets_in, document_targets}
 use Rattle.html_dom_link.specs.UsedNames.{used_in}
-use Rattle.html_dom_link.specs.Walk.{Walked, at_first, walk, walked}
+use Rattle.html_dom_link.specs.AnchorWalk.{Walked, at_first, walk, element_walk}
 use Rattle.html_dom_link.specs.WalkViews.{walk_view}
 use Rattle.html_dom_link.proofs.DocumentNames.{anchors_are_new, anchors_are_serving, anchors_are_shown, ids_stay_distinct}
 use Rattle.html_dom_link.proofs.WholeWalk.{root_walked, root_written, answers_are}
@@ -15,14 +15,14 @@ use Rattle.html_dom_link.proofs.anchors.create_link_anchors.Goals as goal
 pub returns : goal.returns
 returns c =
     let d = document_view c.args.document.now in
-    let is_target = has c.args.targets.now in
+    let is_target = has_location c.args.targets.now in
     let known = introspector_view c.introspector.result.now in
     let used = used_in c.in_ok-names.names.used in
     let root : HtmlElement = c.root_mut.result.now in
     let last : HtmlElement = record root { children = c.in_ok-children-2.children } in
     let w : Walked =
     (nodes_view c.in_ok-children-2.children.items, walk_view c.in_ok-children-2.state) in
-    let whole : w ≡ walked (document_targets is_target d) (document_root d) =
+    let whole : w ≡ element_walk (document_targets is_target d) (document_root d) =
     root_walked is_target d known (element_view c.root.result.now)
     (element_view c.root-2.result.now) used w
     c.introspector.ensures c.root.ensures c.root-2.ensures c.in_ok-names.ensures

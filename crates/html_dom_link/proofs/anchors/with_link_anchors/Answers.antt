@@ -5,10 +5,10 @@ use Rattle.html_dom_tree.specs.declared.node.HtmlElement.{HtmlElement}
 use Rattle.html_dom_document.specs.DocumentLending.{with_document_root}
 use Rattle.html_dom_document.specs.Documents.{DocumentView, document_root, with_root}
 use Rattle.html_dom_document.specs.Views.{document_view}
-use Rattle.html_dom_introspect.specs.Introspectors.{has, introspector_view}
+use Rattle.html_dom_document.specs.Introspectors.{has_location, introspector_view}
 use Rattle.html_dom_link.specs.LinkAnchors.{targets_in, document_targets}
 use Rattle.html_dom_link.specs.UsedNames.{used_in}
-use Rattle.html_dom_link.specs.Walk.{Walked, at_first, walk, walked}
+use Rattle.html_dom_link.specs.AnchorWalk.{Walked, at_first, walk, element_walk}
 use Rattle.html_dom_link.specs.WalkViews.{walk_view}
 use Rattle.html_dom_link.proofs.DocumentNames.{anchors_are_new, anchors_are_serving, anchors_are_shown, ids_stay_distinct}
 use Rattle.html_dom_link.proofs.MovedRoots.{moved_written}
@@ -18,7 +18,7 @@ use Rattle.html_dom_link.proofs.anchors.with_link_anchors.Goals as goal
 pub returns : goal.returns
 returns c =
     let d = document_view c.args.document in
-    let is_target = has c.args.targets.now in
+    let is_target = has_location c.args.targets.now in
     let known = introspector_view c.introspector.result.now in
     let used = used_in c.in_ok-names.names.used in
     let root : HtmlElement = c.root_mut.result.now in
@@ -33,7 +33,7 @@ returns c =
     c.root_mut.ensures.written bare
     ∙ ap (λ ns. record d { output = with_root d.output ((element_view root).0, nodes_view ns) })
     (ap (λ v. v.items) c.replace-children.ensures.after ∙ c.new.ensures.items) in
-    let whole : w ≡ walked (document_targets is_target d) (document_root d) =
+    let whole : w ≡ element_walk (document_targets is_target d) (document_root d) =
     root_walked is_target d known (element_view c.root.result.now) (element_view root) used w
     (c.introspector.ensures ∙ ap (λ (v : DocumentView). v.introspector) emptied)
     c.root.ensures c.root_mut.ensures.value c.in_ok-names.ensures

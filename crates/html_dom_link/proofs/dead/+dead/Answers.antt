@@ -3,7 +3,7 @@ use Rattle.std.proofs.lemmas.List.{nil_from_length}
 use Rattle.std.specs.Prelude.{option_map}
 use Rattle.html_dom_tree.specs.Views.{head_of, node_view, nodes_view}
 use Rattle.html_dom_tree.proofs.Nodes.{nodes_view-drop}
-use Rattle.html_dom_introspect.specs.Introspectors.{introspector_view}
+use Rattle.html_dom_document.specs.Introspectors.{introspector_view}
 use Rattle.html_dom_link.specs.DeadLinks.{dead_links_view}
 use Rattle.html_dom_link.specs.Links.{nodes_dead_links}
 use Rattle.html_dom_link.proofs.Linking.{element_dead, no_more_dead, one_more_dead}

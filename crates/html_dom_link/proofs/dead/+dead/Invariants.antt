@@ -2,7 +2,7 @@ use Rattle.std.proofs.Common.{◌≡◌, ◌++◌, List, [], drop}
 use Rattle.std.specs.Prelude.{option_map}
 use Rattle.html_dom_tree.specs.Tree.{NodeView}
 use Rattle.html_dom_tree.specs.Views.{nodes_view}
-use Rattle.html_dom_introspect.specs.Introspectors.{introspector_view}
+use Rattle.html_dom_document.specs.Introspectors.{introspector_view}
 use Rattle.html_dom_link.specs.DeadLinks.{dead_links_view}
 use Rattle.html_dom_link.specs.Links.{dest_before, nodes_dead_links}
 use Rattle.html_dom_link.proofs.dead.+dead.Given as goal

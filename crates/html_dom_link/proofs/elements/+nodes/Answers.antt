@@ -1,56 +1,82 @@
-use Rattle.std.proofs.Common.{◌∷◌, ◌≡◌, length, ap, sym, ◌∙◌, refl, subst, arith}
+use Rattle.std.proofs.Common.{◌∷◌, ◌≡◌, ◌<◌, ◌≤◌, length, ap, sym, ◌∙◌, refl, subst, arith}
+use Rattle.std.proofs.lemmas.Grind.{common_steps}
+use Rattle.std.proofs.lemmas.Result.{on_ok_weaker}
 use Rattle.std.proofs.lemmas.List.{nil_from_length}
 use Rattle.std.specs.Vec.Iter.{into_iter_items}
 use Rattle.html_names.specs.Tables.{known_attrs}
-use Rattle.html_dom_tree.specs.Views.{optional_text_view, nodes_view, element_view}
-use Rattle.html_dom_tree.specs.declared.node.HtmlNode.TheVariants.{Element}
-use Rattle.html_dom_document.specs.Places.{view-Element}
-use Rattle.html_dom_link.specs.Walk.{first_waiting, Serves}
+use Rattle.html_dom_tree.specs.Tree.{none, node}
+use Rattle.html_dom_tree.specs.Views.{optional_text_view, node_view, nodes_view, element_view}
+use Rattle.html_dom_link.specs.Anchors.{span_before}
+use Rattle.html_dom_link.specs.Joined.{◌then◌}
+use Rattle.html_dom_link.specs.AnchorWalk.{first_waiting, Serves, walk}
 use Rattle.html_dom_link.specs.WalkViews.{walk_view, targets_view}
-use Rattle.html_dom_link.proofs.WholeWalk.{element_pushed, node_walked, nodes_walked}
-use Rattle.html_dom_link.proofs.Steps.{nodes_view-push}
+use Rattle.html_dom_link.proofs.WholeWalk.{element_served, node_placed, node_kept, node_walked, nodes_kept, nodes_walked}
+use Rattle.html_dom_link.proofs.Steps.{nodes_view-push, span_placed}
 use Rattle.html_dom_link.proofs.elements.+nodes.Goals as goal
 
-pub push_element-returns : goal.push_element-returns
+pub anchor_element-returns : goal.anchor_element-returns
 unfolding known_attrs
-push_element-returns t c =
+anchor_element-returns t c =
     let x = targets_view c.args.sought in
-    let e = element_view c.args.element in
-    let old = c.args.made.now.items in
+    let e = element_view c.args.element.now in
     let st = walk_view c.args.state.now in
     let after = walk_view c.serve.new.self in
     let name = optional_text_view c.in_ok-name.name in
-    let made = record c.args.element {
-      attrs = c.in_ok-attrs.attrs;
-      children = c.in_ok-children.children;
-    } in
-    element_pushed x e.0 (element_view made).0 e.1 (nodes_view made.children.items)
-    (nodes_view old) _ _ st after _ name
+    on_ok_weaker c.anchor_nodes.result (λ below.
+    element_served x e.0 _ e.1 _ st after _ name
     (subst (λ own. Serves st after (first_waiting st) own name) c.get.ensures
     c.in_ok-name.ensures)
-    (rw c.in_ok-attrs.ensures refl)
-    c.in_ok-children.ensures
-    (view-Element made)
-    (ap nodes_view c.in_ok-push.ensures.items ∙ nodes_view-push old (Element made))
+    (rw c.in_ok-name_attrs.ensures refl) below) c.anchor_nodes.ensures
 
-pub anchored_nodes-loop-child-preserved : goal.anchored_nodes-loop-child-preserved
-anchored_nodes-loop-child-preserved t c =
+pub anchor_in_place-loop-child-preserved : goal.anchor_in_place-loop-child-preserved
+anchor_in_place-loop-child-preserved t c =
     let at = c.loop-child in
+    let x = targets_view c.args.sought in
+    let st = walk_view at.state in
+    let h : at.child-index < length at.nodes = grind (arith, common_steps) in
+    let step = node_kept x at.nodes _ at.child-index c.child-item.result c.anchor_node.new.child
+    (span_before (optional_text_view c.in_ok-anchor_node.field-0) none) st _ _ h refl
+    at.invariant.no_end at.invariant.told
+    c.in_ok-anchor_node.ensures in
+    record {
+      unvisited = (grind (arith, common_steps), λ k d le. grind (arith, common_steps));
+      told = step.0;
+      no_end = step.1;
+    }
+
+pub anchor_in_place-returns : goal.anchor_in_place-returns
+anchor_in_place-returns t c =
+    let at = c.loop-child in
+    let h : length at.nodes ≤ at.child-index = grind (arith, common_steps) in
+    nodes_kept (targets_view c.args.sought) at.nodes at.child-index (walk_view at.state) _ h
+    at.invariant.told
+
+pub with_spans-loop-child-preserved : goal.with_spans-loop-child-preserved
+with_spans-loop-child-preserved t c =
+    let at = c.loop-child in
+    let x = targets_view c.args.sought in
     let left = into_iter_items at.child-iterator in
     let others = into_iter_items c.next.new.self in
     let first : left ≡ c.in-Some.child ∷ others = c.in-Some.ensures.steps.0 in
     let gone = c.in-Some.ensures.steps.1 in
     let short = ap length first in
     let long = at.invariant.long in
+    let old = at.made.items in
+    let n = c.anchor_node.new.child in
+    let more = span_before (optional_text_view c.in_ok-name.name) none in
+    let placed = c.in_ok-push_span.ensures
+    ∙ (ap (λ l. nodes_view l then more) c.in_ok-push.ensures.items
+    ∙ span_placed old n more) in
     record {
-      told = node_walked (targets_view c.args.sought) left others c.in-Some.child
-          (nodes_view at.made.items) _ (walk_view at.state) _ _ first at.invariant.told
-          c.in_ok-push_node.ensures;
+      told = node_walked x left others c.in-Some.child (nodes_view old) _ (walk_view at.state) _ _ first
+          at.invariant.told
+          (node_placed x (node_view c.in-Some.child) (node_view n) more (nodes_view old) _
+          (walk_view at.state) _ c.in_ok-name.ensures placed);
       long = omega (arith, gone, short, long);
     }
 
-pub anchored_nodes-returns : goal.anchored_nodes-returns
-anchored_nodes-returns t c =
+pub with_spans-returns : goal.with_spans-returns
+with_spans-returns t c =
     let at = c.loop-child in
     let left = into_iter_items at.child-iterator in
     let none_left = nil_from_length left (sym at.invariant.long ∙ c.in-None.ensures.steps.0) in

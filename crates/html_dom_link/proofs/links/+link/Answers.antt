@@ -4,7 +4,7 @@ use Rattle.std.proofs.lemmas.List.{append-nil, map-append, nil_from_length}
 use Rattle.std.specs.Prelude.{option_map}
 use Rattle.std.specs.Vec.Iter.{into_iter_items}
 use Rattle.html_dom_tree.specs.Views.{attrs_view, head_of, node_view, nodes_of, nodes_view}
-use Rattle.html_dom_introspect.specs.Introspectors.{introspector_view}
+use Rattle.html_dom_document.specs.Introspectors.{introspector_view}
 use Rattle.html_dom_link.specs.Links.{attrs_with_href, name_of}
 use Rattle.html_dom_link.proofs.Linking.{element_has_links, list_with_links, nodes_with_links-nodes_of, one_more_with_links}
 use Rattle.html_dom_link.proofs.links.+link.Goals as goal

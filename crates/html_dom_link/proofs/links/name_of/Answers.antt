@@ -2,7 +2,7 @@ use Rattle.std.proofs.Common.{◌≡◌, ◌<◌, length, string_bytes, Some, sy
 use Rattle.std.specs.Prelude.{option_map}
 use Rattle.std.proofs.lemmas.Str.{IsUtf8-string_bytes}
 use Rattle.html_dom_tree.specs.Views.{text_view}
-use Rattle.html_dom_introspect.specs.Introspectors.{introspector_view}
+use Rattle.html_dom_document.specs.Introspectors.{introspector_view}
 use Rattle.html_dom_link.proofs.Linking.{a_name, name_there, no_name}
 use Rattle.html_dom_link.proofs.links.name_of.Goals as goal
 

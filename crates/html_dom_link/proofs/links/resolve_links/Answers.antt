@@ -2,7 +2,7 @@ use Rattle.std.proofs.Common.{[], refl, ap, ◌∙◌}
 use Rattle.html_dom_tree.specs.Views.{element_view, nodes_view}
 use Rattle.html_dom_tree.specs.declared.node.HtmlElement.{HtmlElement}
 use Rattle.html_dom_document.specs.Views.{document_view}
-use Rattle.html_dom_introspect.specs.Introspectors.{introspector_view}
+use Rattle.html_dom_document.specs.Introspectors.{introspector_view}
 use Rattle.html_dom_link.specs.Links.{nodes_with_links}
 use Rattle.html_dom_link.proofs.GivenLinks.{document_links_lead, left_in_document, links_lead_to_one, links_stay_distinct}
 use Rattle.html_dom_link.proofs.Linking.{links_written}

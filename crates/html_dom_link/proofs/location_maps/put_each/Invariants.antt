@@ -1,7 +1,7 @@
 use Rattle.std.proofs.Common.{◌≡◌, drop}
 use Rattle.html_names.specs.Texts.{text_view}
 use Rattle.html_dom_link.specs.LocationMaps.{names_in, locations_in}
-use Rattle.html_dom_link.specs.Walk.{put_each}
+use Rattle.html_dom_link.specs.AnchorWalk.{put_each}
 use Rattle.html_dom_link.proofs.location_maps.put_each.Given as goal
 
 abbrev pub invariant-loop-location : goal.invariant-loop-location

@@ -1,6 +1,6 @@
 use Rattle.std.proofs.Common.{◌≡◌, map, sym, ap, ◌∙◌, arith}
 use Rattle.std.proofs.lemmas.Grind.{common_steps}
-use Rattle.html_dom_tree.specs.Styled.{node_styled}
+use Rattle.html_dom_tree.specs.Styled.{styled_node}
 use Rattle.html_dom_tree.specs.Views.{nodes_of, node_view}
 use Rattle.html_dom_tree.proofs.Styles.{nodes_styled-nodes_of}
 use Rattle.html_dom_tree.proofs.resolve.+style.Goals as goal
@@ -8,6 +8,6 @@ use Rattle.html_dom_tree.proofs.resolve.+style.Goals as goal
 pub style_nodes-returns : goal.style_nodes-returns
 style_nodes-returns t c =
     let old = c.args.nodes.now in
-    let whole : map node_view c.loop-node.nodes ≡ map node_styled (map node_view old)
+    let whole : map node_view c.loop-node.nodes ≡ map styled_node (map node_view old)
     = grind (arith, common_steps) in
     ap nodes_of whole ∙ sym (nodes_styled-nodes_of (map node_view old))

@@ -1,6 +1,6 @@
 use Rattle.std.proofs.Common.{◌≡◌, map, take}
 use Rattle.html_dom_tree.specs.Views.{node_view}
-use Rattle.html_dom_tree.specs.Styled.{node_styled}
+use Rattle.html_dom_tree.specs.Styled.{styled_node}
 use Rattle.html_dom_tree.proofs.resolve.+style.Given as goal
 
 abbrev pub invariant-style_nodes-loop-node : goal.invariant-style_nodes-loop-node
@@ -8,5 +8,5 @@ invariant-style_nodes-loop-node l =
     record {
       unvisited : goal.unvisited-style_nodes-loop-node l;
       told : map node_view (take l.node-index l.nodes)
-          ≡ map node_styled (map node_view (take l.node-index l.initial.nodes));
+          ≡ map styled_node (map node_view (take l.node-index l.initial.nodes));
     }

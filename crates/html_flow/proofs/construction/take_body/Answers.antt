@@ -1,7 +1,7 @@
 use Rattle.std.proofs.Common.{◌∙◌, ◌≡◌, ap, sym, subst, false, Some}
 use Rattle.html_names.specs.Kinds.{is_void}
 use Rattle.html_flow.specs.Construct.{args_view, choice_faults, takes}
-use Rattle.html_flow.specs.Pieces.{unnamed_at}
+use Rattle.html_flow.specs.ArgumentPieces.{unnamed_at}
 use Rattle.html_flow_convert.specs.ConstructFaults.{IsFirst}
 use Rattle.html_flow_convert.specs.Items.{present}
 use Rattle.html_flow_convert.specs.Views.{items_view}

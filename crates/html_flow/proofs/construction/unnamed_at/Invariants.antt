@@ -1,6 +1,6 @@
 use Rattle.std.proofs.Common.{◌≡◌, ◌+◌, drop, option_map}
 use Rattle.html_flow.specs.Construct.{args_view}
-use Rattle.html_flow.specs.Pieces.{unnamed_at}
+use Rattle.html_flow.specs.ArgumentPieces.{unnamed_at}
 use Rattle.html_flow.proofs.construction.unnamed_at.Given as goal
 
 abbrev pub invariant-loop-place : goal.invariant-loop-place

@@ -3,8 +3,8 @@ use Rattle.serde_json.specs.View.{view}
 use Rattle.html_flow_convert.specs.Views.{items_view}
 use Rattle.html_tool_run.proofs.Answering.{text_said, name_said}
 use Rattle.html_tool_run.specs.Answers.{doc_answer, doc_refusals, doc_text}
-use Rattle.html_tool_spell.specs.Names.{items_refusals}
-use Rattle.html_tool_spell.specs.SpelledItems.{items_spelled}
+use Rattle.html_tool_run.specs.NameRefusals.{items_refusals}
+use Rattle.html_tool_run.specs.SpelledItems.{spelled_items}
 use Rattle.html_tool_run.proofs.program.spelled_doc.Goals as goal
 
 pub returns-in_err-items : goal.returns-in_err-items
@@ -13,7 +13,7 @@ returns-in_err-items c =
     let failed = err_from_is_err_and c.from_residual.result c.from_residual.ensures.1 in
     rw (failed.1, failed.2)
     (name_said items_refusals (doc_refusals c.args.pretty) (doc_text c.args.pretty)
-    (items_spelled (view c.args.value)) c.in_err-items.field-0.0 c.in_err-items.ensures)
+    (spelled_items (view c.args.value)) c.in_err-items.field-0.0 c.in_err-items.ensures)
 
 pub returns : goal.returns
 unfolding doc_answer

@@ -1,11 +1,11 @@
 use Rattle.std.proofs.Common.{◌≡◌, ◌+◌, ◌∷◌, drop, get_or, Ok, inr, sym, subst, add-one, drop-cons}
-use Rattle.html_values_css.specs.Sink.{Takes, Given, Interrupted}
+use Rattle.html_values_css.specs.Sink.{TakesWarning, Given, Interrupted}
 use Rattle.html_values_css.specs.declared.sink.Warning.TheVariants.{Gradient}
 use Rattle.html_values_css.proofs.sink.pass_on.Goals as goal
 
 pub loop-warning-preserved : goal.loop-warning-preserved
 loop-warning-preserved g c =
-    let takes = Takes g.S.WarningSink.warnings g.S.WarningSink.borrow g.S.WarningSink.emit_gives in
+    let takes = TakesWarning g.S.WarningSink.warnings g.S.WarningSink.borrow g.S.WarningSink.emit_gives in
     let ws = c.args.warnings.now in
     let i = c.loop-warning.warning-index in
     let first : get_or ws i Gradient ∷ drop (i + 1) ws ≡ drop i ws =

@@ -1,7 +1,7 @@
 use Rattle.std.proofs.Common.{◌≡◌, ℕ, List, IsUtf8, chars, map}
 use Rattle.std.specs.Char.{to_ascii_lowercase}
 use Rattle.std.specs.Str.Iter.{chars_rest}
-use Rattle.typst_html_encode.specs.Closing as ending
+use Rattle.typst_html_encode.specs.ClosingTags as ending
 use Rattle.typst_html_encode.proofs.closing.begins_with_name.Given as goal
 
 abbrev pub invariant-loop-expected : goal.invariant-loop-expected
@@ -10,6 +10,6 @@ invariant-loop-expected l =
     record {
       name_utf8 : IsUtf8 (chars_rest l.expected-iterator);
       text_utf8 : IsUtf8 (chars_rest l.left);
-      same : ending.begins (small (chars_rest l.expected-iterator)) (chars (chars_rest l.left))
-          ≡ ending.begins (small l.name) (chars l.text);
+      same : ending.begins_closing (small (chars_rest l.expected-iterator)) (chars (chars_rest l.left))
+          ≡ ending.begins_closing (small l.name) (chars l.text);
     }

@@ -2,7 +2,7 @@ use Rattle.std.proofs.Common.{◌≡◌, ◌∷◌, chars, map, sym, ap, ◌∙�
 use Rattle.std.specs.Char.{to_ascii_lowercase}
 use Rattle.std.specs.Str.Iter.{chars_rest}
 use Rattle.std.proofs.lemmas.Str.{chars_past_char}
-use Rattle.typst_html_encode.specs.Closing as ending
+use Rattle.typst_html_encode.specs.ClosingTags as ending
 use Rattle.typst_html_encode.proofs.closing.closes.Goals as goal
 
 pub returns-then-c-eq47 : goal.returns-then-c-eq47
@@ -14,4 +14,4 @@ returns-then-c-eq47 c =
     chars_past_char text past c.in-Some.c c.utf8.text
     (sym c.chars-left.ensures.rest ∙ c.in-Some.ensures.steps.0)
     ∙ (ap (λ d. d ∷ chars past) c.if-c-eq47.true ∙ ap (λ r. 47 ∷ chars r) (sym c.as_str.ensures)) in
-    c.begins_with_name.ensures ∙ sym (ap (ending.begins (47 ∷ name)) all)
+    c.begins_with_name.ensures ∙ sym (ap (ending.begins_closing (47 ∷ name)) all)

@@ -1,5 +1,5 @@
 use Rattle.std.proofs.Common.{◌||◌, chars, sym, ap, ◌∙◌}
-use Rattle.typst_html_encode.specs.Closing as ending
+use Rattle.typst_html_encode.specs.ClosingTags as ending
 use Rattle.typst_html_encode.proofs.Closings.{after_utf8, holds_at, holds_none}
 use Rattle.typst_html_encode.proofs.closing.holds_closing.Goals as goal
 

@@ -1,5 +1,5 @@
 use Rattle.std.proofs.Common.{◌≡◌, chars, length}
-use Rattle.typst_html_encode.specs.Closing as ending
+use Rattle.typst_html_encode.specs.ClosingTags as ending
 use denote.Text.{Utf8}
 use denote.Shadow.{shadow}
 use Rattle.typst_html_encode.proofs.closing.holds_closing.Given as goal

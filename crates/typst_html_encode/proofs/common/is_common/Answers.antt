@@ -1,6 +1,6 @@
 use Rattle.std.proofs.Common.{not, eqb, get_or, arith, refl}
 use Rattle.std.proofs.lemmas.Bool.{agree_below_at}
-use Rattle.typst_html_encode.specs.Stretches.{is_common}
+use Rattle.typst_html_encode.specs.PlainStretches.{is_common}
 use Rattle.typst_html_encode.specs.declared.common.TheConstants.{COMMON}
 use Rattle.typst_html_encode.proofs.common.is_common.Goals as goal
 

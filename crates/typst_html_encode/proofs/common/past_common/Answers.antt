@@ -3,7 +3,7 @@ use Rattle.std.proofs.lemmas.List.{take_more, take-append-drop}
 use Rattle.std.proofs.lemmas.Bool.{and_from}
 use Rattle.std.proofs.lemmas.Str.{IsCharBoundary-start, IsCharBoundary-after_ascii}
 use Rattle.html_names.specs.Characters.{all}
-use Rattle.typst_html_encode.specs.Stretches.{is_common}
+use Rattle.typst_html_encode.specs.PlainStretches.{is_common}
 use Rattle.typst_html_encode.proofs.Stretches.{all_append, common_small}
 use Rattle.typst_html_encode.proofs.common.past_common.Goals as goal
 

@@ -1,7 +1,7 @@
 use Rattle.std.proofs.Common.{◌≡◌, ◌-◌, true, take, length}
 use Rattle.std.specs.Str.{IsCharBoundary}
 use Rattle.html_names.specs.Characters.{all}
-use Rattle.typst_html_encode.specs.Stretches.{is_common}
+use Rattle.typst_html_encode.specs.PlainStretches.{is_common}
 use Rattle.typst_html_encode.proofs.common.past_common.Given as goal
 
 abbrev pub invariant-loop-at : goal.invariant-loop-at

@@ -2,7 +2,7 @@ use Rattle.std.proofs.Common.{◌≡◌}
 use denote.Text.{Utf8}
 use denote.Shadow.{shadow}
 use Rattle.std.specs.Str.Iter.{chars_rest}
-use Rattle.typst_html_encode.specs.Stretches.{PassesPlain}
+use Rattle.typst_html_encode.specs.PlainStretches.{PassesPlain}
 use Rattle.typst_html_encode.proofs.escape.past_plain.Given as goal
 
 abbrev pub invariant-loop-c : goal.invariant-loop-c

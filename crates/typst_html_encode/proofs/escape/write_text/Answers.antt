@@ -4,7 +4,7 @@ use Rattle.std.proofs.lemmas.List.{append-nil}
 use Rattle.std.proofs.lemmas.Str.{chars_past_char}
 use Rattle.std.proofs.lemmas.Result.{err_from_is_err_and}
 use Rattle.std.proofs.StrCases.{chars_of_empty}
-use Rattle.typst_html_encode.specs.Faults.{char_faults, text_faults}
+use Rattle.typst_html_encode.specs.ExportFaults.{char_faults, text_faults}
 use Rattle.typst_html_encode.proofs.Firsts.{first_of_more}
 use Rattle.typst_html_encode.proofs.escape.write_text.Goals as goal
 

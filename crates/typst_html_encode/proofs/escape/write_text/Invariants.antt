@@ -1,7 +1,7 @@
 use Rattle.std.proofs.Common.{◌≡◌, ◌++◌, IsUtf8, chars, length}
 use Rattle.std.specs.Str.Iter.{chars_rest}
 use Rattle.typst_html_encode.specs.Text.{escaped_text}
-use Rattle.typst_html_encode.specs.Faults.{text_faults}
+use Rattle.typst_html_encode.specs.ExportFaults.{text_faults}
 use Rattle.typst_html_encode.proofs.escape.write_text.Given as goal
 
 abbrev pub invariant-loop-c : goal.invariant-loop-c

@@ -1,7 +1,7 @@
 use Rattle.std.proofs.Common.{◌≡◌, ◌+◌, ◌-◌, ◌∙◌, refl, sym, arith, get_or}
 use Rattle.html_dom_flat.specs.FlatViews.{flat_node_view}
 use Rattle.typst_html_encode.specs.Siblings.{siblings_view}
-use Rattle.typst_html_encode.specs.Walk.{place_after}
+use Rattle.typst_html_encode.specs.WriterWalk.{place_after}
 use Rattle.typst_html_encode.proofs.Given.{node_given}
 use Rattle.typst_html_encode.proofs.NextSiblings.{ends_behind, wanted_here, goes_on, at_end, not_element}
 use Rattle.typst_html_encode.proofs.layout.nodes_want_pretty.Goals as goal

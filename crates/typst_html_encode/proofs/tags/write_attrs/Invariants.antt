@@ -1,7 +1,7 @@
 use Rattle.std.proofs.Common.{◌≡◌, ◌++◌, map, drop}
 use Rattle.html_dom_flat.specs.FlatViews.{flat_pair}
 use Rattle.typst_html_encode.specs.Text.{attrs_text}
-use Rattle.typst_html_encode.specs.Faults.{attrs_faults}
+use Rattle.typst_html_encode.specs.ExportFaults.{attrs_faults}
 use Rattle.typst_html_encode.specs.ReadingBack.{PairsAreNamed}
 use Rattle.typst_html_encode.proofs.tags.write_attrs.Given as goal
 

@@ -2,7 +2,7 @@ use Rattle.std.proofs.Common.{◌∙◌, ap, refl, arith, length}
 use Rattle.std.proofs.lemmas.Result.{err_from_is_err_and}
 use Rattle.html_dom_flat.specs.FlatTrees.{tree_nodes}
 use Rattle.html_dom_flat.specs.FlatViews.{flat_nodes_view}
-use Rattle.typst_html_encode.specs.Walk.{outside}
+use Rattle.typst_html_encode.specs.WriterWalk.{outside}
 use Rattle.typst_html_encode.proofs.Turns.{leaves}
 use Rattle.typst_html_encode.proofs.Visits.{past_later, wrote, refused_at, visits_whole, visits_start, all_visited}
 use Rattle.typst_html_encode.proofs.write.write_tree.Goals as goal

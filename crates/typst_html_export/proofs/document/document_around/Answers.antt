@@ -4,7 +4,7 @@ use Rattle.html_dom_document.specs.Documents.{new_document}
 use Rattle.html_dom_document.specs.Views.{info_view, output_view}
 use Rattle.html_flow_convert.specs.Views.{items_view}
 use Rattle.typst_html_export.specs.Assembled.{document_nodes, output_around}
-use Rattle.typst_html_export.specs.Roots.{root_styled}
+use Rattle.typst_html_export.specs.Roots.{styled_root}
 use Rattle.typst_html_export.proofs.Assembling.{assembled_styled}
 use Rattle.typst_html_export.proofs.document.document_around.Goals as goal
 
@@ -14,7 +14,7 @@ returns-clause-made c =
     let content = nodes_view c.args.content.items in
     let notes = items_view c.args.footnotes.now in
     let styled : output_view c.in_ok-output-2.output ≡ output_around info content notes =
-    c.in_ok-output-2.ensures ∙ (ap root_styled c.in_ok-output.ensures.made
+    c.in_ok-output-2.ensures ∙ (ap styled_root c.in_ok-output.ensures.made
     ∙ assembled_styled info content (document_nodes notes)) in
     record {
       made = c.in_ok-new.ensures.ok

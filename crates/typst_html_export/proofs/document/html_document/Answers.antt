@@ -6,7 +6,7 @@ use Rattle.html_dom_link.specs.Distinct.{IdsAreDistinct}
 use Rattle.html_dom_link.specs.GivenLinks.{KnownAnchorsAreShown}
 use Rattle.html_dom_link.specs.Serving.{KnownAnchorsServe}
 use Rattle.html_flow_convert.specs.Views.{items_view}
-use Rattle.typst_html_export.specs.Assembled.{document_faults}
+use Rattle.typst_html_export.specs.Assembled.{items_document_faults}
 use Rattle.typst_html_export.specs.Linked.{AnchorsAreFirstIds, document_with_anchors}
 use Rattle.typst_html_export.specs.LinkedRoots.{HaveSameAtoms}
 use Rattle.typst_html_export.proofs.Anchors.{anchors_are_first_ids, anchors_are_not_seen, known_anchors_are_shown, known_anchors_serve}
@@ -46,7 +46,7 @@ returns-in_err-document-clause-plain c = λ are.
     let items = items_view c.args.items.now in
     let notes = items_view c.args.footnotes.now in
     let failed = err_from_is_err_and c.from_residual.result c.from_residual.ensures.1 in
-    rw (failed.1, failed.2) (memory_alone _ (document_faults c.args.limit items notes)
+    rw (failed.1, failed.2) (memory_alone _ (items_document_faults c.args.limit items notes)
     (plain_documents_are_made c.args.limit items notes are) c.in_err-document.ensures.made.fault)
 
 pub returns-clause-spaces : goal.returns-clause-spaces

@@ -1,7 +1,7 @@
 use Rattle.std.proofs.Common.{◌≡◌, ℕ, false, ap, sym, ◌∙◌, refl}
 use Rattle.html_dom_document.specs.Documents.{DocumentView}
 use Rattle.html_dom_document.specs.Views.{document_view}
-use Rattle.html_dom_introspect.specs.Introspectors.{IntrospectorView, text_in}
+use Rattle.html_dom_document.specs.Introspectors.{IntrospectorView, location_text}
 use Rattle.typst_html_export.proofs.Untargeted.{nothing_in, no_text_in, without_targets}
 use Rattle.typst_html_export.proofs.document.with_anchors.Goals as goal
 
@@ -15,7 +15,7 @@ returns-then-is_empty-clause-made c =
     ∙ nothing_in targets (c.if-is_empty.ensures.0 refl) l in
     let anchors = no_text_in c.new.result c.new.ensures.empty in
     ap (λ (i : IntrospectorView). record d { introspector = i }) (c.set_anchors.ensures
-    ∙ (ap (λ (i : IntrospectorView). record i { anchor = text_in c.new.result })
+    ∙ (ap (λ (i : IntrospectorView). record i { anchor = location_text c.new.result })
     c.introspector_mut.ensures.value
     ∙ ap (λ a. record d.introspector { anchor = a }) anchors))
     ∙ without_targets d c.args.document.output.root_is_element none_in

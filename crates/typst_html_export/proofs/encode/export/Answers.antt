@@ -2,7 +2,7 @@ use Rattle.std.proofs.lemmas.Result.{err_from_is_err_and}
 use Rattle.html_dom_document.specs.Documents.{document_root}
 use Rattle.html_dom_document.specs.Views.{document_view, info_view}
 use Rattle.html_flow_convert.specs.Views.{items_view}
-use Rattle.typst_html_export.specs.Assembled.{document_faults}
+use Rattle.typst_html_export.specs.Assembled.{items_document_faults}
 use Rattle.typst_html_export.specs.Exported.{linked_root, root_faults}
 use Rattle.typst_html_export.proofs.CleanRoots.{clean_exports}
 use Rattle.typst_html_export.proofs.FaultsInOrder.{exported}
@@ -28,7 +28,7 @@ pub returns-clause-plain : goal.returns-clause-plain
 returns-clause-plain g c = λ are.
     let items = items_view c.args.items.now in
     let notes = items_view c.args.footnotes.now in
-    first_past_none c.html_of_made.result (document_faults c.args.limit items notes)
+    first_past_none c.html_of_made.result (items_document_faults c.args.limit items notes)
     (root_faults (g.F.FrameWriter.drawing c.args.frames.now) c.args.options.now
     (linked_root (info_view c.args.info.now) items notes))
     (plain_documents_are_made c.args.limit items notes are) (returns-clause-makes g c).fault

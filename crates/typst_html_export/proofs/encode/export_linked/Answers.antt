@@ -6,7 +6,7 @@ use Rattle.html_dom_link.specs.GivenLinks.{GivenLinksLead}
 use Rattle.html_dom_link.specs.Links.{document_with_links}
 use Rattle.html_dom_link.proofs.ChangedRoots.{root_has_links}
 use Rattle.html_flow_convert.specs.Views.{items_view}
-use Rattle.typst_html_export.specs.Assembled.{document_faults}
+use Rattle.typst_html_export.specs.Assembled.{items_document_faults}
 use Rattle.typst_html_export.specs.Exported.{resolved_root, root_faults}
 use Rattle.typst_html_export.specs.Linked.{linked_document}
 use Rattle.typst_html_export.proofs.CleanRoots.{clean_linked_exports}
@@ -31,7 +31,7 @@ pub returns-clause-plain : goal.returns-clause-plain
 returns-clause-plain g c = λ are.
     let items = items_view c.args.items.now in
     let notes = items_view c.args.footnotes.now in
-    first_past_none c.html_of_made.result (document_faults c.args.limit items notes)
+    first_past_none c.html_of_made.result (items_document_faults c.args.limit items notes)
     (root_faults (g.F.FrameWriter.drawing c.args.frames.now) c.args.options.now
     (resolved_root (info_view c.args.info.now) items notes))
     (plain_documents_are_made c.args.limit items notes are) (returns-clause-makes g c).fault

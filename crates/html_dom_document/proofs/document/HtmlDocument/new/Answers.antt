@@ -1,5 +1,5 @@
 use Rattle.std.proofs.Common.{◌∙◌, ap}
-use Rattle.html_dom_introspect.specs.Introspectors.{introspector_view, recorded_view}
+use Rattle.html_dom_document.specs.Introspectors.{introspector_view, recorded_view}
 use Rattle.html_dom_document.specs.Views.{output_view, info_view}
 use Rattle.html_dom_document.proofs.Positions.{positions_lead}
 use Rattle.html_dom_document.proofs.document.HtmlDocument.new.Goals as goal

@@ -5,7 +5,7 @@ use Rattle.html_dom_tree.specs.Views.{element_view}
 use Rattle.html_dom_flat.specs.Flat.{flat_element, nodes_count, nodes_flat}
 use Rattle.html_dom_flat.specs.FlatViews.{flat_node_view}
 use Rattle.html_dom_flat.specs.Builders.{builder_view}
-use Rattle.html_dom_flat.specs.Closing.{closed_at}
+use Rattle.html_dom_flat.specs.ClosedElements.{closed_at}
 use Rattle.html_dom_flat.proofs.Closings.{closed_element}
 use Rattle.html_dom_flat.proofs.builder.Builder.+flatten.Goals as goal
 

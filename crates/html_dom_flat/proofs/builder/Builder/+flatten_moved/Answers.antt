@@ -5,7 +5,7 @@ use Rattle.html_dom_tree.specs.Views.{element_view}
 use Rattle.html_dom_flat.specs.Flat.{flat_element, nodes_count, nodes_flat}
 use Rattle.html_dom_flat.specs.FlatViews.{flat_node_view}
 use Rattle.html_dom_flat.specs.Builders.{builder_view}
-use Rattle.html_dom_flat.specs.Closing.{closed_at}
+use Rattle.html_dom_flat.specs.ClosedElements.{closed_at}
 use Rattle.html_dom_flat.proofs.Closings.{closed_element}
 use Rattle.html_dom_flat.proofs.builder.Builder.+flatten_moved.Goals as goal
 
@@ -14,11 +14,17 @@ move_element-returns-clause-list t c =
     let old = c.args.self.now in
     let opened = c.push.new.self in
     let filled = c.move_nodes.new.self in
-    let e = element_view c.args.element in
+    let e = element_view c.args.element.now in
     let numbered = c.in_ok-tag.ensures in
     let opens : builder_view opened ≡ builder_view old ++ flat_element e.0 0 ∷ []
     = c.in_ok-push.ensures.list
-    ∙ rw (numbered.list, numbered.numbers.same, numbered.numbers.pairs_are.same) refl in
+    ∙ rw (
+      numbered.list,
+      numbered.numbers.same,
+      numbered.numbers.pairs_are.same,
+      c.replace-attrs.ensures.value,
+      c.replace.ensures.value,
+    ) refl in
     let fills : builder_view filled
     ≡ builder_view opened ++ nodes_flat (vec_len old.nodes + 1) e.1
     = grind (arith, common_steps) in

@@ -1,5 +1,5 @@
 use Rattle.std.proofs.Common.{rules, ◌≡◌, ◌<◌, ap, ◌∙◌, vec_len, length, get_or}
-use Rattle.html_dom_flat.specs.Numbering.{ended}
+use Rattle.html_dom_flat.specs.Numbering.{with_end}
 use Rattle.html_dom_flat.proofs.Closings.{given_closed, closed}
 use Rattle.html_dom_flat.proofs.builder.Builder.close_element.Goals as goal
 
@@ -8,8 +8,8 @@ invariant_of-self c =
     let old = c.args.self.now in
     let node = c.index_mut.result.now in
     let place = c.args.place in
-    let set : c.set_past.new.node ≡ ended c.len-past.result (get_or old.nodes.items place node)
-    = c.set_past.ensures ∙ ap (ended c.len-past.result) c.index_mut.ensures.value in
+    let set : c.set_past.new.node ≡ with_end c.len-past.result (get_or old.nodes.items place node)
+    = c.set_past.ensures ∙ ap (with_end c.len-past.result) c.index_mut.ensures.value in
     record {
       given = given_closed old.names old.nodes.items place c.len-past.result
           c.set_past.new.node node set old.given;
@@ -21,7 +21,7 @@ returns-clause-list c =
     let node = c.index_mut.result.now in
     let place = c.args.place in
     let past : c.len-past.result ≡ vec_len old.nodes = search rules in
-    let set : c.set_past.new.node ≡ ended (vec_len old.nodes) (get_or old.nodes.items place node)
-    = c.set_past.ensures ∙ rw past (ap (ended (vec_len old.nodes)) c.index_mut.ensures.value) in
+    let set : c.set_past.new.node ≡ with_end (vec_len old.nodes) (get_or old.nodes.items place node)
+    = c.set_past.ensures ∙ rw past (ap (with_end (vec_len old.nodes)) c.index_mut.ensures.value) in
     let below : place < length old.nodes.items = rw (← old.nodes.ok.0) c.requires in
     closed old.names old.nodes.items place (vec_len old.nodes) c.set_past.new.node node set below

@@ -1,6 +1,6 @@
 use Rattle.std.proofs.Common.{◌≡◌, ◌^◌, sym, ap, ◌∙◌, subst}
 use Rattle.html_names.specs.Texts.{text_view}
-use Rattle.html_dom_link.specs.NewNames.{numbered, stem_of, first_number, first_free}
+use Rattle.html_dom_link.specs.NewNames.{name_with_number, stem_of, first_number, first_free}
 use Rattle.html_dom_link.specs.UsedNames.{used_in, AreUsedBelow}
 use Rattle.html_dom_link.proofs.Numbers.{used_below_found, found_from}
 use Rattle.html_dom_link.proofs.names.AnchorNames.free_name.Goals as goal
@@ -28,4 +28,4 @@ returns-clause-name c =
     ≡ first_free (stem_of label) used (2 ^ 63) (first_number label) =
     c.in_ok-number.ensures ∙ (rw (c.stem_of.ensures, c.first_number-limit.ensures)
     (sym (found_from label used from c.next_number-from.ensures))) in
-    c.in_ok-name.ensures ∙ rw c.stem_of-2.ensures (ap (numbered (stem_of label)) found)
+    c.in_ok-name.ensures ∙ rw c.stem_of-2.ensures (ap (name_with_number (stem_of label)) found)

@@ -1,12 +1,12 @@
 use Rattle.std.proofs.Common.{ap}
 use Rattle.std.proofs.lemmas.Result.{err_from_is_err_and}
-use Rattle.html_values_css.specs.Sink.{Takes}
+use Rattle.html_values_css.specs.Sink.{TakesWarning}
 use Rattle.html_values_css.proofs.Giving.{given_on, refused_on, given_empty}
 use Rattle.html_values_css.proofs.builder.PropertiesBuilder.push.Goals as goal
 
 pub returns-in_err-pass_on-clause-given : goal.returns-in_err-pass_on-clause-given
 returns-in_err-pass_on-clause-given g c =
-    let takes = Takes g.S.WarningSink.warnings g.S.WarningSink.borrow g.S.WarningSink.emit_gives in
+    let takes = TakesWarning g.S.WarningSink.warnings g.S.WarningSink.borrow g.S.WarningSink.emit_gives in
     let handed = given_empty _ c.new.result c.new-out.result.sink c.emit.new.out.sink _ _
     c.new.ensures.items
     (ap (λ seen. seen.sink) c.new-out.ensures) c.in_ok-emit.ensures.given c.deref.ensures.value in
@@ -16,7 +16,7 @@ returns-in_err-pass_on-clause-given g c =
 
 pub returns-then-out-clause-given : goal.returns-then-out-clause-given
 returns-then-out-clause-given g c =
-    let takes = Takes g.S.WarningSink.warnings g.S.WarningSink.borrow g.S.WarningSink.emit_gives in
+    let takes = TakesWarning g.S.WarningSink.warnings g.S.WarningSink.borrow g.S.WarningSink.emit_gives in
     let handed = given_empty _ c.new.result c.new-out.result.sink c.emit.new.out.sink _ _
     c.new.ensures.items
     (ap (λ seen. seen.sink) c.new-out.ensures) c.in_ok-emit.ensures.given c.deref.ensures.value in

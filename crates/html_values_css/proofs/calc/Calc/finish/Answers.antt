@@ -1,7 +1,7 @@
 use Rattle.std.proofs.Common.{string_bytes, []}
 use Rattle.std.proofs.lemmas.Str.{IsUtf8-had, IsUtf8-string_bytes}
-use Rattle.html_values_css.specs.Sums.{closed}
-use Rattle.html_values_css.specs.Writer.{state}
+use Rattle.html_values_css.specs.Sums.{sum_end}
+use Rattle.html_values_css.specs.Writer.{writer_state}
 use Rattle.html_values_css.proofs.Places.{kept_front, kept_within, emits_whole}
 use Rattle.html_values_css.proofs.calc.Calc.finish.Goals as goal
 
@@ -19,7 +19,7 @@ invariant_of-self g c =
 
 pub returns-clause-whole : goal.returns-clause-whole
 returns-clause-whole g c =
-    let seen = state in
+    let seen = writer_state in
     emits_whole c.write_ascii.result c.args.self.start (string_bytes c.args.self.out.now.text)
-    (seen c.args.self.out.now) (seen c.write_ascii.new.self) (closed c.args.self.parts) []
+    (seen c.args.self.out.now) (seen c.write_ascii.new.self) (sum_end c.args.self.parts) []
     (IsUtf8-had _ c.args.self.seam) (rw (← c.closing-closing.ensures) c.write_ascii.ensures)

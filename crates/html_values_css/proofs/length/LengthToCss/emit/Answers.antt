@@ -1,7 +1,7 @@
 use Rattle.std.proofs.Common.{rules, [], ◌∷◌}
 use Rattle.html_values_css.specs.Quantities.{em_text, abs_text}
 use Rattle.html_values_css.specs.Sums.{quantity_part}
-use Rattle.html_values_css.specs.Writer.{state}
+use Rattle.html_values_css.specs.Writer.{writer_state}
 use Rattle.html_values_css.proofs.Summing.{begun, going, done, never_warns}
 use Rattle.html_values_css.proofs.length.LengthToCss.emit.Goals as goal
 
@@ -9,7 +9,7 @@ pub returns : goal.returns
 returns g c =
     let em = quantity_part em_text c.args.self.now.em in
     let abs = quantity_part abs_text c.args.self.now.abs in
-    let zero = begun (state c.args.out.now) (em ∷ abs ∷ []) _ _ _ c.calc-sum.ensures.before
+    let zero = begun (writer_state c.args.out.now) (em ∷ abs ∷ []) _ _ _ c.calc-sum.ensures.before
     c.calc-sum.ensures.nothing c.calc-sum.ensures.parts in
     let one = going em zero c.in_ok-sum.was c.in_ok-sum.ensures.before c.in_ok-sum.ensures.parts
     c.sum.ensures.adds (never_warns _ em_text c.args.self.now.em) in

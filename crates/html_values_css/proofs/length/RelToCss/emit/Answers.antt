@@ -2,7 +2,7 @@ use Rattle.std.proofs.Common.{rules, [], ◌∷◌}
 use Rattle.std.proofs.lemmas.Result.{err_from_is_err_and}
 use Rattle.html_values_css.specs.Quantities.{ratio_text, em_text, abs_text}
 use Rattle.html_values_css.specs.Sums.{quantity_part, rel_text}
-use Rattle.html_values_css.specs.Writer.{state, text_of}
+use Rattle.html_values_css.specs.Writer.{writer_state, text_of}
 use Rattle.html_values_css.proofs.Summing.{begun, going, done, broken, never_warns}
 use Rattle.html_values_css.proofs.length.RelToCss.emit.Goals as goal
 
@@ -12,7 +12,7 @@ returns-in_err-sum-3 g c =
     let ratio = quantity_part ratio_text r.rel in
     let em = quantity_part em_text r.abs.em in
     let abs = quantity_part abs_text r.abs.abs in
-    let zero = begun (state c.args.out.now) (ratio ∷ em ∷ abs ∷ []) _ _ _ c.calc-sum.ensures.before
+    let zero = begun (writer_state c.args.out.now) (ratio ∷ em ∷ abs ∷ []) _ _ _ c.calc-sum.ensures.before
     c.calc-sum.ensures.nothing c.calc-sum.ensures.parts in
     let one = going ratio zero c.in_ok-sum.was c.in_ok-sum.ensures.before c.in_ok-sum.ensures.parts
     c.sum.ensures.adds (never_warns _ ratio_text r.rel) in
@@ -31,7 +31,7 @@ returns g c =
     let ratio = quantity_part ratio_text r.rel in
     let em = quantity_part em_text r.abs.em in
     let abs = quantity_part abs_text r.abs.abs in
-    let zero = begun (state c.args.out.now) (ratio ∷ em ∷ abs ∷ []) _ _ _ c.calc-sum.ensures.before
+    let zero = begun (writer_state c.args.out.now) (ratio ∷ em ∷ abs ∷ []) _ _ _ c.calc-sum.ensures.before
     c.calc-sum.ensures.nothing c.calc-sum.ensures.parts in
     let one = going ratio zero c.in_ok-sum.was c.in_ok-sum.ensures.before c.in_ok-sum.ensures.parts
     c.sum.ensures.adds (never_warns _ ratio_text r.rel) in

@@ -8,4 +8,4 @@ pub invariant_of-self : goal.invariant_of-self
 invariant_of-self c =
     put_listed c.put.result (list_view c.self.inside.list.items) (list_view c.put.new.list.items)
     (chars c.args.name.now) (text_view c.args.value) c.self.invariant c.put.ensures.ok
-    c.put.ensures.err
+    c.put.ensures.kept

@@ -1,12 +1,12 @@
 use Rattle.std.proofs.Common.{refl, string_bytes}
 use Rattle.std.proofs.lemmas.Str.{IsUtf8-string_bytes}
-use Rattle.html_values_css.specs.Writer.{state}
+use Rattle.html_values_css.specs.Writer.{writer_state}
 use Rattle.html_values_css.proofs.Emitting.{pushed}
 use Rattle.html_values_css.proofs.writer.CssWriter.write.Goals as goal
 
 pub returns : goal.returns
 returns g c =
-    let seen = state in
+    let seen = writer_state in
     pushed _ c.push_str.result (seen c.args.self.now)
     (seen record {
       text = c.push_str.new.self;

@@ -1,0 +1,9 @@
+-- What a walk along a list of nodes has left.
+use Rattle.std.specs.Prelude.{ℕ, List}
+use Rattle.html_dom_tree.specs.declared.node.HtmlNode.{HtmlNode}
+use Rattle.html_dom_document.specs.Cursor.{nodes_with_indices}
+use Rattle.html_dom_document.specs.declared.dom_indices.DomIndices.{DomIndices}
+
+-- the nodes with their indices
+abbrev pub pairs_left : DomIndices → List (HtmlNode × ℕ)
+pairs_left walk = nodes_with_indices walk.cursor walk.nodes.now

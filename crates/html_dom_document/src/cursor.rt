@@ -1,0 +1,60 @@
+ghost use Rattle.std.specs.Prelude.{◌≡◌, ◌<◌, ◌^◌, suc};
+ghost use Rattle.html_dom_tree.specs.Views.{node_view};
+ghost use Rattle.html_dom_document.specs.Cursor.{element_index, index_at, cursor_after, past_element, first_cursor};
+
+use html_dom_tree::HtmlNode;
+
+/// Goes along a list of nodes and numbers them.
+#[derive(Clone, Copy)]
+pub(crate) struct Cursor {
+    /// The elements, the frames and the ended runs of texts so far.
+    pub(crate) passed: usize,
+    /// Whether a text stands since the last element or frame.
+    pub(crate) after_text: bool,
+}
+
+impl Cursor {
+    /// Before the first node.
+    pub(crate) fn new() -> Cursor
+        ensures { result ≡ first_cursor }
+    {
+        Cursor {
+            passed: 0,
+            after_text: false,
+        }
+    }
+
+    /// Goes past a node, and answers its index.
+    pub(crate) fn pass(&mut self, node: &HtmlNode) -> usize
+        requires { suc (element_index self.old) < 2 ^ 64 }
+        ensures index { result ≡ index_at self.old (node_view node.now) }
+        ensures cursor { self.new ≡ cursor_after self.old (node_view node.now) }
+    {
+        match node {
+            HtmlNode::Tag(_) => self.passed,
+            HtmlNode::Text(_, _) => {
+                self.after_text = true;
+                self.passed
+            }
+            HtmlNode::Element(_) | HtmlNode::Frame(_) => self.pass_element(),
+        }
+    }
+
+    /// Goes past an element or a frame, and answers its index.
+    fn pass_element(&mut self) -> usize
+        requires { suc (element_index self.old) < 2 ^ 64 }
+        ensures index { result ≡ element_index self.old }
+        ensures cursor { self.new ≡ past_element self.old }
+    {
+        let index = if self.after_text {
+            self.passed + 1
+        } else {
+            self.passed
+        };
+        *self = Cursor {
+            passed: index + 1,
+            after_text: false,
+        };
+        index
+    }
+}

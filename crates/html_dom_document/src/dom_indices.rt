@@ -1,0 +1,83 @@
+ghost use Rattle.std.specs.Prelude.{◌+◌, ◌<◌, ◌^◌, length};
+ghost use Rattle.html_dom_document.specs.Cursor.{element_index};
+
+use crate::cursor::Cursor;
+use html_dom_tree::HtmlNode;
+
+/// Nodes of one list with their DOM indices: the numbers that they have among their siblings in a
+/// browser's tree, in which neighbouring texts are one node and tags are none.
+pub trait HtmlSliceExt<'a> {
+    ghost use Rattle.std.specs.Prelude.{◌≡◌, List};
+    ghost use Rattle.std.specs.List.{zip};
+    ghost use Rattle.html_dom_tree.specs.Views.{nodes_view};
+    ghost use Rattle.html_dom_tree.specs.declared.node.HtmlNode.{HtmlNode};
+    ghost use Rattle.html_dom_document.specs.DomIndices.{dom_indices};
+    ghost use Rattle.html_dom_document.specs.IndexWalks.{pairs_left};
+
+    /// The list whose nodes are numbered.
+    ghost listed: { Self → List HtmlNode };
+
+    /// The nodes of the list, in order, each with its DOM index. It takes no memory.
+    ///
+    /// An element or a frame has as its index the number of the elements and frames before it plus
+    /// that of the runs of texts before it. Tags cut no run, and empty texts count. A tag or a text
+    /// has the number of the elements and frames before it plus that of the runs that an element or
+    /// a frame has ended.
+    ///
+    /// ```
+    /// use html_dom::{HtmlElement, HtmlNode, HtmlSliceExt, Span};
+    /// use html_names::tag;
+    ///
+    /// let alloc = rt.alloc();
+    /// let mut nodes = Vec::new(alloc);
+    /// nodes.push(HtmlNode::text(String::from_str(alloc, "Hello")?, Span(1)))?;
+    /// nodes.push(HtmlNode::text(String::from_str(alloc, " you")?, Span(2)))?;
+    /// nodes.push(HtmlNode::from(HtmlElement::new(alloc, tag::br)))?;
+    /// let indices = nodes.as_slice().iter_with_dom_indices();
+    /// for ((_, index), wanted) in indices.zip([0, 0, 1].iter()) {
+    ///     assert_eq!(rt; index, *wanted);
+    /// }
+    /// ```
+    fn iter_with_dom_indices(self) -> DomIndices<'a>
+        ensures pairs { let nodes = listed self in
+            pairs_left result ≡ zip nodes (dom_indices (nodes_view nodes)) }
+        ensures count { length (pairs_left result) ≡ length (listed self) };
+}
+
+impl<'a> HtmlSliceExt<'a> for &'a [HtmlNode] {
+    ghost listed = { λ nodes. nodes.now };
+
+    fn iter_with_dom_indices(self) -> DomIndices<'a> {
+        DomIndices {
+            nodes: self,
+            cursor: Cursor::new(),
+        }
+    }
+}
+
+/// What `iter_with_dom_indices` answers: a walk along the list, which ends after as many items as
+/// the list has nodes.
+#[derive(Clone, Copy)]
+pub struct DomIndices<'a> {
+    nodes: &'a [HtmlNode],
+    cursor: Cursor,
+    ghost fits: { element_index cursor + length nodes.now < 2 ^ 64 },
+}
+
+impl<'a> Iterator for DomIndices<'a> {
+    ghost use Rattle.std.specs.Iterator.{YieldsFirstBy, item_count};
+    ghost use Rattle.html_dom_document.specs.IndexWalks.{pairs_left};
+
+    type Item = (&'a HtmlNode, usize);
+
+    ghost next_gives = { YieldsFirstBy (λ pair. (pair.0.now, pair.1)) pairs_left };
+
+    ghost remaining = { item_count pairs_left };
+
+    fn next(&mut self) -> Option<(&'a HtmlNode, usize)> {
+        let (node, others) = self.nodes.split_first()?;
+        let index = self.cursor.pass(node);
+        self.nodes = others;
+        Some((node, index))
+    }
+}

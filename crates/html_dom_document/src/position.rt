@@ -1,0 +1,49 @@
+ghost use Rattle.std.specs.Prelude.{◌≡◌, IfOk, option_map};
+ghost use Rattle.html_dom_document.specs.Introspectors.{position_view};
+
+use html_dom_tree::Point;
+use std::alloc::AllocError;
+
+/// Where a start tag stands: a path of DOM indices, and a point where the path leads to a frame.
+#[derive(Debug, Drop)]
+pub struct HtmlPosition {
+    pub(crate) path: Vec<usize>,
+    pub(crate) point: Option<Point>,
+}
+
+/// A copy of a path.
+pub(crate) fn copy_path(path: &Vec<usize>) -> Result<Vec<usize>, AllocError>
+    ensures { IfOk result (λ copy. copy.items ≡ path.now.items) }
+{
+    path.clone()
+}
+
+impl HtmlPosition {
+    ghost use Rattle.html_dom_tree.specs.FrameViews.{point_view};
+
+    /// The DOM indices of the elements around the tag, from the outermost on, `html` elements left
+    /// out, and then that of the tag itself; of a tag in a frame, the path of the frame.
+    pub fn path(&self) -> &[usize]
+        ensures { result.now ≡ (position_view self.now).path }
+    {
+        &self.path
+    }
+
+    /// The point of a tag in a frame.
+    pub fn point(&self) -> Option<Point>
+        ensures { option_map point_view result ≡ (position_view self.now).point }
+    {
+        self.point
+    }
+}
+
+impl Clone for HtmlPosition {
+    ghost is_clone = { λ position copy. position_view copy ≡ position_view position };
+
+    fn clone(&self) -> Result<HtmlPosition, AllocError> {
+        Ok(HtmlPosition {
+            path: copy_path(&self.path)?,
+            point: self.point,
+        })
+    }
+}

@@ -1,4 +1,0 @@
-pub mod Cursors
-pub mod Leading
-pub mod Locations
-pub mod Recording

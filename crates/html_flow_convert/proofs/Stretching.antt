@@ -1,0 +1,260 @@
+-- Stretches of a text where white space collapses, as they grow.
+use Rattle.std.proofs.Common.{◌≡◌, ℕ, ◌-◌, ◌<◌, Bool, true, false, ◌&&◌, ◌||◌, ◌==◌, List, [], ◌∷◌, ◌++◌, IsTrue, Option, None, Some, chars, length, map, take, refl, sym, ap, ◌∙◌, arith, append-nil, append_assoc}
+use Rattle.std.proofs.lemmas.Bool.{agree_below_at, false≢true, true≢false}
+use Rattle.std.proofs.lemmas.Bool.Decides.{nat_tests}
+use Rattle.std.proofs.lemmas.List.{length-append, map-append, nil_from_length}
+use Rattle.std.proofs.lemmas.Str.{IsUtf8-nil, IsUtf8-append, IsUtf8-encode, chars-append, chars-nil, chars_past_char, scalars-chars, encodes-chars}
+use Rattle.std.proofs.lemmas.Bool.{and_parts, and_from}
+use Rattle.std.proofs.Math.Seq.{take-append_seam}
+use Rattle.std.specs.Str.{IsUtf8}
+use Rattle.html_names.specs.Characters.{is_ignorable}
+use Rattle.html_dom_tree.specs.Tree.{NodeView}
+use Rattle.html_flow_convert.specs.Pieces.{PieceView, stretch, alone, line_break, first_char, is_normal, is_normal_there, is_in_stretch, in_stretch, is_carriage_return, outside_stretch, pieces_after, pieces, piece_node, text_nodes}
+use Rattle.html_flow_convert.specs.TextStretches.{with_stretch}
+use lib.Utf8.{scalar, scalars, encode, encodes}
+
+-- each ASCII character is shown
+pub ascii_shown : (c : ℕ) → c < 128 → is_ignorable c ≡ false
+unfolding is_ignorable
+ascii_shown c small = agree_below_at is_ignorable (λ _. false) 128 c refl small
+
+-- characters alone are a stretch
+stretch_alone : (c : ℕ) (cs : List ℕ) → with_stretch (c ∷ cs) [] ≡ stretch (c ∷ cs) ∷ []
+stretch_alone c [] = refl
+stretch_alone c (d ∷ ds) = ap (in_stretch c) (stretch_alone d ds)
+
+pub no_length : (text : List ℕ) → (length text == 0) ≡ true → length text ≡ 0
+no_length text h = grind (arith, nat_tests)
+
+no_bytes : (text : List ℕ) → IsUtf8 text → chars text ≡ [] → (length text == 0) ≡ true
+no_bytes text u e =
+    ap (λ bs. length bs == 0) (sym (encodes-chars text u) ∙ ap encodes e) ∙ grind (arith, nat_tests)
+
+stretch_by : (text cs : List ℕ) → chars text ≡ cs → IsUtf8 text → (length text == 0) ≡ false →
+    with_stretch cs [] ≡ stretch cs ∷ []
+stretch_by text [] e u h = absurd (true≢false (sym (no_bytes text u e) ∙ h))
+stretch_by text (c ∷ cs) e u h = stretch_alone c cs
+
+pub stretch_of_text : (text : List ℕ) → IsUtf8 text → (length text == 0) ≡ false →
+    with_stretch (chars text) [] ≡ stretch (chars text) ∷ []
+stretch_of_text text u h = stretch_by text (chars text) refl u h
+
+-- a text that is one stretch
+
+-- each character of a text that stands after one stands in a stretch
+abbrev are_in_stretch : (before : Option ℕ) → (text : List ℕ) → Bool
+are_in_stretch before [] = true
+are_in_stretch before (c ∷ cs) = is_in_stretch before c cs && are_in_stretch (Some c) cs
+
+within_stretch : (before : Option ℕ) (cs : List ℕ) → are_in_stretch before cs ≡ true →
+    pieces_after before cs ≡ with_stretch cs []
+unfolding pieces_after
+within_stretch before [] e = refl
+within_stretch before (c ∷ cs) e =
+    let parts = and_parts (is_in_stretch before c cs) (are_in_stretch (Some c) cs) e in
+    rw parts.0 (ap (in_stretch c) (within_stretch (Some c) cs parts.1))
+
+-- a text that ends in a normal character, and what stands between those is single spaces, where a
+-- normal character stands before it or not
+abbrev pub is_stretch : (after_normal : Bool) → (text : List ℕ) → Bool
+is_stretch after_normal [] = after_normal
+is_stretch after_normal (c ∷ cs) =
+    (is_normal c || ((c == 32) && after_normal)) && is_stretch (is_normal c) cs
+
+begins_normal : (cs : List ℕ) → is_stretch false cs ≡ true → is_normal_there (first_char cs) ≡ true
+begins_normal [] e = absurd (false≢true e)
+begins_normal (c ∷ cs) e = by (is_normal c) (c == 32) (is_stretch (is_normal c) cs) e
+  where
+    by : (normal blank rest : Bool) → ((normal || (blank && false)) && rest) ≡ true → normal ≡ true
+    by true blank rest e = refl
+    by false true rest e = absurd (false≢true e)
+    by false false rest e = absurd (false≢true e)
+
+one_within : (normal blank after there : Bool) → (normal || (blank && after)) ≡ true →
+    (normal ≡ false → there ≡ true) → (normal || (blank && after && there)) ≡ true
+one_within true blank after there e f = refl
+one_within false blank after there e f =
+    let parts = and_parts blank after e in
+    rw (parts.0, parts.1, f refl) refl
+
+all_within : (before : Option ℕ) (cs : List ℕ) → is_stretch (is_normal_there before) cs ≡ true →
+    are_in_stretch before cs ≡ true
+all_within before [] e = refl
+all_within before (c ∷ cs) e =
+    let after = is_normal_there before in
+    let parts = and_parts (is_normal c || ((c == 32) && after)) (is_stretch (is_normal c) cs) e in
+    and_from _ _ (one_within (is_normal c) (c == 32) after (is_normal_there (first_char cs))
+    parts.0 (λ none. begins_normal cs (ap (λ n. is_stretch n cs) (sym none) ∙ parts.1)))
+    (all_within (Some c) cs parts.1)
+
+pub one_stretch : (cs : List ℕ) → is_stretch false cs ≡ true → pieces cs ≡ stretch cs ∷ []
+one_stretch [] e = absurd (false≢true e)
+one_stretch (c ∷ cs) e = within_stretch None (c ∷ cs) (all_within None (c ∷ cs) e) ∙ stretch_alone c cs
+
+-- a character more, and the end
+pub stretch_goes_on : (ends normal : Bool) (rest later : List ℕ) (c : ℕ) (all : Bool) → IsUtf8 rest →
+    rest ≡ encode c ++ later → normal ≡ is_normal c → (normal || ((c == 32) && ends)) ≡ true →
+    is_stretch ends (chars rest) ≡ all → is_stretch normal (chars later) ≡ all
+stretch_goes_on ends normal rest later c all u parts is on held =
+    let opened = ap (is_stretch ends) (sym (chars_past_char rest later c u parts)) ∙ held in
+    let test : (is_normal c || ((c == 32) && ends)) ≡ true = rw is at on in
+    ap (λ n. is_stretch n (chars later)) is
+    ∙ (ap (λ b. b && is_stretch (is_normal c) (chars later)) (sym test) ∙ opened)
+
+pub stretch_ends : (ends : Bool) (rest text : List ℕ) → length rest ≡ 0 →
+    is_stretch ends (chars rest) ≡ is_stretch false (chars text) → IsTrue ends →
+    pieces (chars text) ≡ stretch (chars text) ∷ []
+stretch_ends ends rest text none held h =
+    let empty = nil_from_length rest none in
+    one_stretch (chars text) (sym (rw (empty, chars-nil) at held) ∙ h)
+
+-- a piece of another kind ends a stretch
+before_alone : (cs : List ℕ) (d : ℕ) (ps : List PieceView) →
+    with_stretch cs (alone d ∷ ps) ≡ with_stretch cs [] ++ alone d ∷ ps
+before_alone [] d ps = refl
+before_alone (c ∷ []) d ps = refl
+before_alone (c ∷ e ∷ cs) d ps = rw (before_alone (e ∷ cs) d ps, stretch_alone e cs) refl
+
+before_break : (cs : List ℕ) (ps : List PieceView) →
+    with_stretch cs (line_break ∷ ps) ≡ with_stretch cs [] ++ line_break ∷ ps
+before_break [] ps = refl
+before_break (c ∷ []) ps = refl
+before_break (c ∷ e ∷ cs) ps = rw (before_break (e ∷ cs) ps, stretch_alone e cs) refl
+
+-- no stretch ends in a carriage return
+outside_by : (is_return is_feed after : Bool) (front : List ℕ) (before : Option ℕ) (c : ℕ)
+    (ps : List PieceView) → (c == 13) ≡ is_return → (c == 10) ≡ is_feed →
+    is_carriage_return before ≡ after → (is_carriage_return before ≡ true → front ≡ []) →
+    with_stretch front (outside_stretch before c ps)
+    ≡ with_stretch front [] ++ (outside_stretch before c [] ++ ps)
+outside_by true feed after front before c ps e f g none = rw e (before_break front ps)
+outside_by false true true front before c ps e f g none = rw (e, f, g, none g) refl
+outside_by false true false front before c ps e f g none = rw (e, f, g) (before_break front ps)
+outside_by false false after front before c ps e f g none = rw (e, f) (before_alone front c ps)
+
+outside : (front : List ℕ) (before : Option ℕ) (c : ℕ) (ps : List PieceView) →
+    (is_carriage_return before ≡ true → front ≡ []) →
+    with_stretch front (outside_stretch before c ps)
+    ≡ with_stretch front [] ++ (outside_stretch before c [] ++ ps)
+outside front before c ps none =
+    outside_by (c == 13) (c == 10) (is_carriage_return before) front before c ps refl refl refl none
+
+-- a character more in the stretch
+stretch_more : (cs : List ℕ) (c : ℕ) (ps : List PieceView) →
+    with_stretch (cs ++ c ∷ []) ps ≡ with_stretch cs (in_stretch c ps)
+stretch_more [] c ps = refl
+stretch_more (d ∷ cs) c ps = ap (in_stretch d) (stretch_more cs c ps)
+
+-- no carriage return stands in a stretch
+return_apart : (before : Option ℕ) (c : ℕ) (after : List ℕ) →
+    is_in_stretch before c after ≡ true → (c == 13) ≡ true → ⊥
+return_apart before c after h e =
+    let is : c ≡ 13 = grind (arith, nat_tests) in
+    false≢true (rw is at h)
+
+-- the first character of a text
+first_scalar : (bs rest : List ℕ) (c : ℕ) → IsUtf8 bs → bs ≡ encode c ++ rest → scalar c ≡ true
+first_scalar bs rest c u e =
+    (and_parts (scalar c) (scalars (chars rest))
+    (ap scalars (sym (chars_past_char bs rest c u e)) ∙ scalars-chars bs u)).0
+
+chars_of_one : (c : ℕ) → scalar c ≡ true → chars (encode c) ≡ c ∷ []
+chars_of_one c valid =
+    chars_past_char (encode c) [] c (IsUtf8-encode c valid) (sym (append-nil (encode c)))
+    ∙ ap (λ cs. c ∷ cs) chars-nil
+
+-- how many bytes stand before the rest
+pub front_length : (text front rest : List ℕ) → text ≡ front ++ rest →
+    length front ≡ length text - length rest
+front_length text front rest e = omega (arith, ap length e, length-append front rest)
+
+front_taken : (text front rest : List ℕ) → text ≡ front ++ rest →
+    take (length text - length rest) text ≡ front
+front_taken text front rest e =
+    ap (λ n. take n text) (sym (front_length text front rest e))
+    ∙ (ap (take (length front)) e ∙ take-append_seam front rest)
+
+-- the nodes that are made, and a text of which a stretch stands before the rest
+pub record Stretching (span : ℕ) (before : Option ℕ) (text rest : List ℕ)
+    (made all : List NodeView) : Type 0 where
+  pub front : List ℕ
+  pub split : text ≡ front ++ rest
+  pub front_utf8 : IsUtf8 front
+  pub rest_utf8 : IsUtf8 rest
+  pub after_return : is_carriage_return before ≡ true → front ≡ []
+  pub told :
+      made ++ map (piece_node span) (with_stretch (chars front) (pieces_after before (chars rest)))
+      ≡ all
+
+pub nothing_passed : (span : ℕ) (text : List ℕ) (made : List NodeView) → IsUtf8 text →
+    Stretching span None text text made (made ++ text_nodes span (chars text))
+nothing_passed span text made u = record {
+  front = [];
+  split = refl;
+  front_utf8 = IsUtf8-nil;
+  rest_utf8 = u;
+  after_return = λ h. refl;
+  told = rw chars-nil refl;
+}
+
+pub char_inside : (span : ℕ) (before : Option ℕ) (text rest after : List ℕ) (made all : List NodeView)
+    (c : ℕ) → Stretching span before text rest made all → rest ≡ encode c ++ after →
+    IsUtf8 after → is_in_stretch before c (chars after) ≡ true →
+    Stretching span (Some c) text after made all
+unfolding pieces_after
+char_inside span before text rest after made all c held parts u inside =
+    let valid = first_scalar rest after c held.rest_utf8 parts in
+    let grown : chars (held.front ++ encode c) ≡ chars held.front ++ c ∷ [] =
+    chars-append held.front (encode c) held.front_utf8
+    ∙ ap (λ cs. chars held.front ++ cs) (chars_of_one c valid) in
+    record {
+      front = held.front ++ encode c;
+      split = held.split
+          ∙ (ap (λ l. held.front ++ l) parts ∙ sym (append_assoc held.front (encode c) after));
+      front_utf8 = IsUtf8-append held.front (encode c) held.front_utf8 (IsUtf8-encode c valid);
+      rest_utf8 = u;
+      after_return = λ h. absurd (return_apart before c (chars after) inside h);
+      told = rw (grown, stretch_more (chars held.front) c (pieces_after (Some c) (chars after)))
+          (rw (chars_past_char rest after c held.rest_utf8 parts, inside) at held.told);
+    }
+
+pub char_outside : (span : ℕ) (before : Option ℕ) (text rest after : List ℕ) (made new all : List NodeView)
+    (c : ℕ) → Stretching span before text rest made all → rest ≡ encode c ++ after →
+    IsUtf8 after → is_in_stretch before c (chars after) ≡ false →
+    new ≡ (made
+    ++ map (piece_node span) (with_stretch (chars (take (length text - length rest) text)) []))
+    ++ map (piece_node span) (outside_stretch before c []) →
+    Stretching span (Some c) after after new all
+unfolding pieces_after
+char_outside span before text rest after made new all c held parts u apart pushed =
+    let cs = chars held.front in
+    let others = pieces_after (Some c) (chars after) in
+    let f = piece_node span in
+    let own = with_stretch cs [] in
+    let between = outside_stretch before c [] in
+    let told = rw (chars_past_char rest after c held.rest_utf8 parts, apart) at held.told in
+    let spread = ap (map f)
+    (outside cs before c others (λ h. ap chars (held.after_return h) ∙ chars-nil))
+    ∙ (map-append f own (between ++ others)
+    ∙ ap (λ l. map f own ++ l) (map-append f between others)) in
+    record {
+      front = [];
+      split = refl;
+      front_utf8 = IsUtf8-nil;
+      rest_utf8 = u;
+      after_return = λ h. refl;
+      told = rw (pushed, front_taken text held.front rest held.split, chars-nil)
+          (append_assoc (made ++ map f own) (map f between) (map f others)
+          ∙ (append_assoc made (map f own) (map f between ++ map f others)
+          ∙ (ap (λ l. made ++ l) (sym spread) ∙ told)));
+    }
+
+pub text_ended : (span : ℕ) (before : Option ℕ) (text rest : List ℕ) (made all : List NodeView) →
+    Stretching span before text rest made all → length rest ≡ 0 →
+    made ++ map (piece_node span) (with_stretch (chars text) []) ≡ all
+unfolding pieces_after
+text_ended span before text rest made all held none =
+    let empty = nil_from_length rest none in
+    let same : text ≡ held.front =
+    held.split ∙ (ap (λ l. held.front ++ l) empty ∙ append-nil held.front) in
+    rw same (rw (empty, chars-nil) at held.told)

@@ -1,0 +1,10 @@
+use Rattle.std.proofs.Common.{codes, refl}
+use Rattle.html_names.proofs.Lists.{chars_ascii}
+use Rattle.html_flow_convert.proofs.OneProperty.{one_property}
+use Rattle.html_flow_convert.proofs.made.pre_wrap_css.Goals as goal
+
+pub returns : goal.returns
+returns c =
+    one_property c.new.result _ (codes "white-space") _ (codes "pre-wrap") c.new.ensures
+    (chars_ascii (codes "white-space") refl) c.in_ok-kept.ensures.ok
+    (chars_ascii (codes "pre-wrap") refl) c.in_ok-with.ensures.ok

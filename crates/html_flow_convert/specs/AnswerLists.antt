@@ -1,0 +1,7 @@
+-- Answers for lone spaces, of which the first ones are used.
+use Rattle.std.specs.Prelude.{Bool, List, drop}
+use Rattle.html_flow_convert.specs.declared.protect.Answers.{Answers}
+
+-- the answers that are left
+abbrev pub answers_view : Answers → List Bool
+answers_view a = drop a.next a.bare.items

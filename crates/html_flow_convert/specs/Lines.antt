@@ -1,0 +1,67 @@
+-- Going through the things of a line one by one.
+use Rattle.std.specs.Prelude.{◌≡◌, ℕ, ◌+◌, ◌≤◌, Bool, true, false, ◌&&◌, List, [], ◌∷◌, ◌++◌, Some, None, if◌then◌else◌}
+use Rattle.html_dom_tree.specs.Tree.{NodesView}
+use Rattle.html_dom_flat.specs.Flat.{FlatNodeView, nodes_flat}
+use Rattle.html_dom_flat.specs.declared.flat_node.FlatNode.{FlatNode}
+use Rattle.html_dom_flat.specs.declared.flat_node.FlatNode.TheVariants as flat
+use Rattle.html_flow_convert.specs.BareSpaces.{Thing, visible, space, bare_after, bare_spaces, is_visible_first, nodes_things, nodes_turns}
+use Rattle.html_flow_convert.specs.Looks.{is_inside}
+use Rattle.html_flow_convert.specs.declared.look.Look.{Look}
+use Rattle.html_flow_convert.specs.declared.look.Look.TheVariants as look
+use Rattle.html_flow_convert.specs.declared.line.Last.{Last}
+use Rattle.html_flow_convert.specs.declared.line.Last.TheVariants as last
+
+-- a space after it stands in a line
+abbrev pub is_within : Last → Bool
+is_within last.Border = false
+is_within last.Visible = true
+is_within (last.Space in_line) = true
+
+-- what stands last after one more
+abbrev pub last_after : Last → Look → Last
+last_after l look.Border = last.Border
+last_after l look.Visible = last.Visible
+last_after l look.Space = last.Space (is_within l)
+last_after l look.Nothing = l
+last_after l look.Inside = l
+
+-- the answer for a space that stands last, where that stands after it
+abbrev pub space_answer : Last → (is_visible : Bool) → List Bool
+space_answer last.Border is_visible = []
+space_answer last.Visible is_visible = []
+space_answer (last.Space in_line) is_visible = (in_line && is_visible) ∷ []
+
+abbrev pub answer_before : Last → Look → List Bool
+answer_before l look.Border = space_answer l false
+answer_before l look.Visible = space_answer l true
+answer_before l look.Space = space_answer l false
+answer_before l look.Nothing = []
+answer_before l look.Inside = []
+
+-- the answers for a space that stands last, and for those after it
+abbrev pub answers_left : Last → List Thing → List Bool
+answers_left last.Border ts = bare_after None ts
+answers_left last.Visible ts = bare_after (Some visible) ts
+answers_left (last.Space in_line) ts =
+    (in_line && is_visible_first ts) ∷ bare_after (Some space) ts
+
+-- the place after a node and all that stands in it
+abbrev pub place_past : (place : ℕ) → FlatNode → ℕ
+place_past place (flat.Tag t) = place + 1
+place_past place (flat.Text s span) = place + 1
+place_past place (flat.Frame f) = place + 1
+place_past place (flat.Element e) = e.past
+
+-- the place of the next node to look at
+abbrev pub next_place : (place : ℕ) → Look → FlatNode → ℕ
+next_place place l f = if is_inside l then place + 1 else place_past place f
+
+-- going through the list of those nodes, at a place: what is left of them has the answers that are
+-- left, and the turns
+pub record Stands (whole : NodesView) (place : ℕ) (list : List FlatNodeView) (l : Last)
+    (bare : List Bool) (turns : ℕ) : Type 0 where
+  pub rest : NodesView
+  pub list_is : list ≡ nodes_flat place rest
+  pub answers : bare ++ answers_left l (nodes_things rest) ≡ bare_spaces whole
+  pub count : turns + nodes_turns rest ≡ nodes_turns whole
+  pub few : turns ≤ place

@@ -1,0 +1,26 @@
+-- Going through nodes, as the program does.
+use Rattle.std.specs.Prelude.{Bool, List, [], ◌∷◌, ◌++◌}
+use Rattle.html_flow_convert.specs.BareSpaces.{Thing, border, visible, space}
+use Rattle.html_flow_convert.specs.Lines.{last_after, answer_before}
+use Rattle.html_flow_convert.specs.declared.answers.Walk.{Walk}
+use Rattle.html_flow_convert.specs.declared.line.Last.{Last}
+use Rattle.html_flow_convert.specs.declared.look.Look.{Look}
+use Rattle.html_flow_convert.specs.declared.look.Look.TheVariants as look
+
+-- the answers for the spaces so far but for one that stands last, and what stands last
+abbrev pub WalkView : Type 0
+WalkView = List Bool × Last
+
+abbrev pub walk_view : Walk → WalkView
+walk_view w = (w.bare.items, w.last)
+
+-- one more
+abbrev pub walk_with : WalkView → Look → WalkView
+walk_with w next = (w.0 ++ answer_before w.1 next, last_after w.1 next)
+
+-- these too
+unfoldable pub walk_on : WalkView → List Thing → WalkView
+walk_on w [] = w
+walk_on w (border ∷ ts) = walk_on (walk_with w look.Border) ts
+walk_on w (visible ∷ ts) = walk_on (walk_with w look.Visible) ts
+walk_on w (space ∷ ts) = walk_on (walk_with w look.Space) ts

@@ -1,0 +1,111 @@
+//! Which lone spaces may stay bare.
+
+ghost use Rattle.std.specs.Prelude.{◌≡◌, ◌+◌, ◌<◌, ◌≤◌, ◌^◌, true, IfOk};
+ghost use Rattle.html_dom_flat.specs.Flat.{nodes_count};
+ghost use Rattle.html_dom_flat.specs.FlatTrees.{tree_nodes};
+ghost use Rattle.html_dom_flat.specs.FlatViews.{flat_node_view, is_node_given};
+ghost use Rattle.html_flow_convert.specs.BareSpaces.{bare_spaces, nodes_turns};
+ghost use Rattle.html_flow_convert.specs.Lines.{place_past, next_place};
+ghost use Rattle.html_flow_convert.specs.Looks.{flat_look};
+
+use crate::line::{Last, push_answer};
+use crate::look::{Look, element_look, text_look};
+use html_dom_flat::{FlatNode, FlatTree};
+use html_names::NameTable;
+use std::alloc::{AllocError, Global};
+
+/// Which lone spaces of a list of nodes may stay bare.
+#[derive(Debug, Drop)]
+pub struct Bareness {
+    /// For each text of exactly one space, in the order of writing and inside of no element that is
+    /// not looked into, whether it is bare.
+    pub bare: Vec<bool>,
+    /// How many nodes were looked at: those that stand inside of no element that is not looked into.
+    /// Such an element itself is one of them.
+    pub turns: usize,
+}
+
+/// What a node of a list looks like.
+fn flat_look(names: &NameTable, node: &FlatNode) -> Look
+    requires { is_node_given names.now node.now ≡ true }
+    ensures { result ≡ flat_look (flat_node_view names.now node.now) }
+{
+    match node {
+        FlatNode::Tag(_) => Look::Nothing,
+        FlatNode::Text(text, _) => text_look(text.as_str()),
+        FlatNode::Element(element) => {
+            element_look(names.tag_at(element.tag), &element.css, element.pre_span)
+        }
+        FlatNode::Frame(_) => Look::Visible,
+    }
+}
+
+/// The place after a node and all that stands in it.
+fn place_past(node: &FlatNode, place: usize) -> usize
+    requires { place + 1 < 2 ^ 64 }
+    ensures { result ≡ place_past place node.now }
+{
+    match node {
+        FlatNode::Element(element) => element.past,
+        FlatNode::Tag(_) | FlatNode::Text(_, _) | FlatNode::Frame(_) => place + 1,
+    }
+}
+
+/// The place of the next node to look at.
+fn next_place(node: &FlatNode, look: Look, place: usize) -> usize
+    requires { place + 1 < 2 ^ 64 }
+    ensures { result ≡ next_place place look node.now }
+{
+    if look.is_inside() {
+        return place + 1;
+    }
+    place_past(node, place)
+}
+
+/// Which lone spaces of these nodes collapsing white space leaves (CSS Text 3, 4.1): a text of
+/// exactly one space is bare where what stands right before it is there and no border, and what
+/// stands right after it is visible.
+///
+/// An element with `display: block` in its css or with lines of its own by default is a border, and
+/// so is `br`; a replaced element or a frame is visible; an element whose texts are written as
+/// character references counts for nothing. None of these is looked into. Any other element counts
+/// as what stands in it, and any other text is visible if one of its characters is shown by default.
+/// It fails only where an allocation does.
+///
+/// Cost: grows with `turns`, which is at most the number of nodes at all depths.
+///
+/// ```
+/// use html_dom::{FlatTree, HtmlNode, Span};
+/// use html_flow::bare_spaces;
+///
+/// let mut nodes = Vec::new(rt.alloc());
+/// for text in ["a", " ", "b", " "] {
+///     nodes.push(HtmlNode::text(String::from_str(rt.alloc(), text)?, Span(0)))?;
+/// }
+/// let tree = FlatTree::from_nodes(rt.alloc(), &nodes)?;
+/// let found = bare_spaces(rt.alloc(), &tree)?;
+/// assert!(rt; found.bare.as_slice() == [true, false].as_slice());
+/// assert_eq!(rt; found.turns, 4);
+/// ```
+pub fn bare_spaces(alloc: Global, tree: &FlatTree) -> Result<Bareness, AllocError>
+    ensures answers { IfOk result (λ found. (found.bare.items ≡ bare_spaces (tree_nodes tree.now))
+        × (found.turns ≡ nodes_turns (tree_nodes tree.now))) }
+    ensures few { IfOk result (λ found. found.turns ≤ nodes_count (tree_nodes tree.now)) }
+{
+    let names = tree.names();
+    let nodes = tree.nodes();
+    let mut bare = Vec::new(alloc);
+    let mut turns = 0;
+    let mut last = Last::Border;
+    let mut place = 0;
+    while place < nodes.len() {
+        let node = &nodes[place];
+        let look = flat_look(names, node);
+        push_answer(&mut bare, last, look)?;
+        last = last.after(look);
+        turns += 1;
+        place = next_place(node, look, place);
+    }
+    push_answer(&mut bare, last, Look::Border)?;
+    Ok(Bareness { bare, turns })
+}

@@ -1,0 +1,184 @@
+//! Texts where white space collapses.
+
+ghost use Rattle.std.specs.Prelude.{◌≡◌, ◌==◌, ◌&&◌, ◌||◌, ◌++◌, [], ◌∷◌, IsTrue, OnOk, OnErr, IfOk, chars, map};
+ghost use Rattle.html_dom_tree.specs.Tree.{text_node};
+ghost use Rattle.html_dom_tree.specs.Views.{node_view, text_view};
+ghost use Rattle.html_flow_convert.specs.Beginnings.{AddsBeginning};
+ghost use Rattle.html_flow_convert.specs.Pieces.{first_char, is_in_stretch, is_normal, is_normal_there, outside_stretch, piece_node, pieces, stretch, text_nodes};
+ghost use Rattle.html_flow_convert.specs.TextStretches.{with_stretch};
+
+use crate::made::break_element;
+use html_dom_tree::{HtmlNode, Span};
+use html_names::charsets::is_default_ignorable;
+use std::alloc::{AllocError, Global};
+
+/// Whether the character is neither a blank nor hidden by default.
+#[tactic(auto, using(crate::proofs::Stretching::ascii_shown))]
+fn is_normal(c: char) -> bool
+    ensures { result ≡ is_normal c }
+{
+    if c.is_ascii() {
+        !matches!(c, '\t' | '\n' | '\r' | ' ')
+    } else {
+        !is_default_ignorable(c)
+    }
+}
+
+/// Whether there is a character, and it is normal.
+fn is_normal_there(c: Option<char>) -> bool
+    ensures { result ≡ is_normal_there c }
+{
+    match c {
+        Some(c) => is_normal(c),
+        None => false,
+    }
+}
+
+/// Whether the text begins with a normal character.
+fn begins_normal(text: &str) -> bool
+    ensures { result ≡ is_normal_there (first_char (chars text.now)) }
+{
+    is_normal_there(text.chars().next())
+}
+
+/// Whether the character stands in a stretch, where it stands between `before` and `after`.
+fn is_in_stretch(before: Option<char>, c: char, after: &str) -> bool
+    ensures { result ≡ is_in_stretch before c (chars after.now) }
+{
+    is_normal(c) || (c == ' ' && is_normal_there(before) && begins_normal(after))
+}
+
+/// Whether a character, normal or not, goes on with a text that ends in a normal one or not.
+fn goes_on(is_normal: bool, c: char, ends_normal: bool) -> bool
+    ensures { result ≡ (is_normal || ((c == 32) && ends_normal)) }
+{
+    is_normal || (c == ' ' && ends_normal)
+}
+
+/// Whether the text is one stretch: normal characters, and single spaces between them.
+fn is_stretch(text: &str) -> bool
+    ensures { IsTrue result → pieces (chars text.now) ≡ stretch (chars text.now) ∷ [] }
+{
+    let mut ends_normal = false;
+    for c in text.chars() {
+        let is_normal = is_normal(c);
+        if !goes_on(is_normal, c, ends_normal) {
+            return false;
+        }
+        ends_normal = is_normal;
+    }
+    ends_normal
+}
+
+/// Adds a text. Where an allocation fails, the list stays as it was.
+fn push_text(nodes: &mut Vec<HtmlNode>, text: String, span: Span) -> Result<(), AllocError>
+    ensures added { OnOk result (map node_view nodes.new.items
+        ≡ map node_view nodes.old.items ++ text_node (text_view text) span.0 ∷ []) }
+    ensures kept { OnErr result (nodes.new.items ≡ nodes.old.items) }
+{
+    nodes.push(HtmlNode::text(text, span))?;
+    Ok(())
+}
+
+/// Adds the text of a stretch, if it has any character. Where an allocation fails, the list stays as
+/// it was.
+fn push_stretch(
+    alloc: Global,
+    nodes: &mut Vec<HtmlNode>,
+    text: &str,
+    span: Span,
+) -> Result<(), AllocError>
+    ensures added { OnOk result (map node_view nodes.new.items ≡ map node_view nodes.old.items
+        ++ map (piece_node span.0) (with_stretch (chars text.now) [])) }
+    ensures kept { OnErr result (nodes.new.items ≡ nodes.old.items) }
+{
+    if !text.is_empty() {
+        nodes.push(HtmlNode::text(String::from_str(alloc, text)?, span))?;
+    }
+    Ok(())
+}
+
+/// A text of one character.
+fn one_char(alloc: Global, c: char) -> Result<String, AllocError>
+    ensures { IfOk result (λ text. text_view text ≡ c ∷ []) }
+{
+    let mut text = String::new(alloc);
+    text.push(c)?;
+    Ok(text)
+}
+
+/// Adds the node of a character that stands outside of stretches. The line feed after a carriage
+/// return has none. Where an allocation fails, the list stays as it was.
+fn push_outside(
+    alloc: Global,
+    nodes: &mut Vec<HtmlNode>,
+    before: Option<char>,
+    c: char,
+    span: Span,
+) -> Result<(), AllocError>
+    ensures added { OnOk result (map node_view nodes.new.items ≡ map node_view nodes.old.items
+        ++ map (piece_node span.0) (outside_stretch before c [])) }
+    ensures kept { OnErr result (nodes.new.items ≡ nodes.old.items) }
+{
+    let node = match c {
+        '\n' if before == Some('\r') => return Ok(()),
+        '\r' | '\n' => HtmlNode::from(break_element(alloc, span)),
+        _ => HtmlNode::text(one_char(alloc, c)?, span),
+    };
+    nodes.push(node)?;
+    Ok(())
+}
+
+/// Adds the nodes of a text where white space collapses, by its pieces. Where an allocation fails, the
+/// list has what it had, and after it a beginning of the nodes.
+fn push_pieces(
+    alloc: Global,
+    nodes: &mut Vec<HtmlNode>,
+    text: &str,
+    span: Span,
+) -> Result<(), AllocError>
+    ensures added { OnOk result (map node_view nodes.new.items
+        ≡ map node_view nodes.old.items ++ text_nodes span.0 (chars text.now)) }
+    ensures begun { OnErr result (AddsBeginning (map node_view nodes.old.items)
+        (map node_view nodes.new.items) (text_nodes span.0 (chars text.now))) }
+{
+    let mut pending = text;
+    let mut rest = text;
+    let mut before = None;
+    let mut left = text.chars();
+    while let Some(c) = left.next() {
+        let after = left.as_str();
+        if !is_in_stretch(before, c, after) {
+            push_stretch(alloc, nodes, &pending[..pending.len() - rest.len()], span)?;
+            push_outside(alloc, nodes, before, c, span)?;
+            pending = after;
+        }
+        before = Some(c);
+        rest = after;
+    }
+    push_stretch(alloc, nodes, pending, span)
+}
+
+/// Adds the nodes of a text where white space collapses, each with that span. A space between two
+/// characters that are neither blanks nor hidden by default stays in its text; any other space, each
+/// tab and each character that is hidden by default is a text of its own; a carriage return with a
+/// line feed, and each of them alone, is a `br`. The stretches between are texts. It fails only
+/// where an allocation does; the list then has what it had, and after it a beginning of the nodes.
+///
+/// Cost: grows with the length of the text. One that is a single stretch is moved.
+pub fn push_text_nodes(
+    alloc: Global,
+    nodes: &mut Vec<HtmlNode>,
+    text: String,
+    span: Span,
+) -> Result<(), AllocError>
+    ensures added { OnOk result (map node_view nodes.new.items
+        ≡ map node_view nodes.old.items ++ text_nodes span.0 (text_view text)) }
+    ensures begun { OnErr result (AddsBeginning (map node_view nodes.old.items)
+        (map node_view nodes.new.items) (text_nodes span.0 (text_view text))) }
+{
+    if is_stretch(text.as_str()) {
+        return push_text(nodes, text, span);
+    }
+    push_pieces(alloc, nodes, text.as_str(), span)
+}

@@ -1,7 +1,0 @@
--- Answers for lone spaces, of which the first ones are used.
-use Rattle.std.specs.Prelude.{Bool, List, drop}
-use Rattle.html_flow_whitespace.specs.declared.protect.Answers.{Answers}
-
--- the answers that are left
-abbrev pub answers_view : Answers → List Bool
-answers_view a = drop a.next a.bare.items

@@ -1,0 +1,185 @@
+//! Kinds of elements, each a set of names.
+
+ghost use Rattle.std.specs.Prelude.{◌≡◌};
+ghost use Rattle.html_names.specs.Kinds as kinds;
+
+use crate::html_tag::HtmlTag;
+use crate::property::Display;
+use crate::table::{
+    EMBEDDED, ESCAPABLE_RAW, FLOW_BESIDE_PHRASING, FOREIGN_SELF_CLOSING, HEADING, INTERACTIVE,
+    LINE_BREAK, MATHML, METADATA, NOT_PALPABLE, PHRASING, RAW, REPLACED, SCRIPT_SUPPORTING,
+    SECTIONING, TOKEN, VOID,
+};
+
+/// Whether the element is void: it has no content and no end tag (HTML Standard 13.1.2).
+#[tactic(auto, using(crate::proofs::ByTable::void_by_table))]
+pub fn is_void(tag: &HtmlTag) -> bool
+    ensures { result ≡ kinds.is_void tag.now }
+{
+    tag.name.is_of(VOID)
+}
+
+/// Whether the element holds raw text (HTML Standard 13.1.2).
+#[tactic(auto, using(crate::proofs::ByTable::raw_by_table))]
+pub fn is_raw(tag: &HtmlTag) -> bool
+    ensures { result ≡ kinds.is_raw tag.now }
+{
+    tag.name.is_of(RAW)
+}
+
+/// Whether the element holds escapable raw text (HTML Standard 13.1.2).
+#[tactic(auto, using(crate::proofs::ByTable::escapable_raw_by_table))]
+pub fn is_escapable_raw(tag: &HtmlTag) -> bool
+    ensures { result ≡ kinds.is_escapable_raw tag.now }
+{
+    tag.name.is_of(ESCAPABLE_RAW)
+}
+
+/// Whether the foreign element is written self-closing.
+#[tactic(auto, using(crate::proofs::ByTable::foreign_self_closing_by_table))]
+pub fn is_foreign_self_closing(tag: &HtmlTag) -> bool
+    ensures { result ≡ kinds.is_foreign_self_closing tag.now }
+{
+    tag.name.is_of(FOREIGN_SELF_CLOSING)
+}
+
+/// Whether the element is metadata content (HTML Standard 3.2.5.2.1).
+#[tactic(auto, using(crate::proofs::ByTable::metadata_content_by_table))]
+pub fn is_metadata_content(tag: &HtmlTag) -> bool
+    ensures { result ≡ kinds.is_metadata_content tag.now }
+{
+    tag.name.is_of(METADATA)
+}
+
+/// Whether the element is sectioning content (HTML Standard 3.2.5.2.3).
+#[tactic(auto, using(crate::proofs::ByTable::sectioning_content_by_table))]
+pub fn is_sectioning_content(tag: &HtmlTag) -> bool
+    ensures { result ≡ kinds.is_sectioning_content tag.now }
+{
+    tag.name.is_of(SECTIONING)
+}
+
+/// Whether the element is heading content (HTML Standard 3.2.5.2.4).
+#[tactic(auto, using(crate::proofs::ByTable::heading_content_by_table))]
+pub fn is_heading_content(tag: &HtmlTag) -> bool
+    ensures { result ≡ kinds.is_heading_content tag.now }
+{
+    tag.name.is_of(HEADING)
+}
+
+/// Whether the element is phrasing content (HTML Standard 3.2.5.2.5).
+#[tactic(auto, using(crate::proofs::ByTable::phrasing_content_by_table))]
+pub fn is_phrasing_content(tag: &HtmlTag) -> bool
+    ensures { result ≡ kinds.is_phrasing_content tag.now }
+{
+    tag.name.is_of(PHRASING)
+}
+
+/// Whether the element is embedded content (HTML Standard 3.2.5.2.6).
+#[tactic(auto, using(crate::proofs::ByTable::embedded_content_by_table))]
+pub fn is_embedded_content(tag: &HtmlTag) -> bool
+    ensures { result ≡ kinds.is_embedded_content tag.now }
+{
+    tag.name.is_of(EMBEDDED)
+}
+
+/// Whether the element is interactive content (HTML Standard 3.2.5.2.7).
+#[tactic(auto, using(crate::proofs::ByTable::interactive_content_by_table))]
+pub fn is_interactive_content(tag: &HtmlTag) -> bool
+    ensures { result ≡ kinds.is_interactive_content tag.now }
+{
+    tag.name.is_of(INTERACTIVE)
+}
+
+/// Whether the element supports scripts (HTML Standard 3.2.5.2.9).
+#[tactic(auto, using(crate::proofs::ByTable::script_supporting_element_by_table))]
+pub fn is_script_supporting_element(tag: &HtmlTag) -> bool
+    ensures { result ≡ kinds.is_script_supporting_element tag.now }
+{
+    tag.name.is_of(SCRIPT_SUPPORTING)
+}
+
+/// Whether the element is replaced: CSS sees one object in its place.
+#[tactic(auto, using(crate::proofs::ByTable::replaced_by_table))]
+pub fn is_replaced(tag: &HtmlTag) -> bool
+    ensures { result ≡ kinds.is_replaced tag.now }
+{
+    tag.name.is_of(REPLACED)
+}
+
+/// Whether the element is one of MathML.
+#[tactic(auto, using(crate::proofs::ByTable::mathml_by_table))]
+pub fn is_mathml(tag: &HtmlTag) -> bool
+    ensures { result ≡ kinds.is_mathml tag.now }
+{
+    tag.name.is_of(MATHML)
+}
+
+/// Whether the element is a token of MathML: text stands directly in it.
+#[tactic(auto, using(crate::proofs::ByTable::token_by_table))]
+pub fn is_token(tag: &HtmlTag) -> bool
+    ensures { result ≡ kinds.is_token tag.now }
+{
+    tag.name.is_of(TOKEN)
+}
+
+/// Whether the element is foreign, as those of MathML are (HTML Standard 13.1.2).
+pub fn is_foreign(tag: &HtmlTag) -> bool
+    ensures { result ≡ kinds.is_foreign tag.now }
+{
+    is_mathml(tag)
+}
+
+/// Whether the element is flow content and no phrasing content.
+#[tactic(auto, using(crate::proofs::ByTable::flow_beside_phrasing_by_table))]
+fn is_flow_beside_phrasing(tag: &HtmlTag) -> bool
+    ensures { result ≡ kinds.is_flow_beside_phrasing tag.now }
+{
+    tag.name.is_of(FLOW_BESIDE_PHRASING)
+}
+
+/// Whether the element is flow content that is not palpable.
+#[tactic(auto, using(crate::proofs::ByTable::not_palpable_by_table))]
+fn is_not_palpable(tag: &HtmlTag) -> bool
+    ensures { result ≡ kinds.is_not_palpable tag.now }
+{
+    tag.name.is_of(NOT_PALPABLE)
+}
+
+/// Whether the element is flow content (HTML Standard 3.2.5.2.2).
+pub fn is_flow_content(tag: &HtmlTag) -> bool
+    ensures { result ≡ kinds.is_flow_content tag.now }
+{
+    is_phrasing_content(tag) || is_flow_beside_phrasing(tag)
+}
+
+/// Whether the element is palpable content (HTML Standard 3.2.5.2.8).
+pub fn is_palpable_content(tag: &HtmlTag) -> bool
+    ensures { result ≡ kinds.is_palpable_content tag.now }
+{
+    is_flow_content(tag) && !is_not_palpable(tag)
+}
+
+/// Whether white space beside the element's tags goes when a browser lays it out: its default
+/// display makes a border, or it is `br`.
+pub fn is_whitespace_collapsing(tag: &HtmlTag) -> bool
+    ensures { result ≡ kinds.is_whitespace_collapsing tag.now }
+{
+    is_line_break(tag) || Display::default_for(tag).is_some_and(|display| display.is_border())
+}
+
+/// Whether the element is `br`.
+#[tactic(auto, using(crate::proofs::ByTable::line_break_by_table))]
+fn is_line_break(tag: &HtmlTag) -> bool
+    ensures { result ≡ kinds.is_line_break tag.now }
+{
+    tag.name.is_of(LINE_BREAK)
+}
+
+/// Whether the element may stand in a paragraph that its neighbours form: phrasing content that is
+/// not hidden by default.
+pub fn should_group_into_pars(tag: &HtmlTag) -> bool
+    ensures { result ≡ kinds.should_group_into_pars tag.now }
+{
+    is_phrasing_content(tag) && Display::default_for(tag) != Some(Display::None)
+}

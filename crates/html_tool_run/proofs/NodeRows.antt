@@ -1,0 +1,64 @@
+-- Nodes in a row, and the element at the root.
+use Rattle.std.proofs.Common.{◌≡◌, ℕ, List, [], ◌∷◌, ◌++◌, Some, None, IsSomeAnd, refl, ap}
+use Rattle.serde_json.specs.Data.{Data}
+use Rattle.html_dom_tree.specs.Tree.{NodeView, tag_node, text_node, element_node, frame_node, NodesView, none, node}
+use Rattle.html_dom_tree.specs.Views.{nodes_of}
+use Rattle.html_dom_tree.specs.declared.span.Span.{Span}
+use Rattle.html_tool_run.proofs.Readings.{IsOwnFirst, refused_whole}
+use Rattle.html_tool_run.proofs.Rows.{Row, joined}
+use Rattle.html_tool_run.specs.NameRefusals.{name_refusals, all_name_refusals, element_refusals}
+use Rattle.html_tool_run.specs.Reading.{IsRead}
+use Rattle.html_tool_run.specs.Refusals.{IsFirst}
+use Rattle.html_tool_run.specs.Spelled.{element_made, spelled_node, spelled_all, element_of, spelled_element}
+use Rattle.html_tool_run.specs.declared.fault.Fault.TheVariants.{Refused}
+use Rattle.html_tool_run.specs.declared.reader.Reader.{Reader}
+
+pub none_clean : all_name_refusals none ≡ []
+unfolding all_name_refusals
+none_clean = refl
+
+pub one_more : (n : NodeView) (ns : NodesView)
+    → all_name_refusals (node n ns) ≡ name_refusals n ++ all_name_refusals ns
+unfolding all_name_refusals
+one_more n ns = refl
+
+abbrev pub nodes_row : Row NodeView NodesView
+nodes_row = record {
+  add = node;
+  nothing = none;
+  one = spelled_node;
+  all = spelled_all;
+  ones = name_refusals;
+  alls = all_name_refusals;
+  ends = λ n. refl;
+  steps = λ d ds n. refl;
+  clean = none_clean;
+  adds = one_more;
+}
+
+pub joined-nodes : (ns : List NodeView) → joined node ns none ≡ nodes_of ns
+joined-nodes [] = refl
+joined-nodes (x ∷ ns) = ap (node x) (joined-nodes ns)
+
+pub own_first : IsOwnFirst element_made name_refusals all_name_refusals
+unfolding name_refusals
+own_first span tag pairs kids = refl
+
+-- what is refused in a node is refused in an element
+told_node : (w : NodeView) (n code : ℕ) (span : Span)
+    → IsFirst (Refused code span) (name_refusals w)
+    → IsSomeAnd (element_of (w, n)) (λ e. IsFirst (Refused code span) (element_refusals e))
+unfolding name_refusals
+told_node (tag_node t) n code span h = absurd (cc (h.1))
+told_node (text_node s place) n code span h = absurd (cc (h.1))
+told_node (element_node head kids) n code span h = h
+told_node (frame_node b) n code span h = absurd (cc (h.1))
+
+pub told_element : (d : Data) (made : NodeView) (before after : Reader) (code : ℕ) (span : Span)
+    → before.next ≡ 1 → before.refused ≡ None → after.refused ≡ Some (code, span)
+    → IsRead name_refusals made (spelled_node d before.next) before after
+    → IsSomeAnd (spelled_element d) (λ e. IsFirst (Refused code span) (element_refusals e))
+told_element d made before after code span first clear is r =
+    rw (← first, r.spelled)
+    (told_node r.whole after.next code span
+    (refused_whole name_refusals made (spelled_node d before.next) before after code span clear is r))

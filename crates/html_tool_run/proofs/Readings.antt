@@ -1,0 +1,174 @@
+-- What was read, and what is remembered of it.
+use Rattle.std.proofs.Common.{◌≡◌, ◌≢◌, ℕ, List, [], ◌∷◌, ◌++◌, Option, Some, None, option_map, option_and_then, option_to_list, refl, sym, ap, ◌∙◌, ◌+◌}
+use Rattle.html_names.proofs.Faults.{some_first}
+use Rattle.html_names.specs.NameFaults as name
+use Rattle.html_names.specs.Names.{tag_fault}
+use Rattle.html_names.specs.declared.fault.NameFault.{NameFault}
+use Rattle.html_names.specs.declared.fault.NameFault.TheVariants as name_fault
+use Rattle.html_dom_tree.specs.Tree.{TextPair}
+use Rattle.html_dom_tree.specs.declared.span.Span.{Span}
+use Rattle.html_tool_run.specs.Fields.{element_from}
+use Rattle.html_tool_run.specs.NameRefusals.{Refusal, refusals, pairs_refusals, own_refusals}
+use Rattle.html_tool_run.specs.Reading.{first_of, IsWrong, IsRead, with_next}
+use Rattle.html_tool_run.specs.Refusals.{IsFirst}
+use Rattle.html_tool_run.specs.declared.fault.Fault.{Fault}
+use Rattle.html_tool_run.specs.declared.fault.Fault.TheVariants.{OutOfMemory, BadInput, Refused}
+use Rattle.html_tool_run.specs.declared.reader.Reader.{Reader}
+
+pub first_of_nil : (o : Option (ℕ × Span)) → first_of o [] ≡ o
+first_of_nil (Some r) = refl
+first_of_nil None = refl
+
+pub first_of_more : (o : Option (ℕ × Span)) (rs ss : List Refusal)
+    → first_of (first_of o rs) ss ≡ first_of o (rs ++ ss)
+first_of_more (Some r) rs ss = refl
+first_of_more None [] ss = refl
+first_of_more None (r ∷ rs) ss = refl
+
+-- where nothing is refused in the end, nothing was before
+pub first_of_none : (o : Option (ℕ × Span)) (rs : List Refusal) → first_of o rs ≡ None
+    → (o ≡ None) × (rs ≡ [])
+first_of_none (Some r) rs h = absurd (cc)
+first_of_none None [] h = (refl, refl)
+first_of_none None (r ∷ rs) h = absurd (cc)
+
+-- what is no part of something leaves nothing of it
+pub wrong_by : {A B : Type 0} (o : Option A) (p : Option B) (e : Fault) → (o ≡ None → p ≡ None)
+    → IsWrong o e → IsWrong p e
+wrong_by o p OutOfMemory f h = tt
+wrong_by o p BadInput f h = f h
+wrong_by o p (Refused n span) f h = absurd h
+
+-- what has no names
+pub read_clean : {B : Type 0} (refusals : B → List Refusal) (made : B) (wanted : Option (B × ℕ))
+    (before after : Reader) → wanted ≡ Some (made, after.next) → refusals made ≡ []
+    → after.refused ≡ before.refused → IsRead refusals made wanted before after
+read_clean refusals made wanted before after is clean kept = record {
+  whole = made;
+  spelled = is;
+  noted = kept ∙ sym (ap (first_of before.refused) clean ∙ first_of_nil before.refused);
+  same = λ h. refl;
+}
+
+-- read from where as much was refused
+pub read_from : {B : Type 0} (refusals : B → List Refusal) (made : B) (wanted : Option (B × ℕ))
+    (before since after : Reader) → since.refused ≡ before.refused
+    → IsRead refusals made wanted since after → IsRead refusals made wanted before after
+read_from refusals made wanted before since after kept r = record {
+  whole = r.whole;
+  spelled = r.spelled;
+  noted = r.noted ∙ ap (λ o. first_of o (refusals r.whole)) kept;
+  same = r.same;
+}
+
+-- a part of something that has the same names
+pub read_mapped : {A B : Type 0} (f : A → B) (ones : A → List Refusal) (others : B → List Refusal)
+    (made : A) (wanted : Option (A × ℕ)) (before after : Reader)
+    → ((a : A) → others (f a) ≡ ones a) → IsRead ones made wanted before after
+    → IsRead others (f made) (option_map (λ p. (f p.0, p.1)) wanted) before after
+read_mapped f ones others made wanted before after agrees r = record {
+  whole = f r.whole;
+  spelled = rw r.spelled refl;
+  noted = r.noted ∙ ap (first_of before.refused) (sym (agrees r.whole));
+  same = λ h. ap f (r.same h);
+}
+
+-- what is refused in the end is the first refusal
+first_told : (rs : List Refusal) (code : ℕ) (span : Span) → first_of None rs ≡ Some (code, span)
+    → IsFirst (Refused code span) rs
+first_told [] code span h = absurd (cc)
+first_told (r ∷ rs) code span h =
+    let same : Some r ≡ Some (code, span.0) =
+    ap (option_map (λ (p : ℕ × Span). (p.0, p.1.0))) h in
+    (rs, cc)
+
+pub refused_whole : {B : Type 0} (refusals : B → List Refusal) (made : B) (wanted : Option (B × ℕ))
+    (before after : Reader) (code : ℕ) (span : Span) → before.refused ≡ None
+    → after.refused ≡ Some (code, span) → (r : IsRead refusals made wanted before after)
+    → IsFirst (Refused code span) (refusals r.whole)
+refused_whole refusals made wanted before after code span clear is r =
+    first_told (refusals r.whole) code span
+    (ap (λ o. first_of o (refusals r.whole)) (sym clear) ∙ sym r.noted ∙ is)
+
+one_refusal : (f : NameFault) (span : ℕ) (o : Option NameFault)
+    → name.IsFirst f (option_to_list o) → name.number_of f ≢ 0
+    → refusals span o ≡ (name.number_of f, span) ∷ []
+one_refusal name_fault.OutOfMemory span o h other = absurd (other refl)
+one_refusal f span o h other = ap (refusals span) (some_first o _ _ h.1)
+
+-- a name that is none
+pub name_refused : (fault : List ℕ → Option NameFault) (text made : List ℕ) (f : NameFault)
+    (span : Span) (before after : Reader)
+    → name.IsFirst f (option_to_list (fault text)) → (name.number_of f ≢ 0) × (after
+    ≡ record before { refused = first_of before.refused ((name.number_of f, span.0) ∷ []) })
+    → IsRead (λ t. refusals span.0 (fault t)) made (Some (text, before.next)) before after
+name_refused fault text made f span before after first noted =
+    let told = one_refusal f span.0 (fault text) first noted.0 in
+    let seen : after.refused ≡ first_of before.refused (refusals span.0 (fault text)) =
+    ap (λ r. r.refused) noted.1 ∙ ap (first_of before.refused) (sym told) in
+    record {
+      whole = text;
+      spelled = ap (λ r. Some (text, r.next)) (sym noted.1);
+      noted = seen;
+      same = λ h. absurd (cc ((first_of_none before.refused _ (sym seen ∙ h)).1, told));
+    }
+
+-- a part, and then the rest
+abbrev pub then_from : {A B C : Type 0} → (f : A → B → C) → Option (A × ℕ)
+    → (rest : ℕ → Option (B × ℕ)) → Option (C × ℕ)
+then_from f first rest =
+    option_and_then (λ p. option_map (λ q. (f p.0 q.0, q.1)) (rest p.1)) first
+
+pub then_read : {A B C : Type 0} (f : A → B → C) (ones : A → List Refusal)
+    (alls : B → List Refusal) (both : C → List Refusal)
+    → ((a : A) (b : B) → both (f a b) ≡ ones a ++ alls b)
+    → (first : Option (A × ℕ)) (rest : ℕ → Option (B × ℕ)) (x : A) (y : B) (s t u : Reader)
+    → IsRead ones x first s t → IsRead alls y (rest t.next) t u
+    → IsRead both (f x y) (then_from f first rest) s u
+then_read f ones alls both joins first rest x y s t u a b = record {
+  whole = f a.whole b.whole;
+  spelled = rw (a.spelled, b.spelled) refl;
+  noted =
+      b.noted ∙ ap (λ o. first_of o (alls b.whole)) a.noted
+      ∙ first_of_more s.refused (ones a.whole) (alls b.whole)
+      ∙ ap (first_of s.refused) (sym (joins a.whole b.whole));
+  same = λ h.
+      let before = first_of_none t.refused (alls b.whole) (sym b.noted ∙ h) in
+      rw (a.same before.0, b.same h) refl;
+}
+
+-- an element's own names are refused before those of what it holds
+abbrev pub IsOwnFirst : {A B : Type 0} (made : ℕ → List ℕ → List TextPair → A → B)
+    (ones : B → List Refusal) (alls : A → List Refusal) → Type 0
+IsOwnFirst {A = A} made ones alls = (span : ℕ) (tag : List ℕ) (pairs : List TextPair) (inside : A)
+    → ones (made span tag pairs inside) ≡ own_refusals span tag pairs ++ alls inside
+
+own_then : {A B : Type 0} (made : List ℕ → List TextPair → A → B) (tag : List ℕ)
+    (pairs : Option (List TextPair)) (inside : ℕ → Option (A × ℕ)) (n : ℕ)
+    → then_from (λ (own : List ℕ × List TextPair) held. made own.0 own.1 held)
+    (then_from (λ t ps. (t, ps)) (Some (tag, n)) (λ m. with_next m pairs)) inside
+    ≡ element_from made (Some tag) pairs (inside n)
+own_then made tag None inside n = refl
+own_then made tag (Some ps) inside n = refl
+
+-- an element of its parts, which are read after its own list
+pub read_element : {A B : Type 0} (made : ℕ → List ℕ → List TextPair → A → B)
+    (ones : B → List Refusal) (alls : A → List Refusal) → IsOwnFirst made ones alls
+    → (tag tag_made : List ℕ) (pairs : Option (List TextPair)) (pairs_made : List TextPair)
+    (inside : ℕ → Option (A × ℕ)) (inside_made : A) (span : ℕ) (r s t u v : Reader)
+    → span ≡ r.next → s.next ≡ r.next + 1 → s.refused ≡ r.refused
+    → IsRead (λ name. refusals span (tag_fault name)) tag_made (Some (tag, s.next)) s t
+    → IsRead (pairs_refusals span) pairs_made (with_next t.next pairs) t u
+    → IsRead alls inside_made (inside u.next) u v
+    → IsRead ones (made r.next tag_made pairs_made inside_made)
+    (element_from (made r.next) (Some tag) pairs (inside (r.next + 1))) r v
+read_element made ones alls own tag tag_made pairs pairs_made inside inside_made span r s t u v
+    here next kept a b c =
+    read_from ones _ _ r s v kept
+    (rw (← next, ← here, ← own_then (made span) tag pairs inside s.next)
+    (then_read (λ (o : List ℕ × List TextPair) held. made span o.0 o.1 held)
+    (λ o. own_refusals span o.0 o.1) alls ones
+    (λ o held. own span o.0 o.1 held) _ inside (tag_made, pairs_made) inside_made s u v
+    (then_read (λ n ps. (n, ps)) (λ name. refusals span (tag_fault name)) (pairs_refusals span)
+    (λ o. own_refusals span o.0 o.1) (λ n ps. refl) (Some (tag, s.next))
+    (λ m. with_next m pairs) tag_made pairs_made s t u a b) c))

@@ -1,0 +1,33 @@
+-- How calls end that make something of what a JSON value spells.
+use Rattle.std.specs.Prelude.{◌≡◌, List, [], Option, Some, None, IsSomeAnd, Result, MatchResult, Vec}
+use Rattle.std.specs.declared.alloc.Global.{Global}
+use Rattle.html_dom_tree.specs.Tree.{ElementView}
+use Rattle.html_dom_tree.specs.Views.{element_view}
+use Rattle.html_dom_tree.specs.declared.node.HtmlElement.{HtmlElement}
+use Rattle.html_flow_convert.specs.Items.{ItemsView}
+use Rattle.html_flow_convert.specs.Views.{items_view}
+use Rattle.html_flow_convert.specs.declared.item.Pair.{Pair}
+use Rattle.html_tool_run.specs.NameRefusals.{Refusal, element_refusals, items_refusals}
+use Rattle.html_tool_run.specs.Refusals.{IsFirst}
+use Rattle.html_tool_run.specs.declared.fault.Fault.{Fault}
+use Rattle.html_tool_run.specs.declared.fault.Fault.TheVariants.{OutOfMemory, BadInput, Refused}
+
+-- nothing is spelled, or it is spelled and its first name that is none is told; memory aside
+abbrev pub IsTold : {B : Type 0} → (refusals : B → List Refusal) → Option B → Fault → Type 0
+IsTold refusals wanted OutOfMemory = Unit {0}
+IsTold refusals wanted BadInput = wanted ≡ None
+IsTold refusals wanted (Refused number span) =
+    IsSomeAnd wanted (λ b. IsFirst (Refused number span) (refusals b))
+
+-- what is spelled was made, and no name in it is refused, or the fault is right
+abbrev pub GivesSpelled : {A B : Type 0} → (view : A → B) → (refusals : B → List Refusal)
+    → Result A Fault → Option B → Type 0
+GivesSpelled view refusals r wanted =
+    MatchResult r (λ a. (wanted ≡ Some (view a)) × (refusals (view a) ≡ []))
+    (IsTold refusals wanted)
+
+abbrev pub GivesElement : Result HtmlElement Fault → Option ElementView → Type 0
+GivesElement = GivesSpelled element_view element_refusals
+
+abbrev pub GivesItems : Result (Vec Pair Global) Fault → Option ItemsView → Type 0
+GivesItems = GivesSpelled (λ pairs. items_view pairs.items) items_refusals

@@ -1,0 +1,15 @@
+-- The numbers of blanks in references.
+use Rattle.std.proofs.Common.{◌≡◌, false, codes, refl}
+pub use Rattle.std.proofs.Common.{append_assoc}
+use Rattle.std.specs.Fmt.{digits}
+
+pub space_digits : digits 16 false 32 ≡ codes "20"
+unfolding digits
+space_digits = refl
+
+pub tab_digits : digits 16 false 9 ≡ codes "9"
+unfolding digits
+tab_digits = refl
+
+-- what a reference's text is made of
+pub ruleset reference_steps = (append_assoc, space_digits, tab_digits)
