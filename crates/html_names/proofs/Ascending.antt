@@ -21,10 +21,6 @@ stands [] n h = absurd (omega arith)
 stands (m ∷ ms) zero h = rw ((bytes_eq-Decides m m).1 refl) refl
 stands (m ∷ ms) (suc n) h = rw (stands ms n (omega arith)) (or_true (bytes_eq m (get_or ms n [])))
 
-pub stands_there : (names : List (List ℕ)) (n : ℕ) (t : List ℕ) → n < length names →
-    get_or names n [] ≡ t → stands_in names t ≡ true
-stands_there names n t h e = rw (sym e) (stands names n h)
-
 pub ascii_at : (names : List (List ℕ)) (n : ℕ) → n < length names → are_ascii names ≡ true →
     is_ascii (get_or names n []) ≡ true
 ascii_at [] n h a = absurd (omega arith)

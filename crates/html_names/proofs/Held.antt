@@ -1,10 +1,10 @@
 -- A known name's text, and that it is valid.
-use Rattle.std.proofs.Common.{OnErr, Result, Ok, Err, ◌≡◌, ℕ, zero, suc, ◌<◌, Bool, true, false, ◌&&◌, List, [], ◌∷◌, refl, sym, ap, ◌∙◌, chars, length, get_or, arith, map, subst}
+use Rattle.std.proofs.Common.{OnErr, Result, Ok, Err, ◌≡◌, ℕ, zero, suc, ◌<◌, Bool, true, false, ◌&&◌, List, [], ◌∷◌, refl, ap, ◌∙◌, chars, length, get_or, arith, map, Option, Some, None}
 use Rattle.std.specs.Borrow.{Bor}
 use Rattle.std.proofs.lemmas.Bool.{and_parts}
 use Rattle.html_names.specs.Names.{texts, are_ascii, stands_in}
 use Rattle.html_names.specs.Characters.{all, IsOf, is_tag_char, is_attr_char}
-use Rattle.html_names.specs.Held.{name_of, IsHeld, IsNameOf}
+use Rattle.html_names.specs.Held.{name_of, IsHeld, IsLookup, IsMade}
 use Rattle.html_names.specs.Tables.{known_tags, known_attrs, tag_count, attr_count}
 use Rattle.html_names.specs.declared.name.Name.{Name}
 use Rattle.html_names.specs.declared.name.Name.TheVariants.{Known, Own}
@@ -66,46 +66,21 @@ pub attr_long : length known_attrs ≡ attr_count
 unfolding known_attrs
 attr_long = refl
 
-module _ (count : ℕ) (table : List (List ℕ)) (p : ℕ → Bool) (long : length table ≡ count) where
-  -- the name of a valid text is held as names are
-  pub held : (text : List ℕ) (name : Name) → IsOf p text → IsNameOf table text name →
-      IsHeld count table p name
-  held text (Known n) v h = omega (arith, long, h.0)
-  held text (Own s) v h = rw h.0 (v, h.1)
+-- the name that is made of a valid text and of its place is held as names are, and has that text
+pub made : (count : ℕ) (table : List (List ℕ)) (p : ℕ → Bool) → length table ≡ count →
+    (place : Option ℕ) (text : List ℕ) (name : Name) → IsOf p text → IsLookup table text place →
+    IsMade place text name → IsHeld count table p name × (name_of table name ≡ text)
+made count table p long (Some m) text (Known n) v at e =
+    (omega (arith, long, at.0, e), ap (λ k. get_or table k []) e ∙ at.1)
+made count table p long (Some m) text (Own s) v at e = absurd e
+made count table p long None text (Known n) v at e = absurd e
+made count table p long None text (Own s) v at e = (rw e (v, at), e)
 
--- and has that text
-pub named : (table : List (List ℕ)) (text : List ℕ) (name : Name) → IsNameOf table text name →
-    name_of table name ≡ text
-named table text (Known n) h = h.1
-named table text (Own s) h = h.0
-
-pub tag_held : (text : List ℕ) (name : Name) → IsOf is_tag_char text →
-    IsNameOf (map (λ n. n.now) TAGS) text name → IsHeld tag_count known_tags is_tag_char name
-tag_held text name v h = held tag_count known_tags is_tag_char tag_long text name v
-    (subst (λ (names : List (List ℕ)). IsNameOf names text name) tag_texts h)
-
-pub tag_named : (text : List ℕ) (name : Name) → IsNameOf (map (λ n. n.now) TAGS) text name →
-    name_of known_tags name ≡ text
-tag_named text name h = named known_tags text name
-    (subst (λ (names : List (List ℕ)). IsNameOf names text name) tag_texts h)
-
-pub tag_unknown : (text : List ℕ) → stands_in (map (λ n. n.now) TAGS) text ≡ false →
-    stands_in known_tags text ≡ false
-tag_unknown text h = sym (ap (λ (names : List (List ℕ)). stands_in names text) tag_texts) ∙ h
-
-pub attr_held : (text : List ℕ) (name : Name) → IsOf is_attr_char text →
-    IsNameOf (map (λ n. n.now) ATTRS) text name → IsHeld attr_count known_attrs is_attr_char name
-attr_held text name v h = held attr_count known_attrs is_attr_char attr_long text name v
-    (subst (λ (names : List (List ℕ)). IsNameOf names text name) attr_texts h)
-
-pub attr_named : (text : List ℕ) (name : Name) → IsNameOf (map (λ n. n.now) ATTRS) text name →
-    name_of known_attrs name ≡ text
-attr_named text name h = named known_attrs text name
-    (subst (λ (names : List (List ℕ)). IsNameOf names text name) attr_texts h)
-
-pub attr_unknown : (text : List ℕ) → stands_in (map (λ n. n.now) ATTRS) text ≡ false →
-    stands_in known_attrs text ≡ false
-attr_unknown text h = sym (ap (λ (names : List (List ℕ)). stands_in names text) attr_texts) ∙ h
+-- a text without a place is not in the table
+pub unknown : (table : List (List ℕ)) (text : List ℕ) (place : Option ℕ) → place ≡ None →
+    IsLookup table text place → stands_in table text ≡ false
+unknown table text (Some n) e at = cc
+unknown table text None e at = at
 
 pub on_err : {A E : Type 0} (result : Result A E) (P : Type 0) → P → OnErr result P
 on_err (Ok value) P h = tt

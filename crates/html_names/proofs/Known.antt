@@ -1,13 +1,13 @@
 -- Nothing is wrong with a known name, but for the one that is reserved.
-use Rattle.std.proofs.Common.{◌≡◌, ℕ, zero, suc, ◌+◌, ◌<◌, ◌==◌, Bool, true, false, not, ◌||◌, ◌&&◌, List, [], ◌∷◌, refl, sym, ◌∙◌, length, get_or, arith, map, find, None, subst}
+use Rattle.std.proofs.Common.{◌≡◌, ℕ, zero, suc, ◌+◌, ◌<◌, ◌==◌, Bool, true, false, not, ◌||◌, ◌&&◌, List, [], ◌∷◌, refl, sym, ◌∙◌, length, get_or, arith, find, None}
 use Rattle.std.specs.List.{list_any}
 use Rattle.std.proofs.lemmas.Bool.{and_parts, eqb-true}
 use Rattle.html_names.specs.Characters.{all, IsOf, is_tag_char, is_attr_char, is_hyphen}
 use Rattle.html_names.specs.Names.{IsPlace, tag_fault, attr_fault}
 use Rattle.html_names.specs.Tables.{known_tags, known_attrs}
 use Rattle.html_names.specs.declared.name.Name.TheVariants.{Known}
-use Rattle.html_names.specs.declared.table.TheConstants.{TAGS, ATTRS, RESERVED_TAG}
-use Rattle.html_names.proofs.Held.{tag_texts, attr_texts, tag_long, attr_long, tag_valid, attr_valid}
+use Rattle.html_names.specs.declared.table.TheConstants.{RESERVED_TAG}
+use Rattle.html_names.proofs.Held.{tag_long, attr_long, tag_valid, attr_valid}
 
 -- no character of a valid name is bad
 none_bad : (p : ℕ → Bool) (cs : List ℕ) → all p cs ≡ true → find (λ c. not (p c)) cs ≡ None
@@ -54,37 +54,18 @@ plain_at one place n zero (t ∷ ts) l e other h =
 plain_at one place n (suc k) (t ∷ ts) l e other h =
     plain_at one (suc place) n k ts (omega arith) (omega arith) other (and_parts _ _ h).1
 
-tag_at : (text : List ℕ) (n : ℕ) → IsPlace (map (λ n. n.now) TAGS) text n →
-    IsPlace known_tags text n
-tag_at text n h = subst (λ (names : List (List ℕ)). IsPlace names text n) tag_texts h
-
-attr_at : (text : List ℕ) (n : ℕ) → IsPlace (map (λ n. n.now) ATTRS) text n →
-    IsPlace known_attrs text n
-attr_at text n h = subst (λ (names : List (List ℕ)). IsPlace names text n) attr_texts h
-
-pub tag_text : (text : List ℕ) (n : ℕ) → IsPlace (map (λ n. n.now) TAGS) text n →
-    get_or known_tags n [] ≡ text
-tag_text text n h = (tag_at text n h).1
-
-pub attr_text : (text : List ℕ) (n : ℕ) → IsPlace (map (λ n. n.now) ATTRS) text n →
-    get_or known_attrs n [] ≡ text
-attr_text text n h = (attr_at text n h).1
-
 tags_plain : are_plain RESERVED_TAG 0 known_tags ≡ true
 unfolding known_tags
 tags_plain = refl
 
-pub tag_faultless : (text : List ℕ) (n : ℕ) → IsPlace (map (λ n. n.now) TAGS) text n →
+pub tag_faultless : (text : List ℕ) (n : ℕ) → IsPlace known_tags text n →
     (n ≡ RESERVED_TAG → ⊥) → tag_fault text ≡ None
-tag_faultless text n h other =
-    let p = tag_at text n h in
-    let plain = plain_at RESERVED_TAG 0 n n known_tags p.0 (omega arith) other tags_plain in
-    rw (sym p.1) (faultless_tag (get_or known_tags n [])
-    (tag_valid (Known n) (omega (arith, tag_long, p.0))) plain)
+tag_faultless text n at other =
+    let plain = plain_at RESERVED_TAG 0 n n known_tags at.0 (omega arith) other tags_plain in
+    rw (sym at.1) (faultless_tag (get_or known_tags n [])
+    (tag_valid (Known n) (omega (arith, tag_long, at.0))) plain)
 
-pub attr_faultless : (text : List ℕ) (n : ℕ) → IsPlace (map (λ n. n.now) ATTRS) text n →
-    attr_fault text ≡ None
-attr_faultless text n h =
-    let p = attr_at text n h in
-    rw (sym p.1)
-    (faultless_attr (get_or known_attrs n []) (attr_valid (Known n) (omega (arith, attr_long, p.0))))
+pub attr_faultless : (text : List ℕ) (n : ℕ) → IsPlace known_attrs text n → attr_fault text ≡ None
+attr_faultless text n at =
+    rw (sym at.1) (faultless_attr (get_or known_attrs n [])
+    (attr_valid (Known n) (omega (arith, attr_long, at.0))))

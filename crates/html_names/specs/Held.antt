@@ -1,5 +1,5 @@
 -- A name as it is held: by its place in the table of known names, or by its text.
-use Rattle.std.specs.Prelude.{◌≡◌, ℕ, ◌<◌, Bool, false, List, [], chars, string_bytes, slice_index_or, bytes_eq, ◌==◌}
+use Rattle.std.specs.Prelude.{◌≡◌, ℕ, ◌<◌, Bool, false, List, [], chars, string_bytes, slice_index_or, bytes_eq, ◌==◌, Option, Some, None}
 use Rattle.html_names.specs.declared.name.Name.{Name}
 use Rattle.html_names.specs.declared.name.Name.TheVariants.{Known, Own}
 use Rattle.html_names.specs.Characters.{IsOf}
@@ -16,10 +16,17 @@ IsHeld count table is_valid (Known n) = n < count
 IsHeld count table is_valid (Own s) =
     IsOf is_valid (chars (string_bytes s)) × (stands_in table (chars (string_bytes s)) ≡ false)
 
--- held by its place where the text stands in the table, else by the text
-abbrev pub IsNameOf : (table : List (List ℕ)) (text : List ℕ) → Name → Type 0
-IsNameOf table text (Known n) = IsPlace table text n
-IsNameOf table text (Own s) = (chars (string_bytes s) ≡ text) × (stands_in table text ≡ false)
+-- the place of the text in the table, where it stands there
+abbrev pub IsLookup : (table : List (List ℕ)) (text : List ℕ) → Option ℕ → Type 0
+IsLookup table text (Some n) = IsPlace table text n
+IsLookup table text None = stands_in table text ≡ false
+
+-- held by that place where there is one, else by the text
+abbrev pub IsMade : Option ℕ → (text : List ℕ) → Name → Type 0
+IsMade (Some m) text (Known n) = n ≡ m
+IsMade (Some m) text (Own s) = ⊥
+IsMade None text (Known n) = ⊥
+IsMade None text (Own s) = chars (string_bytes s) ≡ text
 
 -- a place is within a table of that length
 abbrev pub IsWithin : ℕ → Name → Type 0

@@ -1,11 +1,12 @@
-ghost use Rattle.std.specs.Prelude.{◌≡◌, bytes_eq, chars, IfOk, IfErr, OnErr, IfSome, IsTrue, is_some, false, not, option_to_list, None};
+ghost use Rattle.std.specs.Prelude.{◌≡◌, bytes_eq, chars, IfOk, IfErr, OnErr, IsTrue, false, not, option_to_list, None};
 ghost use Rattle.std.specs.List.{find, list_any};
+ghost use Rattle.html_names.specs.Held.{IsLookup};
 ghost use Rattle.html_names.specs.NameFaults.{Gives, OnOutOfMemory};
 ghost use Rattle.html_names.specs.Names.{attr_fault, is_ascii};
 ghost use Rattle.std.specs.Cmp as cmp;
 ghost use Rattle.std.specs.Cmp.{on_equiv, on_per};
 ghost use Rattle.std.specs.Cmp.Lexicographic.{nat_list_eq_equiv};
-ghost use Rattle.html_names.specs.Tables.{is_known_attr};
+ghost use Rattle.html_names.specs.Tables.{known_attrs, is_known_attr};
 ghost use Rattle.html_names.specs.Characters.{IsOf, is_attr_char};
 
 use crate::charsets::is_valid_in_attribute_name;
@@ -60,20 +61,26 @@ fn fault_of(text: &str) -> Option<NameFault>
     None
 }
 
-impl HtmlAttr {
-    /// The known name of that text.
-    fn known(text: &str) -> Option<HtmlAttr>
-        ensures name { IfSome result (λ attr. attr ≡ chars text.now) }
-        ensures faultless { IfSome result (λ _. attr_fault (chars text.now) ≡ None) }
-    {
-        match place_in(&ATTRS, &ATTR_STARTS, text) {
-            Some(place) => Some(HtmlAttr {
-                name: Name::Known(place),
-            }),
-            None => None,
-        }
-    }
+/// The place of the text among the known attributes, where it stands there.
+fn place_of(text: &str) -> Option<u8>
+    ensures { IsLookup known_attrs (chars text.now) result }
+{
+    place_in(&ATTRS, &ATTR_STARTS, text)
+}
 
+/// The first that is wrong with the text as an attribute name, which has that place where it is
+/// known.
+fn fault_at(place: Option<u8>, text: &str) -> Option<NameFault>
+    requires { IsLookup known_attrs (chars text.now) place }
+    ensures { result ≡ attr_fault (chars text.now) }
+{
+    match place {
+        Some(_) => None,
+        None => fault_of(text),
+    }
+}
+
+impl HtmlAttr {
     /// The name of this text, or the first that is wrong with it: it is empty, or a character is
     /// not valid in an attribute name (HTML Standard 13.1.2.3).
     ///
@@ -97,13 +104,11 @@ impl HtmlAttr {
             IfErr result (λ fault. OnOutOfMemory fault
             ((attr_fault name ≡ None) × (is_known_attr name ≡ false))) }
     {
-        if let Some(attr) = HtmlAttr::known(text) {
-            return Ok(attr);
-        }
-        if let Some(fault) = fault_of(text) {
+        let place = place_of(text);
+        if let Some(fault) = fault_at(place, text) {
             return Err(fault);
         }
-        Ok(HtmlAttr::make(alloc, text)?)
+        Ok(HtmlAttr::make(alloc, place, text)?)
     }
 
     /// The name of a text that the caller knows to be one: not empty, and of valid ASCII
@@ -117,17 +122,18 @@ impl HtmlAttr {
         ensures name { IfOk result (λ attr. attr ≡ text.now) }
         ensures memory { OnErr result (is_known_attr text.now ≡ false) }
     {
-        HtmlAttr::make(alloc, text)
+        HtmlAttr::make(alloc, place_of(text), text)
     }
 
-    /// The name of a valid text.
-    fn make(alloc: Global, text: &str) -> Result<HtmlAttr, AllocError>
-        requires { IsOf is_attr_char (chars text.now) }
+    /// The name of a valid text, which has that place where it is known.
+    fn make(alloc: Global, place: Option<u8>, text: &str) -> Result<HtmlAttr, AllocError>
+        requires place { IsLookup known_attrs (chars text.now) place }
+        requires valid { IsOf is_attr_char (chars text.now) }
         ensures name { IfOk result (λ attr. attr ≡ chars text.now) }
         ensures memory { OnErr result (is_known_attr (chars text.now) ≡ false) }
     {
         Ok(HtmlAttr {
-            name: Name::make(alloc, &ATTRS, &ATTR_STARTS, text)?,
+            name: Name::make(alloc, place, text)?,
         })
     }
 

@@ -1,11 +1,12 @@
-ghost use Rattle.std.specs.Prelude.{◌≡◌, ◌<◌, bytes_eq, chars, IfOk, IfErr, OnErr, IfSome, is_some, false, not, option_to_list, slice_index, None};
+ghost use Rattle.std.specs.Prelude.{◌≡◌, ◌<◌, bytes_eq, chars, IfOk, IfErr, OnErr, false, not, option_to_list, slice_index, None};
 ghost use Rattle.std.specs.List.{find, list_any};
+ghost use Rattle.html_names.specs.Held.{IsLookup};
 ghost use Rattle.html_names.specs.NameFaults.{Gives, OnOutOfMemory};
 ghost use Rattle.html_names.specs.Names.{tag_fault, custom_fault, is_reserved};
 ghost use Rattle.std.specs.Cmp as cmp;
 ghost use Rattle.std.specs.Cmp.{on_equiv, on_per};
 ghost use Rattle.std.specs.Cmp.Lexicographic.{nat_list_eq_equiv};
-ghost use Rattle.html_names.specs.Tables.{is_known_tag};
+ghost use Rattle.html_names.specs.Tables.{known_tags, is_known_tag};
 ghost use Rattle.html_names.specs.Characters.{IsOf, is_tag_char, is_hyphen, is_lower, is_capital};
 
 use crate::charsets::is_valid_in_tag_name;
@@ -123,20 +124,25 @@ fn fault_of(text: &str) -> Option<NameFault>
     None
 }
 
-impl HtmlTag {
-    /// The known name of that text, unless something is wrong with the text.
-    fn known(text: &str) -> Option<HtmlTag>
-        ensures name { IfSome result (λ tag. tag ≡ chars text.now) }
-        ensures faultless { IfSome result (λ _. tag_fault (chars text.now) ≡ None) }
-    {
-        match place_in(&TAGS, &TAG_STARTS, text) {
-            Some(place) if place != RESERVED_TAG => Some(HtmlTag {
-                name: Name::Known(place),
-            }),
-            _ => None,
-        }
-    }
+/// The place of the text among the known tags, where it stands there.
+fn place_of(text: &str) -> Option<u8>
+    ensures { IsLookup known_tags (chars text.now) result }
+{
+    place_in(&TAGS, &TAG_STARTS, text)
+}
 
+/// The first that is wrong with the text as a tag name, which has that place where it is known.
+fn fault_at(place: Option<u8>, text: &str) -> Option<NameFault>
+    requires { IsLookup known_tags (chars text.now) place }
+    ensures { result ≡ tag_fault (chars text.now) }
+{
+    match place {
+        Some(place) if place != RESERVED_TAG => None,
+        _ => fault_of(text),
+    }
+}
+
+impl HtmlTag {
     /// The name of this text, or the first that is wrong with it: it is empty, a character is not
     /// valid in a tag name (HTML Standard 13.1.2), or a name with a hyphen does not begin with a
     /// small ASCII letter, has an ASCII capital or is reserved (HTML Standard 4.13.2).
@@ -162,13 +168,11 @@ impl HtmlTag {
             IfErr result (λ fault. OnOutOfMemory fault
             ((tag_fault name ≡ None) × (is_known_tag name ≡ false))) }
     {
-        if let Some(tag) = HtmlTag::known(text) {
-            return Ok(tag);
-        }
-        if let Some(fault) = fault_of(text) {
+        let place = place_of(text);
+        if let Some(fault) = fault_at(place, text) {
             return Err(fault);
         }
-        Ok(HtmlTag::make(alloc, text)?)
+        Ok(HtmlTag::make(alloc, place, text)?)
     }
 
     /// The name of a text that the caller knows to be one: not empty, and of valid ASCII
@@ -182,17 +186,18 @@ impl HtmlTag {
         ensures name { IfOk result (λ tag. tag ≡ text.now) }
         ensures memory { OnErr result (is_known_tag text.now ≡ false) }
     {
-        HtmlTag::make(alloc, text)
+        HtmlTag::make(alloc, place_of(text), text)
     }
 
-    /// The name of a valid text.
-    fn make(alloc: Global, text: &str) -> Result<HtmlTag, AllocError>
-        requires { IsOf is_tag_char (chars text.now) }
+    /// The name of a valid text, which has that place where it is known.
+    fn make(alloc: Global, place: Option<u8>, text: &str) -> Result<HtmlTag, AllocError>
+        requires place { IsLookup known_tags (chars text.now) place }
+        requires valid { IsOf is_tag_char (chars text.now) }
         ensures name { IfOk result (λ tag. tag ≡ chars text.now) }
         ensures memory { OnErr result (is_known_tag (chars text.now) ≡ false) }
     {
         Ok(HtmlTag {
-            name: Name::make(alloc, &TAGS, &TAG_STARTS, text)?,
+            name: Name::make(alloc, place, text)?,
         })
     }
 

@@ -1,5 +1,6 @@
-ghost use Rattle.std.specs.Prelude.{◌≡◌, OnErr, IfOk, length, chars, IsTrue, IfSome, is_some, false};
-ghost use Rattle.html_names.specs.Names.{texts, are_ascii, IsPlace, stands_in};
+ghost use Rattle.std.specs.Prelude.{◌≡◌, OnErr, IfOk, length, chars, IsTrue, None};
+ghost use Rattle.html_names.specs.Held.{IsLookup};
+ghost use Rattle.html_names.specs.Names.{texts, are_ascii, stands_in};
 ghost use Rattle.html_names.specs.Starts.{are_starts};
 ghost use Rattle.html_names.specs.Tables.{tag_count};
 
@@ -19,7 +20,7 @@ pub(crate) enum Name {
 impl Name {
     ghost use Rattle.html_names.specs.Held.{name_of, IsWithin};
     ghost use Rattle.html_names.specs.ByNumber.{name_has, name_display};
-    ghost use Rattle.html_names.specs.Held.{IsNameOf, same_held, IsOwn, IsCopy};
+    ghost use Rattle.html_names.specs.Held.{IsMade, same_held, IsOwn, IsCopy};
 
     /// The name's text.
     pub(crate) fn as_str(&self, table: &'static [&'static str]) -> &str
@@ -33,24 +34,17 @@ impl Name {
         }
     }
 
-    /// The name of that text: its place where the table has it, else the text itself.
+    /// The name of that text: its place where one is given, else the text itself.
     ///
-    /// A name of the table takes no memory.
-    pub(crate) fn make(
-        alloc: Global,
-        table: &[&'static str],
-        starts: &[u8; 27],
-        text: &str,
-    ) -> Result<Name, AllocError>
-        requires ascii { IsTrue (are_ascii (texts table.now)) }
-        requires starts { IsTrue (are_starts starts.now (texts table.now)) }
-        ensures name { IfOk result (IsNameOf (texts table.now) (chars text.now)) }
-        ensures memory { OnErr result (stands_in (texts table.now) (chars text.now) ≡ false) }
+    /// A known name takes no memory.
+    pub(crate) fn make(alloc: Global, place: Option<u8>, text: &str) -> Result<Name, AllocError>
+        ensures name { IfOk result (IsMade place (chars text.now)) }
+        ensures memory { OnErr result (place ≡ None) }
     {
-        if let Some(place) = place_in(table, starts, text) {
-            return Ok(Name::Known(place));
+        match place {
+            Some(place) => Ok(Name::Known(place)),
+            None => Ok(Name::Own(String::from_str(alloc, text)?)),
         }
-        Ok(Name::Own(String::from_str(alloc, text)?))
     }
 
     /// Whether both are held by one place, or by equal texts.
@@ -104,8 +98,7 @@ impl Name {
 pub(crate) fn place_in(table: &[&'static str], starts: &[u8; 27], text: &str) -> Option<u8>
     requires ascii { IsTrue (are_ascii (texts table.now)) }
     requires starts { IsTrue (are_starts starts.now (texts table.now)) }
-    ensures found { IfSome result (IsPlace (texts table.now) (chars text.now)) }
-    ensures test { is_some result ≡ stands_in (texts table.now) (chars text.now) }
+    ensures { IsLookup (texts table.now) (chars text.now) result }
 {
     let first = *text.as_bytes().first()?;
     if !first.is_ascii_lowercase() {

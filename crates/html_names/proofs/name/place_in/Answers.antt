@@ -1,27 +1,25 @@
 use Rattle.std.proofs.Common.{◌+◌, ◌≡◌, ◌<◌, ◌≤◌, sym, length, arith, bytes_eq, get_or, false, []}
 use Rattle.std.proofs.lemmas.List.{length-map}
 use Rattle.html_names.specs.Names.{texts}
-use Rattle.html_names.proofs.Ascending.{stands_there}
 use Rattle.html_names.proofs.Starts.{within, empty, other, not_among, found, not_here, more}
 use Rattle.html_names.proofs.name.place_in.Goals as goal
 
-pub returns-in_err-first-clause-test : goal.returns-in_err-first-clause-test
-returns-in_err-first-clause-test c =
+pub returns-in_err-first : goal.returns-in_err-first
+returns-in_err-first c =
     let text = c.args.text.now in
     let short : length text ≤ 0 =
     rw (sym c.as_bytes.ensures.value) c.in_err-first.ensures.item.3 in
     rw c.from_residual.ensures
-    (sym (empty c.args.starts.now _ text c.requires.starts c.requires.ascii c.utf8.text short))
+    (empty c.args.starts.now _ text c.requires.starts c.requires.ascii c.utf8.text short)
 
-pub returns-then-not-is_ascii_lowercase-clause-test :
-    goal.returns-then-not-is_ascii_lowercase-clause-test
-returns-then-not-is_ascii_lowercase-clause-test c =
+pub returns-then-not-is_ascii_lowercase : goal.returns-then-not-is_ascii_lowercase
+returns-then-not-is_ascii_lowercase c =
     let text = c.args.text.now in
     let first = c.in_ok-first.field-0.now in
     let is : first ≡ get_or text 0 0 =
     rw (sym c.as_bytes.ensures.value) (c.in_ok-first.ensures.item.3.1 0) in
-    sym (other c.args.starts.now _ text first c.requires.starts c.requires.ascii c.utf8.text is
-    (sym c.if-not-is_ascii_lowercase.ensures.value))
+    other c.args.starts.now _ text first c.requires.starts c.requires.ascii c.utf8.text is
+    (sym c.if-not-is_ascii_lowercase.ensures.value)
 
 pub loop-place-init : goal.loop-place-init
 loop-place-init c = (
@@ -30,18 +28,11 @@ loop-place-init c = (
   λ k s l. absurd (omega (arith, s, l)),
 )
 
-pub returns-then-eq-clause-found : goal.returns-then-eq-clause-found
-returns-then-eq-clause-found c =
+pub returns-then-eq : goal.returns-then-eq
+returns-then-eq c =
     found c.args.table.now c.args.text.now c.loop-place.place c.from.result _
     (omega (arith, c.loop-place.invariant.0, c.loop-place-test.true)) c.from.ensures
-    c.requires.ascii (c.if-eq.ensures)
-
-pub returns-then-eq-clause-test : goal.returns-then-eq-clause-test
-returns-then-eq-clause-test c =
-    let place = found c.args.table.now c.args.text.now c.loop-place.place c.from.result _
-    (omega (arith, c.loop-place.invariant.0, c.loop-place-test.true)) c.from.ensures
-    c.requires.ascii (c.if-eq.ensures) in
-    sym (stands_there (texts c.args.table.now) c.loop-place.place _ place.0 place.1)
+    c.requires.ascii c.if-eq.ensures
 
 pub loop-place-preserved : goal.loop-place-preserved
 loop-place-preserved c = (
@@ -52,14 +43,14 @@ loop-place-preserved c = (
       (omega (arith, c.loop-place.invariant.0, c.loop-place-test.true)) c.from.ensures c.if-eq.ensures),
 )
 
-pub returns-clause-test : goal.returns-clause-test
-returns-clause-test c =
+pub returns : goal.returns
+returns c =
     let text = c.args.text.now in
     let first = c.in_ok-first.field-0.now in
     let is : first ≡ get_or text 0 0 =
     rw (sym c.as_bytes.ensures.value) (c.in_ok-first.ensures.item.3.1 0) in
     let long : 0 < length text =
     rw (sym c.as_bytes.ensures.value) c.in_ok-first.ensures.item.3.0 in
-    sym (not_among c.args.starts.now (texts c.args.table.now) text first c.from-letter.result
+    not_among c.args.starts.now (texts c.args.table.now) text first c.from-letter.result
     c.requires.starts c.requires.ascii c.utf8.text long is c.from-letter.ensures
-    (λ k s l. c.loop-place.invariant.1 k s (omega (arith, l, c.loop-place-test.false))))
+    (λ k s l. c.loop-place.invariant.1 k s (omega (arith, l, c.loop-place-test.false)))
