@@ -2,7 +2,7 @@
 use Rattle.std.proofs.Common.{◌≡◌, ℕ, zero, suc, ◌+◌, ◌<◌, ◌≤◌, Bool, true, false, ◌||◌, if◌then◌else◌, List, [], ◌∷◌, ◌++◌, refl, sym, ap, ◌∙◌, length, arith, bytes_eq, add-one, append-nil, length-append, Some, None, Ok, unwrap_or}
 use Rattle.std.proofs.lemmas.Slice.Eq.{bytes_eq-Decides}
 use Rattle.html_names.specs.Names.{stands_in}
-use Rattle.html_names.specs.NameTables.{NamesView, Numbers, number_in, with_name, name_at, with_tag, with_attr}
+use Rattle.html_names.specs.NameTables.{NamesView, Numbers, number_in, with_name, name_at}
 use Rattle.html_names.specs.NumberMaps.{number_where}
 use Rattle.html_names.proofs.Ascending.{or_true}
 
@@ -236,48 +236,25 @@ last_below : (names after : List (List ℕ)) (name : List ℕ) (number : ℕ) �
 last_below names after name number counted added =
     rw (added, length-append names (name ∷ [])) (omega arith)
 
--- in a table: a tag that is found, and one that is not
-pub finds_tag : (old now : NamesView) (text held : List ℕ) (number : ℕ) → now ≡ old →
-    held ≡ text → Some number ≡ number_where now.tags held →
-    Numbers (Ok number) old.tags old.tags text old old (with_tag old text)
-finds_tag old now text held number is named found =
-    let there : Some number ≡ number_where old.tags text = rw (sym is, sym named) found in
-    let told = told_where old.tags text number there in
-    record { number = told.0; below = told.1; names = rw told.2 refl; absent = tt; kept = tt }
+-- in a table, of which the names that have a number are one part: a name that is found, and one that
+-- is not
+module _ (part : List (List ℕ) → NamesView) (names now : List (List ℕ)) (text held : List ℕ)
+    (number : ℕ) (is : now ≡ names) (named : held ≡ text) where
+  pub finds : Some number ≡ number_where now held →
+      Numbers (Ok number) names names text (part names) (part names) (part (with_name names text))
+  finds found =
+      let there : Some number ≡ number_where names text = rw (sym is, sym named) found in
+      let told = told_where names text number there in
+      record { number = told.0; below = told.1; names = rw told.2 refl; absent = tt; kept = tt }
 
-pub adds_tag : (old now : NamesView) (text copy : List ℕ) (after : List (List ℕ)) (number : ℕ) →
-    now ≡ old → copy ≡ text → after ≡ now.tags ++ copy ∷ [] → number ≡ length now.tags →
-    stands_in old.tags text ≡ false →
-    Numbers (Ok number) old.tags after text old (record { tags = after; attrs = now.attrs })
-    (with_tag old text)
-adds_tag old now text copy after number is copied added counted new =
-    record {
-      number = rw (number_next old.tags text new, counted, is) refl;
-      below = last_below now.tags after copy number counted added;
-      names = rw (added, copied, with_name-new old.tags text new, is) refl;
-      absent = tt;
-      kept = tt;
-    }
-
--- and so for attributes
-pub finds_attr : (old now : NamesView) (text held : List ℕ) (number : ℕ) → now ≡ old →
-    held ≡ text → Some number ≡ number_where now.attrs held →
-    Numbers (Ok number) old.attrs old.attrs text old old (with_attr old text)
-finds_attr old now text held number is named found =
-    let there : Some number ≡ number_where old.attrs text = rw (sym is, sym named) found in
-    let told = told_where old.attrs text number there in
-    record { number = told.0; below = told.1; names = rw told.2 refl; absent = tt; kept = tt }
-
-pub adds_attr : (old now : NamesView) (text copy : List ℕ) (after : List (List ℕ)) (number : ℕ) →
-    now ≡ old → copy ≡ text → after ≡ now.attrs ++ copy ∷ [] → number ≡ length now.attrs →
-    stands_in old.attrs text ≡ false →
-    Numbers (Ok number) old.attrs after text old (record { tags = now.tags; attrs = after })
-    (with_attr old text)
-adds_attr old now text copy after number is copied added counted new =
-    record {
-      number = rw (number_next old.attrs text new, counted, is) refl;
-      below = last_below now.attrs after copy number counted added;
-      names = rw (added, copied, with_name-new old.attrs text new, is) refl;
-      absent = tt;
-      kept = tt;
-    }
+  pub adds : (after : List (List ℕ)) (table : NamesView) → table ≡ part after →
+      after ≡ now ++ held ∷ [] → number ≡ length now → stands_in names text ≡ false →
+      Numbers (Ok number) names after text (part names) table (part (with_name names text))
+  adds after table told added counted new =
+      record {
+        number = rw (number_next names text new, counted, is) refl;
+        below = last_below now after held number counted added;
+        names = told ∙ ap part (added ∙ rw (is, named, with_name-new names text new) refl);
+        absent = tt;
+        kept = tt;
+      }

@@ -187,6 +187,7 @@ impl Hash for HtmlAttr {
 }
 
 /// `name`
+#[tactic(auto, using(crate::proofs::Lists::in_characters))]
 impl fmt::Display for HtmlAttr {
     ghost use Rattle.std.specs.Prelude.{Some};
     ghost use lib.Utf8.{encodes};
@@ -199,6 +200,7 @@ impl fmt::Display for HtmlAttr {
 }
 
 /// `name`
+#[tactic(auto, using(crate::proofs::Lists::in_characters))]
 impl fmt::Debug for HtmlAttr {
     ghost use Rattle.std.specs.Prelude.{Some};
     ghost use lib.Utf8.{encodes};

@@ -251,6 +251,7 @@ impl Hash for HtmlTag {
 }
 
 /// `<name>`
+#[tactic(auto, using(crate::proofs::Lists::in_characters))]
 impl fmt::Display for HtmlTag {
     ghost use Rattle.std.specs.Prelude.{codes, ◌++◌, Some};
     ghost use lib.Utf8.{encodes};
@@ -264,6 +265,7 @@ impl fmt::Display for HtmlTag {
 }
 
 /// `<name>`
+#[tactic(auto, using(crate::proofs::Lists::in_characters))]
 impl fmt::Debug for HtmlTag {
     ghost use Rattle.std.specs.Prelude.{codes, ◌++◌, Some};
     ghost use lib.Utf8.{encodes};

@@ -2,7 +2,7 @@ use Rattle.std.proofs.Common.{sym, ap, ◌∙◌, rules}
 use Rattle.html_names.specs.Characters.{is_attr_char}
 use Rattle.html_names.specs.Tables.{known_attrs, attr_count}
 use Rattle.html_names.proofs.Same.{attr_same}
-use Rattle.html_names.proofs.NameTables.{adds_attr}
+use Rattle.html_names.proofs.NameTables.{adds}
 use Rattle.html_names.proofs.NumberMaps.{numbering}
 use Rattle.html_names.proofs.name_table.NameTable.add_attr.Goals as goal
 
@@ -18,5 +18,8 @@ invariant_of-self-in_default c = (
 )
 
 pub returns : goal.returns
-returns c = adds_attr _ _ _ _ _ _ c.self.view_is c.in_ok-try_clone.ensures.copy c.in_ok-push.ensures.items
+returns c =
+    adds (λ names. record { tags = c.args.self.now.tags; attrs = names }) _ _ _ _ _
+    (ap (λ t. t.attrs) c.self.view_is) c.in_ok-try_clone.ensures.copy _ _
+    (ap (λ t. record { tags = t.tags; attrs = c.push.new.self.items }) c.self.view_is) c.in_ok-push.ensures.items
     (search (rules, c.len-number.ensures)) c.requires

@@ -2,7 +2,7 @@ use Rattle.std.proofs.Common.{sym, ap, ◌∙◌, rules}
 use Rattle.html_names.specs.Characters.{is_tag_char}
 use Rattle.html_names.specs.Tables.{known_tags, tag_count}
 use Rattle.html_names.proofs.Same.{tag_same}
-use Rattle.html_names.proofs.NameTables.{adds_tag}
+use Rattle.html_names.proofs.NameTables.{adds}
 use Rattle.html_names.proofs.NumberMaps.{numbering}
 use Rattle.html_names.proofs.name_table.NameTable.add_tag.Goals as goal
 
@@ -18,5 +18,8 @@ invariant_of-self-in_default c = (
 )
 
 pub returns : goal.returns
-returns c = adds_tag _ _ _ _ _ _ c.self.view_is c.in_ok-new.ensures c.in_ok-push.ensures.items
+returns c =
+    adds (λ names. record { tags = names; attrs = c.args.self.now.attrs }) _ _ _ _ _
+    (ap (λ t. t.tags) c.self.view_is) c.in_ok-new.ensures _ _
+    (ap (λ t. record { tags = c.push.new.self.items; attrs = t.attrs }) c.self.view_is) c.in_ok-push.ensures.items
     (search (rules, c.len-number.ensures)) c.requires
