@@ -1,5 +1,6 @@
 -- Numbers of names, over lists of texts.
 use Rattle.std.proofs.Common.{◌≡◌, ℕ, zero, suc, ◌+◌, ◌<◌, ◌≤◌, Bool, true, false, ◌||◌, if◌then◌else◌, List, [], ◌∷◌, ◌++◌, refl, sym, ap, ◌∙◌, length, arith, bytes_eq, add-one, append-nil, length-append, Some, None, Ok, unwrap_or}
+use Rattle.std.proofs.lemmas.Bool.{eq-eqb}
 use Rattle.std.proofs.lemmas.Slice.Eq.{bytes_eq-Decides}
 use Rattle.html_names.specs.Names.{stands_in}
 use Rattle.html_names.specs.NameTables.{NamesView, Numbers, number_in, with_name, name_at}
@@ -214,6 +215,9 @@ pub told_again : (names : List (List ℕ)) (name other : List ℕ) →
     ≡ with_name (with_name names name) other
 told_again names name other =
     with_name-stands (with_name (with_name names name) other) name (stands_in-both names name other)
+
+-- for a number that is asked for twice
+pub ruleset stays = (number_later, stands_in-both, told_again, eq-eqb)
 
 where_told : (names : List (List ℕ)) (name : List ℕ) (number : ℕ) (s : Bool) →
     stands_in names name ≡ s →

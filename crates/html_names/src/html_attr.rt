@@ -70,6 +70,7 @@ fn place_of(text: &str) -> Option<u8>
 
 /// The first that is wrong with the text as an attribute name, which has that place where it is
 /// known.
+#[tactic(auto, using(crate::proofs::Known::attr_faultless))]
 fn fault_at(place: Option<u8>, text: &str) -> Option<NameFault>
     requires { IsLookup known_attrs (chars text.now) place }
     ensures { result ≡ attr_fault (chars text.now) }
@@ -148,6 +149,7 @@ impl HtmlAttr {
     }
 
     /// The name's text, which is valid in a start tag.
+    #[tactic(auto, using(crate::proofs::Held::attr_texts, crate::proofs::Held::attr_valid))]
     pub fn resolve(&self) -> &str
         ensures text { chars result.now ≡ self.now }
         ensures valid { IsOf is_attr_char self.now }
@@ -156,6 +158,7 @@ impl HtmlAttr {
     }
 }
 
+#[tactic(auto, using(crate::proofs::Same::attr_same))]
 impl PartialEq for HtmlAttr {
     ghost eq = { λ x y. bytes_eq x y };
 

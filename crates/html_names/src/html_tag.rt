@@ -132,6 +132,7 @@ fn place_of(text: &str) -> Option<u8>
 }
 
 /// The first that is wrong with the text as a tag name, which has that place where it is known.
+#[tactic(auto, using(crate::proofs::Known::tag_faultless))]
 fn fault_at(place: Option<u8>, text: &str) -> Option<NameFault>
     requires { IsLookup known_tags (chars text.now) place }
     ensures { result ≡ tag_fault (chars text.now) }
@@ -212,6 +213,7 @@ impl HtmlTag {
     }
 
     /// The name's text, which is valid in a start tag.
+    #[tactic(auto, using(crate::proofs::Held::tag_texts, crate::proofs::Held::tag_valid))]
     pub fn resolve(&self) -> &str
         ensures text { chars result.now ≡ self.now }
         ensures valid { IsOf is_tag_char self.now }
@@ -220,6 +222,7 @@ impl HtmlTag {
     }
 }
 
+#[tactic(auto, using(crate::proofs::Same::tag_same))]
 impl PartialEq for HtmlTag {
     ghost eq = { λ x y. bytes_eq x y };
 

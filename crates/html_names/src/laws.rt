@@ -33,6 +33,7 @@ pub fn equal_refused<T: PartialEq>(a: &Refused<T>, b: &Refused<T>) -> bool
 }
 
 /// Two tags have one number exactly where their texts are equal.
+#[tactic(auto, using(crate::proofs::NameTables::equal_numbers))]
 pub fn equal_tag_numbers(
     names: &mut NameTable,
     a: &HtmlTag,
@@ -47,6 +48,7 @@ pub fn equal_tag_numbers(
 }
 
 /// A number stays when another of the tags gets one.
+#[tactic(auto, using(crate::proofs::NameTables::stays))]
 pub fn tag_number_stays(
     names: &mut NameTable,
     given: &HtmlTag,
@@ -74,6 +76,7 @@ pub fn tag_at_number(names: &mut NameTable, given: &HtmlTag) -> Result<bool, All
 }
 
 /// Two attributes have one number exactly where their texts are equal.
+#[tactic(auto, using(crate::proofs::NameTables::equal_numbers))]
 pub fn equal_attr_numbers(
     names: &mut NameTable,
     a: &HtmlAttr,
@@ -88,6 +91,7 @@ pub fn equal_attr_numbers(
 }
 
 /// A number stays when another of the attributes gets one.
+#[tactic(auto, using(crate::proofs::NameTables::stays))]
 pub fn attr_number_stays(
     names: &mut NameTable,
     given: &HtmlAttr,

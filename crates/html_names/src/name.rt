@@ -23,6 +23,7 @@ impl Name {
     ghost use Rattle.html_names.specs.Held.{IsMade, same_held, IsOwn, IsCopy};
 
     /// The name's text.
+    #[tactic(auto, using(crate::proofs::Held::known_text))]
     pub(crate) fn as_str(&self, table: &'static [&'static str]) -> &str
         requires ascii { IsTrue (are_ascii (texts table.now)) }
         requires within { IsWithin (length table.now) self.now }

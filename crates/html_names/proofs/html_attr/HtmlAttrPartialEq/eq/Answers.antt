@@ -1,9 +1,0 @@
-use Rattle.std.proofs.Common.{◌∙◌, bytes_eq}
-use Rattle.html_names.proofs.Same.{attr_same}
-use Rattle.html_names.proofs.html_attr.HtmlAttrPartialEq.eq.Goals as goal
-
-pub returns : goal.returns
-returns c =
-    c.is_same.ensures
-    ∙ attr_same c.self.inside.name c.other.inside.name c.self.invariant c.other.invariant
-    ∙ (λ i. bytes_eq (c.self.view_is i) (c.other.view_is i))
