@@ -7,130 +7,66 @@ use crate::HtmlTag;
 use crate::tag::mathml::*;
 use crate::tag::*;
 
-/// The texts of HTML's tags from `a` to `blockquote`.
+/// The texts of HTML's tags from `a` to `form`.
 #[rattlefmt::skip]
 #[tactic(auto, unfolding(crate::specs::Tables::known_tags))]
-pub fn html_1() -> [HtmlTag; 12]
-    ensures { result ≡ listed_names (codes "a abbr address area article aside audio b base bdi bdo")
-        ++ listed_names (codes "blockquote") }
-{
-    [a, abbr, address, area, article, aside, audio, b, base, bdi, bdo, blockquote]
-}
-
-/// The texts of HTML's tags from `body` to `dd`.
-#[rattlefmt::skip]
-#[tactic(auto, unfolding(crate::specs::Tables::known_tags))]
-pub fn html_2() -> [HtmlTag; 12]
-    ensures { result ≡ listed_names (codes "body br button canvas caption cite code col colgroup data")
-        ++ listed_names (codes "datalist dd") }
-{
-    [body, br, button, canvas, caption, cite, code, col, colgroup, data, datalist, dd]
-}
-
-/// The texts of HTML's tags from `del` to `figure`.
-#[rattlefmt::skip]
-#[tactic(auto, unfolding(crate::specs::Tables::known_tags))]
-pub fn html_3() -> [HtmlTag; 12]
-    ensures { result ≡ listed_names (codes "del details dfn dialog div dl dt em embed fieldset")
-        ++ listed_names (codes "figcaption figure") }
-{
-    [del, details, dfn, dialog, div, dl, dt, em, embed, fieldset, figcaption, figure]
-}
-
-/// The texts of HTML's tags from `footer` to `hr`.
-#[rattlefmt::skip]
-#[tactic(auto, unfolding(crate::specs::Tables::known_tags))]
-pub fn html_4() -> [HtmlTag; 12]
-    ensures { result ≡ listed_names (codes "footer form h1 h2 h3 h4 h5 h6 head header hgroup hr") }
-{
-    [footer, form, h1, h2, h3, h4, h5, h6, head, header, hgroup, hr]
-}
-
-/// The texts of HTML's tags from `html` to `main`.
-#[rattlefmt::skip]
-#[tactic(auto, unfolding(crate::specs::Tables::known_tags))]
-pub fn html_5() -> [HtmlTag; 12]
-    ensures { result ≡ listed_names (codes "html i iframe img input ins kbd label legend li link main") }
-{
-    [html, i, iframe, img, input, ins, kbd, label, legend, li, link, main]
-}
-
-/// The texts of HTML's tags from `map` to `output`.
-#[rattlefmt::skip]
-#[tactic(auto, unfolding(crate::specs::Tables::known_tags))]
-pub fn html_6() -> [HtmlTag; 12]
-    ensures { result ≡ listed_names (codes "map mark menu meta meter nav noscript object ol optgroup")
-        ++ listed_names (codes "option output") }
-{
-    [map, mark, menu, meta, meter, nav, noscript, object, ol, optgroup, option, output]
-}
-
-/// The texts of HTML's tags from `p` to `search`.
-#[rattlefmt::skip]
-#[tactic(auto, unfolding(crate::specs::Tables::known_tags))]
-pub fn html_7() -> [HtmlTag; 12]
-    ensures { result ≡ listed_names (codes "p picture pre progress q rp rt ruby s samp script search") }
-{
-    [p, picture, pre, progress, q, rp, rt, ruby, s, samp, script, search]
-}
-
-/// The texts of HTML's tags from `section` to `table`.
-#[rattlefmt::skip]
-#[tactic(auto, unfolding(crate::specs::Tables::known_tags))]
-pub fn html_8() -> [HtmlTag; 12]
-    ensures { result ≡ listed_names (codes "section select slot small source span strong style sub")
-        ++ listed_names (codes "summary sup table") }
-{
-    [section, select, slot, small, source, span, strong, style, sub, summary, sup, table]
-}
-
-/// The texts of HTML's tags from `tbody` to `u`.
-#[rattlefmt::skip]
-#[tactic(auto, unfolding(crate::specs::Tables::known_tags))]
-pub fn html_9() -> [HtmlTag; 12]
-    ensures { result ≡ listed_names (codes "tbody td template textarea tfoot th thead time title tr")
-        ++ listed_names (codes "track u") }
-{
-    [tbody, td, template, textarea, tfoot, th, thead, time, title, tr, track, u]
-}
-
-/// The texts of HTML's tags from `ul` to `wbr`.
-#[rattlefmt::skip]
-#[tactic(auto, unfolding(crate::specs::Tables::known_tags))]
-pub fn html_10() -> [HtmlTag; 4]
-    ensures { result ≡ listed_names (codes "ul var video wbr") }
-{
-    [ul, var, video, wbr]
-}
-
-/// The texts of MathML's tags from `annotation` to `mpadded`.
-#[rattlefmt::skip]
-#[tactic(auto, unfolding(crate::specs::Tables::known_tags))]
-pub fn mathml_1() -> [HtmlTag; 12]
-    ensures { result ≡ listed_names (codes "annotation annotation-xml maction math merror mfrac mi")
-        ++ listed_names (codes "mmultiscripts mn mo mover mpadded") }
+pub fn html_1() -> [HtmlTag; 38]
+    ensures { result ≡ listed_names (codes "a abbr address area article aside audio b base bdi")
+        ++ listed_names (codes "bdo blockquote body br button canvas caption cite code col")
+        ++ listed_names (codes "colgroup data datalist dd del details dfn dialog div dl dt em")
+        ++ listed_names (codes "embed fieldset figcaption figure footer form") }
 {
     [
-        annotation, annotation_xml, maction, math, merror, mfrac, mi, mmultiscripts, mn, mo, mover,
-        mpadded,
+        a, abbr, address, area, article, aside, audio, b, base, bdi, bdo, blockquote, body, br,
+        button, canvas, caption, cite, code, col, colgroup, data, datalist, dd, del, details, dfn,
+        dialog, div, dl, dt, em, embed, fieldset, figcaption, figure, footer, form,
     ]
 }
 
-/// The texts of MathML's tags from `mphantom` to `mtable`.
+/// The texts of HTML's tags from `h1` to `progress`.
 #[rattlefmt::skip]
 #[tactic(auto, unfolding(crate::specs::Tables::known_tags))]
-pub fn mathml_2() -> [HtmlTag; 12]
-    ensures { result ≡ listed_names (codes "mphantom mprescripts mroot mrow ms mspace msqrt mstyle")
-        ++ listed_names (codes "msub msubsup msup mtable") }
+pub fn html_2() -> [HtmlTag; 38]
+    ensures { result ≡ listed_names (codes "h1 h2 h3 h4 h5 h6 head header hgroup hr html i")
+        ++ listed_names (codes "iframe img input ins kbd label legend li link main map mark menu")
+        ++ listed_names (codes "meta meter nav noscript object ol optgroup option output p")
+        ++ listed_names (codes "picture pre progress") }
 {
-    [mphantom, mprescripts, mroot, mrow, ms, mspace, msqrt, mstyle, msub, msubsup, msup, mtable]
+    [
+        h1, h2, h3, h4, h5, h6, head, header, hgroup, hr, html, i, iframe, img, input, ins, kbd,
+        label, legend, li, link, main, map, mark, menu, meta, meter, nav, noscript, object, ol,
+        optgroup, option, output, p, picture, pre, progress,
+    ]
 }
 
-/// The texts of MathML's tags from `mtd` to `semantics`.
+/// The texts of HTML's tags from `q` to `wbr`.
 #[rattlefmt::skip]
 #[tactic(auto, unfolding(crate::specs::Tables::known_tags))]
-pub fn mathml_3() -> [HtmlTag; 6]
-    ensures { result ≡ listed_names (codes "mtd mtext mtr munder munderover semantics") }
+pub fn html_3() -> [HtmlTag; 36]
+    ensures { result ≡ listed_names (codes "q rp rt ruby s samp script search section select")
+        ++ listed_names (codes "slot small source span strong style sub summary sup table tbody")
+        ++ listed_names (codes "td template textarea tfoot th thead time title tr track u ul var")
+        ++ listed_names (codes "video wbr") }
 {
-    [mtd, mtext, mtr, munder, munderover, semantics]
+    [
+        q, rp, rt, ruby, s, samp, script, search, section, select, slot, small, source, span,
+        strong, style, sub, summary, sup, table, tbody, td, template, textarea, tfoot, th, thead,
+        time, title, tr, track, u, ul, var, video, wbr,
+    ]
+}
+
+/// The texts of MathML's tags from `annotation` to `semantics`.
+#[rattlefmt::skip]
+#[tactic(auto, unfolding(crate::specs::Tables::known_tags))]
+pub fn mathml_1() -> [HtmlTag; 30]
+    ensures { result ≡ listed_names (codes "annotation annotation-xml maction math merror mfrac")
+        ++ listed_names (codes "mi mmultiscripts mn mo mover mpadded mphantom mprescripts mroot")
+        ++ listed_names (codes "mrow ms mspace msqrt mstyle msub msubsup msup mtable mtd mtext")
+        ++ listed_names (codes "mtr munder munderover semantics") }
+{
+    [
+        annotation, annotation_xml, maction, math, merror, mfrac, mi, mmultiscripts, mn, mo, mover,
+        mpadded, mphantom, mprescripts, mroot, mrow, ms, mspace, msqrt, mstyle, msub, msubsup, msup,
+        mtable, mtd, mtext, mtr, munder, munderover, semantics,
+    ]
 }
