@@ -21,5 +21,5 @@ pub returns : goal.returns
 returns c =
     adds (λ names. record { tags = c.args.self.now.tags; attrs = names }) _ _ _ _ _
     (ap (λ t. t.attrs) c.self.view_is) c.in_ok-try_clone.ensures.copy _ _
-    (ap (λ t. record { tags = t.tags; attrs = c.push.new.self.items }) c.self.view_is) c.in_ok-push.ensures.items
-    (search (rules, c.len-number.ensures)) c.requires
+    (ap (λ t. record { tags = t.tags; attrs = c.push.new.self.items }) c.self.view_is)
+    c.in_ok-push.ensures.items (search (rules, c.len-number.ensures)) c.requires

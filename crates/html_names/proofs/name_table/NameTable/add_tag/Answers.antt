@@ -21,5 +21,5 @@ pub returns : goal.returns
 returns c =
     adds (λ names. record { tags = names; attrs = c.args.self.now.attrs }) _ _ _ _ _
     (ap (λ t. t.tags) c.self.view_is) c.in_ok-new.ensures _ _
-    (ap (λ t. record { tags = c.push.new.self.items; attrs = t.attrs }) c.self.view_is) c.in_ok-push.ensures.items
-    (search (rules, c.len-number.ensures)) c.requires
+    (ap (λ t. record { tags = c.push.new.self.items; attrs = t.attrs }) c.self.view_is)
+    c.in_ok-push.ensures.items (search (rules, c.len-number.ensures)) c.requires
