@@ -1,7 +1,6 @@
 -- Nodes whose spaces stay, one after the other.
-use Rattle.std.proofs.Common.{◌≡◌, ℕ, zero, suc, ◌+◌, ◌≤◌, Bool, true, false, not, ◌&&◌, List, [], ◌∷◌, ◌++◌, Option, Some, None, map, length, drop, inl, inr, refl, sym, ap, ◌∙◌, arith, if◌then◌else◌, length-drop}
-use Rattle.std.specs.Prelude.{Result, Ok, Err, IfOk}
-use Rattle.std.proofs.lemmas.List.{drop-drop, map-append}
+use Rattle.std.proofs.Common.{◌≡◌, ℕ, zero, suc, ◌+◌, ◌<◌, ◌≤◌, Bool, true, false, not, ◌&&◌, List, [], ◌∷◌, ◌++◌, Option, Some, None, map, length, drop, take, get_or, set, inl, inr, refl, sym, ap, ◌∙◌, arith, if◌then◌else◌, length-drop}
+use Rattle.std.proofs.lemmas.List.{drop-drop, drop_more, drop-set-lt, map-append, take_more_set}
 use Rattle.std.proofs.lemmas.Bool.{and_parts, cases_Bool, false≢true}
 use Rattle.std.specs.List.{list_all}
 use Rattle.html_names.specs.Characters.{is_ignorable}
@@ -194,6 +193,23 @@ protect_step made new items others m n bs new_bs all whole is pushed made_is res
     sum_comm : (a b : ℕ) {c : ℕ} → a + b ≡ c → b + a ≡ c
     sum_comm a b e = omega (arith, e)
 
+-- a node is changed where it stands
+pub protect_in_place : (ns new : List HtmlNode) (i : ℕ) (d m : HtmlNode)
+    (bs new_bs all : List Bool) (whole : NodesView) → i < length ns → new ≡ set ns i m →
+    node_view m ≡ node_by_answers bs (node_view (get_or ns i d)) →
+    new_bs ≡ drop (space_count (node_things (node_view (get_or ns i d)))) bs →
+    joined (nodes_view (take i ns)) (nodes_by_answers bs (nodes_view (drop i ns))) ≡ whole →
+    drop (space_count (nodes_things (nodes_view (drop i ns)))) bs ≡ all →
+    (joined (nodes_view (take (i + 1) new)) (nodes_by_answers new_bs (nodes_view (drop (i + 1) new)))
+    ≡ whole) × (drop (space_count (nodes_things (nodes_view (drop (i + 1) new)))) new_bs ≡ all)
+protect_in_place ns new i d m bs new_bs all whole h is made_is rest_is told rest =
+    let n = get_or ns i d in
+    let later : drop (i + 1) new ≡ drop (i + 1) ns =
+    ap (drop (i + 1)) is ∙ drop-set-lt (i + 1) ns i m (omega arith) in
+    protect_step (take i ns) (take (i + 1) new) (drop i ns) (drop (i + 1) new) m n bs new_bs all whole
+    (drop_more ns i d h ∙ ap (λ l. n ∷ l) (sym later))
+    (ap (take (i + 1)) is ∙ take_more_set ns i m h) made_is rest_is told rest
+
 pub protect_end : (made items : List HtmlNode) (bs all : List Bool) (whole : NodesView) →
     items ≡ [] → joined (nodes_view made) (nodes_by_answers bs (nodes_view items)) ≡ whole →
     drop (space_count (nodes_things (nodes_view items))) bs ≡ all →
@@ -204,9 +220,3 @@ protect_end made items bs all whole empty told rest = (
       ∙ (ap (λ ns. joined (nodes_view made) (nodes_by_answers bs (nodes_view ns))) (sym empty) ∙ told),
   ap (λ ns. drop (space_count (nodes_things (nodes_view ns))) bs) (sym empty) ∙ rest,
 )
-
--- what holds of a value, by what else does
-pub ok_by : {T E : Type 0} (P Q : T → Type 0) (r : Result T E) → ((v : T) → P v → Q v) →
-    IfOk r P → IfOk r Q
-ok_by P Q (Ok v) f h = f v h
-ok_by P Q (Err e) f h = h

@@ -4,8 +4,8 @@
 ghost use Rattle.std.specs.Prelude.{◌≡◌, ◌≤◌, ◌↔◌, ◌++◌, ◌∷◌, [], if◌then◌else◌, IfOk, IsTrue, OnOk, codes, map};
 ghost use Rattle.html_names.specs.Names.{is_ascii};
 ghost use Rattle.html_names.specs.Texts.{text_view};
-ghost use Rattle.html_dom_tree.specs.Tree.{tag_node, text_node};
-ghost use Rattle.html_dom_tree.specs.Views.{attrs_view, node_view, nodes_view, tag_view};
+ghost use Rattle.html_dom_tree.specs.Tree.{element_node, tag_node, text_node};
+ghost use Rattle.html_dom_tree.specs.Views.{attrs_view, head_of, node_view, nodes_view, tag_view};
 ghost use Rattle.html_flow_convert.specs.Converted.{body_nodes, break_item_node, converted_nodes, frame_item_node, item_nodes, list_nodes, passes_role, role_pairs, role_text, text_item_nodes};
 ghost use Rattle.html_flow_convert.specs.Endings.{Adds, Gives};
 ghost use Rattle.html_flow_convert.specs.Depth.{body_too_deep, item_too_deep, items_too_deep};
@@ -16,7 +16,7 @@ ghost use Rattle.html_flow_convert.specs.Views.{body_view, elem_view, frame_elem
 use crate::depth::items_too_deep;
 use crate::fault::FlowFault;
 use crate::item::{FrameElem, HtmlElem, Item, Pair, copied_pairs};
-use crate::lone::{push_around, push_block, push_box};
+use crate::lone::{push_block, push_box};
 use crate::setting::{Setting, body_level, passes_role};
 use crate::{break_element, keep_runs, protect_spaces, push_text_nodes};
 use html_dom_tree::{HtmlAttrs, HtmlElement, HtmlFrame, HtmlNode, Span, Tag};
@@ -250,16 +250,26 @@ fn push_element(
         span,
     } = element;
     let children = convert_body(alloc, body, span, level, inside)?;
+    let attrs = attrs_with_role(alloc, &tag, attrs, setting.role)?;
     let made = HtmlElement {
-        attrs: attrs_with_role(alloc, &tag, attrs, setting.role)?,
         tag,
+        attrs,
         css,
-        children: Vec::new(alloc),
+        children,
         parent,
         span,
         pre_span: false,
     };
-    Ok(push_around(nodes, made, children)?)
+    Ok(push_made(nodes, made)?)
+}
+
+/// Adds an element.
+fn push_made(nodes: &mut Vec<HtmlNode>, element: HtmlElement) -> Result<(), AllocError>
+    ensures { OnOk result (map node_view nodes.new.items ≡ map node_view nodes.old.items
+        ++ element_node (head_of element) (nodes_view element.children.items) ∷ []) }
+{
+    nodes.push(HtmlNode::from(element))?;
+    Ok(())
 }
 
 /// The attributes of an element of that name, with a role.

@@ -233,7 +233,7 @@ fn push_displayed(
 }
 
 /// Adds an element with these nodes in it.
-pub(crate) fn push_around(
+fn push_around(
     nodes: &mut Vec<HtmlNode>,
     element: HtmlElement,
     children: Vec<HtmlNode>,

@@ -18,7 +18,7 @@ fn is_normal(c: char) -> bool
     ensures { result ≡ is_normal c }
 {
     if c.is_ascii() {
-        !matches!(c, '\t' | '\n' | '\r' | ' ')
+        c > ' ' || !matches!(c, '\t' | '\n' | '\r' | ' ')
     } else {
         !is_default_ignorable(c)
     }

@@ -1,18 +1,19 @@
 //! Lone spaces in elements that keep them.
 
-ghost use Rattle.std.specs.Prelude.{◌≡◌, false, drop, IfOk, OnOk};
+ghost use Rattle.std.specs.Prelude.{◌≡◌, ℕ, List, false, drop, IfOk, OnOk};
 ghost use Rattle.html_dom_tree.specs.Tree.{element_node, text_node};
-ghost use Rattle.html_dom_tree.specs.Views.{head_of, node_view, nodes_view, text_view};
+ghost use Rattle.html_dom_tree.specs.Views.{element_view, node_view, nodes_view};
 ghost use Rattle.html_flow_convert.specs.AnswerLists.{answers_view};
-ghost use Rattle.html_flow_convert.specs.BareSpaces.{element_things, node_things, nodes_things, text_things};
+ghost use Rattle.html_flow_convert.specs.BareSpaces.{element_things, node_things, nodes_things};
 ghost use Rattle.html_flow_convert.specs.Protected.{space_count, is_bare, node_by_answers, nodes_by_answers, protected_nodes, text_by_answer};
 
 use crate::answers::{answers_for, are_bare};
 use crate::look::is_entered;
 use crate::made::{element_of, pre_wrap_span};
 use crate::one::is_one;
-use html_dom_tree::{HtmlElement, HtmlNode, Span};
+use html_dom_tree::{HtmlElement, HtmlNode};
 use std::alloc::{AllocError, Global};
+use std::mem;
 
 /// Answers for lone spaces in order.
 #[derive(Drop)]
@@ -38,102 +39,104 @@ impl Answers {
     }
 }
 
-/// A text in an element that keeps its white space.
-fn kept_text(alloc: Global, text: String, span: Span) -> Result<HtmlNode, AllocError>
-    ensures { IfOk result (λ made. node_view made ≡ text_by_answer false (text_view text) span.0) }
+/// A text is put into an element that keeps its white space.
+fn keep_text(alloc: Global, node: &mut HtmlNode) -> Result<(), AllocError>
+    ensures { (text : List ℕ) → (span : ℕ) → node_view node.old ≡ text_node text span →
+        OnOk result (node_view node.new ≡ text_by_answer false text span) }
 {
-    let mut children = Vec::new(alloc);
-    children.push(HtmlNode::text(text, span))?;
-    Ok(element_of(pre_wrap_span(alloc, span)?, children))
+    if let HtmlNode::Text(text, span) = node {
+        let text = mem::replace(text, String::new(alloc));
+        let mut children = Vec::new(alloc);
+        children.push(HtmlNode::text(text, *span))?;
+        *node = element_of(pre_wrap_span(alloc, *span)?, children);
+    }
+    Ok(())
 }
 
-/// A text, in an element of its own if it is a lone space that is not bare.
-fn text_protected(
+/// A lone space that is not bare is put into an element of its own.
+fn protect_space(
     alloc: Global,
-    text: String,
-    span: Span,
+    node: &mut HtmlNode,
     answers: &mut Answers,
-) -> Result<HtmlNode, AllocError>
-    ensures made { IfOk result (λ made. node_view made
-        ≡ node_by_answers (answers_view answers.old) (text_node (text_view text) span.0)) }
-    ensures rest { OnOk result (answers_view answers.new
-        ≡ drop (space_count (text_things (text_view text))) (answers_view answers.old)) }
+) -> Result<(), AllocError>
+    ensures made { (text : List ℕ) → (span : ℕ) → node_view node.old ≡ text_node text span →
+        OnOk result (node_view node.new
+        ≡ text_by_answer (is_bare (answers_view answers.old)) text span) }
+    ensures rest { answers_view answers.new ≡ drop 1 (answers_view answers.old) }
 {
-    if !is_one(b' ', text.as_str()) {
-        return Ok(HtmlNode::text(text, span));
-    }
     if answers.next_is_bare() {
-        return Ok(HtmlNode::text(text, span));
+        return Ok(());
     }
-    kept_text(alloc, text, span)
+    keep_text(alloc, node)
 }
 
+// Each node stands first among the parameters: its depth shows that the calls end.
+
+/// In a node, each lone space that is not bare is put into an element of its own.
 #[cycle(protect)]
 #[tactic(auto, unfolding(crate::specs::BareSpaces::node_things, crate::specs::Protected::node_by_answers))]
-fn node_protected(
-    alloc: Global,
-    node: HtmlNode,
-    answers: &mut Answers,
-) -> Result<HtmlNode, AllocError>
-    ensures made { IfOk result (λ made.
-        node_view made ≡ node_by_answers (answers_view answers.old) (node_view node)) }
+fn protect_node(node: &mut HtmlNode, alloc: Global, answers: &mut Answers) -> Result<(), AllocError>
+    ensures made { OnOk result
+        (node_view node.new ≡ node_by_answers (answers_view answers.old) (node_view node.old)) }
     ensures rest { OnOk result (answers_view answers.new
-        ≡ drop (space_count (node_things (node_view node))) (answers_view answers.old)) }
+        ≡ drop (space_count (node_things (node_view node.old))) (answers_view answers.old)) }
 {
     match node {
-        HtmlNode::Tag(tag) => Ok(HtmlNode::Tag(tag)),
-        HtmlNode::Text(text, span) => text_protected(alloc, text, span, answers),
-        HtmlNode::Element(element) => element_protected(alloc, element, answers),
-        HtmlNode::Frame(frame) => Ok(HtmlNode::Frame(frame)),
+        HtmlNode::Tag(_) | HtmlNode::Frame(_) => Ok(()),
+        HtmlNode::Text(text, _) => {
+            if !is_one(b' ', text.as_str()) {
+                return Ok(());
+            }
+            protect_space(alloc, node, answers)
+        }
+        HtmlNode::Element(element) => protect_element(element, alloc, answers),
     }
 }
 
+/// In an element that is looked into, each lone space that is not bare is put into one of its own.
 #[cycle(protect)]
-fn element_protected(
+fn protect_element(
+    element: &mut HtmlElement,
     alloc: Global,
-    element: HtmlElement,
     answers: &mut Answers,
-) -> Result<HtmlNode, AllocError>
-    ensures made { IfOk result (λ made. node_view made ≡ node_by_answers (answers_view answers.old)
-        (element_node (head_of element) (nodes_view element.children.items))) }
-    ensures rest { let inside = nodes_things (nodes_view element.children.items) in
+) -> Result<(), AllocError>
+    ensures made { let old = element_view element.old in let new = element_view element.new in
+        OnOk result (element_node new.0 new.1
+        ≡ node_by_answers (answers_view answers.old) (element_node old.0 old.1)) }
+    ensures rest { let old = element_view element.old in
         OnOk result (answers_view answers.new
-        ≡ drop (space_count (element_things (head_of element) inside)) (answers_view answers.old)) }
+        ≡ drop (space_count (element_things old.0 (nodes_things old.1))) (answers_view answers.old)) }
 {
-    if !is_entered(&element) {
-        return Ok(HtmlNode::Element(element));
+    if !is_entered(element) {
+        return Ok(());
     }
-    Ok(HtmlNode::Element(HtmlElement {
-        children: nodes_protected(alloc, element.children, answers)?,
-        ..element
-    }))
+    protect_nodes(&mut element.children, alloc, answers)
 }
 
+/// In nodes, each lone space that is not bare is put into an element of its own.
 #[cycle(protect)]
-fn nodes_protected(
+fn protect_nodes(
+    nodes: &mut [HtmlNode],
     alloc: Global,
-    nodes: Vec<HtmlNode>,
     answers: &mut Answers,
-) -> Result<Vec<HtmlNode>, AllocError>
-    ensures made { IfOk result (λ made. nodes_view made.items
-        ≡ nodes_by_answers (answers_view answers.old) (nodes_view nodes.items)) }
+) -> Result<(), AllocError>
+    ensures made { OnOk result
+        (nodes_view nodes.new ≡ nodes_by_answers (answers_view answers.old) (nodes_view nodes.old)) }
     ensures rest { OnOk result (answers_view answers.new
-        ≡ drop (space_count (nodes_things (nodes_view nodes.items))) (answers_view answers.old)) }
+        ≡ drop (space_count (nodes_things (nodes_view nodes.old))) (answers_view answers.old)) }
 {
-    let mut made = Vec::with_capacity(alloc, nodes.len())?;
-    for node in nodes {
-        made.push(node_protected(alloc, node, answers)?)?;
+    for node in nodes.iter_mut() {
+        protect_node(node, alloc, answers)?;
     }
-    Ok(made)
+    Ok(())
 }
 
 /// The nodes, in which each lone space that is not bare stands in a `span` that keeps it, also
 /// inside the elements that are looked into (see [`crate::bare_spaces`]). It fails only where an
 /// allocation does.
 ///
-/// Cost: grows with the number of nodes that are looked at; each is moved once, if any space is not
-/// bare.
-pub fn protect_spaces(alloc: Global, nodes: Vec<HtmlNode>) -> Result<Vec<HtmlNode>, AllocError>
+/// Cost: grows with the number of nodes that are looked at. Each is changed where it stands.
+pub fn protect_spaces(alloc: Global, mut nodes: Vec<HtmlNode>) -> Result<Vec<HtmlNode>, AllocError>
     ensures { IfOk result (λ made.
         nodes_view made.items ≡ protected_nodes (nodes_view nodes.items)) }
 {
@@ -142,5 +145,6 @@ pub fn protect_spaces(alloc: Global, nodes: Vec<HtmlNode>) -> Result<Vec<HtmlNod
         return Ok(nodes);
     }
     let mut answers = Answers { bare, next: 0 };
-    nodes_protected(alloc, nodes, &mut answers)
+    protect_nodes(&mut nodes, alloc, &mut answers)?;
+    Ok(nodes)
 }

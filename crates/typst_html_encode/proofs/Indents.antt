@@ -31,19 +31,19 @@ ascii_from (c ∷ cs) h =
 pub line_ascii : IsAscii LINE.now
 line_ascii = ascii_from LINE.now refl
 
-pub line_length : length LINE.now ≡ 65
+pub line_length : length LINE.now ≡ 129
 line_length = refl
 
 -- the spaces of a few levels, and an indent of so many
-pub few_levels : (n : ℕ) → n ≤ 32 → slice_range LINE.now 1 (1 + 2 * n) ≡ spaces n
+pub few_levels : (n : ℕ) → n ≤ 64 → slice_range LINE.now 1 (1 + 2 * n) ≡ spaces n
 few_levels n h = (bytes_eq-Decides (slice_range LINE.now 1 (1 + 2 * n)) (spaces n)).0
-    (agree_below_at (λ k. bytes_eq (slice_range LINE.now 1 (1 + 2 * k)) (spaces k)) (λ k. true) 33 n
+    (agree_below_at (λ k. bytes_eq (slice_range LINE.now 1 (1 + 2 * k)) (spaces k)) (λ k. true) 65 n
     refl (omega arith))
 
-pub short_line : (n : ℕ) → n ≤ 32 → slice_range LINE.now 0 (1 + 2 * n) ≡ indent n
+pub short_line : (n : ℕ) → n ≤ 64 → slice_range LINE.now 0 (1 + 2 * n) ≡ indent n
 unfolding indent
 short_line n h = (bytes_eq-Decides (slice_range LINE.now 0 (1 + 2 * n)) (indent n)).0
-    (agree_below_at (λ k. bytes_eq (slice_range LINE.now 0 (1 + 2 * k)) (indent k)) (λ k. true) 33 n
+    (agree_below_at (λ k. bytes_eq (slice_range LINE.now 0 (1 + 2 * k)) (indent k)) (λ k. true) 65 n
     refl (omega arith))
 
 -- some levels, and those that are left

@@ -30,3 +30,14 @@ pub begun_more : (b : Bool) (ls : List (List ℕ)) (l : List ℕ) → true ≡ (
 begun_more true ls l = refl
 begun_more false [] l = refl
 begun_more false (x ∷ xs) l = refl
+
+-- what is asked last may be asked first
+pub last_first : (a b c d : Bool) → (d || (a || (b || c))) ≡ (a || (b || (c || d)))
+last_first true b c true = refl
+last_first true b c false = refl
+last_first false true c true = refl
+last_first false true c false = refl
+last_first false false true true = refl
+last_first false false true false = refl
+last_first false false false true = refl
+last_first false false false false = refl

@@ -1,12 +1,12 @@
 -- Stretches of a text that are written as they are.
-use Rattle.std.proofs.Common.{◌≡◌, ℕ, ◌<◌, ◌-◌, length, take, Bool, true, false, not, ◌&&◌, List, [], ◌∷◌, ◌++◌, arith, refl, ap, ◌∙◌, sym, chars, append-nil, append_assoc}
+use Rattle.std.proofs.Common.{◌≡◌, ℕ, ◌+◌, ◌<◌, ◌≤◌, ◌-◌, length, take, get_or, subst, Bool, true, false, not, ◌&&◌, List, [], ◌∷◌, ◌++◌, arith, refl, ap, ◌∙◌, sym, chars, append-nil, append_assoc}
 use Rattle.std.proofs.lemmas.Bool.{agree_below_at, and_from, and_parts, not-true}
 use Rattle.std.proofs.lemmas.Bool.Decides.{nat_tests}
-use Rattle.std.proofs.lemmas.List.{length-append}
+use Rattle.std.proofs.lemmas.List.{length-append, take_more}
 use Rattle.std.proofs.Math.Seq.{take-append_seam}
-use Rattle.std.proofs.lemmas.Str.{IsUtf8-nil, IsUtf8-append, IsUtf8-encode, IsUtf8-from_ascii, chars-IsAscii, chars-append, chars-nil, chars_past_char, scalars-chars}
+use Rattle.std.proofs.lemmas.Str.{IsCharBoundary-after_ascii, IsUtf8-nil, IsUtf8-append, IsUtf8-encode, IsUtf8-from_ascii, chars-IsAscii, chars-append, chars-nil, chars_past_char, scalars-chars}
 use Rattle.std.proofs.lemmas.Str.Ascii.{IsAscii-nil, IsAscii-cons}
-use Rattle.std.specs.Str.{IsUtf8, IsAscii}
+use Rattle.std.specs.Str.{IsUtf8, IsAscii, IsCharBoundary}
 use Rattle.html_names.specs.Characters.{all}
 use Rattle.typst_html_encode.specs.ExportFaults.{is_bad, is_reference, text_faults}
 use Rattle.typst_html_encode.specs.PlainStretches.{is_common, is_plain, PassesCommon, PassesPlain}
@@ -145,3 +145,33 @@ passes_common e text rest left o h more u =
     let ascii = common_ascii more.front more.common in
     passes_more e text rest more.front left h more.split (IsUtf8-from_ascii more.front ascii) u
     (ap (all (is_plain e)) (chars-IsAscii more.front ascii) ∙ common_all e o more.front more.common)
+
+-- the bytes up to a place are common characters
+pub record Passed (text : List ℕ) (at : ℕ) : Type 0 where
+  pub cut : IsCharBoundary text at
+  pub common : all is_common (take at text) ≡ true
+
+pub passed_one : (text : List ℕ) (at : ℕ) → IsUtf8 text → at < length text →
+    is_common (get_or text at 0) ≡ true → Passed text at → Passed text (at + 1)
+passed_one text at u within h passed = record {
+  cut = IsCharBoundary-after_ascii text at u within (common_small (get_or text at 0) h);
+  common = ap (all is_common) (take_more text at 0 within)
+      ∙ all_append is_common (take at text) (get_or text at 0 ∷ []) passed.common
+      (and_from (is_common (get_or text at 0)) true h refl);
+}
+
+pub passed_four : (text : List ℕ) (at : ℕ) → IsUtf8 text → at + 4 ≤ length text →
+    (is_common (get_or text at 0) && (is_common (get_or text (at + 1) 0)
+    && (is_common (get_or text (at + 2) 0) && is_common (get_or text (at + 3) 0)))) ≡ true →
+    Passed text at → Passed text (at + 4)
+passed_four text at u within h passed =
+    let first = and_parts _ _ h in
+    let second = and_parts _ _ first.1 in
+    let last = and_parts _ _ second.1 in
+    let one = passed_one text at u (omega (arith, within)) first.0 passed in
+    let two = subst (Passed text) {x = at + 1 + 1} {y = at + 2} (omega arith)
+    (passed_one text (at + 1) u (omega (arith, within)) second.0 one) in
+    let three = subst (Passed text) {x = at + 2 + 1} {y = at + 3} (omega arith)
+    (passed_one text (at + 2) u (omega (arith, within)) last.0 two) in
+    subst (Passed text) {x = at + 3 + 1} {y = at + 4} (omega arith)
+    (passed_one text (at + 3) u (omega (arith, within)) last.1 three)

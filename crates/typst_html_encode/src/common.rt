@@ -1,6 +1,6 @@
 //! Stretches of the characters that most texts are made of.
 
-ghost use Rattle.std.specs.Prelude.{◌≡◌};
+ghost use Rattle.std.specs.Prelude.{◌≡◌, ◌+◌, ◌≤◌, ◌&&◌, get_or, length};
 ghost use Rattle.typst_html_encode.specs.PlainStretches.{is_common, PassesCommon};
 
 /// 1 at each byte that is a common character.
@@ -22,12 +22,29 @@ fn is_common(byte: u8) -> bool
     COMMON[byte as usize] != 0
 }
 
-/// The text from its first byte on that is no common character.
+/// Whether the four bytes from that place on are common characters.
+fn are_common(bytes: &[u8], at: usize) -> bool
+    requires { at + 4 ≤ length bytes.now }
+    ensures { result ≡ (is_common (get_or bytes.now at 0)
+        && (is_common (get_or bytes.now (at + 1) 0)
+        && (is_common (get_or bytes.now (at + 2) 0)
+        && is_common (get_or bytes.now (at + 3) 0)))) }
+{
+    is_common(bytes[at])
+        && is_common(bytes[at + 1])
+        && is_common(bytes[at + 2])
+        && is_common(bytes[at + 3])
+}
+
+/// The text from its first byte on that is no common character. Four bytes are tested at a time.
 pub(crate) fn past_common(text: &str) -> &str
     ensures { PassesCommon text.now result.now }
 {
     let bytes = text.as_bytes();
     let mut at = 0;
+    while bytes.len() - at >= 4 && are_common(bytes, at) {
+        at += 4;
+    }
     while at < bytes.len() && is_common(bytes[at]) {
         at += 1;
     }

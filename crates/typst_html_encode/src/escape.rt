@@ -143,10 +143,13 @@ pub(crate) fn write_text(
         (escaped_text escaping (chars text.now))
         (text_faults escaping span.0 (chars text.now)) }
 {
-    let mut left = write_plain(out, escaping, text)?.chars();
-    while let Some(c) = left.next() {
+    let mut rest = text;
+    loop {
+        let mut left = write_plain(out, escaping, rest)?.chars();
+        let Some(c) = left.next() else {
+            return Ok(());
+        };
         write_char(out, escaping, c, span)?;
-        left = write_plain(out, escaping, left.as_str())?.chars();
+        rest = left.as_str();
     }
-    Ok(())
 }

@@ -8,14 +8,18 @@ use html_names::output::Output;
 use std::alloc::AllocError;
 
 /// A line feed, and the spaces of `MOST_LEVELS` levels.
-const LINE: &str = "\n                                                                ";
+const LINE: &str = concat!(
+    "\n",
+    "                                                                ",
+    "                                                                "
+);
 
 /// How many levels the spaces of `LINE` are for.
-const MOST_LEVELS: usize = 32;
+const MOST_LEVELS: usize = 64;
 
 /// The first levels of an indent, as many as `LINE` has.
 fn first_levels(level: usize) -> usize
-    ensures fits { result ≤ 32 }
+    ensures fits { result ≤ 64 }
     ensures within { result ≤ level }
     ensures moves { 0 < level → 0 < result }
 {
@@ -24,7 +28,7 @@ fn first_levels(level: usize) -> usize
 
 /// The spaces of a few levels.
 fn few_spaces(levels: usize) -> &'static str
-    requires { levels ≤ 32 }
+    requires { levels ≤ 64 }
     ensures { result.now ≡ spaces levels }
 {
     &LINE[1..1 + 2 * levels]
@@ -32,7 +36,7 @@ fn few_spaces(levels: usize) -> &'static str
 
 /// A line feed, and the spaces of a few levels.
 fn short_indent(levels: usize) -> &'static str
-    requires { levels ≤ 32 }
+    requires { levels ≤ 64 }
     ensures { result.now ≡ indent levels }
 {
     &LINE[..1 + 2 * levels]

@@ -104,7 +104,7 @@ fn shows_as_block(head: &ElementHead) -> bool
 }
 
 /// Whether the element wants lines of its own.
-#[tactic(auto, unfolding(html_names::specs::Tables::known_tags, crate::specs::Layout::wants_pretty_around))]
+#[tactic(auto, unfolding(html_names::specs::Tables::known_tags, crate::specs::Layout::wants_pretty_around), using(crate::proofs::Layouts::last_first))]
 fn wants_pretty_around(head: &ElementHead) -> bool
     ensures { result ≡ wants_pretty_around (head_view head.now) }
 {
@@ -112,10 +112,10 @@ fn wants_pretty_around(head: &ElementHead) -> bool
     if *tag == tag::mathml::math {
         return shows_as_block(head);
     }
-    tag::mathml::is_mathml(tag)
+    allows_pretty_inside(head)
+        || tag::mathml::is_mathml(tag)
         || *tag == tag::pre
         || tag::is_metadata_content(tag)
-        || allows_pretty_inside(head)
 }
 
 /// Whether a node wants pretty writing: a frame, or an element that wants lines of its own.

@@ -1,76 +1,82 @@
-use Rattle.std.proofs.Common.{◌≡◌, ◌∙◌, ◌∷◌, length, sym, ap, arith, drop}
-use Rattle.std.specs.Vec.Iter.{into_iter_items}
-use Rattle.std.proofs.lemmas.List.{nil_from_length}
+use Rattle.std.proofs.Common.{◌≡◌, ◌<◌, ◌≤◌, ◌++◌, ◌∙◌, length, take, drop, sym, ap, refl, arith}
+use Rattle.std.proofs.lemmas.Grind.{common_steps}
+use Rattle.std.proofs.lemmas.List.{drop_all, take_all}
+use Rattle.std.proofs.lemmas.Result.{on_ok_weaker}
 use Rattle.html_dom_tree.specs.Tree.{element_node}
-use Rattle.html_dom_tree.specs.Views.{head_of, nodes_view}
+use Rattle.html_dom_tree.specs.Views.{element_view, nodes_view}
 use Rattle.html_flow_convert.specs.AnswerLists.{answers_view}
-use Rattle.html_flow_convert.specs.Protected.{space_count}
-use Rattle.html_flow_convert.proofs.NodeViews.{view-Element}
-use Rattle.html_flow_convert.proofs.Protecting.{shut_element, open_element, protect_step, protect_end}
+use Rattle.html_flow_convert.specs.BareSpaces.{nodes_things}
+use Rattle.html_flow_convert.specs.Protected.{space_count, nodes_by_answers}
+use Rattle.html_flow_convert.proofs.Protecting.{shut_element, open_element, protect_in_place, protect_end}
 use Rattle.html_flow_convert.proofs.protect.+protect.Goals as goal
 
-pub element_protected-returns-then-not-is_entered-clause-made : goal.element_protected-returns-then-not-is_entered-clause-made
-element_protected-returns-then-not-is_entered-clause-made t c =
-    let e = c.args.element in
-    view-Element e
-    ∙ (shut_element (head_of e) (nodes_view e.children.items) (answers_view c.args.answers.now)
+pub protect_element-returns-then-not-is_entered-clause-made : goal.protect_element-returns-then-not-is_entered-clause-made
+protect_element-returns-then-not-is_entered-clause-made t c =
+    let e = element_view c.args.element.now in
+    (shut_element e.0 e.1 (answers_view c.args.answers.now)
     (sym c.is_entered.ensures ∙ c.if-not-is_entered.true)).0
 
-pub element_protected-returns-then-not-is_entered-clause-rest : goal.element_protected-returns-then-not-is_entered-clause-rest
-element_protected-returns-then-not-is_entered-clause-rest t c =
-    let e = c.args.element in
-    (shut_element (head_of e) (nodes_view e.children.items) (answers_view c.args.answers.now)
+pub protect_element-returns-then-not-is_entered-clause-rest : goal.protect_element-returns-then-not-is_entered-clause-rest
+protect_element-returns-then-not-is_entered-clause-rest t c =
+    let e = element_view c.args.element.now in
+    (shut_element e.0 e.1 (answers_view c.args.answers.now)
     (sym c.is_entered.ensures ∙ c.if-not-is_entered.true)).1
 
-pub element_protected-returns-clause-made : goal.element_protected-returns-clause-made
-element_protected-returns-clause-made t c =
-    let e = c.args.element in
-    view-Element _
-    ∙ (ap (element_node (head_of e)) c.in_ok-nodes_protected.ensures.made
-    ∙ (open_element (head_of e) (nodes_view e.children.items) (answers_view c.args.answers.now)
-    (sym c.is_entered.ensures ∙ c.if-not-is_entered.false)).0)
+pub protect_element-returns-clause-made : goal.protect_element-returns-clause-made
+protect_element-returns-clause-made t c =
+    let e = element_view c.args.element.now in
+    let old = c.args.element.now.children in
+    let new = c.protect_nodes.new.nodes in
+    let bs = answers_view c.args.answers.now in
+    let opened = open_element e.0 e.1 bs (sym c.is_entered.ensures ∙ c.if-not-is_entered.false) in
+    let same : c.deref_mut.result.now ≡ old.items = c.deref_mut.ensures.value in
+    let kept : take old.len (new ++ drop (length new) old.items) ≡ new
+    = grind (arith, common_steps) in
+    on_ok_weaker c.protect_nodes.result
+    (λ made. ap (λ ns. element_node e.0 (nodes_view ns)) kept
+    ∙ (ap (element_node e.0) (made ∙ ap (λ ns. nodes_by_answers bs (nodes_view ns)) same)
+    ∙ opened.0))
+    c.protect_nodes.ensures.made
 
-pub element_protected-returns-clause-rest : goal.element_protected-returns-clause-rest
-element_protected-returns-clause-rest t c =
-    let e = c.args.element in
-    c.in_ok-nodes_protected.ensures.rest
-    ∙ ap (λ ts. drop (space_count ts) (answers_view c.args.answers.now))
-    (open_element (head_of e) (nodes_view e.children.items) (answers_view c.args.answers.now)
-    (sym c.is_entered.ensures ∙ c.if-not-is_entered.false)).1
+pub protect_element-returns-clause-rest : goal.protect_element-returns-clause-rest
+protect_element-returns-clause-rest t c =
+    let e = element_view c.args.element.now in
+    let bs = answers_view c.args.answers.now in
+    let opened = open_element e.0 e.1 bs (sym c.is_entered.ensures ∙ c.if-not-is_entered.false) in
+    let same : c.deref_mut.result.now ≡ c.args.element.now.children.items
+    = c.deref_mut.ensures.value in
+    on_ok_weaker c.protect_nodes.result
+    (λ rest. rest ∙ (ap (λ ns. drop (space_count (nodes_things (nodes_view ns))) bs) same
+    ∙ ap (λ ts. drop (space_count ts) bs) opened.1))
+    c.protect_nodes.ensures.rest
 
-pub nodes_protected-loop-node-preserved : goal.nodes_protected-loop-node-preserved
-nodes_protected-loop-node-preserved t c =
+pub protect_nodes-loop-node-preserved : goal.protect_nodes-loop-node-preserved
+protect_nodes-loop-node-preserved t c =
     let at = c.loop-node in
-    let n = c.in-Some.node in
-    let items = into_iter_items at.node-iterator in
-    let others = into_iter_items c.next.new.self in
-    let steps : items ≡ n ∷ others = c.in-Some.ensures.steps.0 in
-    let gone = c.in-Some.ensures.steps.1 in
-    let short = ap length steps in
-    let long = at.invariant.long in
-    let on = protect_step at.made.items c.push.new.self.items items others
-    c.in_ok-node_protected.field-0 n (answers_view at.answers)
-    (answers_view c.node_protected.new.answers) _ _ steps c.in_ok-push.ensures.items
-    c.in_ok-node_protected.ensures.made c.in_ok-node_protected.ensures.rest
+    let h : at.node-index < length at.nodes = grind (arith, common_steps) in
+    let on = protect_in_place at.nodes _ at.node-index c.node-item.result c.protect_node.new.node
+    (answers_view at.answers) (answers_view c.protect_node.new.answers) _ _ h refl
+    c.in_ok-protect_node.ensures.made c.in_ok-protect_node.ensures.rest
     at.invariant.told at.invariant.rest in
     record {
+      unvisited = (grind (arith, common_steps), λ k d le. grind (arith, common_steps));
       told = on.0;
       rest = on.1;
-      long = omega (arith, gone, short, long);
     }
 
-pub nodes_protected-returns-clause-made : goal.nodes_protected-returns-clause-made
-nodes_protected-returns-clause-made t c =
+pub protect_nodes-returns-clause-made : goal.protect_nodes-returns-clause-made
+protect_nodes-returns-clause-made t c =
     let at = c.loop-node in
-    let items = into_iter_items at.node-iterator in
-    let empty = nil_from_length items (sym at.invariant.long ∙ c.in-None.ensures.steps.0) in
-    (protect_end at.made.items items (answers_view at.answers) _ _ empty at.invariant.told
-    at.invariant.rest).0
+    let i = at.node-index in
+    let h : length at.nodes ≤ i = grind (arith, common_steps) in
+    ap nodes_view (sym (take_all i at.nodes h))
+    ∙ (protect_end (take i at.nodes) (drop i at.nodes) (answers_view at.answers) _ _
+    (drop_all i at.nodes h) at.invariant.told at.invariant.rest).0
 
-pub nodes_protected-returns-clause-rest : goal.nodes_protected-returns-clause-rest
-nodes_protected-returns-clause-rest t c =
+pub protect_nodes-returns-clause-rest : goal.protect_nodes-returns-clause-rest
+protect_nodes-returns-clause-rest t c =
     let at = c.loop-node in
-    let items = into_iter_items at.node-iterator in
-    let empty = nil_from_length items (sym at.invariant.long ∙ c.in-None.ensures.steps.0) in
-    (protect_end at.made.items items (answers_view at.answers) _ _ empty at.invariant.told
-    at.invariant.rest).1
+    let i = at.node-index in
+    let h : length at.nodes ≤ i = grind (arith, common_steps) in
+    (protect_end (take i at.nodes) (drop i at.nodes) (answers_view at.answers) _ _
+    (drop_all i at.nodes h) at.invariant.told at.invariant.rest).1

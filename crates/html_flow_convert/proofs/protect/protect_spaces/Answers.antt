@@ -1,9 +1,10 @@
-use Rattle.std.proofs.Common.{◌≡◌, ◌∙◌, ap, sym}
+use Rattle.std.proofs.Common.{◌≡◌, ◌++◌, ◌∙◌, ap, sym, take, drop, length, arith}
+use Rattle.std.proofs.lemmas.Grind.{common_steps}
 use Rattle.std.specs.List.{list_all}
 use Rattle.html_dom_tree.specs.Views.{nodes_view}
 use Rattle.html_flow_convert.specs.BareSpaces.{bare_spaces}
-use Rattle.html_flow_convert.specs.Protected.{nodes_by_answers, protected_nodes}
-use Rattle.html_flow_convert.proofs.Protecting.{kept_all, ok_by}
+use Rattle.html_flow_convert.specs.Protected.{nodes_by_answers}
+use Rattle.html_flow_convert.proofs.Protecting.{kept_all}
 use Rattle.html_flow_convert.proofs.protect.protect_spaces.Goals as goal
 
 pub returns-then-are_bare : goal.returns-then-are_bare
@@ -17,8 +18,12 @@ returns-then-are_bare c =
 pub returns : goal.returns
 returns c =
     let ns = nodes_view c.args.nodes.items in
+    let new = c.protect_nodes.new.nodes in
     let asked = c.in_ok-bare.ensures
     ∙ ap (λ ns. bare_spaces (nodes_view ns)) c.deref.ensures.value in
-    ok_by _ (λ made. nodes_view made.items ≡ protected_nodes ns) c.nodes_protected.result
-    (λ made told. told ∙ ap (λ bs. nodes_by_answers bs ns) asked)
-    c.nodes_protected.ensures.made
+    let kept : take c.args.nodes.len (new ++ drop (length new) c.args.nodes.items) ≡ new
+    = grind (arith, common_steps) in
+    ap nodes_view kept ∙ (c.in_ok-protect_nodes.ensures.made
+    ∙ (ap (λ ns. nodes_by_answers c.in_ok-bare.bare.items (nodes_view ns))
+    c.deref_mut.ensures.value
+    ∙ ap (λ bs. nodes_by_answers bs ns) asked))

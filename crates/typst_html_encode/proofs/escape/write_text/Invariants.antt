@@ -1,18 +1,19 @@
-use Rattle.std.proofs.Common.{◌≡◌, ◌++◌, IsUtf8, chars, length}
-use Rattle.std.specs.Str.Iter.{chars_rest}
+use Rattle.std.proofs.Common.{◌≡◌, ◌++◌, chars, length}
+use denote.Text.{Utf8}
+use denote.Shadow.{shadow}
 use Rattle.typst_html_encode.specs.Text.{escaped_text}
 use Rattle.typst_html_encode.specs.ExportFaults.{text_faults}
 use Rattle.typst_html_encode.proofs.escape.write_text.Given as goal
 
-abbrev pub invariant-loop-c : goal.invariant-loop-c
-invariant-loop-c l =
-    let left = chars (chars_rest l.left) in
+abbrev pub invariant-loop-left : goal.invariant-loop-left
+invariant-loop-left l =
+    let left = chars l.rest in
     let all = chars l.fn.text in
     record {
-      utf8 : IsUtf8 (chars_rest l.left);
+      is_text : shadow (Utf8 l.rest);
       told : l.out ++ escaped_text l.escaping left ≡ l.fn.out ++ escaped_text l.escaping all;
       clean : text_faults l.escaping l.span.0 left ≡ text_faults l.escaping l.span.0 all;
     }
 
-abbrev pub decreases-loop-c : goal.decreases-loop-c
-decreases-loop-c l = length (chars_rest l.left)
+abbrev pub decreases-loop-left : goal.decreases-loop-left
+decreases-loop-left l = length l.rest
