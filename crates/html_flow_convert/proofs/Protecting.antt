@@ -10,7 +10,7 @@ use Rattle.html_dom_tree.specs.Views.{node_view, nodes_of, nodes_view}
 use Rattle.html_dom_tree.specs.declared.node.HtmlNode.{HtmlNode}
 use Rattle.html_dom_flat.proofs.Flats.{joined, joined_none}
 use Rattle.html_flow_convert.specs.Nodes.{is_one}
-use Rattle.html_flow_convert.specs.BareSpaces.{Thing, border, visible, space, text_things, element_things, node_things, nodes_things, is_entered, is_border, bare_after, bare_spaces}
+use Rattle.html_flow_convert.specs.BareSpaces.{Thing, border, visible, space, element_things, node_things, nodes_things, is_entered, is_border, bare_after, bare_spaces}
 use Rattle.html_flow_convert.specs.Protected.{space_count, is_bare, text_by_answer, node_by_answers, nodes_by_answers, protected_nodes}
 
 -- how many answers are used
@@ -49,16 +49,6 @@ pub opened_things : (h : Head) (inside : List Thing) → is_entered h ≡ true �
     element_things h inside ≡ inside
 unfolding is_entered
 opened_things h inside e = opened_by (is_border h) (is_replaced h.name) h.pre_span inside e
-
--- a text that is no lone space uses none
-not_one : (one ignorable : Bool) → one ≡ false →
-    space_count (if one then space ∷ [] else (if ignorable then [] else visible ∷ [])) ≡ 0
-not_one true ignorable e = cc
-not_one false true e = refl
-not_one false false e = refl
-
-pub plain_count : (s : List ℕ) → is_one 32 s ≡ false → space_count (text_things s) ≡ 0
-plain_count s e = not_one (is_one 32 s) (list_all is_ignorable s) e
 
 -- each space has an answer
 answer_count : (before : Option Thing) (ts : List Thing) →
@@ -119,21 +109,6 @@ pub kept_all : (ns : NodesView) → are_bare (bare_spaces ns) ≡ true → ns �
 kept_all ns e =
     let count = answer_count None (nodes_things ns) in
     sym (kept_nodes ns (bare_spaces ns) e (omega (arith, count)))
-
--- one text
-
-pub plain_text : (s : List ℕ) (span : ℕ) (bs : List Bool) → is_one 32 s ≡ false →
-    (text_node s span ≡ node_by_answers bs (text_node s span))
-    × (bs ≡ drop (space_count (text_things s)) bs)
-unfolding node_by_answers
-plain_text s span bs e = (rw e refl, rw (plain_count s e) refl)
-
-pub lone_space : (s : List ℕ) (span : ℕ) (bs : List Bool) (b : Bool) → is_one 32 s ≡ true →
-    b ≡ is_bare bs →
-    (text_by_answer b s span ≡ node_by_answers bs (text_node s span))
-    × (drop 1 bs ≡ drop (space_count (text_things s)) bs)
-unfolding node_by_answers
-lone_space s span bs b e is = (rw (e, is) refl, rw e refl)
 
 -- one element
 
