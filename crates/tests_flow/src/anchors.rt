@@ -52,6 +52,22 @@ pub(crate) fn document_text(rt: &impl Abort, alloc: Global, body: &str) -> Strin
     text.expect(rt, "memory for a text")
 }
 
+/// A text in one of two elements that start at once.
+const IN_INNER: &str = r#"[["start",1,1],["start",2,2],["text","x"],["end",2],["end",1]]"#;
+
+/// A text behind the inner one.
+const IN_OUTER: &str = r#"[["start",1,1],["start",2,2],["end",2],["text","x"],["end",1]]"#;
+
+/// A text whose label is the id of what stands before it.
+const LABELLED: &str =
+    r#"[["el","p",[["id","sec"]],[]],["start",1,1,"sec"],["text","x"],["end",1]]"#;
+
+/// An element that starts within others.
+const NESTED: &str = r#"[["el","p",[],[["text","a"],["el","em",[],[["start",9]]]]]]"#;
+
+/// An element that starts before one with an id.
+const BEFORE_ELEMENT: &str = r#"[["start",5,5],["el","p",[["id","q"]],[]]]"#;
+
 /// Items, and what stands in the body of their document.
 static ROWS: [(&str, &str); 8] = [
     (
@@ -66,26 +82,11 @@ static ROWS: [(&str, &str); 8] = [
         r#"[["el","p",[["id","loc-1"]],[]],["start",9,9],["text","x"],["end",9]]"#,
         r#"<p id="loc-1"></p><span id="loc-2">x</span>"#,
     ),
-    (
-        r#"[["start",1,1],["start",2,2],["text","x"],["end",2],["end",1]]"#,
-        r#"<span id="loc-1">x</span>"#,
-    ),
-    (
-        r#"[["start",1,1],["start",2,2],["end",2],["text","x"],["end",1]]"#,
-        r#"<span id="loc-1"></span>x"#,
-    ),
-    (
-        r#"[["start",5,5],["el","p",[["id","q"]],[]]]"#,
-        r#"<p id="q"></p>"#,
-    ),
-    (
-        r#"[["el","p",[],[["text","a"],["el","em",[],[["start",9]]]]]]"#,
-        "<p>a<em></em></p>",
-    ),
-    (
-        r#"[["el","p",[["id","sec"]],[]],["start",1,1,"sec"],["text","x"],["end",1]]"#,
-        r#"<p id="sec"></p><span id="sec-2">x</span>"#,
-    ),
+    (IN_INNER, r#"<span id="loc-1">x</span>"#),
+    (IN_OUTER, r#"<span id="loc-1"></span>x"#),
+    (BEFORE_ELEMENT, r#"<p id="q"></p>"#),
+    (NESTED, "<p>a<em></em></p>"),
+    (LABELLED, r#"<p id="sec"></p><span id="sec-2">x</span>"#),
 ];
 
 fn assert_row(rt: &impl Abort, alloc: Global, row: &(&str, &str)) {
@@ -116,32 +117,12 @@ fn assert_anchor(rt: &impl Abort, document: &HtmlDocument, location: u64, wanted
 
 /// Items, a location, and its anchor.
 static ANCHORS: [(&str, u64, &str); 6] = [
-    (
-        r#"[["start",1,1],["start",2,2],["text","x"],["end",2],["end",1]]"#,
-        1,
-        "loc-1",
-    ),
-    (
-        r#"[["start",1,1],["start",2,2],["text","x"],["end",2],["end",1]]"#,
-        2,
-        "loc-1",
-    ),
-    (
-        r#"[["start",1,1],["start",2,2],["end",2],["text","x"],["end",1]]"#,
-        1,
-        "loc-1",
-    ),
-    (
-        r#"[["start",1,1],["start",2,2],["end",2],["text","x"],["end",1]]"#,
-        2,
-        "loc-1",
-    ),
-    (r#"[["start",5,5],["el","p",[["id","q"]],[]]]"#, 5, "q"),
-    (
-        r#"[["el","p",[["id","sec"]],[]],["start",1,1,"sec"],["text","x"],["end",1]]"#,
-        1,
-        "sec-2",
-    ),
+    (IN_INNER, 1, "loc-1"),
+    (IN_INNER, 2, "loc-1"),
+    (IN_OUTER, 1, "loc-1"),
+    (IN_OUTER, 2, "loc-1"),
+    (BEFORE_ELEMENT, 5, "q"),
+    (LABELLED, 1, "sec-2"),
 ];
 
 fn assert_anchors(rt: &impl Abort, alloc: Global) {
@@ -159,8 +140,7 @@ fn anchors_of_locations(rt: HostRuntime) {
 /// A path goes down from the root, and counts texts.
 #[test]
 fn paths_of_locations(rt: HostRuntime) {
-    let json = r#"[["el","p",[],[["text","a"],["el","em",[],[["start",9]]]]]]"#;
-    let document = document_of(&rt, rt.alloc(), &items_of(&rt, rt.alloc(), json));
+    let document = document_of(&rt, rt.alloc(), &items_of(&rt, rt.alloc(), NESTED));
     let position = document.introspector().position(Location(9));
     assert!(rt; position.expect(&rt, "a position").path() == [1, 0, 1, 0].as_slice());
 }

@@ -1,6 +1,6 @@
 //! What tests make texts and names by, and assert by.
 
-use html_names::HtmlTag;
+use html_names::{HtmlAttr, HtmlTag};
 use std::alloc::Global;
 use std::process::Abort;
 
@@ -17,4 +17,9 @@ pub(crate) fn text_of(rt: &impl Abort, alloc: Global, text: &str) -> String {
 /// The tag of that name.
 pub(crate) fn tag_of(rt: &impl Abort, alloc: Global, name: &str) -> HtmlTag {
     HtmlTag::intern(alloc, name).expect(rt, "the name of a tag")
+}
+
+/// The attribute of that name.
+pub(crate) fn attr_of(rt: &impl Abort, alloc: Global, name: &str) -> HtmlAttr {
+    HtmlAttr::intern(alloc, name).expect(rt, "the name of an attribute")
 }

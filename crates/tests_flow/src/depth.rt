@@ -18,6 +18,9 @@ fn refused_at(answer: Result<Vec<HtmlNode>, FlowFault>) -> u64 {
     }
 }
 
+/// A box in an element in a block, and a block beside.
+const NESTED: &str = r#"[["block",[["el","em",[],[["box",[]]]]]],["block",[]]]"#;
+
 /// Items, their depth, the limit, and the span at which they are refused, or 0.
 static ROWS: [(&str, usize, usize, u64); 7] = [
     (r#"[["hole"],["hole"],["hole"],["el","em",[],[]]]"#, 1, 1, 4),
@@ -25,18 +28,8 @@ static ROWS: [(&str, usize, usize, u64); 7] = [
     (r#"[["el","em",[],null]]"#, 1, 1, 0),
     (r#"[["block",null],["box",null]]"#, 1, 1, 0),
     (r#"[["text","a"],["box",[]],["block",[]]]"#, 1, 1, 2),
-    (
-        r#"[["block",[["el","em",[],[["box",[]]]]]],["block",[]]]"#,
-        0,
-        2,
-        3,
-    ),
-    (
-        r#"[["block",[["el","em",[],[["box",[]]]]]],["block",[]]]"#,
-        0,
-        3,
-        0,
-    ),
+    (NESTED, 0, 2, 3),
+    (NESTED, 0, 3, 0),
 ];
 
 fn assert_row(rt: &impl Abort, alloc: Global, row: &(&str, usize, usize, u64)) {

@@ -8,7 +8,6 @@ mod given;
 mod items;
 mod names;
 mod nodes;
-mod shown;
 mod taken;
 mod texts;
 mod trees;

@@ -1,25 +1,19 @@
-//! For tests: calls that take memory are made with none, and then with a little more each time, until
-//! they succeed.
+//! For tests: a call that takes memory is made with none, and then with a little more each time, until
+//! it succeeds.
 //!
 //! ```
-//! struct Text;
-//!
-//! impl Growth for Text {
-//!     fn attempt(self, alloc: Global) -> Answer<Text> {
-//!         match String::from_str(alloc, "a text") {
-//!             Ok(text) => made(text.len() == 6),
-//!             Err(AllocError) => refused(true, Text),
-//!         }
-//!     }
-//! }
-//!
-//! let mut calls = Vec::new(alloc);
-//! calls.push(Text)?;
-//! assert_eq!(wrong_call(alloc, calls)?, None);
+//! let text = String::from_str(alloc, "a text")?;
+//! assert!(rt; refuses_lent(alloc, text, |text: &mut String| -> Result<bool, AllocError> {
+//!     Ok(text.clone()?.as_str() == "a text")
+//! }));
 //! ```
 #![tactic(auto)]
 
 mod attempts;
 mod memory;
+mod shown;
 
-pub use attempts::{Answer, Growth, made, refused, wrong_call};
+pub use attempts::{
+    refuses, refuses_copy, refuses_given, refuses_kept, refuses_lent, refuses_taken, refuses_tested,
+};
+pub use shown::{is_shown, shown_of};

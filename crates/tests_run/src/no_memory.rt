@@ -2,8 +2,8 @@
 
 use crate::runs::words;
 use html_tool_run::{Status, run};
-use std::alloc::Global;
-use tests_growth::{Answer, Growth, made, refused, wrong_call};
+use std::alloc::{AllocError, Global};
+use tests_growth::refuses_lent;
 
 /// How many bytes are written at most.
 const ROOM: usize = 4096;
@@ -18,29 +18,18 @@ const ITEMS: &str = concat!(
     r##"["start",1,2],["end",1]]],["start",2],["el","p",[],[["text","three"]]],["end",2]]"##,
 );
 
-/// A run with those words on that input, into room for all that is written.
-#[derive(Drop)]
-struct Run {
-    words: Vec<String>,
-    input: &'static str,
-    out: Vec<u8>,
-}
-
-impl Growth for Run {
-    fn attempt(self, alloc: Global) -> Answer<Run> {
-        let Run {
-            words,
-            input,
-            mut out,
-        } = self;
-        let mut reader = input.as_bytes();
-        let status = run(alloc, &mut reader, &mut out, &words);
-        let is_empty = out.is_empty();
-        match status {
-            Status::Done => made(!is_empty),
-            Status::Failed => refused(is_empty, Run { words, input, out }),
-            _ => Answer::Wrong,
-        }
+/// Whether a run with those words on that input writes, where memory does not fail.
+fn is_written(
+    alloc: Global,
+    words: &[String],
+    input: &str,
+    out: &mut Vec<u8>,
+) -> Result<bool, AllocError> {
+    let mut reader = input.as_bytes();
+    match run(alloc, &mut reader, out, words) {
+        Status::Done => Ok(!out.is_empty()),
+        Status::Failed => Err(AllocError),
+        _ => Ok(false),
     }
 }
 
@@ -55,13 +44,13 @@ static RUNS: [(&[&str], &str); 4] = [
 #[test]
 fn runs_without_memory(rt: HostRuntime) {
     let alloc = rt.alloc();
-    let mut runs = Vec::new(alloc);
     for (list, input) in RUNS {
         let words = words(&rt, alloc, list);
         let out = Vec::with_capacity(alloc, ROOM).expect(&rt, "memory for what is written");
-        runs.push(Run { words, input, out })
-            .expect(&rt, "memory for the runs");
+        assert!(rt;
+            refuses_lent(alloc, out, |out: &mut Vec<u8>| {
+                is_written(alloc, &words, input, out)
+            })
+        );
     }
-    let wrong = wrong_call(alloc, runs).expect(&rt, "memory for what is held");
-    assert!(rt; wrong.is_none());
 }

@@ -5,6 +5,12 @@ use html_names::tag::mathml::{is_mathml, is_token};
 use html_names::{HtmlTag, tag};
 use std::process::Abort;
 
+/// The names of MathML.
+const MATHML: &str =
+    "annotation annotation-xml maction math merror mfrac mi mmultiscripts mn mo mover mpadded \
+    mphantom mprescripts mroot mrow ms mspace msqrt mstyle msub msubsup msup mtable mtd \
+    mtext mtr munder munderover semantics";
+
 /// Each kind and the names of its elements.
 static KINDS: [(&str, &str); 19] = [
     (
@@ -14,18 +20,8 @@ static KINDS: [(&str, &str); 19] = [
     ("is_raw", "script style"),
     ("is_escapable_raw", "textarea title"),
     ("is_foreign_self_closing", "mprescripts mspace"),
-    (
-        "is_foreign",
-        "annotation annotation-xml maction math merror mfrac mi mmultiscripts mn mo mover mpadded \
-        mphantom mprescripts mroot mrow ms mspace msqrt mstyle msub msubsup msup mtable mtd \
-        mtext mtr munder munderover semantics",
-    ),
-    (
-        "is_mathml",
-        "annotation annotation-xml maction math merror mfrac mi mmultiscripts mn mo mover mpadded \
-        mphantom mprescripts mroot mrow ms mspace msqrt mstyle msub msubsup msup mtable mtd \
-        mtext mtr munder munderover semantics",
-    ),
+    ("is_foreign", MATHML),
+    ("is_mathml", MATHML),
     ("is_token", "mtext mi mn mo mspace ms"),
     (
         "is_metadata_content",

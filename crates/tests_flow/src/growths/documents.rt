@@ -1,8 +1,7 @@
 //! Documents: what they are made of, and anchors of links.
 
 use crate::growths::given::documents::{document_of, info_of, output_of};
-use crate::growths::given::{add, assert_growths, list_of};
-use crate::growths::shown::{is_shown, shown_of};
+use crate::growths::given::{add, list_of};
 use html_dom_document::{DocumentInfo, HtmlDocument, HtmlOutput};
 use html_dom_link::{
     create_link_anchors, dead_links, href_to, ids_are_distinct, resolve_links, with_link_anchors,
@@ -13,56 +12,62 @@ use html_names::{Refused, tag};
 use std::alloc::{AllocError, Global};
 use std::collections::BTreeSet;
 use std::process::Abort;
-use tests_growth::{Answer, Growth, made, refused};
+use tests_growth::{
+    is_shown, refuses, refuses_given, refuses_kept, refuses_taken, refuses_tested, shown_of,
+};
 
-/// The calls on documents, each with the text by which what it is called on is shown. The last one
-/// consumes a document at each attempt.
-#[derive(Drop)]
-enum DocumentCall {
-    New(HtmlOutput, DocumentInfo, (String, String)),
-    Anchors(HtmlDocument, BTreeSet<Location>, String),
-    Resolve(HtmlDocument, String),
-    WithResolved(HtmlDocument, String),
-    Dead(HtmlDocument, String),
-    Distinct(HtmlDocument, String),
-    Href,
-    WithAnchors(Vec<HtmlDocument>, BTreeSet<Location>),
-}
-
-impl Growth for DocumentCall {
-    fn attempt(self, alloc: Global) -> Answer<DocumentCall> {
-        match self {
-            DocumentCall::New(output, info, shown) => new(alloc, output, info, shown),
-            DocumentCall::Anchors(document, targets, shown) => {
-                anchors(alloc, document, targets, shown)
+#[test]
+fn made_documents(rt: HostRuntime) {
+    let alloc = rt.alloc();
+    let info = info_of(&rt, alloc);
+    let shown = shown_of(alloc, &info).expect(&rt, "memory for a text");
+    assert!(rt;
+        refuses_given(alloc, (output_of(&rt, alloc), info), |(output, info)| {
+            match HtmlDocument::new(alloc, output, info) {
+                Ok(document) => Ok(is_shown(document.info(), &shown)),
+                Err(Refused { back }) => Err(back),
             }
-            DocumentCall::Resolve(document, shown) => resolved(alloc, document, shown),
-            DocumentCall::WithResolved(document, shown) => with_resolved(alloc, document, shown),
-            DocumentCall::Dead(document, shown) => dead(alloc, document, shown),
-            DocumentCall::Distinct(document, shown) => distinct(alloc, document, shown),
-            DocumentCall::Href => href(alloc),
-            DocumentCall::WithAnchors(spares, targets) => with_anchors(alloc, spares, targets),
-        }
-    }
+        })
+    );
 }
 
-fn new(
-    alloc: Global,
-    output: HtmlOutput,
-    info: DocumentInfo,
-    shown: (String, String),
-) -> Answer<DocumentCall> {
-    match HtmlDocument::new(alloc, output, info) {
-        Ok(document) => made(is_shown(document.info(), &shown.1)),
-        Err(
-            Refused {
-                back: (output, info),
-            },
-        ) => {
-            let is_back = is_shown(&output, &shown.0) && is_shown(&info, &shown.1);
-            refused(is_back, DocumentCall::New(output, info, shown))
-        }
+/// The element that starts in a document, and the one after it.
+fn targets_of(rt: &impl Abort, alloc: Global) -> BTreeSet<Location> {
+    let mut targets = BTreeSet::new(alloc);
+    for location in [Location(1), Location(2)] {
+        targets.insert(location).expect(rt, "memory for a target");
     }
+    targets
+}
+
+/// How many attempts there are at most of the call that consumes documents: what a refused one
+/// frees is there for the next.
+const SPARES: usize = 40;
+
+/// A document for each attempt.
+fn spares_of(rt: &impl Abort, alloc: Global) -> Vec<HtmlDocument> {
+    let mut spares = Vec::new(alloc);
+    for _ in 0..SPARES {
+        add(rt, &mut spares, document_of(rt, alloc));
+    }
+    spares
+}
+
+#[test]
+fn linked_documents(rt: HostRuntime) {
+    let (alloc, targets) = (rt.alloc(), targets_of(&rt, rt.alloc()));
+    assert_kept(&rt, alloc, document_of(&rt, alloc), |document| {
+        create_link_anchors(alloc, document, &targets).map(|anchors| anchors.contains_key(&Location(
+            1,
+        )))
+    });
+    assert!(rt;
+        refuses_taken(alloc, spares_of(&rt, alloc), |document| {
+            with_link_anchors(alloc, document, &targets).map(|(_, anchors)| anchors.contains_key(
+                &Location(1)
+            ))
+        })
+    );
 }
 
 /// Whether the document is shown by that text, and knows where its element starts.
@@ -70,99 +75,38 @@ fn is_kept(document: &HtmlDocument, shown: &str) -> bool {
     is_shown(document, shown) && document.introspector().position(Location(1)).is_some()
 }
 
-fn anchors(
+/// Asserts that a call on the document is refused at first, and leaves it as it is.
+fn assert_kept<F: Fn(&mut HtmlDocument) -> Result<bool, AllocError>>(
+    rt: &impl Abort,
     alloc: Global,
-    mut document: HtmlDocument,
-    targets: BTreeSet<Location>,
-    shown: String,
-) -> Answer<DocumentCall> {
-    match create_link_anchors(alloc, &mut document, &targets) {
-        Ok(anchors) => made(anchors.contains_key(&Location(1))),
-        Err(AllocError) => {
-            let is_kept = is_kept(&document, &shown);
-            refused(is_kept, DocumentCall::Anchors(document, targets, shown))
-        }
-    }
+    document: HtmlDocument,
+    call: F,
+)
+    requires { F.IsAlwaysCallable call }
+{
+    let shown = shown_of(alloc, &document).expect(rt, "memory for a text");
+    assert!(rt; refuses_kept(alloc, document, |document| is_kept(document, &shown), call));
 }
 
-fn resolved(alloc: Global, mut document: HtmlDocument, shown: String) -> Answer<DocumentCall> {
-    match resolve_links(alloc, &mut document) {
-        Ok(()) => Answer::Made,
-        Err(AllocError) => {
-            let is_kept = is_kept(&document, &shown);
-            refused(is_kept, DocumentCall::Resolve(document, shown))
-        }
-    }
-}
-
-fn with_resolved(alloc: Global, document: HtmlDocument, shown: String) -> Answer<DocumentCall> {
+fn with_links(alloc: Global, document: HtmlDocument) -> Result<bool, HtmlDocument> {
     match with_resolved_links(alloc, document) {
-        Ok(_) => Answer::Made,
-        Err(Refused { back }) => {
-            let is_back = is_kept(&back, &shown);
-            refused(is_back, DocumentCall::WithResolved(back, shown))
-        }
+        Ok(_) => Ok(true),
+        Err(Refused { back }) => Err(back),
     }
 }
 
-fn dead(alloc: Global, document: HtmlDocument, shown: String) -> Answer<DocumentCall> {
-    match dead_links(alloc, &document) {
-        Ok(links) => made(links.len() == 1),
-        Err(AllocError) => {
-            let is_kept = is_kept(&document, &shown);
-            refused(is_kept, DocumentCall::Dead(document, shown))
-        }
-    }
-}
-
-fn distinct(alloc: Global, document: HtmlDocument, shown: String) -> Answer<DocumentCall> {
-    match ids_are_distinct(alloc, &document) {
-        Ok(distinct) => made(distinct),
-        Err(AllocError) => {
-            let is_kept = is_kept(&document, &shown);
-            refused(is_kept, DocumentCall::Distinct(document, shown))
-        }
-    }
-}
-
-fn with_anchors(
-    alloc: Global,
-    mut spares: Vec<HtmlDocument>,
-    targets: BTreeSet<Location>,
-) -> Answer<DocumentCall> {
-    let Some(document) = spares.pop() else {
-        return Answer::Wrong;
-    };
-    match with_link_anchors(alloc, document, &targets) {
-        Ok((_, anchors)) => made(anchors.contains_key(&Location(1))),
-        Err(AllocError) => Answer::Refused(DocumentCall::WithAnchors(spares, targets)),
-    }
-}
-
-/// A document is made.
-fn new_call(rt: &impl Abort, alloc: Global) -> DocumentCall {
-    let (output, info) = (output_of(rt, alloc), info_of(rt, alloc));
-    let shown = (shown_of(rt, alloc, &output), shown_of(rt, alloc, &info));
-    DocumentCall::New(output, info, shown)
-}
-
-/// The element that starts in a document, and the one after it.
-fn targets_of(rt: &impl Abort, alloc: Global) -> BTreeSet<Location> {
-    let mut targets = BTreeSet::new(alloc);
-    targets
-        .insert(Location(1))
-        .expect(rt, "memory for a target");
-    targets
-        .insert(Location(2))
-        .expect(rt, "memory for a target");
-    targets
-}
-
-/// Anchors of these are made in a document.
-fn anchors_call(rt: &impl Abort, alloc: Global) -> DocumentCall {
+/// Asserts that the call is refused at first that resolves the links of a document that it consumes.
+fn assert_resolved(rt: &impl Abort, alloc: Global) {
     let document = document_of(rt, alloc);
-    let shown = shown_of(rt, alloc, &document);
-    DocumentCall::Anchors(document, targets_of(rt, alloc), shown)
+    let shown = shown_of(alloc, &document).expect(rt, "memory for a text");
+    assert!(rt;
+        refuses_tested(
+            alloc,
+            document,
+            |document: &HtmlDocument| is_kept(document, &shown),
+            |document| with_links(alloc, document),
+        )
+    );
 }
 
 /// A document with a link that leads nowhere.
@@ -181,63 +125,22 @@ fn dead_of(rt: &impl Abort, alloc: Global) -> HtmlDocument {
     HtmlDocument::new(alloc, output, DocumentInfo::new(alloc)).expect(rt, "a document")
 }
 
-/// A document and the text by which it is shown.
-fn shown_document(rt: &impl Abort, alloc: Global) -> (HtmlDocument, String) {
-    let document = document_of(rt, alloc);
-    let shown = shown_of(rt, alloc, &document);
-    (document, shown)
-}
-
-/// Dead links of a document are listed.
-fn dead_call(rt: &impl Abort, alloc: Global) -> DocumentCall {
-    let document = dead_of(rt, alloc);
-    let shown = shown_of(rt, alloc, &document);
-    DocumentCall::Dead(document, shown)
-}
-
-/// How many attempts there are at most of the call that consumes documents: what a refused one
-/// frees is there for the next.
-const SPARES: usize = 40;
-
-/// Anchors of these are made in a document that is consumed.
-fn with_anchors_call(rt: &impl Abort, alloc: Global) -> DocumentCall {
-    let mut spares = Vec::new(alloc);
-    for _ in 0..SPARES {
-        add(rt, &mut spares, document_of(rt, alloc));
-    }
-    DocumentCall::WithAnchors(spares, targets_of(rt, alloc))
-}
-
-fn href(alloc: Global) -> Answer<DocumentCall> {
-    match href_to(alloc, "a place") {
-        Ok(href) => made(href.as_str() == "#a%20place"),
-        Err(AllocError) => refused(true, DocumentCall::Href),
-    }
-}
-
-#[test]
-fn made_documents(rt: HostRuntime) {
-    let call = new_call(&rt, rt.alloc());
-    assert_growths(&rt, rt.alloc(), list_of(&rt, rt.alloc(), [call]));
-}
-
-#[test]
-fn linked_documents(rt: HostRuntime) {
-    let alloc = rt.alloc();
-    let calls = [anchors_call(&rt, alloc), with_anchors_call(&rt, alloc)];
-    assert_growths(&rt, alloc, list_of(&rt, alloc, calls));
-}
-
 #[test]
 fn documents_with_links(rt: HostRuntime) {
     let alloc = rt.alloc();
-    let (document, shown) = shown_document(&rt, alloc);
-    let resolve = DocumentCall::Resolve(document, shown);
-    let (document, shown) = shown_document(&rt, alloc);
-    let with_resolved = DocumentCall::WithResolved(document, shown);
-    let (document, shown) = shown_document(&rt, alloc);
-    let distinct = DocumentCall::Distinct(document, shown);
-    let dead = dead_call(&rt, alloc);
-    let calls = [resolve, with_resolved, dead, distinct, DocumentCall::Href];
-    assert_growths(&rt, alloc, list_of(&rt, alloc, calls));
+    assert_kept(&rt, alloc, document_of(&rt, alloc), |document| {
+        resolve_links(alloc, document).map(|()| true)
+    });
+    assert_resolved(&rt, alloc);
+    assert_kept(&rt, alloc, document_of(&rt, alloc), |document| {
+        ids_are_distinct(alloc, document)
+    });
+    assert_kept(&rt, alloc, dead_of(&rt, alloc), |document| {
+        dead_links(alloc, document).map(|links| links.len() == 1)
+    });
+    assert!(rt;
+        refuses(alloc, || {
+            href_to(alloc, "a place").map(|href| href.as_str() == "#a%20place")
+        })
+    );
 }

@@ -11,13 +11,6 @@ use html_names::{HtmlTag, attr, tag};
 use html_values_css::{Abs, Properties};
 use std::alloc::{AllocFailed, Global};
 use std::process::Abort;
-use tests_growth::{Growth, wrong_call};
-
-/// Asserts that each call is refused at first, and succeeds once it is refused no more.
-pub(crate) fn assert_growths<C: Growth + Drop>(rt: &impl Abort, alloc: Global, calls: Vec<C>) {
-    let wrong = wrong_call(alloc, calls).expect(rt, "memory for what is held");
-    assert_eq!(rt; wrong, None);
-}
 
 /// A list of these, with room for no more.
 pub(crate) fn list_of<T: Drop, const N: usize>(

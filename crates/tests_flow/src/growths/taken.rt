@@ -1,85 +1,15 @@
-//! Calls that consume what they are called on, and do not give it back: each attempt takes another.
+//! Calls that consume what they are called on, and do not give it back.
 
-use crate::asserts::text_of;
-use crate::growths::given::{add, assert_growths, element_of, list_of, start_of};
+use crate::growths::given::{add, element_of, list_of, start_of, text_node_of};
 use html_dom_tree::{HtmlElement, HtmlNode, Span, with_inline_styles};
 use html_flow_convert::{keep_runs, protect_spaces, push_text_nodes};
 use html_names::{attr, tag};
 use std::alloc::{AllocError, Global};
 use std::process::Abort;
-use tests_growth::{Answer, Growth, made};
+use tests_growth::refuses_taken;
 
-/// The calls on an element, and on nodes.
-#[derive(Clone, Copy)]
-enum Step {
-    Styles,
-    Runs,
-    Spaces,
-    TextNodes,
-}
-
-/// A call, with what its attempts consume.
-#[derive(Drop)]
-struct Taking {
-    step: Step,
-    spares: Vec<(HtmlElement, Vec<HtmlNode>)>,
-}
-
-impl Growth for Taking {
-    fn attempt(mut self, alloc: Global) -> Answer<Taking> {
-        let Some((element, nodes)) = self.spares.pop() else {
-            return Answer::Wrong;
-        };
-        match is_right(alloc, self.step, element, nodes) {
-            Ok(is_right) => made(is_right),
-            Err(AllocError) => Answer::Refused(self),
-        }
-    }
-}
-
-/// Makes the call; whether what it makes is right.
-fn is_right(
-    alloc: Global,
-    step: Step,
-    element: HtmlElement,
-    nodes: Vec<HtmlNode>,
-) -> Result<bool, AllocError> {
-    match step {
-        Step::Styles => has_styles(alloc, element),
-        Step::Runs => keeps_runs(alloc, nodes),
-        Step::Spaces => keeps_spaces(alloc, nodes),
-        Step::TextNodes => adds_text(alloc, nodes),
-    }
-}
-
-fn has_styles(alloc: Global, element: HtmlElement) -> Result<bool, AllocError> {
-    let styled = with_inline_styles(alloc, element)?;
-    Ok(styled.attrs.get(&attr::style).is_some())
-}
-
-fn keeps_runs(alloc: Global, nodes: Vec<HtmlNode>) -> Result<bool, AllocError> {
-    Ok(is_kept_at(&keep_runs(alloc, nodes)?, TAB))
-}
-
-fn keeps_spaces(alloc: Global, nodes: Vec<HtmlNode>) -> Result<bool, AllocError> {
-    Ok(is_kept_at(&protect_spaces(alloc, nodes)?, SPACE))
-}
-
-/// Whether there are as many nodes more as a text of three pieces has.
-fn adds_text(alloc: Global, mut nodes: Vec<HtmlNode>) -> Result<bool, AllocError> {
-    push_text_nodes(
-        alloc,
-        &mut nodes,
-        String::from_str(alloc, "two\twords")?,
-        Span(9),
-    )?;
-    Ok(nodes.len() == COUNT + 3)
-}
-
-/// Whether they are as many as before, and the one at that place is no text any more.
-fn is_kept_at(nodes: &[HtmlNode], place: usize) -> bool {
-    nodes.len() == COUNT && !matches!(nodes.get(place), None | Some(HtmlNode::Text(_, _)))
-}
+/// How many attempts there are at most: what a refused one frees is there for the next.
+const SPARES: usize = 40;
 
 /// How many nodes are made, and at which places a lone space and a tab stand.
 const COUNT: usize = 5;
@@ -87,11 +17,6 @@ const COUNT: usize = 5;
 const SPACE: usize = 0;
 
 const TAB: usize = 3;
-
-/// A text with that span.
-fn text_node_of(rt: &impl Abort, alloc: Global, text: &str, span: u64) -> HtmlNode {
-    HtmlNode::text(text_of(rt, alloc, text), Span(span))
-}
 
 /// A `b` with a text.
 fn bold_of(rt: &impl Abort, alloc: Global) -> HtmlNode {
@@ -111,30 +36,60 @@ fn nodes_of(rt: &impl Abort, alloc: Global) -> Vec<HtmlNode> {
     list_of(rt, alloc, nodes)
 }
 
-/// How many attempts there are at most: what a refused one frees is there for the next.
-const SPARES: usize = 40;
-
-/// The call, with an element and nodes for each attempt.
-fn call_of(rt: &impl Abort, alloc: Global, step: Step) -> Taking {
+/// Such nodes for each attempt.
+fn spares_of(rt: &impl Abort, alloc: Global) -> Vec<Vec<HtmlNode>> {
     let mut spares = Vec::new(alloc);
     for _ in 0..SPARES {
-        add(
-            rt,
-            &mut spares,
-            (element_of(rt, alloc), nodes_of(rt, alloc)),
-        );
+        add(rt, &mut spares, nodes_of(rt, alloc));
     }
-    Taking { step, spares }
+    spares
 }
 
-/// The calls.
-const STEPS: [Step; 4] = [Step::Styles, Step::Runs, Step::Spaces, Step::TextNodes];
+/// An element for each attempt.
+fn elements_of(rt: &impl Abort, alloc: Global) -> Vec<HtmlElement> {
+    let mut spares = Vec::new(alloc);
+    for _ in 0..SPARES {
+        add(rt, &mut spares, element_of(rt, alloc));
+    }
+    spares
+}
+
+/// Whether there are as many nodes more as a text of three pieces has.
+fn adds_text(alloc: Global, mut nodes: Vec<HtmlNode>) -> Result<bool, AllocError> {
+    let text = String::from_str(alloc, "two\twords")?;
+    push_text_nodes(alloc, &mut nodes, text, Span(9))?;
+    Ok(nodes.len() == COUNT + 3)
+}
+
+/// Whether they are as many as before, and the one at that place is no text any more.
+fn is_kept_at(nodes: &[HtmlNode], place: usize) -> bool {
+    nodes.len() == COUNT && !matches!(nodes.get(place), None | Some(HtmlNode::Text(_, _)))
+}
 
 #[test]
 fn taken(rt: HostRuntime) {
-    let mut calls = Vec::new(rt.alloc());
-    for step in STEPS {
-        add(&rt, &mut calls, call_of(&rt, rt.alloc(), step));
-    }
-    assert_growths(&rt, rt.alloc(), calls);
+    let alloc = rt.alloc();
+    assert!(rt;
+        refuses_taken(alloc, elements_of(&rt, alloc), |element| {
+            with_inline_styles(alloc, element).map(|styled| styled
+                .attrs
+                .get(&attr::style)
+                .is_some())
+        })
+    );
+    assert!(rt;
+        refuses_taken(alloc, spares_of(&rt, alloc), |nodes| {
+            keep_runs(alloc, nodes).map(|kept| is_kept_at(&kept, TAB))
+        })
+    );
+    assert!(rt;
+        refuses_taken(alloc, spares_of(&rt, alloc), |nodes| {
+            protect_spaces(alloc, nodes).map(|kept| is_kept_at(&kept, SPACE))
+        })
+    );
+    assert!(rt;
+        refuses_taken(alloc, spares_of(&rt, alloc), |nodes| {
+            adds_text(alloc, nodes)
+        })
+    );
 }

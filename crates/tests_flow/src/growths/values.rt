@@ -1,7 +1,7 @@
 //! Values of attributes: their texts, and what values are cast to.
 
 use crate::asserts::text_of;
-use crate::growths::given::{assert_growths, list_of};
+use crate::growths::given::list_of;
 use html_names::Refused;
 use html_values::civil::date;
 use html_values::{
@@ -12,104 +12,7 @@ use html_values::{
 use std::alloc::{AllocError, Global};
 use std::num::{NonZeroI64, NonZeroU64};
 use std::process::Abort;
-use tests_growth::{Answer, Growth, made, refused};
-
-/// A value that has a text as an attribute.
-#[derive(Drop)]
-enum Attribute {
-    None(NoneValue),
-    Undefined(NoneUndefined),
-    Auto(AutoValue),
-    TrueFalse(TrueFalseBool),
-    YesNo(YesNoBool),
-    OnOff(OnOffBool),
-    Int(i64),
-    NonNegativeInt(u64),
-    NonZeroInt(NonZeroI64),
-    PositiveInt(NonZeroU64),
-    Str(Str),
-    Char(char),
-    Color(Rgba),
-    Datetime(Datetime),
-    Duration(Duration),
-    Dir(Dir),
-    HorizontalDir(HorizontalDir),
-    IconSize(IconSize),
-    ImageCandidate(ImageCandidate),
-}
-
-/// The calls on values, with the texts that they give.
-#[derive(Drop)]
-enum ValueCall {
-    Text(Attribute, &'static str),
-    Cast(AttrType, Value, &'static str),
-    List(NativeType),
-}
-
-impl Growth for ValueCall {
-    fn attempt(self, alloc: Global) -> Answer<ValueCall> {
-        match self {
-            ValueCall::Text(value, wanted) => text(alloc, value, wanted),
-            ValueCall::Cast(attr_type, value, wanted) => cast(alloc, attr_type, value, wanted),
-            ValueCall::List(inner) => list(alloc, inner),
-        }
-    }
-}
-
-/// The text of the value.
-fn attr_text(alloc: Global, value: &Attribute) -> Result<String, AllocError> {
-    match value {
-        Attribute::None(value) => value.into_attr(alloc),
-        Attribute::Undefined(value) => value.into_attr(alloc),
-        Attribute::Auto(value) => value.into_attr(alloc),
-        Attribute::TrueFalse(value) => value.into_attr(alloc),
-        Attribute::YesNo(value) => value.into_attr(alloc),
-        Attribute::OnOff(value) => value.into_attr(alloc),
-        Attribute::Int(value) => value.into_attr(alloc),
-        Attribute::NonNegativeInt(value) => value.into_attr(alloc),
-        Attribute::NonZeroInt(value) => value.into_attr(alloc),
-        Attribute::PositiveInt(value) => value.into_attr(alloc),
-        Attribute::Str(value) => value.into_attr(alloc),
-        Attribute::Char(value) => value.into_attr(alloc),
-        Attribute::Color(value) => value.into_attr(alloc),
-        Attribute::Datetime(value) => value.into_attr(alloc),
-        Attribute::Duration(value) => value.into_attr(alloc),
-        Attribute::Dir(value) => value.into_attr(alloc),
-        Attribute::HorizontalDir(value) => value.into_attr(alloc),
-        Attribute::IconSize(value) => value.into_attr(alloc),
-        Attribute::ImageCandidate(value) => value.into_attr(alloc),
-    }
-}
-
-fn text(alloc: Global, value: Attribute, wanted: &'static str) -> Answer<ValueCall> {
-    match attr_text(alloc, &value) {
-        Ok(text) => made(text.as_str() == wanted),
-        Err(AllocError) => refused(true, ValueCall::Text(value, wanted)),
-    }
-}
-
-fn cast(
-    alloc: Global,
-    attr_type: AttrType,
-    value: Value,
-    wanted: &'static str,
-) -> Answer<ValueCall> {
-    match attr_type.cast(alloc, &value) {
-        Ok(Some(text)) => made(text.as_str() == wanted),
-        Err(CastFault::OutOfMemory) => refused(true, ValueCall::Cast(attr_type, value, wanted)),
-        _ => Answer::Wrong,
-    }
-}
-
-fn list(alloc: Global, native: NativeType) -> Answer<ValueCall> {
-    match ListType::new(alloc, AttrType::Native(native), ',', false) {
-        Ok(_) => Answer::Made,
-        Err(Refused { back }) => {
-            let is_back = matches!(back, AttrType::Native(inner) if inner == native);
-            refused(is_back, ValueCall::List(native))
-        }
-    }
-}
+use tests_growth::{refuses, refuses_given};
 
 /// A colour.
 const RED: Rgba = Rgba {
@@ -119,75 +22,62 @@ const RED: Rgba = Rgba {
     a: 128,
 };
 
-/// Each kind of words and numbers.
-fn words_and_numbers(rt: &impl Abort, alloc: Global) -> [ValueCall; 14] {
-    [
-        ValueCall::Text(Attribute::None(NoneValue), "none"),
-        ValueCall::Text(Attribute::Undefined(NoneUndefined), "undefined"),
-        ValueCall::Text(Attribute::Auto(AutoValue), "auto"),
-        ValueCall::Text(Attribute::TrueFalse(TrueFalseBool(true)), "true"),
-        ValueCall::Text(Attribute::YesNo(YesNoBool(true)), "yes"),
-        ValueCall::Text(Attribute::OnOff(OnOffBool(true)), "on"),
-        ValueCall::Text(Attribute::Int(-12), "-12"),
-        ValueCall::Text(Attribute::NonNegativeInt(12), "12"),
-        ValueCall::Text(Attribute::Str(Str(text_of(rt, alloc, "<a b"))), "<a b"),
-        ValueCall::Text(Attribute::Char('é'), "é"),
-        ValueCall::Text(Attribute::Color(RED), "#ff001080"),
-        ValueCall::Text(Attribute::Duration(Duration(694_861)), "1w 1d 1h 1m 1s"),
-        ValueCall::Text(Attribute::Dir(Dir::TTB), "ttb"),
-        ValueCall::Text(Attribute::HorizontalDir(HorizontalDir::RTL), "rtl"),
-    ]
+/// Asserts that the value's text is refused at first, and then that one.
+fn assert_text<V: IntoAttr>(rt: &impl Abort, alloc: Global, value: &V, wanted: &str) {
+    assert!(rt;
+        refuses(alloc, || -> Result<bool, AllocError> {
+            Ok(value.into_attr(alloc)?.as_str() == wanted)
+        })
+    );
 }
 
-/// A size of an icon.
-fn size_call() -> ValueCall {
-    let size = IconSize {
-        width: 16,
-        height: 0,
-    };
-    ValueCall::Text(Attribute::IconSize(size), "16x0")
+#[test]
+fn texts_of_words(rt: HostRuntime) {
+    let alloc = rt.alloc();
+    assert_text(&rt, alloc, &NoneValue, "none");
+    assert_text(&rt, alloc, &NoneUndefined, "undefined");
+    assert_text(&rt, alloc, &AutoValue, "auto");
+    assert_text(&rt, alloc, &TrueFalseBool(true), "true");
+    assert_text(&rt, alloc, &YesNoBool(true), "yes");
+    assert_text(&rt, alloc, &OnOffBool(true), "on");
+    assert_text(&rt, alloc, &-12i64, "-12");
+    assert_text(&rt, alloc, &12u64, "12");
+    assert_text(&rt, alloc, &Str(text_of(&rt, alloc, "<a b")), "<a b");
+    assert_text(&rt, alloc, &'é', "é");
+    assert_text(&rt, alloc, &RED, "#ff001080");
+    assert_text(&rt, alloc, &Duration(694_861), "1w 1d 1h 1m 1s");
+    assert_text(&rt, alloc, &Dir::TTB, "ttb");
+    assert_text(&rt, alloc, &HorizontalDir::RTL, "rtl");
 }
 
-/// A source of an image, with a width.
-fn image_call(rt: &impl Abort, alloc: Global) -> ValueCall {
-    let image = ImageCandidate {
-        src: text_of(rt, alloc, "x.png"),
-        width: NonZeroU64::new(480),
-    };
-    ValueCall::Text(Attribute::ImageCandidate(image), "x.png 480w")
+#[test]
+fn texts_of_parts(rt: HostRuntime) {
+    let alloc = rt.alloc();
+    let (width, height) = (16, 0);
+    assert_text(&rt, alloc, &IconSize { width, height }, "16x0");
+    let (src, width) = (text_of(&rt, alloc, "x.png"), NonZeroU64::new(480));
+    assert_text(&rt, alloc, &ImageCandidate { src, width }, "x.png 480w");
+    let day = Datetime::new(Moment::Date(date(2024, 2, 9))).expect(&rt, "a day");
+    assert_text(&rt, alloc, &day, "2024-02-09");
+    let negative = NonZeroI64::new(-7).expect(&rt, "a number that is not zero");
+    assert_text(&rt, alloc, &negative, "-7");
+    let positive = NonZeroU64::new(7).expect(&rt, "a number that is not zero");
+    assert_text(&rt, alloc, &positive, "7");
 }
 
-/// Numbers that are not zero.
-fn nonzero_calls(rt: &impl Abort) -> [ValueCall; 2] {
-    let negative = NonZeroI64::new(-7).expect(rt, "a number that is not zero");
-    let positive = NonZeroU64::new(7).expect(rt, "a number that is not zero");
-    [
-        ValueCall::Text(Attribute::NonZeroInt(negative), "-7"),
-        ValueCall::Text(Attribute::PositiveInt(positive), "7"),
-    ]
+/// Asserts that a cast of the value is refused at first, and then gives that text.
+fn assert_cast(rt: &impl Abort, alloc: Global, attr_type: AttrType, value: Value, wanted: &str) {
+    assert!(rt;
+        refuses(alloc, || -> Result<bool, CastFault> {
+            let text = attr_type.cast(alloc, &value)?;
+            Ok(text.is_some_and(|text| text.as_str() == wanted))
+        })
+    );
 }
 
-/// A day.
-fn day_call(rt: &impl Abort) -> ValueCall {
-    let day = Datetime::new(Moment::Date(date(2024, 2, 9))).expect(rt, "a day");
-    ValueCall::Text(Attribute::Datetime(day), "2024-02-09")
-}
-
-/// A cast to a type of one kind.
-fn native(native: NativeType, value: Value, wanted: &'static str) -> ValueCall {
-    ValueCall::Cast(AttrType::Native(native), value, wanted)
-}
-
-/// Casts to types of words.
-fn casts_of_words() -> [ValueCall; 6] {
-    [
-        native(NativeType::NoValue, Value::None, "none"),
-        native(NativeType::NoneUndefined, Value::None, "undefined"),
-        native(NativeType::Auto, Value::Auto, "auto"),
-        native(NativeType::TrueFalse, Value::Bool(false), "false"),
-        native(NativeType::YesNo, Value::Bool(false), "no"),
-        native(NativeType::OnOff, Value::Bool(false), "off"),
-    ]
+/// Asserts it of a cast to a type of one kind.
+fn assert_native(rt: &impl Abort, alloc: Global, native: NativeType, value: Value, wanted: &str) {
+    assert_cast(rt, alloc, AttrType::Native(native), value, wanted);
 }
 
 /// A value that is a text.
@@ -195,106 +85,109 @@ fn text_value_of(rt: &impl Abort, alloc: Global, text: &str) -> Value {
     Value::Str(text_of(rt, alloc, text))
 }
 
-/// Casts to types of numbers and texts.
-fn casts_of_numbers_and_texts(rt: &impl Abort, alloc: Global) -> [ValueCall; 5] {
-    [
-        native(NativeType::Int, Value::Int(-1), "-1"),
-        native(NativeType::NonNegativeInt, Value::Int(0), "0"),
-        native(NativeType::PositiveInt, Value::Int(1), "1"),
-        native(NativeType::Str, text_value_of(rt, alloc, "ab"), "ab"),
-        native(NativeType::Char, text_value_of(rt, alloc, "é"), "é"),
-    ]
-}
-
-/// A cast to two numbers.
-fn cast_to_size(rt: &impl Abort, alloc: Global) -> ValueCall {
-    let size = list_of(rt, alloc, [Value::Int(16), Value::Int(16)]);
-    native(NativeType::IconSize, Value::Array(size), "16x16")
-}
-
-/// A cast to a source of an image.
-fn cast_to_image(rt: &impl Abort, alloc: Global) -> ValueCall {
-    let (src, width) = (text_of(rt, alloc, "x.png"), Some(480));
-    let image = Value::Image { src, width };
-    native(NativeType::ImageCandidate, image, "x.png 480w")
+/// Casts to types of words, numbers and texts.
+fn assert_casts_of_words(rt: &impl Abort, alloc: Global) {
+    let letter = text_value_of(rt, alloc, "é");
+    assert_native(rt, alloc, NativeType::NoValue, Value::None, "none");
+    assert_native(
+        rt,
+        alloc,
+        NativeType::NoneUndefined,
+        Value::None,
+        "undefined",
+    );
+    assert_native(rt, alloc, NativeType::Auto, Value::Auto, "auto");
+    assert_native(
+        rt,
+        alloc,
+        NativeType::TrueFalse,
+        Value::Bool(false),
+        "false",
+    );
+    assert_native(rt, alloc, NativeType::YesNo, Value::Bool(false), "no");
+    assert_native(rt, alloc, NativeType::OnOff, Value::Bool(false), "off");
+    assert_native(rt, alloc, NativeType::Int, Value::Int(-1), "-1");
+    assert_native(rt, alloc, NativeType::NonNegativeInt, Value::Int(0), "0");
+    assert_native(rt, alloc, NativeType::PositiveInt, Value::Int(1), "1");
+    assert_native(
+        rt,
+        alloc,
+        NativeType::Str,
+        text_value_of(rt, alloc, "ab"),
+        "ab",
+    );
+    assert_native(rt, alloc, NativeType::Char, letter, "é");
 }
 
 /// Casts to types of other values.
-fn casts_of_parts(rt: &impl Abort, alloc: Global) -> [ValueCall; 6] {
+fn assert_casts_of_parts(rt: &impl Abort, alloc: Global) {
     let day = Value::Datetime(Moment::Date(date(2024, 2, 9)));
-    [
-        native(NativeType::Datetime, day, "2024-02-09"),
-        native(NativeType::Duration, Value::Duration(59), "59s"),
-        native(NativeType::Color, Value::Color(RED), "#ff001080"),
-        native(NativeType::HorizontalDir, Value::Dir(Dir::LTR), "ltr"),
-        cast_to_size(rt, alloc),
-        cast_to_image(rt, alloc),
-    ]
-}
-
-/// A cast to one of several texts.
-fn cast_to_texts(rt: &impl Abort, alloc: Global) -> ValueCall {
-    let texts = list_of(
+    let size = Value::Array(list_of(rt, alloc, [Value::Int(16), Value::Int(16)]));
+    let (src, width) = (text_of(rt, alloc, "x.png"), Some(480));
+    let image = Value::Image { src, width };
+    assert_native(rt, alloc, NativeType::Datetime, day, "2024-02-09");
+    assert_native(rt, alloc, NativeType::Duration, Value::Duration(59), "59s");
+    assert_native(rt, alloc, NativeType::Color, Value::Color(RED), "#ff001080");
+    assert_native(
         rt,
         alloc,
-        [text_of(rt, alloc, "a"), text_of(rt, alloc, "b")],
+        NativeType::HorizontalDir,
+        Value::Dir(Dir::LTR),
+        "ltr",
     );
-    ValueCall::Cast(AttrType::Strings(texts), text_value_of(rt, alloc, "b"), "b")
-}
-
-/// A cast to one of several types.
-fn cast_to_union(rt: &impl Abort, alloc: Global) -> ValueCall {
-    let (int, auto) = (
-        AttrType::Native(NativeType::Int),
-        AttrType::Native(NativeType::Auto),
-    );
-    let types = list_of(rt, alloc, [int, auto]);
-    ValueCall::Cast(AttrType::Union(types), Value::Auto, "auto")
-}
-
-/// A cast to a list.
-fn cast_to_list(rt: &impl Abort, alloc: Global) -> ValueCall {
-    let texts = [text_value_of(rt, alloc, "a"), text_value_of(rt, alloc, "b")];
-    let inner = AttrType::Native(NativeType::Str);
-    let list = ListType::new(alloc, inner, ',', false).expect(rt, "memory for a list");
-    ValueCall::Cast(
-        AttrType::List(list),
-        Value::Array(list_of(rt, alloc, texts)),
-        "a, b",
-    )
-}
-
-#[test]
-fn texts_of_words(rt: HostRuntime) {
-    let calls = list_of(&rt, rt.alloc(), words_and_numbers(&rt, rt.alloc()));
-    assert_growths(&rt, rt.alloc(), calls);
-}
-
-#[test]
-fn texts_of_parts(rt: HostRuntime) {
-    let alloc = rt.alloc();
-    let parts = [size_call(), image_call(&rt, alloc), day_call(&rt)];
-    assert_growths(&rt, alloc, list_of(&rt, alloc, parts));
-    assert_growths(&rt, alloc, list_of(&rt, alloc, nonzero_calls(&rt)));
+    assert_native(rt, alloc, NativeType::IconSize, size, "16x16");
+    assert_native(rt, alloc, NativeType::ImageCandidate, image, "x.png 480w");
 }
 
 #[test]
 fn casts(rt: HostRuntime) {
-    let alloc = rt.alloc();
-    assert_growths(&rt, alloc, list_of(&rt, alloc, casts_of_words()));
-    let calls = list_of(&rt, alloc, casts_of_numbers_and_texts(&rt, alloc));
-    assert_growths(&rt, alloc, calls);
-    assert_growths(&rt, alloc, list_of(&rt, alloc, casts_of_parts(&rt, alloc)));
+    assert_casts_of_words(&rt, rt.alloc());
+    assert_casts_of_parts(&rt, rt.alloc());
+}
+
+/// A cast to one of several texts.
+fn assert_cast_to_texts(rt: &impl Abort, alloc: Global) {
+    let texts = [text_of(rt, alloc, "a"), text_of(rt, alloc, "b")];
+    let one_of = AttrType::Strings(list_of(rt, alloc, texts));
+    assert_cast(rt, alloc, one_of, text_value_of(rt, alloc, "b"), "b");
+}
+
+/// A cast to one of several types.
+fn assert_cast_to_union(rt: &impl Abort, alloc: Global) {
+    let types = [
+        AttrType::Native(NativeType::Int),
+        AttrType::Native(NativeType::Auto),
+    ];
+    let one_of = AttrType::Union(list_of(rt, alloc, types));
+    assert_cast(rt, alloc, one_of, Value::Auto, "auto");
+}
+
+/// A cast to a list.
+fn assert_cast_to_list(rt: &impl Abort, alloc: Global) {
+    let texts = [text_value_of(rt, alloc, "a"), text_value_of(rt, alloc, "b")];
+    let inner = AttrType::Native(NativeType::Str);
+    let list = ListType::new(alloc, inner, ',', false).expect(rt, "memory for a list");
+    let value = Value::Array(list_of(rt, alloc, texts));
+    assert_cast(rt, alloc, AttrType::List(list), value, "a, b");
 }
 
 #[test]
 fn casts_of_several(rt: HostRuntime) {
     let alloc = rt.alloc();
-    let calls = [
-        cast_to_texts(&rt, alloc),
-        cast_to_union(&rt, alloc),
-        cast_to_list(&rt, alloc),
-        ValueCall::List(NativeType::Int),
-    ];
-    assert_growths(&rt, alloc, list_of(&rt, alloc, calls));
+    assert_cast_to_texts(&rt, alloc);
+    assert_cast_to_union(&rt, alloc);
+    assert_cast_to_list(&rt, alloc);
+    let inner = AttrType::Native(NativeType::Int);
+    assert!(rt; refuses_given(alloc, inner, |inner| list_of_numbers(alloc, inner)));
+}
+
+/// Whether there is a list of whole numbers, which are the type that is given, or that type back.
+fn list_of_numbers(alloc: Global, inner: AttrType) -> Result<bool, AttrType> {
+    let AttrType::Native(NativeType::Int) = inner else {
+        return Ok(false);
+    };
+    match ListType::new(alloc, AttrType::Native(NativeType::Int), ',', false) {
+        Ok(_) => Ok(true),
+        Err(Refused { back }) => Err(back),
+    }
 }

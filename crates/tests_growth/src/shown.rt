@@ -1,8 +1,7 @@
 //! Values that are held to the text by which they were shown before, for which no memory is taken.
 
-use std::alloc::Global;
+use std::alloc::{AllocError, Global};
 use std::fmt::{self, Debug, Write};
-use std::process::Abort;
 
 /// What is left of a text that is to be written.
 #[derive(Drop)]
@@ -23,12 +22,12 @@ impl fmt::Write for Left<'_> {
 }
 
 /// Whether `{:?}` shows the value by that text.
-pub(crate) fn is_shown<T: Debug>(value: &T, text: &str) -> bool {
+pub fn is_shown<T: Debug>(value: &T, text: &str) -> bool {
     let mut left = Left { text };
     write!(left, "{value:?}").is_ok() && left.text.is_empty()
 }
 
 /// The text by which the value is shown.
-pub(crate) fn shown_of<T: Debug>(rt: &impl Abort, alloc: Global, value: &T) -> String {
-    format!(in alloc; "{value:?}").expect(rt, "memory for a text")
+pub fn shown_of<T: Debug>(alloc: Global, value: &T) -> Result<String, AllocError> {
+    format!(in alloc; "{value:?}")
 }
