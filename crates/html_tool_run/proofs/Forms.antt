@@ -1,5 +1,5 @@
 -- The forms of a value, by the length of its list.
-use Rattle.std.proofs.Common.{◌≡◌, ◌≢◌, ℕ, ◌+◌, List, [], ◌∷◌, length, get_or, None, refl, rules, arith, String}
+use Rattle.std.proofs.Common.{◌≡◌, ◌≢◌, ℕ, ◌+◌, ◌≤◌, List, [], ◌∷◌, length, get_or, drop, Some, None, refl, rules, arith, String}
 use Rattle.std.specs.declared.alloc.Global.{Global}
 use Rattle.serde_json.specs.declared.value.Value.{Value}
 use Rattle.serde_json.specs.View.{view, items_view}
@@ -10,28 +10,42 @@ use Rattle.html_dom_tree.specs.declared.node.HtmlElement.{HtmlElement}
 use Rattle.html_dom_tree.specs.declared.node.HtmlNode as HtmlNode
 use Rattle.html_dom_tree.specs.declared.node.HtmlNode.{HtmlNode, the_lemmas}
 use Rattle.html_dom_tree.specs.declared.span.Span.{Span}
-use Rattle.html_tool_run.specs.Fields.{text_at, pairs_at, pair_form, text_form, no_fields, dest_form, end_form, element_from}
+use Rattle.html_tool_run.specs.Fields.{text_at, pairs_at, pair_form, text_form, no_fields, start_form, end_form, element_from}
 use Rattle.html_tool_run.specs.Spelled.{element_form, element_made, list_at}
 
-pub text_form-other : (vs : List Value) → length vs ≢ 1 → text_form (items_view vs) ≡ None
+pub text_form-other : (vs : List Value) → length vs ≢ 2
+    → text_form (items_view (drop 1 vs)) ≡ None
 text_form-other [] h = refl
-text_form-other (v ∷ []) h = absurd (h refl)
-text_form-other (v ∷ w ∷ vs) h = refl
+text_form-other (v ∷ []) h = refl
+text_form-other (v ∷ w ∷ []) h = absurd (h refl)
+text_form-other (v ∷ w ∷ x ∷ vs) h = refl
 
-pub no_fields-other : (vs : List Value) → length vs ≢ 0 → no_fields (items_view vs) ≡ None
-no_fields-other [] h = absurd (h refl)
-no_fields-other (v ∷ vs) h = refl
+pub no_fields-few : (vs : List Value) → length vs ≤ 1
+    → no_fields (items_view (drop 1 vs)) ≡ Some tt
+no_fields-few [] h = refl
+no_fields-few (v ∷ []) h = refl
+no_fields-few (v ∷ w ∷ vs) h = absurd (omega (arith, h))
 
-pub end_form-other : (vs : List Value) → length vs ≢ 1 → end_form (items_view vs) ≡ None
+pub no_fields-other : (vs : List Value) → length vs ≢ 0 → length vs ≢ 1
+    → no_fields (items_view (drop 1 vs)) ≡ None
+no_fields-other [] g h = absurd (g refl)
+no_fields-other (v ∷ []) g h = absurd (h refl)
+no_fields-other (v ∷ w ∷ vs) g h = refl
+
+pub end_form-other : (vs : List Value) → length vs ≢ 2
+    → end_form (items_view (drop 1 vs)) ≡ None
 end_form-other [] h = refl
-end_form-other (v ∷ []) h = absurd (h refl)
-end_form-other (v ∷ w ∷ vs) h = refl
+end_form-other (v ∷ []) h = refl
+end_form-other (v ∷ w ∷ []) h = absurd (h refl)
+end_form-other (v ∷ w ∷ x ∷ vs) h = refl
 
-pub dest_form-other : (vs : List Value) → length vs ≢ 0 → length vs ≢ 1
-    → dest_form (items_view vs) ≡ None
-dest_form-other [] g h = absurd (g refl)
-dest_form-other (v ∷ []) g h = absurd (h refl)
-dest_form-other (v ∷ w ∷ vs) g h = refl
+pub start_form-other : (vs : List Value) → length vs ≢ 2 → length vs ≢ 3
+    → start_form (items_view (drop 1 vs)) ≡ None
+start_form-other [] g h = refl
+start_form-other (v ∷ []) g h = refl
+start_form-other (v ∷ w ∷ []) g h = absurd (g refl)
+start_form-other (v ∷ w ∷ x ∷ []) g h = absurd (h refl)
+start_form-other (v ∷ w ∷ x ∷ y ∷ vs) g h = refl
 
 pub pair_form-other : (vs : List Value) → length vs ≢ 2 → pair_form (items_view vs) ≡ None
 pair_form-other [] h = refl
@@ -39,25 +53,27 @@ pair_form-other (v ∷ []) h = refl
 pair_form-other (v ∷ w ∷ []) h = absurd (h refl)
 pair_form-other (v ∷ w ∷ x ∷ vs) h = refl
 
-pub element_form-other : (vs : List Value) (n : ℕ) → length vs ≢ 3
-    → element_form (items_view vs) n ≡ None
+pub element_form-other : (vs : List Value) (n : ℕ) → length vs ≢ 4
+    → element_form (items_view (drop 1 vs)) n ≡ None
 element_form-other [] n h = refl
-element_form-other (v ∷ []) n h = refl
-element_form-other (v ∷ w ∷ []) n h = refl
-element_form-other (v ∷ w ∷ x ∷ []) n h = absurd (h refl)
-element_form-other (v ∷ w ∷ x ∷ y ∷ vs) n h = refl
+element_form-other (u ∷ []) n h = refl
+element_form-other (u ∷ v ∷ []) n h = refl
+element_form-other (u ∷ v ∷ w ∷ []) n h = refl
+element_form-other (u ∷ v ∷ w ∷ x ∷ []) n h = absurd (h refl)
+element_form-other (u ∷ v ∷ w ∷ x ∷ y ∷ vs) n h = refl
 
--- three fields: a name, attributes and what stands in the element
-pub element_form-three : (vs : List Value) (a b d : Value) (n : ℕ) → length vs ≡ 3
-    → a ≡ get_or vs 0 a → b ≡ get_or vs 1 b → d ≡ get_or vs 2 d
-    → element_form (items_view vs) n
+-- a kind, a name, attributes and what stands in the element
+pub element_form-four : (vs : List Value) (a b d : Value) (n : ℕ) → length vs ≡ 4
+    → a ≡ get_or vs 1 a → b ≡ get_or vs 2 b → d ≡ get_or vs 3 d
+    → element_form (items_view (drop 1 vs)) n
     ≡ element_from (element_made n) (text_at (view a)) (pairs_at (view b))
     (list_at (view d) (n + 1))
-element_form-three [] a b d n h p q r = absurd (omega (arith, h))
-element_form-three (v ∷ []) a b d n h p q r = absurd (omega (arith, h))
-element_form-three (v ∷ w ∷ []) a b d n h p q r = absurd (omega (arith, h))
-element_form-three (v ∷ w ∷ x ∷ []) a b d n h p q r = rw (p, q, r) refl
-element_form-three (v ∷ w ∷ x ∷ y ∷ vs) a b d n h p q r = absurd (omega (arith, h))
+element_form-four [] a b d n h p q r = absurd (omega (arith, h))
+element_form-four (u ∷ []) a b d n h p q r = absurd (omega (arith, h))
+element_form-four (u ∷ v ∷ []) a b d n h p q r = absurd (omega (arith, h))
+element_form-four (u ∷ v ∷ w ∷ []) a b d n h p q r = absurd (omega (arith, h))
+element_form-four (u ∷ v ∷ w ∷ x ∷ []) a b d n h p q r = rw (p, q, r) refl
+element_form-four (u ∷ v ∷ w ∷ x ∷ y ∷ vs) a b d n h p q r = absurd (omega (arith, h))
 
 pub node_view-Tag : (t : Tag) → node_view (HtmlNode.Tag t) ≡ tag_node (tag_view t)
 node_view-Tag t = search (rules, the_lemmas)
@@ -72,8 +88,9 @@ node_view-Element e = search (rules, the_lemmas)
 
 pub ruleset forms = (
   text_form-other,
+  no_fields-few,
   no_fields-other,
-  dest_form-other,
+  start_form-other,
   end_form-other,
   pair_form-other,
   element_form-other,

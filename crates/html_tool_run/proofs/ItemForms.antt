@@ -1,5 +1,5 @@
 -- The forms of an item, by the length of its list.
-use Rattle.std.proofs.Common.{◌≡◌, ◌≢◌, ℕ, ◌+◌, List, [], ◌∷◌, length, get_or, Some, None, refl, rules, arith, String, Vec}
+use Rattle.std.proofs.Common.{◌≡◌, ◌≢◌, ℕ, ◌+◌, List, [], ◌∷◌, length, get_or, drop, Some, None, refl, rules, arith, String, Vec}
 use Rattle.std.specs.declared.alloc.Global.{Global}
 use Rattle.serde_json.specs.declared.value.Value.{Value}
 use Rattle.serde_json.specs.View.{view, items_view}
@@ -18,37 +18,53 @@ use Rattle.html_dom_tree.specs.declared.span.Span.{Span}
 use Rattle.html_tool_run.specs.Fields.{text_at, pairs_at, element_from}
 use Rattle.html_tool_run.specs.SpelledItems.{element_made, element_form, body_form, list_at}
 
-pub element_form-other : (vs : List Value) (n : ℕ) → length vs ≢ 3
-    → element_form (items_view vs) n ≡ None
+pub element_form-other : (vs : List Value) (n : ℕ) → length vs ≢ 4
+    → element_form (items_view (drop 1 vs)) n ≡ None
 element_form-other [] n h = refl
-element_form-other (v ∷ []) n h = refl
-element_form-other (v ∷ w ∷ []) n h = refl
-element_form-other (v ∷ w ∷ x ∷ []) n h = absurd (h refl)
-element_form-other (v ∷ w ∷ x ∷ y ∷ vs) n h = refl
+element_form-other (u ∷ []) n h = refl
+element_form-other (u ∷ v ∷ []) n h = refl
+element_form-other (u ∷ v ∷ w ∷ []) n h = refl
+element_form-other (u ∷ v ∷ w ∷ x ∷ []) n h = absurd (h refl)
+element_form-other (u ∷ v ∷ w ∷ x ∷ y ∷ vs) n h = refl
 
--- three fields: a name, attributes and what stands in the element
-pub element_form-three : (vs : List Value) (a b d : Value) (n : ℕ) → length vs ≡ 3
-    → a ≡ get_or vs 0 a → b ≡ get_or vs 1 b → d ≡ get_or vs 2 d
-    → element_form (items_view vs) n
+-- a kind, a name, attributes and what stands in the element
+pub element_form-four : (vs : List Value) (a b d : Value) (n : ℕ) → length vs ≡ 4
+    → a ≡ get_or vs 1 a → b ≡ get_or vs 2 b → d ≡ get_or vs 3 d
+    → element_form (items_view (drop 1 vs)) n
     ≡ element_from (element_made n) (text_at (view a)) (pairs_at (view b))
     (list_at (view d) (n + 1))
-element_form-three [] a b d n h p q r = absurd (omega (arith, h))
-element_form-three (v ∷ []) a b d n h p q r = absurd (omega (arith, h))
-element_form-three (v ∷ w ∷ []) a b d n h p q r = absurd (omega (arith, h))
-element_form-three (v ∷ w ∷ x ∷ []) a b d n h p q r = rw (p, q, r) refl
-element_form-three (v ∷ w ∷ x ∷ y ∷ vs) a b d n h p q r = absurd (omega (arith, h))
+element_form-four [] a b d n h p q r = absurd (omega (arith, h))
+element_form-four (u ∷ []) a b d n h p q r = absurd (omega (arith, h))
+element_form-four (u ∷ v ∷ []) a b d n h p q r = absurd (omega (arith, h))
+element_form-four (u ∷ v ∷ w ∷ []) a b d n h p q r = absurd (omega (arith, h))
+element_form-four (u ∷ v ∷ w ∷ x ∷ []) a b d n h p q r = rw (p, q, r) refl
+element_form-four (u ∷ v ∷ w ∷ x ∷ y ∷ vs) a b d n h p q r = absurd (omega (arith, h))
 
--- one field: the list of the items
-pub body_form-one : (vs : List Value) (d : Value) (n : ℕ) → length vs ≡ 1
-    → body_form (items_view vs) n ≡ list_at (view (get_or vs 0 d)) n
-body_form-one [] d n h = absurd (omega (arith, h))
-body_form-one (v ∷ []) d n h = refl
-body_form-one (v ∷ w ∷ vs) d n h = absurd (omega (arith, h))
+-- a kind, and the list of the items
+pub body_form-two : (vs : List Value) (d : Value) (n : ℕ) → length vs ≡ 2 → d ≡ get_or vs 1 d
+    → body_form (items_view (drop 1 vs)) n ≡ list_at (view d) n
+body_form-two [] d n h p = absurd (omega (arith, h))
+body_form-two (v ∷ []) d n h p = absurd (omega (arith, h))
+body_form-two (v ∷ w ∷ []) d n h p = rw p refl
+body_form-two (v ∷ w ∷ x ∷ vs) d n h p = absurd (omega (arith, h))
 
-pub body_form-other : (vs : List Value) (n : ℕ) → length vs ≢ 1 → body_form (items_view vs) n ≡ None
+pub body_form-other : (vs : List Value) (n : ℕ) → length vs ≢ 2
+    → body_form (items_view (drop 1 vs)) n ≡ None
 body_form-other [] n h = refl
-body_form-other (v ∷ []) n h = absurd (h refl)
-body_form-other (v ∷ w ∷ vs) n h = refl
+body_form-other (v ∷ []) n h = refl
+body_form-other (v ∷ w ∷ []) n h = absurd (h refl)
+body_form-other (v ∷ w ∷ x ∷ vs) n h = refl
+
+pub item_view-Space : (span : Span)
+    → flow_views.item_view (Item.Space span) ≡ flow.space_item span.0
+item_view-Space span = search (rules, the_lemmas)
+
+pub item_view-LineBreak : (span : Span)
+    → flow_views.item_view (Item.LineBreak span) ≡ flow.break_item span.0
+item_view-LineBreak span = search (rules, the_lemmas)
+
+pub item_view-Hole : flow_views.item_view Item.Hole ≡ flow.hole_item
+item_view-Hole = search (rules, the_lemmas)
 
 pub item_view-Tag : (t : Tag) → flow_views.item_view (Item.Tag t) ≡ flow.tag_item (tag_view t)
 item_view-Tag t = search (rules, the_lemmas)

@@ -5,6 +5,7 @@ pub mod Forms
 pub mod Inputs
 pub mod ItemForms
 pub mod ItemRows
+pub mod KindForms
 pub mod NodeRows
 pub mod PairRows
 pub mod Readings

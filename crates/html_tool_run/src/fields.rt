@@ -1,79 +1,84 @@
 //! The fields of the lists that spell texts and tags.
 
-ghost use Rattle.std.specs.Prelude.{◌≡◌, ◌≢◌, [], ◌∷◌, length, option_map, MatchOption};
+ghost use Rattle.std.specs.Prelude.{◌≡◌, ◌≢◌, length, drop, option_map, option_and_then, IfOk, IfErr};
 ghost use Rattle.serde_json.specs.View.{view, items_view};
+ghost use Rattle.html_dom_tree.specs.Tree.{TextPair};
 ghost use Rattle.html_dom_tree.specs.Views.{tag_view, text_view};
-ghost use Rattle.html_tool_run.specs.Fields.{text_at, pair_at, text_form, dest_form, start_form, end_form, no_fields};
+ghost use Rattle.html_tool_run.specs.Fields.{text_at, pair_at, pair_form, text_form};
+ghost use Rattle.html_tool_run.specs.Fields.{start_form, end_form, no_fields};
 ghost use Rattle.html_tool_run.specs.Reading.{ReadsField};
+ghost use Rattle.html_tool_run.specs.declared.fault.Fault.TheVariants.{BadInput};
 
 use crate::fault::Fault;
 use html_dom_tree::{Location, Tag};
 use serde_json::Value;
-use std::mem;
 
 /// The text that a value is.
-pub(crate) fn text_at(value: &mut Value) -> Result<String, Fault>
-    ensures { ReadsField text_view result (text_at (view value.old)) }
+pub(crate) fn text_at(value: Value) -> Result<String, Fault>
+    ensures { ReadsField text_view result (text_at (view value)) }
 {
-    match taken(value) {
+    match value {
         Value::String(text) => Ok(text),
         _ => Err(Fault::BadInput),
     }
 }
 
-/// What stands in a place, which is left without it.
-pub(crate) fn taken(place: &mut Value) -> Value
-    ensures { result ≡ place.old }
+/// The values of a list that has so many.
+pub(crate) fn parts_of<const N: usize>(list: Vec<Value>) -> Result<[Value; N], Fault>
+    ensures made { IfOk result (λ parts. (parts ≡ list.items) × (length list.items ≡ N)) }
+    ensures fault { IfErr result (λ e. (e ≡ BadInput) × (length list.items ≢ N)) }
 {
-    mem::replace(place, Value::Null)
+    <[Value; N]>::try_from(list).map_err(|_| Fault::BadInput)
 }
 
-/// The text of a text's fields.
+/// The text of a text's list.
 #[tactic(auto, using(crate::proofs::Forms::forms))]
-pub(crate) fn text_in(fields: &mut [Value]) -> Result<String, Fault>
-    ensures { ReadsField text_view result (text_form (items_view fields.old)) }
+pub(crate) fn text_in(list: Vec<Value>) -> Result<String, Fault>
+    ensures { ReadsField text_view result (text_form (items_view (drop 1 list.items))) }
 {
-    match fields {
-        [text] => text_at(text),
-        _ => Err(Fault::BadInput),
-    }
+    let [_, text] = parts_of::<2>(list)?;
+    text_at(text)
 }
 
 /// The two texts that a value is a list of.
-#[tactic(auto, using(crate::proofs::Forms::forms))]
 pub(crate) fn pair_in(value: Value) -> Result<(String, String), Fault>
     ensures { ReadsField (λ p. (text_view p.0, text_view p.1)) result (pair_at (view value)) }
 {
-    let Value::Array(mut parts) = value else {
-        return Err(Fault::BadInput);
-    };
-    match parts.as_mut_slice() {
-        [name, value] => Ok((text_at(name)?, text_at(value)?)),
+    match value {
+        Value::Array(parts) => pair_of(parts),
         _ => Err(Fault::BadInput),
     }
 }
 
-/// The destination that may be a start's last field.
+/// The two texts of a list.
 #[tactic(auto, using(crate::proofs::Forms::forms))]
-fn dest_in(fields: &[Value]) -> Option<Option<Location>>
-    ensures { option_map (option_map (λ l. l.0)) result ≡ dest_form (items_view fields.now) }
+fn pair_of(parts: Vec<Value>) -> Result<(String, String), Fault>
+    ensures { ReadsField (λ p. (text_view p.0, text_view p.1)) result
+        (pair_form (items_view parts.items)) }
 {
-    match fields {
-        [] => Some(None),
-        [only] => Some(Some(Location(only.as_u64()?))),
-        _ => None,
-    }
+    let [name, value] = parts_of::<2>(parts)?;
+    texts_at(name, value)
 }
 
-/// The tag of a start's fields.
-#[tactic(auto, using(crate::proofs::Forms::forms))]
-pub(crate) fn start_in(fields: &[Value]) -> Option<Tag>
-    ensures { option_map tag_view result ≡ start_form (items_view fields.now) }
+/// The texts that two values are.
+fn texts_at(name: Value, value: Value) -> Result<(String, String), Fault>
+    ensures { ReadsField {B = TextPair} (λ p. (text_view p.0, text_view p.1)) result
+        (option_and_then (λ n. option_map (λ v. (n, v)) (text_at (view value)))
+        (text_at (view name))) }
 {
-    let [location, dest @ ..] = fields else {
-        return None;
+    Ok((text_at(name)?, text_at(value)?))
+}
+
+/// The tag of a start's list.
+#[tactic(auto, using(crate::proofs::Forms::forms))]
+pub(crate) fn start_in(list: Vec<Value>) -> Option<Tag>
+    ensures { option_map tag_view result ≡ start_form (items_view (drop 1 list.items)) }
+{
+    let (location, dest) = match list.as_slice() {
+        [_, location] => (location, None),
+        [_, location, dest] => (location, Some(Location(dest.as_u64()?))),
+        _ => return None,
     };
-    let dest = dest_in(dest)?;
     Some(Tag::Start {
         location: Location(location.as_u64()?),
         label: None,
@@ -81,12 +86,12 @@ pub(crate) fn start_in(fields: &[Value]) -> Option<Tag>
     })
 }
 
-/// The tag of an end's fields.
+/// The tag of an end's list.
 #[tactic(auto, using(crate::proofs::Forms::forms))]
-pub(crate) fn end_in(fields: &[Value]) -> Option<Tag>
-    ensures { option_map tag_view result ≡ end_form (items_view fields.now) }
+pub(crate) fn end_in(list: Vec<Value>) -> Option<Tag>
+    ensures { option_map tag_view result ≡ end_form (items_view (drop 1 list.items)) }
 {
-    let [location] = fields else {
+    let [_, location] = list.as_slice() else {
         return None;
     };
     Some(Tag::End {
@@ -94,13 +99,13 @@ pub(crate) fn end_in(fields: &[Value]) -> Option<Tag>
     })
 }
 
-/// Nothing, where there are no fields.
+/// Nothing, where the list has no fields.
 #[tactic(auto, using(crate::proofs::Forms::forms))]
-pub(crate) fn nothing_in(fields: &[Value]) -> Option<()>
-    ensures { result ≡ no_fields (items_view fields.now) }
+pub(crate) fn nothing_in(list: Vec<Value>) -> Result<(), Fault>
+    ensures { ReadsField (λ none. none) result (no_fields (items_view (drop 1 list.items))) }
 {
-    match fields {
-        [] => Some(()),
-        _ => None,
+    match list.as_slice() {
+        [] | [_] => Ok(()),
+        _ => Err(Fault::BadInput),
     }
 }

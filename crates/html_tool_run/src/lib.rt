@@ -14,6 +14,7 @@ mod fault;
 mod fields;
 mod items;
 mod json;
+mod kind;
 mod nodes;
 mod program;
 mod reader;

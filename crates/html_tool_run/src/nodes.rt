@@ -1,16 +1,19 @@
 //! The tree that a JSON value spells.
 
-ghost use Rattle.std.specs.Prelude.{◌≡◌, ◌+◌, option_map};
+ghost use Rattle.std.specs.Prelude.{◌≡◌, ◌+◌, drop, option_map};
 ghost use Rattle.serde_json.specs.View.{view, items_view};
 ghost use Rattle.html_dom_tree.specs.Tree.{tag_node};
 ghost use Rattle.html_dom_tree.specs.Views.{tag_view};
 ghost use Rattle.html_tool_run.specs.Fields.{leaf, text_at, pairs_at, element_from};
+ghost use Rattle.html_tool_run.specs.Kinds.{node_of_kind};
 ghost use Rattle.html_tool_run.specs.Reading.{ReadsNode, ReadsNodes};
-ghost use Rattle.html_tool_run.specs.Spelled.{spelled_element, spelled_node, kind_form, spelled_text, element_form, element_made, list_at};
+ghost use Rattle.html_tool_run.specs.Spelled.{spelled_element, spelled_node, spelled_text};
+ghost use Rattle.html_tool_run.specs.Spelled.{element_form, element_made, list_at};
 ghost use Rattle.html_tool_run.specs.Spelling.{GivesElement};
 
 use crate::fault::Fault;
-use crate::fields::{end_in, start_in, taken, text_at, text_in};
+use crate::fields::{end_in, parts_of, start_in, text_at, text_in};
+use crate::kind::{Kind, list_kind};
 use crate::reader::Reader;
 use html_dom_tree::{HtmlElement, HtmlNode, Tag};
 use html_values_css::Properties;
@@ -39,38 +42,35 @@ pub fn element_in(alloc: Global, value: Value) -> Result<HtmlElement, Fault>
 fn node_of(reader: &mut Reader, value: Value) -> Result<HtmlNode, Fault>
     ensures { ReadsNode result (spelled_node (view value) reader.old.next) reader.old reader.new }
 {
-    let Value::Array(mut fields) = value else {
+    let Value::Array(list) = value else {
         return Err(Fault::BadInput);
     };
-    let [kind, fields @ ..] = fields.as_mut_slice() else {
-        return Err(Fault::BadInput);
-    };
-    let Some(kind) = kind.as_str() else {
-        return Err(Fault::BadInput);
-    };
-    form_of(reader, kind, fields)
-}
-
-/// The node of that kind.
-#[cycle(spell)]
-fn form_of(reader: &mut Reader, kind: &str, fields: &mut [Value]) -> Result<HtmlNode, Fault>
-    ensures { ReadsNode result (kind_form kind.now (items_view fields.old) reader.old.next)
-        reader.old reader.new }
-{
-    match kind {
-        "text" => text_of(reader, fields),
-        "el" => element_of(reader, fields),
-        "start" => tag_of(reader, start_in(fields)),
-        "end" => tag_of(reader, end_in(fields)),
-        _ => Err(Fault::BadInput),
+    match list_kind(&list) {
+        Some(kind) => form_of(reader, kind, list),
+        None => Err(Fault::BadInput),
     }
 }
 
-fn text_of(reader: &mut Reader, fields: &mut [Value]) -> Result<HtmlNode, Fault>
-    ensures { ReadsNode result (spelled_text (items_view fields.old) reader.old.next)
+/// The node of a list of that kind.
+#[cycle(spell)]
+fn form_of(reader: &mut Reader, kind: Kind, list: Vec<Value>) -> Result<HtmlNode, Fault>
+    ensures { ReadsNode result (node_of_kind kind (items_view (drop 1 list.items)) reader.old.next)
         reader.old reader.new }
 {
-    let text = text_in(fields)?;
+    match kind {
+        Kind::Text => text_of(reader, list),
+        Kind::Element => element_of(reader, list),
+        Kind::Start => tag_of(reader, start_in(list)),
+        Kind::End => tag_of(reader, end_in(list)),
+        Kind::Block | Kind::Box | Kind::Space | Kind::Break | Kind::Hole => Err(Fault::BadInput),
+    }
+}
+
+fn text_of(reader: &mut Reader, list: Vec<Value>) -> Result<HtmlNode, Fault>
+    ensures { ReadsNode result (spelled_text (items_view (drop 1 list.items)) reader.old.next)
+        reader.old reader.new }
+{
+    let text = text_in(list)?;
     Ok(HtmlNode::Text(text, reader.span()?))
 }
 
@@ -85,31 +85,28 @@ fn tag_of(reader: &mut Reader, tag: Option<Tag>) -> Result<HtmlNode, Fault>
 
 #[cycle(spell)]
 #[tactic(auto, using(crate::proofs::Forms::forms))]
-fn element_of(reader: &mut Reader, fields: &mut [Value]) -> Result<HtmlNode, Fault>
-    ensures { ReadsNode result (element_form (items_view fields.old) reader.old.next)
+fn element_of(reader: &mut Reader, list: Vec<Value>) -> Result<HtmlNode, Fault>
+    ensures { ReadsNode result (element_form (items_view (drop 1 list.items)) reader.old.next)
         reader.old reader.new }
 {
-    match fields {
-        [name, pairs, list] => element_with(reader, name, pairs, list),
-        _ => Err(Fault::BadInput),
-    }
+    let [_, name, pairs, list] = parts_of::<4>(list)?;
+    element_with(reader, name, pairs, list)
 }
 
 /// The element of that name, those attributes and that list of children.
 #[cycle(spell)]
 fn element_with(
     reader: &mut Reader,
-    name: &mut Value,
-    pairs: &mut Value,
-    list: &mut Value,
+    name: Value,
+    pairs: Value,
+    list: Value,
 ) -> Result<HtmlNode, Fault>
     ensures { ReadsNode result (element_from (element_made reader.old.next)
-        (text_at (view name.old)) (pairs_at (view pairs.old))
-        (list_at (view list.old) (reader.old.next + 1))) reader.old reader.new }
+        (text_at (view name)) (pairs_at (view pairs))
+        (list_at (view list) (reader.old.next + 1))) reader.old reader.new }
 {
-    let text = text_at(name)?;
     let span = reader.span()?;
-    let tag = reader.tag(&text, span)?;
+    let tag = reader.tag(&text_at(name)?, span)?;
     let attrs = reader.pairs(pairs, span)?;
     let children = list_of(reader, list)?;
     Ok(HtmlNode::Element(HtmlElement {
@@ -125,10 +122,10 @@ fn element_with(
 
 /// The nodes that a list spells.
 #[cycle(spell)]
-fn list_of(reader: &mut Reader, value: &mut Value) -> Result<Vec<HtmlNode>, Fault>
-    ensures { ReadsNodes result (list_at (view value.old) reader.old.next) reader.old reader.new }
+fn list_of(reader: &mut Reader, value: Value) -> Result<Vec<HtmlNode>, Fault>
+    ensures { ReadsNodes result (list_at (view value) reader.old.next) reader.old reader.new }
 {
-    let Value::Array(values) = taken(value) else {
+    let Value::Array(values) = value else {
         return Err(Fault::BadInput);
     };
     let mut nodes = Vec::with_capacity(reader.alloc(), values.len())?;

@@ -8,7 +8,7 @@ ghost use Rattle.html_tool_run.specs.Fields.{pairs_at, pair_at};
 ghost use Rattle.html_tool_run.specs.Reading.{IsWant, Notes, ReadsName, ReadsPair, ReadsPairs};
 
 use crate::fault::Fault;
-use crate::fields::{pair_in, taken};
+use crate::fields::pair_in;
 use html_dom_tree::{HtmlAttrs, Span};
 use html_names::{HtmlAttr, HtmlTag, NameFault, attr, tag};
 use serde_json::Value;
@@ -112,10 +112,10 @@ impl Reader {
     }
 
     /// The attributes of the element with that span.
-    pub(crate) fn pairs(&mut self, value: &mut Value, span: Span) -> Result<HtmlAttrs, Fault>
-        ensures { ReadsPairs span result (pairs_at (view value.old)) self.old self.new }
+    pub(crate) fn pairs(&mut self, value: Value, span: Span) -> Result<HtmlAttrs, Fault>
+        ensures { ReadsPairs span result (pairs_at (view value)) self.old self.new }
     {
-        let Value::Array(values) = taken(value) else {
+        let Value::Array(values) = value else {
             return Err(Fault::BadInput);
         };
         let mut pairs = Vec::with_capacity(self.alloc, values.len())?;

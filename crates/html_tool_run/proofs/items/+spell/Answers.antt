@@ -7,7 +7,8 @@ use Rattle.serde_json.specs.View.{view, items_view}
 use Rattle.html_dom_tree.specs.Views.{attrs_view}
 use Rattle.html_flow_convert.specs.Items.{block_item, box_item, present}
 use Rattle.html_flow_convert.specs.Views as flow
-use Rattle.html_tool_run.proofs.ItemForms.{element_form-three, body_form-one, item_view-Element, elem_view-made, item_view-Block, item_view-Box, pair_view-inner}
+use Rattle.html_tool_run.proofs.ItemForms.{element_form-four, body_form-two, item_view-Element, elem_view-made, item_view-Block, item_view-Box, pair_view-inner}
+use Rattle.html_tool_run.proofs.KindForms.{item_form-kind}
 use Rattle.html_tool_run.proofs.ItemRows.{items_row, joined-items, own_first, inner, block_same, box_same}
 use Rattle.html_tool_run.proofs.Readings.{wrong_by, read_from, read_mapped, read_element}
 use Rattle.html_tool_run.proofs.Rows.{none_read, one_read, all_read, wrong_one}
@@ -16,18 +17,39 @@ use Rattle.html_tool_run.specs.NameRefusals.{item_refusals, items_refusals}
 use Rattle.html_tool_run.specs.SpelledItems.{element_made, spelled_item, list_at, spelled_list}
 use Rattle.html_tool_run.proofs.items.+spell.Goals as goal
 
-pub element_of-returns-in-len3 : goal.element_of-returns-in-len3
-element_of-returns-in-len3 t c =
-    rw (element_form-three c.args.fields.now c.result-item.result
-    c.result-item-then-fields-lt4.result c.result-item-then-fields-lt4-2.result
-    c.args.reader.now.next (omega (arith, c.in-len3.len_at_least, c.in-len3.len_below))
-    c.result-item.is c.result-item-then-fields-lt4.is c.result-item-then-fields-lt4-2.is)
-    c.element_with.ensures
+pub item_of-returns-in-Some : goal.item_of-returns-in-Some
+item_of-returns-in-Some t c =
+    rw (
+      c.in-Array.is,
+      view-Array,
+      item_form-kind c.in-Array.list.items c.args.reader.now.next,
+      ← c.deref.ensures.value,
+      ← c.list_kind.ensures,
+      c.in-Some.is,
+      c.deref.ensures.value,
+    ) c.form_of.ensures
+
+pub item_of-returns-in-None : goal.item_of-returns-in-None
+item_of-returns-in-None t c =
+    rw (
+      c.in-Array.is,
+      view-Array,
+      item_form-kind c.in-Array.list.items c.args.reader.now.next,
+      ← c.deref.ensures.value,
+      ← c.list_kind.ensures,
+      c.in-None.is,
+    ) refl
+
+pub element_of-returns : goal.element_of-returns
+element_of-returns t c = search (rules, element_form-four)
+
+pub body_of-returns : goal.body_of-returns
+body_of-returns t c = search (rules, body_form-two)
 
 pub element_with-returns : goal.element_with-returns
 element_with-returns t c =
     rw (
-      c.in_ok-text.ensures,
+      c.in_ok-text_at.ensures,
       ← c.deref.ensures,
       item_view-Element,
       elem_view-made,
@@ -35,8 +57,8 @@ element_with-returns t c =
       c.in_ok-span.ensures.span,
     )
     (read_element element_made item_refusals items_refusals own_first
-    (chars c.deref.result.now) c.in_ok-tag.tag (pairs_at (view c.args.pairs.now))
-    (attrs_view c.in_ok-attrs.attrs) (list_at (view c.args.list.now))
+    (chars c.deref.result.now) c.in_ok-tag.tag (pairs_at (view c.args.pairs))
+    (attrs_view c.in_ok-attrs.attrs) (list_at (view c.args.list))
     (flow.items_view c.in_ok-body.body.items) c.in_ok-span.span.0 c.args.reader.now
     c.span.new.self c.tag.new.self c.pairs.new.self c.list_of.new.reader
     c.in_ok-span.ensures.span c.in_ok-span.ensures.next c.in_ok-span.ensures.refused
@@ -60,19 +82,12 @@ box_of-returns t c =
     item_refusals _ _ c.span.new.self c.body_of.new.reader (box_same c.args.reader.now.next)
     c.in_ok-body_of.ensures))
 
-pub body_of-returns-in-len1 : goal.body_of-returns-in-len1
-body_of-returns-in-len1 t c =
-    rw (body_form-one c.args.fields.now c.index-fields-0.result c.args.reader.now.next
-    (omega (arith, c.in-len1.len_at_least, c.in-len1.len_below)))
-    c.list_of.ensures
-
 pub list_of-loop-value-init : goal.list_of-loop-value-init
 list_of-loop-value-init t c =
     let left = into_iter_items c.into_iter-value-iterator.result in
-    let is : list_at (view c.args.value.now) c.args.reader.now.next
+    let is : list_at (view c.args.value) c.args.reader.now.next
     ≡ spelled_list (items_view left) c.args.reader.now.next =
     rw (
-      ← c.taken.ensures,
       c.in-Array.is,
       view-Array,
       c.into_iter-value-iterator.ensures.into_iter_gives.0,

@@ -20,7 +20,7 @@ abbrev pub decreases-element_of : goal.decreases-element_of
 decreases-element_of l = 5 * goal.size-element_of l + 3
 
 abbrev pub decreases-element_with : goal.decreases-element_with
-decreases-element_with l = 5 * the_size l.list.now + 1
+decreases-element_with l = 5 * the_size l.list + 1
 
 abbrev pub decreases-block_of : goal.decreases-block_of
 decreases-block_of l = 5 * goal.size-block_of l + 3

@@ -5,7 +5,8 @@ use Rattle.std.specs.Vec.Iter.{into_iter_items, into_iter_len}
 use Rattle.serde_json.proofs.Views.{view-Array}
 use Rattle.serde_json.specs.View.{view, items_view}
 use Rattle.html_dom_tree.specs.Views.{node_view, nodes_view, attrs_view}
-use Rattle.html_tool_run.proofs.Forms.{element_form-three, node_view-Element}
+use Rattle.html_tool_run.proofs.Forms.{element_form-four, node_view-Element}
+use Rattle.html_tool_run.proofs.KindForms.{form-kind}
 use Rattle.html_tool_run.proofs.NodeRows.{nodes_row, joined-nodes, own_first}
 use Rattle.html_tool_run.proofs.Readings.{read_element}
 use Rattle.html_tool_run.proofs.Rows.{none_read, one_read, all_read, wrong_one}
@@ -14,26 +15,44 @@ use Rattle.html_tool_run.specs.NameRefusals.{name_refusals, all_name_refusals}
 use Rattle.html_tool_run.specs.Spelled.{element_made, list_at, spelled_all}
 use Rattle.html_tool_run.proofs.nodes.+spell.Goals as goal
 
-pub element_of-returns-in-len3 : goal.element_of-returns-in-len3
-element_of-returns-in-len3 t c =
-    rw (element_form-three c.args.fields.now c.result-item.result
-    c.result-item-then-fields-lt4.result c.result-item-then-fields-lt4-2.result
-    c.args.reader.now.next (omega (arith, c.in-len3.len_at_least, c.in-len3.len_below))
-    c.result-item.is c.result-item-then-fields-lt4.is c.result-item-then-fields-lt4-2.is)
-    c.element_with.ensures
+pub node_of-returns-in-Some : goal.node_of-returns-in-Some
+node_of-returns-in-Some t c =
+    rw (
+      c.in-Array.is,
+      view-Array,
+      form-kind c.in-Array.list.items c.args.reader.now.next,
+      ← c.deref.ensures.value,
+      ← c.list_kind.ensures,
+      c.in-Some.is,
+      c.deref.ensures.value,
+    ) c.form_of.ensures
+
+pub node_of-returns-in-None : goal.node_of-returns-in-None
+node_of-returns-in-None t c =
+    rw (
+      c.in-Array.is,
+      view-Array,
+      form-kind c.in-Array.list.items c.args.reader.now.next,
+      ← c.deref.ensures.value,
+      ← c.list_kind.ensures,
+      c.in-None.is,
+    ) refl
+
+pub element_of-returns : goal.element_of-returns
+element_of-returns t c = search (rules, element_form-four)
 
 pub element_with-returns : goal.element_with-returns
 element_with-returns t c =
     rw (
-      c.in_ok-text.ensures,
+      c.in_ok-text_at.ensures,
       ← c.deref.ensures,
       node_view-Element,
       c.new.ensures,
       c.in_ok-span.ensures.span,
     )
     (read_element element_made name_refusals all_name_refusals own_first
-    (chars c.deref.result.now) c.in_ok-tag.tag (pairs_at (view c.args.pairs.now))
-    (attrs_view c.in_ok-attrs.attrs) (list_at (view c.args.list.now))
+    (chars c.deref.result.now) c.in_ok-tag.tag (pairs_at (view c.args.pairs))
+    (attrs_view c.in_ok-attrs.attrs) (list_at (view c.args.list))
     (nodes_view c.in_ok-children.children.items) c.in_ok-span.span.0 c.args.reader.now
     c.span.new.self c.tag.new.self c.pairs.new.self c.list_of.new.reader
     c.in_ok-span.ensures.span c.in_ok-span.ensures.next c.in_ok-span.ensures.refused
@@ -42,10 +61,9 @@ element_with-returns t c =
 pub list_of-loop-value-init : goal.list_of-loop-value-init
 list_of-loop-value-init t c =
     let left = into_iter_items c.into_iter-value-iterator.result in
-    let is : list_at (view c.args.value.now) c.args.reader.now.next
+    let is : list_at (view c.args.value) c.args.reader.now.next
     ≡ spelled_all (items_view left) c.args.reader.now.next =
     rw (
-      ← c.taken.ensures,
       c.in-Array.is,
       view-Array,
       c.into_iter-value-iterator.ensures.into_iter_gives.0,

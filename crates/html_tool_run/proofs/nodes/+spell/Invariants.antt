@@ -20,7 +20,7 @@ abbrev pub decreases-element_of : goal.decreases-element_of
 decreases-element_of l = 4 * goal.size-element_of l + 2
 
 abbrev pub decreases-element_with : goal.decreases-element_with
-decreases-element_with l = 4 * the_size l.list.now + 1
+decreases-element_with l = 4 * the_size l.list + 1
 
 abbrev pub decreases-list_of : goal.decreases-list_of
 decreases-list_of l = 4 * goal.size-list_of l

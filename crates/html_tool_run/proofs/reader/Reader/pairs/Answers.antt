@@ -14,10 +14,9 @@ use Rattle.html_tool_run.proofs.reader.Reader.pairs.Goals as goal
 pub loop-value-init : goal.loop-value-init
 loop-value-init c =
     let left = into_iter_items c.into_iter-value-iterator.result in
-    let is : with_next c.args.self.now.next (pairs_at (view c.args.value.now))
+    let is : with_next c.args.self.now.next (pairs_at (view c.args.value))
     ≡ with_next c.args.self.now.next (pairs_of (items_view left)) =
     rw (
-      ← c.taken.ensures,
       c.in-Array.is,
       view-Array,
       c.into_iter-value-iterator.ensures.into_iter_gives.0,

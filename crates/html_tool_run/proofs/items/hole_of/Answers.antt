@@ -1,0 +1,14 @@
+use Rattle.std.proofs.Common.{refl}
+use Rattle.html_flow_convert.specs.Views.{item_view}
+use Rattle.html_flow_convert.specs.declared.item.Item as Item
+use Rattle.html_tool_run.proofs.ItemForms.{item_view-Hole}
+use Rattle.html_tool_run.proofs.Readings.{read_clean}
+use Rattle.html_tool_run.specs.NameRefusals.{item_refusals}
+use Rattle.html_tool_run.proofs.items.hole_of.Goals as goal
+
+pub returns : goal.returns
+unfolding item_refusals
+returns c =
+    read_clean item_refusals (item_view Item.Hole) _ c.args.reader.now c.span.new.self
+    (rw (c.in_ok-nothing_in.ensures, item_view-Hole, c.in_ok-_span.ensures.next) refl)
+    (rw item_view-Hole refl) c.in_ok-_span.ensures.refused
