@@ -6,6 +6,7 @@ ghost use Rattle.html_names.specs.Texts.{text_view};
 mod all_calls;
 mod all_names;
 mod faults;
+mod reading;
 
 use crate::asserts::{assert_keys, assert_some, assert_text, only, text_of};
 use std::alloc::Global;

@@ -12,6 +12,11 @@ pub use Rattle.typst_html_encode.specs.ReadingBack
 pub use Rattle.typst_html_encode.specs.References
 pub use Rattle.typst_html_encode.specs.Text
 pub use Rattle.typst_html_encode.specs.Endings
+pub use Rattle.typst_html_read.specs.Endings as ReadEndings
+pub use Rattle.typst_html_read.specs.PlainElements
+pub use Rattle.typst_html_read.specs.ReadFaults
+pub use Rattle.typst_html_read.specs.ReadLaws
+pub use Rattle.typst_html_read.specs.Reading
 pub use Rattle.typst_html_spaces.specs.CleanItems
 pub use Rattle.typst_html_spaces.specs.ItemText
 pub use Rattle.typst_html_spaces.specs.PlainFlow
@@ -43,3 +48,4 @@ pub use Rattle.html_flow_convert.specs.Items
 pub use Rattle.html_flow_convert.specs.Views as ItemViews
 pub use Rattle.typst_html_encode.specs.declared.fault.ExportFault
 pub use Rattle.typst_html_encode.specs.declared.frame.FrameFault
+pub use Rattle.typst_html_read.specs.declared.fault.ReadFault

@@ -134,3 +134,5 @@ pub use typst_html_export::export_linked;
 pub use typst_html_export::html;
 pub use typst_html_export::html_document;
 pub use typst_html_export::html_document_for_bundle;
+pub use typst_html_read::ReadFault;
+pub use typst_html_read::read_html;

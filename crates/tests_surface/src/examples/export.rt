@@ -132,3 +132,16 @@ fn trees_are_written_in_pretty_text(rt: HostRuntime) -> Result<(), Fail> {
     assert_eq!(rt; html.as_str(), wanted);
     Ok(())
 }
+
+#[test]
+fn texts_are_read(rt: HostRuntime) -> Result<(), Fail> {
+    use typst_html::{read_html, tag};
+
+    let alloc = rt.alloc();
+    let root = read_html(alloc, "<!DOCTYPE html><p>a &amp; b</p>", 50)?.expect(&rt, "an element");
+    assert!(rt; root.tag == tag::p);
+    assert_eq!(rt; root.children.len(), 1);
+    let none = read_html(alloc, "<!DOCTYPE html><p>a & b", 50)?;
+    assert!(rt; none.is_none());
+    Ok(())
+}

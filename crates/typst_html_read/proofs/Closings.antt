@@ -1,0 +1,145 @@
+-- Closing tags at the end of a text, by its bytes and by its characters.
+use Rattle.std.proofs.Common.{◌≡◌, ℕ, suc, eqb, ◌+◌, ◌-◌, ◌<◌, ◌≤◌, Bool, true, List, [], ◌∷◌, ◌++◌, bytes_eq, chars, codes, drop, take, map, refl, sym, ap, ◌∙◌, subst, arith, length, get_or, length-append, length-drop}
+use Rattle.std.specs.Char.{to_ascii_lowercase}
+use Rattle.std.specs.Str.{IsUtf8, IsAscii, IsCharBoundary}
+use Rattle.std.proofs.lemmas.Bool.{and_parts}
+use Rattle.std.proofs.lemmas.Bool.Decides.{nat_tests}
+use Rattle.std.proofs.lemmas.List.{take-append-drop, take_all, length-map, get_or-drop}
+use Rattle.std.proofs.Math.Seq.{drop-append_seam, take-append_seam}
+use Rattle.std.proofs.lemmas.Slice.Eq.{bytes_eq-Decides}
+use Rattle.std.proofs.lemmas.Str.{chars-append, chars-IsAscii, encodes-chars, encodes-append, encodes-IsAscii, IsUtf8-take, IsCharBoundary-before_ascii}
+use Rattle.std.proofs.lemmas.Str.Ascii.{IsAscii-nil, IsAscii-cons, IsAscii-map, lowercase_ascii}
+use lib.Utf8.{encodes}
+use Rattle.html_names.specs.Characters.{all, IsOf, is_tag_char}
+use Rattle.typst_html_encode.specs.ClosingTags.{is_tag_end, closing, ends_closing}
+use Rattle.typst_html_read.specs.RawEnds.{EndsAt}
+
+-- the last of a list
+pub last_dropped : (xs ys : List ℕ) (m : ℕ) → length ys ≡ m →
+    drop (length (xs ++ ys) - m) (xs ++ ys) ≡ ys
+last_dropped xs ys m h =
+    let at : length (xs ++ ys) - m ≡ length xs = omega (arith, length-append xs ys) in
+    ap (λ n. drop n (xs ++ ys)) at ∙ drop-append_seam xs ys
+
+pub last_taken : (xs ys : List ℕ) (m : ℕ) → length ys ≡ m →
+    take (length (xs ++ ys) - m) (xs ++ ys) ≡ xs
+last_taken xs ys m h =
+    let at : length (xs ++ ys) - m ≡ length xs = omega (arith, length-append xs ys) in
+    ap (λ n. take n (xs ++ ys)) at ∙ take-append_seam xs ys
+
+-- what a slice to the end holds
+pub end_is : (xs ys : List ℕ) (k : ℕ) → ys ≡ xs → take (length ys - k) (drop k ys) ≡ drop k xs
+end_is xs ys k e = take_all (length ys - k) (drop k ys) (omega (arith, length-drop k ys))
+    ∙ ap (drop k) e
+
+-- names of tags are ASCII
+
+tag_char_ascii : (c : ℕ) → is_tag_char c ≡ true → c < 128
+tag_char_ascii c h = grind (arith, nat_tests)
+
+all_ascii : (n : List ℕ) → all is_tag_char n ≡ true → IsAscii n
+all_ascii [] h = IsAscii-nil
+all_ascii (c ∷ cs) h = let both = and_parts (is_tag_char c) (all is_tag_char cs) h in
+    IsAscii-cons c cs (tag_char_ascii c both.0) (all_ascii cs both.1)
+
+name_ascii : (n : List ℕ) → IsOf is_tag_char n → IsAscii n
+name_ascii [] h = absurd h
+name_ascii (c ∷ cs) h = IsAscii-cons c cs (tag_char_ascii c h.0) (all_ascii cs h.1)
+
+pub name_is : (n : List ℕ) → IsUtf8 n → IsOf is_tag_char (chars n) → n ≡ chars n
+name_is n u h = sym (encodes-chars n u) ∙ encodes-IsAscii (chars n) (name_ascii (chars n) h)
+
+small_ascii : (c : ℕ) → to_ascii_lowercase c < 128 → c < 128
+small_ascii c h = grind (arith, nat_tests)
+
+raised : (xs ys : List ℕ) → map to_ascii_lowercase xs ≡ ys → IsAscii ys → IsAscii xs
+raised [] ys e a = IsAscii-nil
+raised (x ∷ xs) ys e a =
+    let whole : IsAscii (to_ascii_lowercase x ∷ map to_ascii_lowercase xs) =
+    subst IsAscii (sym e) a in
+    IsAscii-cons x xs (small_ascii x (whole 0)) (raised xs _ refl (λ k. whole (suc k)))
+
+closing_ascii : (n : List ℕ) → IsOf is_tag_char n → IsAscii (closing n)
+closing_ascii n h = IsAscii-cons 60 (47 ∷ map to_ascii_lowercase n) (omega arith)
+    (IsAscii-cons 47 (map to_ascii_lowercase n) (omega arith)
+    (IsAscii-map to_ascii_lowercase n lowercase_ascii (name_ascii n h)))
+
+pub closing_long : (n : List ℕ) → length (closing n) ≡ length n + 2
+closing_long n = omega (arith, length-map n to_ascii_lowercase)
+
+small_is : (c d : ℕ) → d < 65 → to_ascii_lowercase c ≡ d → eqb c d ≡ true
+small_is c d h e = grind (arith, nat_tests)
+
+-- of the first two characters nothing is left to tell
+exact_is : (end n : List ℕ) → map to_ascii_lowercase end ≡ closing n →
+    bytes_eq end (codes "</" ++ n) ≡ bytes_eq (drop 2 end) n
+exact_is [] n e = cc
+exact_is (x ∷ []) n e = cc
+exact_is (x ∷ y ∷ rest) n e =
+    let p : to_ascii_lowercase x ≡ 60 = cc in
+    let q : to_ascii_lowercase y ≡ 47 = cc in
+    rw (small_is x 60 (omega arith) p, small_is y 47 (omega arith) q) refl
+
+-- the end of the characters is the end of the bytes
+module _ (n t : List ℕ) (h : IsOf is_tag_char n) (u : IsUtf8 t) where
+  -- by characters
+  abbrev place : ℕ
+  place = length (chars t) - length (closing n)
+
+  pub by_characters : ends_closing n (chars t) ≡ true → (length n + 2 ≤ length t)
+      × (map to_ascii_lowercase (drop (length t - (length n + 2)) t) ≡ closing n)
+  by_characters e =
+      let end = drop place (chars t) in
+      let front = take place (chars t) in
+      let is : map to_ascii_lowercase end ≡ closing n =
+      (bytes_eq-Decides (map to_ascii_lowercase end) (closing n)).0 e in
+      let ascii : IsAscii end = raised end (closing n) is (closing_ascii n h) in
+      let whole : t ≡ encodes front ++ end = sym (encodes-chars t u)
+      ∙ (ap encodes (sym (take-append-drop place (chars t)))
+      ∙ (encodes-append front end ∙ ap (λ l. encodes front ++ l) (encodes-IsAscii end ascii))) in
+      let long : length end ≡ length n + 2 = sym (length-map end to_ascii_lowercase)
+      ∙ (ap length is ∙ closing_long n) in
+      let cut : drop (length t - (length n + 2)) t ≡ end =
+      ap (λ l. drop (length l - (length n + 2)) l) whole
+      ∙ last_dropped (encodes front) end (length n + 2) long in (
+        omega (arith, ap length whole, length-append (encodes front) end, long),
+        ap (map to_ascii_lowercase) cut ∙ is,
+      )
+
+  module _ (fits : length n + 2 ≤ length t)
+      (e : map to_ascii_lowercase (drop (length t - (length n + 2)) t) ≡ closing n) where
+    abbrev at : ℕ
+    at = length t - (length n + 2)
+
+    ascii : IsAscii (drop at t)
+    ascii = raised (drop at t) (closing n) e (closing_ascii n h)
+
+    pub boundary : IsCharBoundary t at
+    boundary =
+        let here : get_or (drop at t) 0 0 < 128 = ascii 0 in
+        let there : get_or t (at + 0) 0 < 128 = rw (get_or-drop at t 0 0) at here in
+        let same : at + 0 ≡ at = omega arith in
+        IsCharBoundary-before_ascii t at (omega arith) (subst (λ n. get_or t n 0 < 128) same there)
+
+    cut : chars t ≡ chars (take at t) ++ drop at t
+    cut = ap chars (sym (take-append-drop at t))
+        ∙ (chars-append (take at t) (drop at t) (IsUtf8-take t at u boundary)
+        ∙ ap (λ l. chars (take at t) ++ l) (chars-IsAscii (drop at t) ascii))
+
+    long : length (drop at t) ≡ length (closing n)
+    long = omega (arith, length-drop at t, closing_long n)
+
+    dropped : drop place (chars t) ≡ drop at t
+    dropped = ap (λ l. drop (length l - length (closing n)) l) cut
+        ∙ last_dropped (chars (take at t)) (drop at t) (length (closing n)) long
+
+    pub by_bytes : (c : ℕ) → is_tag_end c ≡ true →
+        (exact : Bool) → exact ≡ bytes_eq (drop 2 (drop at t)) n → EndsAt n t c (at, exact)
+    by_bytes c last exact is = record {
+      tag_end = last;
+      ends = (bytes_eq-Decides _ _).1 (ap (map to_ascii_lowercase) dropped ∙ e);
+      exact = is ∙ sym (ap (λ l. bytes_eq l (codes "</" ++ n)) dropped ∙ exact_is (drop at t) n e);
+      boundary = boundary;
+      before = sym (ap (λ l. take (length l - length (closing n)) l) cut
+          ∙ last_taken (chars (take at t)) (drop at t) (length (closing n)) long);
+    }

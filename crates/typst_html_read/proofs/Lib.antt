@@ -1,0 +1,10 @@
+pub mod Closings
+pub mod Loops
+pub mod Names
+pub mod Normal
+pub mod Numbers
+pub mod Plain
+pub mod ReadLaws
+pub mod References
+pub mod Steps
+pub mod Words

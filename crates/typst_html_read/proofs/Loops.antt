@@ -1,0 +1,48 @@
+-- Reading by what is left of the characters.
+use Rattle.std.proofs.Common.{◌≡◌, ℕ, ◌+◌, true, false, inl, inr, List, [], ◌∷◌, ◌++◌, bytes_eq, chars, take, drop, length, refl, sym, ap, ◌∙◌}
+use Rattle.std.specs.Prelude.{if◌then◌else◌}
+use Rattle.std.specs.Str.{IsUtf8}
+use Rattle.std.proofs.lemmas.Bool.{cases_Bool}
+use Rattle.std.proofs.lemmas.List.{take-append-drop}
+use Rattle.std.proofs.lemmas.Slice.Eq.{bytes_eq-Decides}
+use lib.Utf8.{encodes}
+use Rattle.html_names.specs.Names.{is_ascii}
+use Rattle.typst_html_encode.specs.Reader.{ReaderState, Stop}
+use Rattle.typst_html_read.specs.Reading.{next, begins_deep, deep_places}
+use Rattle.typst_html_read.proofs.Words.{word_before}
+
+pub deep_later : (limit before : ℕ) (s : ReaderState) (c : ℕ) (cs : List ℕ) →
+    begins_deep limit s c ≡ false →
+    deep_places limit before s (c ∷ cs) ≡ deep_places limit (before + 1) (next s c) cs
+unfolding deep_places
+deep_later limit before s c cs h =
+    ap (λ b. (if b then before ∷ [] else []) ++ deep_places limit (before + 1) (next s c) cs) h
+
+pub deep_here : (limit before : ℕ) (s : ReaderState) (c : ℕ) (cs : List ℕ) →
+    begins_deep limit s c ≡ true →
+    deep_places limit before s (c ∷ cs) ≡ before ∷ deep_places limit (before + 1) (next s c) cs
+unfolding deep_places
+deep_here limit before s c cs h =
+    ap (λ b. (if b then before ∷ [] else []) ++ deep_places limit (before + 1) (next s c) cs) h
+
+pub deep_stopped : (limit before : ℕ) (cs : List ℕ) → deep_places limit before Stop cs ≡ []
+unfolding deep_places
+deep_stopped limit before [] = refl
+deep_stopped limit before (c ∷ cs) = deep_stopped limit (before + 1) cs
+
+pub deep_ended : (limit before : ℕ) (s : ReaderState) → deep_places limit before s [] ≡ []
+unfolding deep_places
+deep_ended limit before s = refl
+
+-- a text that does not begin with a word
+pub begins_otherwise : (n s : List ℕ) → is_ascii n ≡ true → IsUtf8 s →
+    ((rest : List ℕ) → s ≡ n ++ rest → ⊥) → bytes_eq (take (length n) (chars s)) n ≡ false
+begins_otherwise n s a u h =
+    let k = length n in
+    elim (cases_Bool (bytes_eq (take k (chars s)) n)) [
+      | inl e ↦
+          let front : take k (chars s) ≡ n = (bytes_eq-Decides (take k (chars s)) n).0 e in
+          absurd (h (encodes (drop k (chars s))) (word_before n s (drop k (chars s)) a u
+          (sym (take-append-drop k (chars s)) ∙ ap (λ l. l ++ drop k (chars s)) front)))
+      | inr e ↦ e
+    ]

@@ -1,0 +1,37 @@
+use Rattle.std.proofs.Common.{codes, refl, sym, ap, ◌∙◌, ◌∷◌}
+use Rattle.typst_html_encode.specs.References as definition
+use Rattle.typst_html_read.proofs.References.{by_number, no_reference}
+use Rattle.typst_html_read.proofs.Words.{word_is}
+use Rattle.typst_html_read.proofs.reference.reference.Goals as goal
+
+pub returns-in-amp : goal.returns-in-amp
+returns-in-amp c =
+    sym (ap definition.reference (word_is (codes "amp") c.args.words.now refl c.in-amp.is))
+
+pub returns-in-lt : goal.returns-in-lt
+returns-in-lt c =
+    sym (ap definition.reference (word_is (codes "lt") c.args.words.now refl c.in-lt.is))
+
+pub returns-in-gt : goal.returns-in-gt
+returns-in-gt c =
+    sym (ap definition.reference (word_is (codes "gt") c.args.words.now refl c.in-gt.is))
+
+pub returns-in-quot : goal.returns-in-quot
+returns-in-quot c =
+    sym (ap definition.reference (word_is (codes "quot") c.args.words.now refl c.in-quot.is))
+
+pub returns-in-apos : goal.returns-in-apos
+returns-in-apos c =
+    sym (ap definition.reference (word_is (codes "apos") c.args.words.now refl c.in-apos.is))
+
+pub returns-in_ok-numbered-in-Some : goal.returns-in_ok-numbered-in-Some
+returns-in_ok-numbered-in-Some c =
+    let found = c.in-Some.ensures.cases in
+    c.in_ok-numbered-in-Some.ensures ∙ sym (by_number c.args.words.now c.in-Some.digits.now
+    (found.1.1 ∙ sym (ap (λ l. 35 ∷ 120 ∷ l) found.2)))
+
+pub returns-in-None : goal.returns-in-None
+returns-in-None c =
+    let other = c.in_default in
+    no_reference c.args.words.now c.utf8.words other.not-amp other.not-lt other.not-gt
+    other.not-quot other.not-apos c.in-None.ensures.cases

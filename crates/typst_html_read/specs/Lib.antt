@@ -1,0 +1,9 @@
+pub mod Endings
+pub mod OpenViews
+pub mod PlainElements
+pub mod PlainViews
+pub mod RawEnds
+pub mod ReadFaults
+pub mod ReadLaws
+pub mod ReaderViews
+pub mod Reading

@@ -1,0 +1,17 @@
+-- The program's open elements as those of the definition.
+use Rattle.std.specs.Prelude.{List, map, reverse}
+use Rattle.html_dom_tree.specs.Views.{element_view}
+use Rattle.typst_html_encode.specs.Reader.{Open}
+use Rattle.typst_html_read.specs.PlainViews.{open_view}
+use Rattle.typst_html_read.specs.declared.open.OpenElement.{OpenElement}
+use Rattle.typst_html_read.specs.declared.stack.Stack.{Stack}
+
+abbrev pub open_of : OpenElement → Open
+open_of o = open_view (element_view o.element)
+
+-- the innermost first
+abbrev pub list_of : List OpenElement → List Open
+list_of os = reverse (map open_of os)
+
+abbrev pub stack_of : Stack → List Open
+stack_of s = list_of s.items.items

@@ -1,0 +1,16 @@
+-- Where the text of a raw element ends, by its bytes.
+use Rattle.std.specs.Prelude.{◌≡◌, ℕ, Bool, true, ◌&&◌, List, chars, take}
+use Rattle.std.specs.Str.{IsCharBoundary}
+use Rattle.typst_html_encode.specs.ClosingTags.{is_tag_end, ends_closing, ends_exact, before_closing}
+
+-- with the character a closing tag ends
+abbrev pub ends_raw : (name text : List ℕ) → ℕ → Bool
+ends_raw name text c = is_tag_end c && ends_closing name text
+
+-- the closing tag in which the text and the character end begins at that byte, and is exact or not
+pub record EndsAt (name text : List ℕ) (c : ℕ) (end : ℕ × Bool) : Type 0 where
+  pub tag_end : is_tag_end c ≡ true
+  pub ends : ends_closing name (chars text) ≡ true
+  pub exact : end.1 ≡ ends_exact name (chars text)
+  pub boundary : IsCharBoundary text end.0
+  pub before : chars (take end.0 text) ≡ before_closing name (chars text)

@@ -1,0 +1,47 @@
+//! Where the text of a raw element ends.
+
+ghost use Rattle.std.specs.Prelude.{◌≡◌, ◌↔◌, ◌≤◌, IsTrue, MatchOption, false, chars, length, map};
+ghost use Rattle.std.specs.Char.{to_ascii_lowercase};
+ghost use Rattle.html_names.specs.Characters.{IsOf, is_tag_char};
+ghost use Rattle.typst_html_encode.specs.ClosingTags as ending;
+ghost use Rattle.typst_html_read.specs.RawEnds.{EndsAt, ends_raw};
+
+/// Whether the character ends the name in a closing tag.
+#[tactic(auto, unfolding(typst_html_encode::specs::ClosingTags::is_tag_end))]
+fn is_tag_end(c: char) -> bool
+    ensures { result ≡ ending.is_tag_end c }
+{
+    matches!(c, '\t' | '\n' | '\u{c}' | '\r' | ' ' | '>' | '/')
+}
+
+/// Whether these bytes are a closing tag of that name, in any ASCII case, without its last
+/// character.
+fn is_closing(name: &[u8], end: &[u8]) -> bool
+    requires { 2 ≤ length end.now }
+    ensures { IsTrue result ↔ (map to_ascii_lowercase end.now ≡ ending.closing name.now) }
+{
+    end[0] == b'<' && end[1] == b'/' && end[2..].eq_ignore_ascii_case(name)
+}
+
+/// Where the closing tag begins that the text and the character end with, and whether it is exact
+/// up to the character.
+pub(crate) fn end_of(name: &str, text: &str, c: char) -> Option<(usize, bool)>
+    requires { IsOf is_tag_char (chars name.now) }
+    ensures { MatchOption result
+        (ends_raw (chars name.now) (chars text.now) c ≡ false)
+        (EndsAt (chars name.now) text.now c) }
+{
+    if !is_tag_end(c) {
+        return None;
+    }
+    let closing = name.len() + 2;
+    if text.len() < closing {
+        return None;
+    }
+    let length = text.len() - closing;
+    let end = &text.as_bytes()[length..];
+    if !is_closing(name.as_bytes(), end) {
+        return None;
+    }
+    Some((length, &end[2..] == name.as_bytes()))
+}

@@ -1,0 +1,138 @@
+//! Reading outside of tags.
+
+ghost use Rattle.std.specs.Prelude.{◌≡◌, OnOk};
+ghost use Rattle.html_dom_tree.specs.Views.{text_view};
+ghost use Rattle.typst_html_encode.specs.Reader as reader;
+ghost use Rattle.typst_html_read.specs.OpenViews.{open_of, stack_of};
+ghost use Rattle.typst_html_read.specs.Reading.{next};
+ghost use Rattle.typst_html_read.specs.ReaderViews.{reader_state};
+ghost use Rattle.typst_html_read.specs.declared.reader.Mode.TheVariants as mode;
+
+use crate::open::OpenElement;
+use crate::reader::{Mode, Reader};
+use crate::reference::reference;
+use crate::text::{add, empty, take};
+use html_names::charsets::is_valid_in_tag_name;
+use std::alloc::AllocError;
+
+impl Reader {
+    /// A character outside the root.
+    pub(crate) fn outside(&mut self, c: char) -> Result<(), AllocError>
+        requires { self.old.mode ≡ mode.Outside }
+        ensures { OnOk result (reader_state self.new ≡ next (reader_state self.old) c) }
+    {
+        if matches!(c, '\t' | '\n' | '\r' | ' ') {
+            return Ok(());
+        }
+        self.mode = if c == '<' && self.root.is_none() {
+            Mode::Less
+        } else {
+            Mode::Stop
+        };
+        self.stack.clear();
+        Ok(())
+    }
+
+    /// A character of a text.
+    pub(crate) fn content(&mut self, c: char) -> Result<(), AllocError>
+        requires { self.old.mode ≡ mode.Content }
+        ensures { OnOk result (reader_state self.new
+            ≡ reader.in_content (text_view self.old.text) (stack_of self.old.stack) c) }
+    {
+        match c {
+            '<' => {
+                let text = take(self.alloc, &mut self.text);
+                self.stack.add_text(text)?;
+                self.mode = Mode::Less;
+            }
+            '&' => {
+                empty(&mut self.word);
+                self.mode = Mode::Reference;
+            }
+            _ => add(&mut self.text, c)?,
+        }
+        Ok(())
+    }
+
+    /// The character after a start tag at which a line feed is dropped.
+    pub(crate) fn fresh(&mut self, c: char) -> Result<(), AllocError>
+        requires { self.old.mode ≡ mode.Fresh }
+        ensures { OnOk result (reader_state self.new ≡ next (reader_state self.old) c) }
+    {
+        empty(&mut self.text);
+        self.mode = Mode::Content;
+        if c == '\n' {
+            return Ok(());
+        }
+        self.content(c)
+    }
+
+    /// A character of a reference in a text.
+    pub(crate) fn reference(&mut self, c: char) -> Result<(), AllocError>
+        requires { self.old.mode ≡ mode.Reference }
+        ensures { OnOk result (reader_state self.new ≡ next (reader_state self.old) c) }
+    {
+        if c != ';' {
+            add(&mut self.word, c)?;
+            return Ok(());
+        }
+        match reference(self.alloc, self.word.as_str())? {
+            None => self.mode = Mode::Stop,
+            Some(d) => {
+                add(&mut self.text, d)?;
+                self.mode = Mode::Content;
+            }
+        }
+        Ok(())
+    }
+
+    /// An element is complete.
+    pub(crate) fn complete(&mut self, element: OpenElement) -> Result<(), AllocError>
+        ensures { OnOk result (reader_state self.new
+            ≡ reader.complete (open_of element).name (open_of element).attrs
+            (open_of element).children (stack_of self.old.stack)) }
+    {
+        match self.stack.pop() {
+            None => {
+                self.root = Some(element);
+                self.mode = Mode::Outside;
+            }
+            Some(outer) => {
+                self.stack.push(outer.with_element(element)?)?;
+                empty(&mut self.text);
+                self.mode = Mode::Content;
+            }
+        }
+        Ok(())
+    }
+
+    /// A character of the name of an end tag.
+    pub(crate) fn end_name(&mut self, c: char) -> Result<(), AllocError>
+        requires { self.old.mode ≡ mode.EndName }
+        ensures { OnOk result (reader_state self.new ≡ next (reader_state self.old) c) }
+    {
+        if is_valid_in_tag_name(c) {
+            add(&mut self.word, c)?;
+            return Ok(());
+        }
+        if c != '>' {
+            self.mode = Mode::Stop;
+            return Ok(());
+        }
+        self.close()
+    }
+
+    /// An end tag is read.
+    fn close(&mut self) -> Result<(), AllocError>
+        ensures { OnOk result (reader_state self.new
+            ≡ reader.close (text_view self.old.word) (stack_of self.old.stack)) }
+    {
+        match self.stack.pop() {
+            Some(element) if element.is_named(self.word.as_str()) => self.complete(element),
+            _ => {
+                self.mode = Mode::Stop;
+                Ok(())
+            }
+        }
+    }
+}

@@ -1,0 +1,51 @@
+ghost use Rattle.std.specs.Prelude.{◌≡◌};
+ghost use Rattle.typst_html_read.specs.ReadFaults.{number_of};
+
+use std::alloc::{AllocError, AllocFailed};
+use thiserror::Error;
+
+/// Why a text was not read.
+#[derive(Clone, Copy, Debug, PartialEq, Eq, Error)]
+pub enum ReadFault {
+    /// An allocation failed.
+    #[error("out of memory")]
+    OutOfMemory,
+    /// An element stands deeper than the limit.
+    #[error("elements are nested too deeply")]
+    TooDeep {
+        /// How many characters stand before the `<` of the element's start tag.
+        place: usize,
+    },
+}
+
+impl ReadFault {
+    /// The fault's number: 0 for out of memory, 8 for an element that stands too deep.
+    pub fn number(&self) -> u8
+        ensures { result ≡ number_of self.now }
+    {
+        match self {
+            ReadFault::OutOfMemory => 0,
+            ReadFault::TooDeep { .. } => 8,
+        }
+    }
+}
+
+impl From<AllocError> for ReadFault {
+    ghost use Rattle.typst_html_read.specs.declared.fault.ReadFault.TheVariants.{OutOfMemory};
+
+    ghost from_gives = { λ _ e. e ≡ OutOfMemory };
+
+    fn from(_refused: AllocError) -> ReadFault {
+        ReadFault::OutOfMemory
+    }
+}
+
+impl<T: Drop> From<AllocFailed<T>> for ReadFault {
+    ghost use Rattle.typst_html_read.specs.declared.fault.ReadFault.TheVariants.{OutOfMemory};
+
+    ghost from_gives = { λ _ e. e ≡ OutOfMemory };
+
+    fn from(_refused: AllocFailed<T>) -> ReadFault {
+        ReadFault::OutOfMemory
+    }
+}

@@ -1,0 +1,20 @@
+//! Reading: the tree that a written text spells.
+#![tactic(auto)]
+
+mod closing;
+mod content;
+mod fault;
+pub mod laws;
+mod open;
+mod raw;
+mod read;
+mod reader;
+mod reference;
+mod stack;
+mod tags;
+#[cfg(test)]
+mod tests;
+mod text;
+
+pub use fault::ReadFault;
+pub use read::read_html;

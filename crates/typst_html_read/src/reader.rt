@@ -1,0 +1,144 @@
+//! A reader, which takes one character after the other.
+
+ghost use Rattle.std.specs.Prelude.{◌≡◌, ◌↔◌, OnOk, IsTrue, None, option_map};
+ghost use Rattle.typst_html_read.specs.OpenViews.{open_of};
+ghost use Rattle.typst_html_read.specs.PlainViews.{completed};
+ghost use Rattle.typst_html_encode.specs.Reader.{Outside, Stop, final_root};
+ghost use Rattle.typst_html_read.specs.Reading.{next, begins_deep};
+ghost use Rattle.typst_html_read.specs.ReaderViews.{reader_state};
+
+use crate::open::OpenElement;
+use crate::stack::Stack;
+use html_dom_tree::HtmlAttrs;
+use html_names::charsets::is_valid_in_tag_name;
+use html_names::{HtmlAttr, HtmlTag, attr, tag};
+use std::alloc::{AllocError, Global};
+
+/// Where a reader stands.
+#[derive(Clone, Copy)]
+pub(crate) enum Mode {
+    /// Outside the root.
+    Outside,
+    /// Within an element.
+    Content,
+    /// Right after a start tag at which a line feed is dropped.
+    Fresh,
+    /// After `&` in a text.
+    Reference,
+    /// Within a raw element.
+    Raw,
+    /// After `<`.
+    Less,
+    /// In the name of a start tag.
+    StartName,
+    /// After the space before an attribute.
+    Space,
+    /// In the name of an attribute.
+    AttrName,
+    /// After `=`.
+    Equals,
+    /// In a value.
+    Value,
+    /// After `&` in a value.
+    ValueReference,
+    /// After a value.
+    Quoted,
+    /// After the `/` of a start tag.
+    Slash,
+    /// In the name of an end tag.
+    EndName,
+    /// Where no text has a tree.
+    Stop,
+}
+
+/// A reader, with what it keeps of the text that it has read.
+#[derive(Drop)]
+pub(crate) struct Reader {
+    pub(crate) alloc: Global,
+    pub(crate) mode: Mode,
+    /// The root, once it is complete.
+    pub(crate) root: Option<OpenElement>,
+    /// The elements that are open.
+    pub(crate) stack: Stack,
+    /// The text since the last child, all that is in a raw element, or a value.
+    pub(crate) text: String,
+    /// The name that is being read, or what stands since `&`.
+    pub(crate) word: String,
+    /// The name of the start tag.
+    pub(crate) tag: HtmlTag,
+    /// Its attributes so far.
+    pub(crate) attrs: HtmlAttrs,
+    /// The name of the attribute whose value is being read.
+    pub(crate) attr: HtmlAttr,
+}
+
+impl Reader {
+    /// A reader that has read the document type.
+    pub(crate) fn new(alloc: Global) -> Reader
+        ensures { reader_state result ≡ Outside None }
+    {
+        Reader {
+            alloc,
+            mode: Mode::Outside,
+            root: None,
+            stack: Stack::new(alloc),
+            text: String::new(alloc),
+            word: String::new(alloc),
+            tag: tag::html,
+            attrs: HtmlAttrs::new(alloc),
+            attr: attr::class,
+        }
+    }
+
+    /// Reads a character.
+    pub(crate) fn step(&mut self, c: char) -> Result<(), AllocError>
+        ensures { OnOk result (reader_state self.new ≡ next (reader_state self.old) c) }
+    {
+        match self.mode {
+            Mode::Outside => self.outside(c),
+            Mode::Content => self.content(c),
+            Mode::Fresh => self.fresh(c),
+            Mode::Reference => self.reference(c),
+            Mode::Raw => self.raw(c),
+            Mode::Less => self.less(c),
+            Mode::StartName => self.start_name(c),
+            Mode::Space => self.space(c),
+            Mode::AttrName => self.attr_name(c),
+            Mode::Equals => self.equals(c),
+            Mode::Value => self.value(c),
+            Mode::ValueReference => self.value_reference(c),
+            Mode::Quoted => self.quoted(c),
+            Mode::Slash => self.slash(c),
+            Mode::EndName => self.end_name(c),
+            Mode::Stop => Ok(()),
+        }
+    }
+
+    /// Whether with the character a start tag begins, of an element that would stand deeper than
+    /// the limit.
+    pub(crate) fn begins_deep(&self, limit: usize, c: char) -> bool
+        ensures { result ≡ begins_deep limit (reader_state self.now) c }
+    {
+        matches!(self.mode, Mode::Less)
+            && is_valid_in_tag_name(c)
+            && !self.stack.holds_text_alone()
+            && limit <= self.stack.len()
+    }
+
+    /// Whether no text that begins with what was read has a tree.
+    pub(crate) fn is_stopped(&self) -> bool
+        ensures { IsTrue result ↔ (reader_state self.now ≡ Stop) }
+    {
+        matches!(self.mode, Mode::Stop)
+    }
+
+    /// The root, if all of it is read.
+    pub(crate) fn into_root(self) -> Option<OpenElement>
+        ensures { option_map (λ o. completed (open_of o)) result ≡ final_root (reader_state self) }
+    {
+        match self.mode {
+            Mode::Outside => self.root,
+            _ => None,
+        }
+    }
+}

@@ -1,0 +1,83 @@
+//! The elements that are open.
+
+ghost use Rattle.std.specs.Prelude.{◌≡◌, ◌∷◌, [], OnOk, IfSome, IfNone, length};
+ghost use Rattle.html_dom_tree.specs.Views.{text_view};
+ghost use Rattle.typst_html_encode.specs.Reader.{add_text, holds_text_alone};
+ghost use Rattle.typst_html_read.specs.OpenViews.{open_of, stack_of};
+
+use crate::open::OpenElement;
+use std::alloc::{AllocError, Global};
+
+/// The elements that are open, the innermost last.
+#[derive(Drop)]
+pub(crate) struct Stack {
+    pub(crate) items: Vec<OpenElement>,
+}
+
+impl Stack {
+    /// No element.
+    pub(crate) fn new(alloc: Global) -> Stack
+        ensures { stack_of result ≡ [] }
+    {
+        Stack {
+            items: Vec::new(alloc),
+        }
+    }
+
+    /// How many there are.
+
+    pub(crate) fn len(&self) -> usize
+        ensures { result ≡ length (stack_of self.now) }
+    {
+        self.items.len()
+    }
+
+    /// Leaves all.
+    pub(crate) fn clear(&mut self)
+        ensures { stack_of self.new ≡ [] }
+    {
+        self.items.clear();
+    }
+
+    /// Enters an element.
+
+    pub(crate) fn push(&mut self, element: OpenElement) -> Result<(), AllocError>
+        ensures { OnOk result
+            (stack_of self.new ≡ open_of element ∷ stack_of self.old) }
+    {
+        self.items.push(element)?;
+        Ok(())
+    }
+
+    /// Leaves the innermost element.
+
+    pub(crate) fn pop(&mut self) -> Option<OpenElement>
+        ensures some { IfSome result (λ element.
+            stack_of self.old ≡ open_of element ∷ stack_of self.new) }
+        ensures none { IfNone result (stack_of self.old ≡ []) }
+        ensures left { IfNone result (stack_of self.new ≡ []) }
+    {
+        self.items.pop()
+    }
+
+    /// Adds a text to the innermost element, unless the text is empty.
+    pub(crate) fn add_text(&mut self, text: String) -> Result<(), AllocError>
+        ensures { OnOk result (stack_of self.new
+            ≡ add_text (text_view text) (stack_of self.old)) }
+    {
+        match self.pop() {
+            None => Ok(()),
+            Some(element) => self.push(element.with_text(text)?),
+        }
+    }
+
+    /// Whether the innermost element holds texts alone.
+    pub(crate) fn holds_text_alone(&self) -> bool
+        ensures { result ≡ holds_text_alone (stack_of self.now) }
+    {
+        match self.items.last() {
+            None => false,
+            Some(element) => element.holds_text_alone(),
+        }
+    }
+}
