@@ -1,8 +1,8 @@
 //! The tree of an HTML document: elements, texts, frames and tags, the document around them, where its
 //! located elements stand, the anchors that links lead to, and the tree as one list.
 //!
-//! Each name is of one of the parts `html_dom_tree`, `html_dom_document`,
-//! `html_dom_link` and `html_dom_flat`; users find them here.
+//! Each name is of one of the parts `html_dom_tree`, `html_dom_document`, `html_dom_link`,
+//! `html_dom_check` and `html_dom_flat`; users find them here.
 //!
 //! ```
 //! use html_dom::{HtmlElement, HtmlNode, Span};
@@ -21,6 +21,7 @@
 
 pub mod laws;
 
+pub use html_dom_check::{DeadFragment, RepeatedId, dead_fragments, repeated_ids};
 pub use html_dom_document::{
     DocumentInfo, DomIndices, HtmlDocument, HtmlIntrospector, HtmlOutput, HtmlPosition,
     HtmlSliceExt, Locale,

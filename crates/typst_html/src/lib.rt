@@ -22,6 +22,7 @@
 
 pub mod laws;
 
+pub use html_dom::DeadFragment;
 pub use html_dom::DeadLink;
 pub use html_dom::DocumentInfo;
 pub use html_dom::DomIndices;
@@ -42,12 +43,15 @@ pub use html_dom::HtmlSliceExt;
 pub use html_dom::Locale;
 pub use html_dom::Location;
 pub use html_dom::Point;
+pub use html_dom::RepeatedId;
 pub use html_dom::Span;
 pub use html_dom::Tag;
 pub use html_dom::create_link_anchors;
+pub use html_dom::dead_fragments;
 pub use html_dom::dead_links;
 pub use html_dom::href_to;
 pub use html_dom::ids_are_distinct;
+pub use html_dom::repeated_ids;
 pub use html_dom::resolve_inline_styles;
 pub use html_dom::resolve_links;
 pub use html_dom::with_resolved_links;

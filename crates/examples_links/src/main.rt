@@ -1,0 +1,134 @@
+//! A link checker: it reads pages and tells of each link to a fragment of its own page that leads
+//! nowhere, and of each id that stands in its page before.
+//!
+//! ```text
+//! cd crates/examples_links && rt try -- data/herbs.html
+//! ```
+//!
+//! Each finding is a line on standard output: the page, the place and what is wrong there. A place is
+//! the way from the root down, by the index of each child, texts counted; that of the root is `root`.
+//!
+//! ```text
+//! herbs.html: 1.3: nothing has the id of "#mint"
+//! herbs.html: 1.4: the id "dill" stands before
+//! ```
+//!
+//! Pages are read by the syntax that is written here, which a browser's parser takes too, with elements
+//! at most 1,000 deep. A page that can't be read is told on standard error, and the others are checked.
+//! The status is 0 where all pages were read and nothing is wrong, 2 where the words are wrong, and
+//! else 1.
+#![tactic(auto)]
+
+use anyhow::{Context, Result, bail};
+use clap::{Arg, ArgAction, Command};
+use std::alloc::Global;
+use std::fmt::Write;
+use std::process::ExitCode;
+use std::{env, fs};
+use typst_html::{HtmlElement, ReadFault, dead_fragments, read_html, repeated_ids};
+
+/// How deep elements may stand in one another.
+const DEEPEST: usize = 1000;
+
+fn main(rt: HostRuntime) -> ExitCode {
+    match run(&rt) {
+        Ok(code) => code,
+        Err(error) => {
+            let _ = eprintln!(rt; "examples_links: {error:#}");
+            ExitCode::FAILURE
+        }
+    }
+}
+
+/// Reads the words, and checks the pages. The answer is the status.
+fn run(rt: &HostRuntime) -> Result<ExitCode> {
+    let words: Vec<String> = env::args(rt)?.collect(rt.alloc())?;
+    let matches = match command(rt.alloc())?.try_get_matches_from(&words) {
+        Ok(matches) => matches,
+        Err(error) => {
+            error.print(rt)?;
+            return Ok(ExitCode::from(u8::try_from(error.exit_code())?));
+        }
+    };
+    let mut code = ExitCode::SUCCESS;
+    for page in matches.get_strs("pages").context("no page")? {
+        if !is_clean(rt, page)? {
+            code = ExitCode::FAILURE;
+        }
+    }
+    Ok(code)
+}
+
+/// The words that the program takes.
+fn command<'a>(alloc: Global) -> Result<Command<'a>> {
+    let pages = Arg::new(alloc, "pages")
+        .value_name("PAGE")
+        .required(true)
+        .num_args(1..)
+        .action(ArgAction::Append)
+        .help("The file of a page");
+    let command = Command::new(alloc, "examples_links")
+        .about("Tells of links within pages that lead nowhere, and of ids that come twice")
+        .arg(pages)?;
+    Ok(command)
+}
+
+/// Whether a page is read and nothing is wrong with it. What is wrong is told.
+fn is_clean(rt: &HostRuntime, page: &str) -> Result<bool> {
+    let root = match read_page(rt, page) {
+        Ok(root) => root,
+        Err(error) => {
+            eprintln!(rt; "{page}: {error:#}")?;
+            return Ok(false);
+        }
+    };
+    let findings = findings(rt.alloc(), &root)?;
+    for finding in &findings {
+        println!(rt; "{page}: {finding}").context("standard output")?;
+    }
+    Ok(findings.is_empty())
+}
+
+/// The tree of a page.
+fn read_page(rt: &HostRuntime, page: &str) -> Result<HtmlElement> {
+    let text = fs::read_to_string(rt, page)?;
+    match read_html(rt.alloc(), &text, DEEPEST) {
+        Ok(Some(root)) => Ok(root),
+        Ok(None) => bail!("not read, since it has another syntax than the pages that are written"),
+        Err(ReadFault::TooDeep { place }) => {
+            bail!("not read, since elements stand deeper than {DEEPEST} from character {place} on")
+        }
+        Err(fault) => Err(fault.into()),
+    }
+}
+
+/// What is wrong in a tree, and where, dead fragments first.
+fn findings(alloc: Global, root: &HtmlElement) -> Result<Vec<String>> {
+    let mut findings = Vec::new(alloc);
+    for link in &dead_fragments(alloc, root)? {
+        let place = place(alloc, &link.path)?;
+        let finding = format!(in alloc;
+            r##"{place}: nothing has the id of "#{}""##,
+            link.fragment
+        )?;
+        findings.push(finding)?;
+    }
+    for repeated in &repeated_ids(alloc, root)? {
+        let place = place(alloc, &repeated.path)?;
+        let finding = format!(in alloc; "{place}: the id {:?} stands before", repeated.id)?;
+        findings.push(finding)?;
+    }
+    Ok(findings)
+}
+
+/// The text of a path.
+fn place(alloc: Global, path: &[usize]) -> Result<String> {
+    let Some((first, rest)) = path.split_first() else {
+        return Ok(String::from_str(alloc, "root")?);
+    };
+    let mut text = format!(in alloc; "{first}")?;
+    for index in rest {
+        write!(text, ".{index}")?;
+    }
+    Ok(text)
+}
