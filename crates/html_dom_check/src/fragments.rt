@@ -1,14 +1,15 @@
 //! Links to fragments of their own page that lead nowhere.
 
-ghost use Rattle.std.specs.Prelude.{◌≡◌, ◌++◌, ℕ, Bool, chars, option_map, option_to_list, IfOk, OnOk};
+ghost use Rattle.std.specs.Prelude.{◌≡◌, ◌++◌, chars, option_map, option_to_list, IfOk, OnOk};
 ghost use Rattle.html_dom_tree.specs.Tree.{element_node};
-ghost use Rattle.html_dom_tree.specs.Views.{element_view, node_view, nodes_view};
+ghost use Rattle.html_dom_tree.specs.Views.{element_view, node_view, nodes_view, text_view};
 ghost use Rattle.html_dom_link.specs.UsedNames.{used_in};
-ghost use Rattle.html_dom_check.specs.Fragments.{dead_among, dead_fragments, fragments_at, fragments_in, leads};
-ghost use Rattle.html_dom_check.specs.Findings.{dead_view, path_view};
-ghost use Rattle.html_dom_check.specs.Places.{node_placed, nodes_placed};
+ghost use Rattle.html_dom_check.specs.Findings.{dead_view};
+ghost use Rattle.html_dom_check.specs.Fragments.{bytes_lead, dead_among, dead_fragments, fragments_at, fragments_in, is_top, leads, unless_empty};
+ghost use Rattle.html_dom_check.specs.Places.{node_placed, nodes_placed, placed_at};
 
-use crate::ids::{element_ids, holds};
+use crate::ids::{element_ids, is_known};
+use crate::path::leave;
 use html_dom_tree::{HtmlElement, HtmlNode};
 use html_names::{attr, tag};
 use percent_encoding::percent_decode;
@@ -70,16 +71,21 @@ pub fn dead_fragments(alloc: Global, root: &HtmlElement) -> Result<Vec<DeadFragm
     Ok(dead)
 }
 
+/// The text, unless it is empty.
+fn unless_empty(text: &str) -> Option<&str>
+    ensures { option_to_list (option_map (λ t. chars t.now) result) ≡ unless_empty (chars text.now) }
+{
+    if text.is_empty() { None } else { Some(text) }
+}
+
 /// What stands behind the `#` with which a text begins, unless that is nothing.
 fn fragment_in(href: &String) -> Option<&str>
-    ensures { option_to_list (option_map (λ f. chars f.now) result)
+    ensures { option_to_list (option_map (λ t. chars t.now) result)
         ≡ fragments_in (text_view href.now) }
 {
-    let fragment = href.as_str().strip_prefix("#")?;
-    if fragment.is_empty() {
-        None
-    } else {
-        Some(fragment)
+    match href.as_str().strip_prefix("#") {
+        None => None,
+        Some(fragment) => unless_empty(fragment),
     }
 }
 
@@ -87,7 +93,7 @@ fn fragment_in(href: &String) -> Option<&str>
 #[tactic(auto, unfolding(html_names::specs::Tables::known_tags, html_names::specs::Tables::known_attrs))]
 fn fragment_at(element: &HtmlElement) -> Option<&str>
     ensures { let e = element_view element.now in
-        option_to_list (option_map (λ f. chars f.now) result) ≡ fragments_at (element_node e.0 e.1) }
+        option_to_list (option_map (λ t. chars t.now) result) ≡ fragments_at (element_node e.0 e.1) }
 {
     if element.tag == tag::a {
         fragment_in(element.attrs.get(&attr::href)?)
@@ -96,12 +102,26 @@ fn fragment_at(element: &HtmlElement) -> Option<&str>
     }
 }
 
+/// Whether bytes lead to the top of the page.
+fn is_top(name: &[u8]) -> bool
+    ensures { result ≡ is_top name.now }
+{
+    name.eq_ignore_ascii_case(b"top")
+}
+
+/// Whether bytes lead, where these are the ids.
+fn bytes_lead(ids: &BTreeSet<String>, name: &[u8]) -> bool
+    ensures { result ≡ bytes_lead (used_in ids.now) name.now }
+{
+    is_top(name) || is_known(ids, name)
+}
+
 /// Whether a fragment leads, where these are the ids.
 fn leads(alloc: Global, ids: &BTreeSet<String>, fragment: &str) -> Result<bool, AllocError>
     ensures { IfOk result (λ leading. leading ≡ leads (used_in ids.now) (chars fragment.now)) }
 {
     let name = percent_decode(fragment.as_bytes()).into_cow(alloc)?;
-    Ok(name.eq_ignore_ascii_case(b"top") || holds(ids, &name))
+    Ok(bytes_lead(ids, &name))
 }
 
 /// Adds a link to a fragment, if it leads nowhere.
@@ -110,7 +130,10 @@ fn add_link(
     ids: &BTreeSet<String>,
     walk: &mut Walk,
 ) -> Result<(), AllocError>
-    ensures { OnOk result (walk.new.path.items ≡ walk.old.path.items) }
+    ensures path { OnOk result (walk.new.path.items ≡ walk.old.path.items) }
+    ensures dead { OnOk result (dead_view walk.new.dead.items ≡ dead_view walk.old.dead.items
+        ++ dead_among (used_in ids.now) (placed_at walk.old.path.items
+        (option_to_list (option_map (λ t. chars t.now) fragment.entry)))) }
 {
     let Some(fragment) = fragment else {
         return Ok(());
@@ -132,7 +155,13 @@ fn add_element(
     element: &HtmlElement,
     ids: &BTreeSet<String>,
     walk: &mut Walk,
-) -> Result<(), AllocError> {
+) -> Result<(), AllocError>
+    ensures path { OnOk result (walk.new.path.items ≡ walk.old.path.items) }
+    ensures dead { let e = element_view element.now in
+        OnOk result (dead_view walk.new.dead.items ≡ dead_view walk.old.dead.items
+        ++ dead_among (used_in ids.now)
+        (node_placed fragments_at walk.old.path.items (element_node e.0 e.1))) }
+{
     add_link(fragment_at(element), ids, walk)?;
     add_nodes(&element.children, ids, walk)?;
     Ok(())
@@ -140,10 +169,18 @@ fn add_element(
 
 /// Adds those in a node.
 #[cycle(fragments)]
-fn add_node(child: &HtmlNode, ids: &BTreeSet<String>, walk: &mut Walk) -> Result<(), AllocError> {
+#[tactic(auto, unfolding(crate::specs::Places::node_placed))]
+fn add_node(child: &HtmlNode, ids: &BTreeSet<String>, walk: &mut Walk) -> Result<(), AllocError>
+    ensures path { OnOk result (walk.new.path.items ≡ walk.old.path.items) }
+    ensures dead { OnOk result (dead_view walk.new.dead.items ≡ dead_view walk.old.dead.items
+        ++ dead_among (used_in ids.now)
+        (node_placed fragments_at walk.old.path.items (node_view child.now))) }
+{
     match child {
+        HtmlNode::Tag(_) => Ok(()),
+        HtmlNode::Text(_, _) => Ok(()),
         HtmlNode::Element(element) => add_element(element, ids, walk),
-        HtmlNode::Tag(_) | HtmlNode::Text(_, _) | HtmlNode::Frame(_) => Ok(()),
+        HtmlNode::Frame(_) => Ok(()),
     }
 }
 
@@ -157,7 +194,7 @@ fn add_nodes(
     for (index, child) in nodes.iter().enumerate() {
         walk.path.push(index)?;
         add_node(child, ids, walk)?;
-        let _ = walk.path.pop();
+        leave(&mut walk.path);
     }
     Ok(())
 }

@@ -3,7 +3,7 @@
 
 mod fragments;
 mod ids;
-pub mod laws;
+mod path;
 mod repeated;
 
 pub use fragments::{DeadFragment, dead_fragments};

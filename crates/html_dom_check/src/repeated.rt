@@ -1,9 +1,18 @@
 //! Ids that come twice.
 
-ghost use Rattle.std.specs.Prelude.{◌≡◌, ◌++◌, IfOk, OnOk};
-ghost use Rattle.html_dom_tree.specs.Views.{element_view};
+ghost use Rattle.std.specs.Prelude.{◌≡◌, [], ◌∷◌, IfOk, OnOk, option_map, option_to_list};
+ghost use Rattle.html_dom_tree.specs.FrameViews.{anchors_view, html_frame_view};
+ghost use Rattle.html_dom_tree.specs.Tree.{element_node, frame_node};
+ghost use Rattle.html_dom_tree.specs.Views.{element_view, node_view, nodes_view, text_view};
+ghost use Rattle.html_dom_link.specs.NewNames.{anchor_names};
+ghost use Rattle.html_dom_link.specs.UsedNames.{used_in};
+ghost use Rattle.html_dom_check.specs.Findings.{repeated_view};
+ghost use Rattle.html_dom_check.specs.Places.{node_placed, nodes_placed, placed_at};
+ghost use Rattle.html_dom_check.specs.RepeatedIds.{Passes, ids_at, repeated_ids};
 
-use html_dom_tree::{HtmlElement, HtmlFrame, HtmlNode};
+use crate::ids::{contains, put};
+use crate::path::leave;
+use html_dom_tree::{HtmlElement, HtmlFrame, HtmlNode, Point};
 use html_names::attr;
 use std::alloc::{AllocError, Global};
 use std::collections::BTreeSet;
@@ -47,7 +56,10 @@ struct Walk {
 ///     assert!(rt; place.path == [2] && place.id == "a");
 /// }
 /// ```
-pub fn repeated_ids(alloc: Global, root: &HtmlElement) -> Result<Vec<RepeatedId>, AllocError> {
+pub fn repeated_ids(alloc: Global, root: &HtmlElement) -> Result<Vec<RepeatedId>, AllocError>
+    ensures { IfOk result (λ repeated.
+        repeated_view repeated.items ≡ repeated_ids (element_view root.now)) }
+{
     let mut walk = Walk {
         path: Vec::new(alloc),
         ids: BTreeSet::new(alloc),
@@ -59,32 +71,58 @@ pub fn repeated_ids(alloc: Global, root: &HtmlElement) -> Result<Vec<RepeatedId>
 }
 
 /// Passes an id.
-fn pass_id(id: &String, walk: &mut Walk) -> Result<(), AllocError> {
-    if walk.ids.contains(id.as_str()) {
+fn pass_id(id: &String, walk: &mut Walk) -> Result<(), AllocError>
+    ensures path { OnOk result (walk.new.path.items ≡ walk.old.path.items) }
+    ensures passes { OnOk result (Passes (repeated_view walk.old.repeated.items) (used_in walk.old.ids)
+        (placed_at walk.old.path.items (text_view id.now ∷ []))
+        (repeated_view walk.new.repeated.items) (used_in walk.new.ids)) }
+{
+    if contains(&walk.ids, id) {
         walk.repeated.push(RepeatedId {
             path: walk.path.clone()?,
             id: id.clone()?,
         })?;
     } else {
-        walk.ids.insert(id.clone()?)?;
+        put(&mut walk.ids, id.clone()?)?;
     }
     Ok(())
 }
 
 /// Passes an id, if there is one.
-fn pass_optional(id: Option<&String>, walk: &mut Walk) -> Result<(), AllocError> {
+fn pass_optional(id: Option<&String>, walk: &mut Walk) -> Result<(), AllocError>
+    ensures path { OnOk result (walk.new.path.items ≡ walk.old.path.items) }
+    ensures passes { OnOk result (Passes (repeated_view walk.old.repeated.items) (used_in walk.old.ids)
+        (placed_at walk.old.path.items (option_to_list (option_map (λ id. text_view id.now) id.entry)))
+        (repeated_view walk.new.repeated.items) (used_in walk.new.ids)) }
+{
     match id {
         Some(id) => pass_id(id, walk),
         None => Ok(()),
     }
 }
 
-/// Passes the id of a frame and the names of its anchors.
-fn pass_frame(frame: &HtmlFrame, walk: &mut Walk) -> Result<(), AllocError> {
-    pass_optional(frame.id.as_ref(), walk)?;
-    for anchor in &frame.anchors {
+/// Passes the names of anchors.
+fn pass_anchors(anchors: &[(Point, String)], walk: &mut Walk) -> Result<(), AllocError>
+    ensures path { OnOk result (walk.new.path.items ≡ walk.old.path.items) }
+    ensures passes { OnOk result (Passes (repeated_view walk.old.repeated.items) (used_in walk.old.ids)
+        (placed_at walk.old.path.items (anchor_names (anchors_view anchors.now)))
+        (repeated_view walk.new.repeated.items) (used_in walk.new.ids)) }
+{
+    for anchor in anchors {
         pass_id(&anchor.1, walk)?;
     }
+    Ok(())
+}
+
+/// Passes the id of a frame and the names of its anchors.
+fn pass_frame(frame: &HtmlFrame, walk: &mut Walk) -> Result<(), AllocError>
+    ensures path { OnOk result (walk.new.path.items ≡ walk.old.path.items) }
+    ensures passes { OnOk result (Passes (repeated_view walk.old.repeated.items) (used_in walk.old.ids)
+        (node_placed ids_at walk.old.path.items (frame_node (html_frame_view frame.now)))
+        (repeated_view walk.new.repeated.items) (used_in walk.new.ids)) }
+{
+    pass_optional(frame.id.as_ref(), walk)?;
+    pass_anchors(&frame.anchors, walk)?;
     Ok(())
 }
 
@@ -92,7 +130,12 @@ fn pass_frame(frame: &HtmlFrame, walk: &mut Walk) -> Result<(), AllocError> {
 
 /// Passes the ids of an element and of all below it.
 #[cycle(ids)]
-fn pass_element(element: &HtmlElement, walk: &mut Walk) -> Result<(), AllocError> {
+fn pass_element(element: &HtmlElement, walk: &mut Walk) -> Result<(), AllocError>
+    ensures path { OnOk result (walk.new.path.items ≡ walk.old.path.items) }
+    ensures passes { let e = element_view element.now in OnOk result (Passes (repeated_view walk.old.repeated.items) (used_in walk.old.ids)
+        (node_placed ids_at walk.old.path.items (element_node e.0 e.1))
+        (repeated_view walk.new.repeated.items) (used_in walk.new.ids)) }
+{
     pass_optional(element.attrs.get(&attr::id), walk)?;
     pass_nodes(&element.children, walk)?;
     Ok(())
@@ -100,9 +143,16 @@ fn pass_element(element: &HtmlElement, walk: &mut Walk) -> Result<(), AllocError
 
 /// Passes the ids of a node and of all below it.
 #[cycle(ids)]
-fn pass_node(child: &HtmlNode, walk: &mut Walk) -> Result<(), AllocError> {
+#[tactic(auto, unfolding(crate::specs::Places::node_placed))]
+fn pass_node(child: &HtmlNode, walk: &mut Walk) -> Result<(), AllocError>
+    ensures path { OnOk result (walk.new.path.items ≡ walk.old.path.items) }
+    ensures passes { OnOk result (Passes (repeated_view walk.old.repeated.items) (used_in walk.old.ids)
+        (node_placed ids_at walk.old.path.items (node_view child.now))
+        (repeated_view walk.new.repeated.items) (used_in walk.new.ids)) }
+{
     match child {
-        HtmlNode::Tag(_) | HtmlNode::Text(_, _) => Ok(()),
+        HtmlNode::Tag(_) => Ok(()),
+        HtmlNode::Text(_, _) => Ok(()),
         HtmlNode::Element(element) => pass_element(element, walk),
         HtmlNode::Frame(frame) => pass_frame(frame, walk),
     }
@@ -110,11 +160,16 @@ fn pass_node(child: &HtmlNode, walk: &mut Walk) -> Result<(), AllocError> {
 
 /// Passes the ids of the children at the end of the path and of all below them.
 #[cycle(ids)]
-fn pass_nodes(nodes: &[HtmlNode], walk: &mut Walk) -> Result<(), AllocError> {
+fn pass_nodes(nodes: &[HtmlNode], walk: &mut Walk) -> Result<(), AllocError>
+    ensures path { OnOk result (walk.new.path.items ≡ walk.old.path.items) }
+    ensures passes { OnOk result (Passes (repeated_view walk.old.repeated.items) (used_in walk.old.ids)
+        (nodes_placed ids_at walk.old.path.items 0 (nodes_view nodes.now))
+        (repeated_view walk.new.repeated.items) (used_in walk.new.ids)) }
+{
     for (index, child) in nodes.iter().enumerate() {
         walk.path.push(index)?;
         pass_node(child, walk)?;
-        let _ = walk.path.pop();
+        leave(&mut walk.path);
     }
     Ok(())
 }

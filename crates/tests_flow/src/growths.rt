@@ -1,6 +1,7 @@
 //! Public calls that take memory: their first growth is refused, their second, and so on until a run
 //! succeeds.
 
+mod checks;
 mod copies;
 mod css;
 mod documents;

@@ -13,6 +13,8 @@ mod blanks;
 #[cfg(test)]
 mod boxes;
 #[cfg(test)]
+mod checks;
+#[cfg(test)]
 mod construction;
 #[cfg(test)]
 mod depth;

@@ -221,7 +221,7 @@ fn ids_are_told_apart(rt: HostRuntime) {
 }
 
 /// A frame with that `id`, and with an anchor of that name.
-fn frame_of(rt: &impl Abort, alloc: Global, id: &str, anchor: &str) -> HtmlFrame {
+pub(crate) fn frame_of(rt: &impl Abort, alloc: Global, id: &str, anchor: &str) -> HtmlFrame {
     let inner = Frame {
         picture: 1,
         items: Vec::new(alloc),

@@ -203,6 +203,37 @@ fn links_to_nowhere_are_told(rt: HostRuntime) -> Result<(), Fail> {
 }
 
 #[test]
+fn fragments_to_nowhere_are_told(rt: HostRuntime) -> Result<(), Fail> {
+    use typst_html::{dead_fragments, read_html};
+
+    let alloc = rt.alloc();
+    let text =
+        r##"<!DOCTYPE html><p><b id="a b"></b><a href="#a%20b">x</a><a href="#c">y</a></p>"##;
+    let root = read_html(alloc, text, 50)?.expect(&rt, "an element");
+    let dead = dead_fragments(alloc, &root)?;
+    assert_eq!(rt; dead.len(), 1);
+    for link in &dead {
+        assert!(rt; link.path == [2] && link.fragment == "c");
+    }
+    Ok(())
+}
+
+#[test]
+fn repeated_ids_are_told(rt: HostRuntime) -> Result<(), Fail> {
+    use typst_html::{read_html, repeated_ids};
+
+    let alloc = rt.alloc();
+    let text = r#"<!DOCTYPE html><p id="a"><b id="b"></b>x<b id="a"></b></p>"#;
+    let root = read_html(alloc, text, 50)?.expect(&rt, "an element");
+    let repeated = repeated_ids(alloc, &root)?;
+    assert_eq!(rt; repeated.len(), 1);
+    for place in &repeated {
+        assert!(rt; place.path == [2] && place.id == "a");
+    }
+    Ok(())
+}
+
+#[test]
 fn names_are_encoded_in_an_href(rt: HostRuntime) -> Result<(), Fail> {
     use html_dom::href_to;
 

@@ -1,0 +1,4 @@
+pub mod Walks
+pub mod DeadParts
+pub mod PassedIds
+pub mod Hrefs

@@ -1,0 +1,36 @@
+-- Walks over a tree: what stands at the places of nodes, one node after the other.
+use Rattle.std.proofs.Common.{◌≡◌, ℕ, suc, ◌+◌, ◌-◌, ◌≤◌, ◌<◌, arith, take, List, [], ◌∷◌, ◌++◌, length, get_or, drop, refl, ap, sym, ◌∙◌, add-one}
+use Rattle.std.proofs.lemmas.List.{drop_all, length-append}
+use Rattle.std.proofs.Math.Seq.{take-append_seam}
+use Rattle.html_dom_tree.specs.Tree.{NodeView, NodesView, none, node}
+use Rattle.html_dom_tree.specs.Views.{node_view, nodes_view}
+use Rattle.html_dom_tree.specs.declared.node.HtmlNode.{HtmlNode}
+use Rattle.html_dom_tree.proofs.Nodes.{nodes_view-drop}
+use Rattle.html_dom_check.specs.Places.{Placed, node_placed, nodes_placed}
+
+-- nodes from an index on are the one there, and those behind it
+pub placed_in_turn : (texts : NodeView → List (List ℕ)) (path : List ℕ) (ns : List HtmlNode)
+    (i : ℕ) (x : HtmlNode) → i < length ns → x ≡ get_or ns i x →
+    nodes_placed texts path i (nodes_view (drop i ns))
+    ≡ node_placed texts (path ++ i ∷ []) (node_view x)
+    ++ nodes_placed texts path (i + 1) (nodes_view (drop (i + 1) ns))
+unfolding nodes_placed
+placed_in_turn texts path ns i x within is =
+    ap (nodes_placed texts path i) (nodes_view-drop ns i x within is)
+    ∙ ap (λ k. node_placed texts (path ++ i ∷ []) (node_view x)
+    ++ nodes_placed texts path k (nodes_view (drop (i + 1) ns))) (sym (add-one i))
+
+-- behind the last there are none
+pub none_placed : (texts : NodeView → List (List ℕ)) (path : List ℕ) (ns : List HtmlNode) (i : ℕ) →
+    length ns ≤ i → nodes_placed texts path i (nodes_view (drop i ns)) ≡ []
+unfolding nodes_placed
+none_placed texts path ns i past =
+    ap (λ xs. nodes_placed texts path i (nodes_view xs)) (drop_all i ns past)
+
+-- a path without its last index
+pub without_index : (parent : List ℕ) (index : ℕ) →
+    take (length (parent ++ index ∷ []) - 1) (parent ++ index ∷ []) ≡ parent
+without_index parent index =
+    let short : length (parent ++ index ∷ []) - 1 ≡ length parent =
+    omega (arith, length-append parent (index ∷ [])) in
+    ap (λ n. take n (parent ++ index ∷ [])) short ∙ take-append_seam parent (index ∷ [])

@@ -1,0 +1,33 @@
+use Rattle.std.proofs.Common.{rules, ap, ◌∙◌}
+use Rattle.html_dom_tree.specs.Views.{head_of, nodes_view}
+use Rattle.html_dom_link.specs.Answered.{shown_names}
+use Rattle.html_dom_link.specs.UsedNames.{used_in, with_names}
+use Rattle.html_dom_check.proofs.PassedIds.{element_put, no_more_put, one_more_put, tag_put, text_put}
+use Rattle.html_dom_check.proofs.ids.+ids.Goals as goal
+
+pub add_element-returns : goal.add_element-returns
+add_element-returns t c =
+    element_put (head_of c.args.element.now) (nodes_view c.args.element.now.children.items)
+    _ _ _ (search rules)
+    (c.in_ok-add_nodes.ensures
+    ∙ ap (λ ns. with_names (shown_names (nodes_view ns)) (used_in c.add_optional.new.ids))
+    c.deref.ensures.value)
+
+pub add_node-returns-in-Tag : goal.add_node-returns-in-Tag
+add_node-returns-in-Tag t c =
+    tag_put c.args.child.now c.in-Tag.field-0 (used_in c.args.ids.now) c.in-Tag.is
+
+pub add_node-returns-in-Text : goal.add_node-returns-in-Text
+add_node-returns-in-Text t c =
+    text_put c.args.child.now c.in-Text.field-0 c.in-Text.field-1 (used_in c.args.ids.now) c.in-Text.is
+
+pub add_nodes-loop-child-preserved : goal.add_nodes-loop-child-preserved
+add_nodes-loop-child-preserved t c =
+    one_more_put c.args.nodes.now c.loop-child.child-index c.child-item.result
+    (used_in c.loop-child.ids) (used_in c.add_node.new.ids) _ c.loop-child-test.true c.child-item.is
+    c.loop-child.invariant c.in_ok-add_node.ensures
+
+pub add_nodes-returns : goal.add_nodes-returns
+add_nodes-returns t c =
+    no_more_put c.args.nodes.now c.loop-child.child-index (used_in c.loop-child.ids) _
+    c.loop-child-test.false c.loop-child.invariant

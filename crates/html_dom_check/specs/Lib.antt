@@ -1,0 +1,4 @@
+pub mod Places
+pub mod Fragments
+pub mod RepeatedIds
+pub mod Findings
