@@ -1,5 +1,5 @@
 -- Dead fragments, one part of a walk after the other.
-use Rattle.std.proofs.Common.{◌≡◌, ℕ, ◌+◌, ◌≤◌, ◌<◌, Bool, not, List, [], ◌∷◌, ◌++◌, length, get_or, drop, refl, ap, sym, ◌∙◌, append_assoc}
+use Rattle.std.proofs.Common.{◌≡◌, ℕ, ◌+◌, ◌≤◌, ◌<◌, Bool, true, false, not, cond, List, [], ◌∷◌, ◌++◌, length, get_or, drop, refl, ap, sym, ◌∙◌, append_assoc}
 use Rattle.std.proofs.lemmas.List.{append-nil}
 use Rattle.std.proofs.lemmas.List.Elements.{filter-append}
 use Rattle.html_dom_tree.specs.Views.{node_view, nodes_view}
@@ -10,9 +10,17 @@ use Rattle.html_dom_check.specs.Places.{Placed, node_placed, nodes_placed}
 use Rattle.html_dom_check.proofs.Walks.{placed_in_turn, none_placed}
 
 module _ (is_id : Name → Bool) where
-  dead-append : (ps qs : List Placed) →
+  pub dead-append : (ps qs : List Placed) →
       dead_among is_id (ps ++ qs) ≡ dead_among is_id ps ++ dead_among is_id qs
   dead-append = filter-append (λ link. not (leads is_id link.1))
+
+  -- a link that doesn't lead
+  pub one_dead : (link : Placed) → leads is_id link.1 ≡ false → link ∷ [] ≡ dead_among is_id (link ∷ [])
+  one_dead link lost = by (leads is_id link.1) lost
+    where
+      by : (b : Bool) → b ≡ false → link ∷ [] ≡ cond (not b) (link ∷ []) []
+      by true e = cc
+      by false e = refl
 
   -- two parts, one after the other
   pub both_dead : (old mid new ps qs : List Placed) → mid ≡ old ++ dead_among is_id ps →

@@ -2,3 +2,4 @@ pub mod Walks
 pub mod DeadParts
 pub mod PassedIds
 pub mod Hrefs
+pub mod LinkedChecks

@@ -46,7 +46,7 @@ module _ (found : List Placed) (used : Name → Bool) where
       by true e = ap (λ u. p ∷ repeated u rest) (sym (still_used used p.1 passed))
       by false e = cc
 
-  -- another is passed from next on
+  -- another is passed from then on
   pub passed_first : (p : Placed) → used p.1 ≡ false → Passes found used (p ∷ []) found (with_name p.1 used)
   unfolding repeated
   passed_first p new rest = ap (λ l. found ++ l) (by (used p.1) new)
@@ -57,11 +57,14 @@ module _ (found : List Placed) (used : Name → Bool) where
       by false e = refl
 
 -- all that is found
-pub all_found : (found : List Placed) (u w : Name → Bool) (ps : List Placed) →
-    Passes [] u ps found w → found ≡ repeated u ps
+pub all_found : (found first : List Placed) (u v w : Name → Bool) (ps qs : List Placed) →
+    first ≡ [] → u ≡ v → ps ≡ qs → Passes first u ps found w → found ≡ repeated v qs
 unfolding repeated
-all_found found u w ps passes =
-    sym (append-nil found) ∙ (passes [] ∙ ap (repeated u) (append-nil ps))
+all_found found first u v w ps qs none same placed passes =
+    sym (append-nil found)
+    ∙ (passes []
+    ∙ (ap (λ l. l ++ repeated u (ps ++ [])) none
+    ∙ (ap (repeated u) (append-nil ps ∙ placed) ∙ ap (λ x. repeated x qs) same)))
 
 -- two parts, one after the other
 pub both_passed : (f g h : List Placed) (u v w : Name → Bool) (ps qs : List Placed) →

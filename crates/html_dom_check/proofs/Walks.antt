@@ -6,7 +6,7 @@ use Rattle.html_dom_tree.specs.Tree.{NodeView, NodesView, none, node}
 use Rattle.html_dom_tree.specs.Views.{node_view, nodes_view}
 use Rattle.html_dom_tree.specs.declared.node.HtmlNode.{HtmlNode}
 use Rattle.html_dom_tree.proofs.Nodes.{nodes_view-drop}
-use Rattle.html_dom_check.specs.Places.{Placed, node_placed, nodes_placed}
+use Rattle.html_dom_check.specs.Places.{Placed, placed_at, node_placed, nodes_placed}
 
 -- nodes from an index on are the one there, and those behind it
 pub placed_in_turn : (texts : NodeView → List (List ℕ)) (path : List ℕ) (ns : List HtmlNode)
@@ -34,3 +34,10 @@ without_index parent index =
     let short : length (parent ++ index ∷ []) - 1 ≡ length parent =
     omega (arith, length-append parent (index ∷ [])) in
     ap (λ n. take n (parent ++ index ∷ [])) short ∙ take-append_seam parent (index ∷ [])
+
+pub placed-append : (path : List ℕ) (as' bs : List (List ℕ)) →
+    placed_at path (as' ++ bs) ≡ placed_at path as' ++ placed_at path bs
+placed-append path [] bs = refl
+placed-append path (a ∷ as') bs =
+    let first : Placed = (path, a) in
+    ap (λ ps. first ∷ ps) (placed-append path as' bs)

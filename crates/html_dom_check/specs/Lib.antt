@@ -2,3 +2,4 @@ pub mod Places
 pub mod Fragments
 pub mod RepeatedIds
 pub mod Findings
+pub mod CheckLaws

@@ -186,11 +186,12 @@ fn add_node(child: &HtmlNode, ids: &BTreeSet<String>, walk: &mut Walk) -> Result
 
 /// Adds those in the children at the end of the path.
 #[cycle(fragments)]
-fn add_nodes(
-    nodes: &[HtmlNode],
-    ids: &BTreeSet<String>,
-    walk: &mut Walk,
-) -> Result<(), AllocError> {
+fn add_nodes(nodes: &[HtmlNode], ids: &BTreeSet<String>, walk: &mut Walk) -> Result<(), AllocError>
+    ensures path { OnOk result (walk.new.path.items ≡ walk.old.path.items) }
+    ensures dead { OnOk result (dead_view walk.new.dead.items ≡ dead_view walk.old.dead.items
+        ++ dead_among (used_in ids.now)
+        (nodes_placed fragments_at walk.old.path.items 0 (nodes_view nodes.now))) }
+{
     for (index, child) in nodes.iter().enumerate() {
         walk.path.push(index)?;
         add_node(child, ids, walk)?;

@@ -6,7 +6,7 @@ ghost use Rattle.html_dom_tree.specs.FrameViews.{anchors_view, html_frame_view};
 ghost use Rattle.html_dom_tree.specs.Tree.{element_node, frame_node, node, none};
 ghost use Rattle.html_dom_tree.specs.Views.{element_view, node_view, nodes_view, text_view};
 ghost use Rattle.html_dom_link.specs.Answered.{shown_names};
-ghost use Rattle.html_dom_link.specs.NewNames.{anchor_names, with_name};
+ghost use Rattle.html_dom_link.specs.NewNames.{anchor_names, first_id, with_name};
 ghost use Rattle.html_dom_link.specs.UsedNames.{used_in, with_names};
 ghost use Rattle.html_dom_check.specs.Fragments.{is_known, tree_ids};
 
@@ -39,6 +39,14 @@ pub(crate) fn put(ids: &mut BTreeSet<String>, id: String) -> Result<(), AllocErr
 {
     ids.insert(id)?;
     Ok(())
+}
+
+/// The first `id` of an element.
+#[tactic(auto, unfolding(html_names::specs::Tables::known_attrs))]
+pub(crate) fn first_id(element: &HtmlElement) -> Option<&String>
+    ensures { option_map (λ id. text_view id.now) result ≡ first_id (element_view element.now).0 }
+{
+    element.attrs.get(&attr::id)
 }
 
 /// The ids of an element and of all below it.
@@ -101,7 +109,7 @@ fn add_element(element: &HtmlElement, ids: &mut BTreeSet<String>) -> Result<(), 
     ensures { let e = element_view element.now in OnOk result (used_in ids.new
         ≡ with_names (shown_names (node (element_node e.0 e.1) none)) (used_in ids.old)) }
 {
-    add_optional(element.attrs.get(&attr::id), ids)?;
+    add_optional(first_id(element), ids)?;
     add_nodes(&element.children, ids)?;
     Ok(())
 }

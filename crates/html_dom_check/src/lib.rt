@@ -3,6 +3,7 @@
 
 mod fragments;
 mod ids;
+pub mod laws;
 mod path;
 mod repeated;
 

@@ -10,10 +10,9 @@ ghost use Rattle.html_dom_check.specs.Findings.{repeated_view};
 ghost use Rattle.html_dom_check.specs.Places.{node_placed, nodes_placed, placed_at};
 ghost use Rattle.html_dom_check.specs.RepeatedIds.{Passes, ids_at, repeated_ids};
 
-use crate::ids::{contains, put};
+use crate::ids::{contains, first_id, put};
 use crate::path::leave;
 use html_dom_tree::{HtmlElement, HtmlFrame, HtmlNode, Point};
-use html_names::attr;
 use std::alloc::{AllocError, Global};
 use std::collections::BTreeSet;
 
@@ -136,7 +135,7 @@ fn pass_element(element: &HtmlElement, walk: &mut Walk) -> Result<(), AllocError
         (node_placed ids_at walk.old.path.items (element_node e.0 e.1))
         (repeated_view walk.new.repeated.items) (used_in walk.new.ids)) }
 {
-    pass_optional(element.attrs.get(&attr::id), walk)?;
+    pass_optional(first_id(element), walk)?;
     pass_nodes(&element.children, walk)?;
     Ok(())
 }

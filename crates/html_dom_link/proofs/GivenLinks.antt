@@ -50,13 +50,13 @@ href_leads name s = record {
 }
 
 -- what is no empty name is a name
-known_name : (known : Option Name) (name : Name) → some_name known ≡ Some name → known ≡ Some name
+pub known_name : (known : Option Name) (name : Name) → some_name known ≡ Some name → known ≡ Some name
 known_name None name e = e
 known_name (Some []) name e = cc
 known_name (Some (c ∷ cs)) name e = e
 
 -- an `a` that is open has no `href`
-no_href : (is_a : Bool) (attrs : List TextPair) →
+pub no_href : (is_a : Bool) (attrs : List TextPair) →
     (is_a && not (has_name attrs (codes "href"))) ≡ true → first attrs (codes "href") ≡ None
 no_href is_a attrs e = by (first attrs (codes "href")) (and_parts is_a _ e).1
   where

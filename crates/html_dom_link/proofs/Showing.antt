@@ -24,7 +24,7 @@ or_right : (b : Bool) → (b || true) ≡ true
 or_right true = refl
 or_right false = refl
 
-among-left : (as' bs : List Name) (n : Name) → stands_in as' n ≡ true →
+pub among-left : (as' bs : List Name) (n : Name) → stands_in as' n ≡ true →
     stands_in (as' ++ bs) n ≡ true
 unfolding stands_in
 among-left [] bs n e = cc
@@ -36,7 +36,7 @@ among-left (a ∷ as') bs n e = by_test (bytes_eq a n) e (among-left as' bs n)
     by_test true e so = refl
     by_test false e so = so e
 
-among-right : (as' bs : List Name) (n : Name) → stands_in bs n ≡ true →
+pub among-right : (as' bs : List Name) (n : Name) → stands_in bs n ≡ true →
     stands_in (as' ++ bs) n ≡ true
 unfolding stands_in
 among-right [] bs n e = e

@@ -1,4 +1,5 @@
-use Rattle.std.proofs.Common.{rules, ap, ◌∙◌}
+use Rattle.std.proofs.Common.{ap, ◌∙◌}
+use Rattle.std.specs.Prelude.{option_to_list}
 use Rattle.html_dom_tree.specs.Views.{head_of, nodes_view}
 use Rattle.html_dom_link.specs.Answered.{shown_names}
 use Rattle.html_dom_link.specs.UsedNames.{used_in, with_names}
@@ -8,7 +9,9 @@ use Rattle.html_dom_check.proofs.ids.+ids.Goals as goal
 pub add_element-returns : goal.add_element-returns
 add_element-returns t c =
     element_put (head_of c.args.element.now) (nodes_view c.args.element.now.children.items)
-    _ _ _ (search rules)
+    _ _ _
+    (c.in_ok-add_optional.ensures
+    ∙ ap (λ id. with_names (option_to_list id) (used_in c.args.ids.now)) c.first_id.ensures)
     (c.in_ok-add_nodes.ensures
     ∙ ap (λ ns. with_names (shown_names (nodes_view ns)) (used_in c.add_optional.new.ids))
     c.deref.ensures.value)

@@ -28,7 +28,7 @@ pass_element-returns-clause-passes t c =
     (repeated_view mid.repeated.items) (used_in mid.ids) =
     subst (λ ids. Passes (repeated_view old.repeated.items) (used_in old.ids)
     (placed_at path (option_to_list ids)) (repeated_view mid.repeated.items) (used_in mid.ids))
-    c.get.ensures c.in_ok-pass_optional.ensures.passes in
+    c.first_id.ensures c.in_ok-pass_optional.ensures.passes in
     let next : Passes (repeated_view mid.repeated.items) (used_in mid.ids) below
     (repeated_view new.repeated.items) (used_in new.ids) =
     subst (λ placed. Passes (repeated_view mid.repeated.items) (used_in mid.ids) placed
@@ -41,7 +41,7 @@ pass_element-returns-clause-passes t c =
     own below first next
 
 pub pass_nodes-loop-index-init : goal.pass_nodes-loop-index-init
-pass_nodes-loop-index-init t c = record { path = refl; passes = λ rest. refl; }
+pass_nodes-loop-index-init t c = record { path = refl; passes = λ rest. refl }
 
 pub pass_nodes-loop-index-preserved : goal.pass_nodes-loop-index-preserved
 pass_nodes-loop-index-preserved t c =

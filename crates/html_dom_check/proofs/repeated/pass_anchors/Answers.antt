@@ -8,7 +8,7 @@ use Rattle.html_dom_check.proofs.PassedIds.{no_anchor_passed, one_anchor_passed}
 use Rattle.html_dom_check.proofs.repeated.pass_anchors.Goals as goal
 
 pub loop-anchor-init : goal.loop-anchor-init
-loop-anchor-init c = record { path = refl; passes = λ rest. refl; }
+loop-anchor-init c = record { path = refl; passes = λ rest. refl }
 
 pub loop-anchor-preserved : goal.loop-anchor-preserved
 loop-anchor-preserved c =

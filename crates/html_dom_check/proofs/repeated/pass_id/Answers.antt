@@ -3,6 +3,7 @@ use Rattle.html_names.specs.Texts.{text_view}
 use Rattle.html_dom_link.specs.UsedNames.{used_in}
 use Rattle.html_dom_link.specs.NewNames.{with_name}
 use Rattle.html_dom_check.specs.Findings.{repeated_view}
+use Rattle.html_dom_check.specs.Places.{Placed}
 use Rattle.html_dom_check.specs.RepeatedIds.{Passes}
 use Rattle.html_dom_check.proofs.PassedIds.{found_again, passed_first}
 use Rattle.html_dom_check.proofs.repeated.pass_id.Goals as goal
@@ -12,7 +13,7 @@ returns-in_ok-push-clause-passes c =
     let walk = c.args.walk.now in
     let found = repeated_view walk.repeated.items in
     let used = used_in walk.ids in
-    let here = (walk.path.items, text_view c.args.id.now) in
+    let here : Placed = (walk.path.items, text_view c.args.id.now) in
     let passed : used (text_view c.args.id.now) ≡ true = search rules in
     let told : repeated_view c.push.new.self.items ≡ found ++ here ∷ [] = search rules in
     subst (λ l. Passes found used (here ∷ []) l used) (sym told) (found_again found used here passed)
@@ -22,7 +23,7 @@ returns-in_ok-put-clause-passes c =
     let walk = c.args.walk.now in
     let found = repeated_view walk.repeated.items in
     let used = used_in walk.ids in
-    let here = (walk.path.items, text_view c.args.id.now) in
+    let here : Placed = (walk.path.items, text_view c.args.id.now) in
     let new : used (text_view c.args.id.now) ≡ false = search rules in
     let next : used_in c.put.new.ids ≡ with_name (text_view c.args.id.now) used = search rules in
     subst (Passes found used (here ∷ []) found) (sym next) (passed_first found used here new)

@@ -1,0 +1,37 @@
+-- What holds of dead fragments and of repeated ids.
+use Rattle.std.specs.Prelude.{◌≡◌, ℕ, true, List, [], map, Some}
+use Rattle.html_names.specs.Names.{stands_in}
+use Rattle.html_dom_tree.specs.Tree.{ElementView}
+use Rattle.html_dom_link.specs.Answered.{shown_names}
+use Rattle.html_dom_link.specs.Distinct.{are_distinct}
+use Rattle.html_dom_link.specs.GivenLinks.{AnchorsAreTexts}
+use Rattle.html_dom_link.specs.Links.{Anchors, root_with_links}
+use Rattle.html_dom_link.specs.NewNames.{Name, element_names}
+use Rattle.html_dom_check.specs.Fragments.{dead_fragments, tree_ids}
+use Rattle.html_dom_check.specs.Places.{Placed}
+use Rattle.html_dom_check.specs.RepeatedIds.{placed_ids, repeated_ids}
+
+-- the ids at their places are the ids of the tree
+abbrev pub PlacedIdsAreIds : Type 0
+PlacedIdsAreIds = (e : ElementView) → map (λ (p : Placed). p.1) (placed_ids e) ≡ tree_ids e
+
+-- where all names of a tree differ, none is repeated
+abbrev pub DistinctAreNotRepeated : Type 0
+DistinctAreNotRepeated = (e : ElementView) → are_distinct (element_names e) ≡ true →
+    repeated_ids e ≡ []
+
+-- each anchor is a text, and stands in the tree
+pub record AnchorsStand (anchor : Anchors) (e : ElementView) : Type 0 where
+  pub texts : AnchorsAreTexts anchor
+  pub shown : (location : ℕ) (name : Name) → anchor location ≡ Some name →
+      stands_in (shown_names e.1) name ≡ true
+
+-- links that are given an `href` add no dead fragment: those of the new tree are those that it had
+abbrev pub LinksAddNoDeadFragment : Type 0
+LinksAddNoDeadFragment = (anchor : Anchors) (e : ElementView) → AnchorsStand anchor e →
+    dead_fragments (root_with_links anchor e) ≡ dead_fragments e
+
+-- and they repeat no id
+abbrev pub LinksRepeatNoId : Type 0
+LinksRepeatNoId = (anchor : Anchors) (e : ElementView) →
+    repeated_ids (root_with_links anchor e) ≡ repeated_ids e
