@@ -87,6 +87,10 @@ none_repeated used (p ∷ ps) new =
     by true e so = cc
     by false e so = so
 
+all_names : (e : ElementView) → nodes_names (node (element_node e.0 e.1) none) ≡ element_names e
+unfolding nodes_names
+all_names e = ap (λ l. all_ids e.0.attrs ++ l) (append-nil (nodes_names e.1))
+
 -- the ids of a tree are among all names
 ids_differ : (e : ElementView) → are_distinct (element_names e) ≡ true →
     are_distinct (tree_ids e) ≡ true
@@ -100,11 +104,6 @@ ids_differ e distinct = once_distinct (tree_ids e) (λ n.
       distinct_once (element_names e) n distinct,
       at_most_one (stands_in (element_names e) n),
     ))
-  where
-    all_names : (e : ElementView) →
-        nodes_names (node (element_node e.0 e.1) none) ≡ element_names e
-    unfolding nodes_names
-    all_names e = ap (λ l. all_ids e.0.attrs ++ l) (append-nil (nodes_names e.1))
 
 pub distinct_are_not_repeated : DistinctAreNotRepeated
 distinct_are_not_repeated e distinct =
@@ -164,11 +163,12 @@ module _ (anchor : Anchors) (is_id : Name → Bool) (texts : AnchorsAreTexts anc
   not_dead : (path fragment : List ℕ) → leads is_id fragment ≡ true →
       dead_among is_id (placed_at path (unless_empty fragment)) ≡ []
   not_dead path [] leading = refl
-  not_dead path (c ∷ cs) leading = by (leads is_id (c ∷ cs)) leading
+  not_dead path (c ∷ cs) leading =
+      let link : Placed = (path, c ∷ cs) in by link (leads is_id (c ∷ cs)) leading
     where
-      by : (b : Bool) → b ≡ true → {x : Placed} → cond (not b) (x ∷ []) [] ≡ []
-      by true e = refl
-      by false e = cc
+      by : (link : Placed) (b : Bool) → b ≡ true → cond (not b) (link ∷ []) [] ≡ []
+      by link true e = refl
+      by link false e = cc
 
   abbrev dead_at : (path : List ℕ) → Head → List Placed
   dead_at path h = dead_among is_id (placed_at path (fragments_at (element_node h none)))
@@ -208,8 +208,10 @@ module _ (anchor : Anchors) (is_id : Name → Bool) (texts : AnchorsAreTexts anc
           given_stays path h name lacks (texts location name named) (known location name named)
 
       by : (lacks : Bool) → is_open h ≡ lacks → (dest : Option ℕ) →
-          dead_at path (record h { attrs = attrs_with_href
-          (name_of anchor (if lacks then dest else None)) h.attrs }) ≡ dead_at path h
+          dead_at path (record h {
+            attrs = attrs_with_href
+                (name_of anchor (if lacks then dest else None)) h.attrs;
+          }) ≡ dead_at path h
       by true is None = refl
       by true is (Some location) = by_name location is (some_name (anchor location)) refl
       by false is dest = refl

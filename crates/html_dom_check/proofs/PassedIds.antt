@@ -60,10 +60,10 @@ module _ (found : List Placed) (used : Name → Bool) where
 pub all_found : (found first : List Placed) (u v w : Name → Bool) (ps qs : List Placed) →
     first ≡ [] → u ≡ v → ps ≡ qs → Passes first u ps found w → found ≡ repeated v qs
 unfolding repeated
-all_found found first u v w ps qs none same placed passes =
+all_found found first u v w ps qs empty same placed passes =
     sym (append-nil found)
     ∙ (passes []
-    ∙ (ap (λ l. l ++ repeated u (ps ++ [])) none
+    ∙ (ap (λ l. l ++ repeated u (ps ++ [])) empty
     ∙ (ap (repeated u) (append-nil ps ∙ placed) ∙ ap (λ x. repeated x qs) same)))
 
 -- two parts, one after the other

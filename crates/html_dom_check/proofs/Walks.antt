@@ -41,3 +41,9 @@ placed-append path [] bs = refl
 placed-append path (a ∷ as') bs =
     let first : Placed = (path, a) in
     ap (λ ps. first ∷ ps) (placed-append path as' bs)
+
+abbrev pub pair : List ℕ → List ℕ → Placed
+pair path text = (path, text)
+
+pub same_place : (p q s t : List ℕ) → p ≡ q → s ≡ t → pair p s ≡ pair q t
+same_place p q s t path text = ap (λ x. pair x s) path ∙ ap (pair q) text

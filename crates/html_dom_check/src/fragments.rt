@@ -4,12 +4,12 @@ ghost use Rattle.std.specs.Prelude.{◌≡◌, ◌++◌, chars, option_map, opti
 ghost use Rattle.html_dom_tree.specs.Tree.{element_node};
 ghost use Rattle.html_dom_tree.specs.Views.{element_view, node_view, nodes_view, text_view};
 ghost use Rattle.html_dom_link.specs.UsedNames.{used_in};
-ghost use Rattle.html_dom_check.specs.Findings.{dead_view};
+ghost use Rattle.html_dom_check.specs.Findings.{dead_fragment_view, dead_view};
 ghost use Rattle.html_dom_check.specs.Fragments.{bytes_lead, dead_among, dead_fragments, fragments_at, fragments_in, is_top, leads, unless_empty};
 ghost use Rattle.html_dom_check.specs.Places.{node_placed, nodes_placed, placed_at};
 
 use crate::ids::{element_ids, is_known};
-use crate::path::leave;
+use crate::path::{copy, leave};
 use html_dom_tree::{HtmlElement, HtmlNode};
 use html_names::{attr, tag};
 use percent_encoding::percent_decode;
@@ -124,6 +124,21 @@ fn leads(alloc: Global, ids: &BTreeSet<String>, fragment: &str) -> Result<bool, 
     Ok(bytes_lead(ids, &name))
 }
 
+/// A link at the end of that path to that fragment.
+fn dead_fragment(
+    alloc: Global,
+    path: &Vec<usize>,
+    fragment: &str,
+) -> Result<DeadFragment, AllocError>
+    ensures { IfOk result (λ dead.
+        dead_fragment_view dead ≡ (path.now.items, chars fragment.now)) }
+{
+    Ok(DeadFragment {
+        path: copy(path)?,
+        fragment: String::from_str(alloc, fragment)?,
+    })
+}
+
 /// Adds a link to a fragment, if it leads nowhere.
 fn add_link(
     fragment: Option<&str>,
@@ -139,10 +154,8 @@ fn add_link(
         return Ok(());
     };
     if !leads(walk.alloc, ids, fragment)? {
-        walk.dead.push(DeadFragment {
-            path: walk.path.clone()?,
-            fragment: String::from_str(walk.alloc, fragment)?,
-        })?;
+        let link = dead_fragment(walk.alloc, &walk.path, fragment)?;
+        walk.dead.push(link)?;
     }
     Ok(())
 }

@@ -1,6 +1,15 @@
 //! The path of a walk over a tree.
 
-ghost use Rattle.std.specs.Prelude.{◌≡◌, ◌++◌, [], ◌∷◌, ℕ, List};
+ghost use Rattle.std.specs.Prelude.{◌≡◌, ◌++◌, [], ◌∷◌, ℕ, IfOk, List};
+
+use std::alloc::AllocError;
+
+/// A copy of a path.
+pub(crate) fn copy(path: &Vec<usize>) -> Result<Vec<usize>, AllocError>
+    ensures { IfOk result (λ copy. copy.items ≡ path.now.items) }
+{
+    path.clone()
+}
 
 /// Goes from a child back to its parent.
 pub(crate) fn leave(path: &mut Vec<usize>)

@@ -6,12 +6,12 @@ ghost use Rattle.html_dom_tree.specs.Tree.{element_node, frame_node};
 ghost use Rattle.html_dom_tree.specs.Views.{element_view, node_view, nodes_view, text_view};
 ghost use Rattle.html_dom_link.specs.NewNames.{anchor_names};
 ghost use Rattle.html_dom_link.specs.UsedNames.{used_in};
-ghost use Rattle.html_dom_check.specs.Findings.{repeated_view};
+ghost use Rattle.html_dom_check.specs.Findings.{repeated_id_view, repeated_view};
 ghost use Rattle.html_dom_check.specs.Places.{node_placed, nodes_placed, placed_at};
 ghost use Rattle.html_dom_check.specs.RepeatedIds.{Passes, ids_at, repeated_ids};
 
 use crate::ids::{contains, first_id, put};
-use crate::path::leave;
+use crate::path::{copy, leave};
 use html_dom_tree::{HtmlElement, HtmlFrame, HtmlNode, Point};
 use std::alloc::{AllocError, Global};
 use std::collections::BTreeSet;
@@ -69,6 +69,17 @@ pub fn repeated_ids(alloc: Global, root: &HtmlElement) -> Result<Vec<RepeatedId>
     Ok(repeated)
 }
 
+/// An id at the end of that path.
+fn repeated_id(path: &Vec<usize>, id: &String) -> Result<RepeatedId, AllocError>
+    ensures { IfOk result (λ repeated.
+        repeated_id_view repeated ≡ (path.now.items, text_view id.now)) }
+{
+    Ok(RepeatedId {
+        path: copy(path)?,
+        id: id.clone()?,
+    })
+}
+
 /// Passes an id.
 fn pass_id(id: &String, walk: &mut Walk) -> Result<(), AllocError>
     ensures path { OnOk result (walk.new.path.items ≡ walk.old.path.items) }
@@ -77,10 +88,8 @@ fn pass_id(id: &String, walk: &mut Walk) -> Result<(), AllocError>
         (repeated_view walk.new.repeated.items) (used_in walk.new.ids)) }
 {
     if contains(&walk.ids, id) {
-        walk.repeated.push(RepeatedId {
-            path: walk.path.clone()?,
-            id: id.clone()?,
-        })?;
+        let place = repeated_id(&walk.path, id)?;
+        walk.repeated.push(place)?;
     } else {
         put(&mut walk.ids, id.clone()?)?;
     }

@@ -6,7 +6,7 @@ use html_dom_check::{dead_fragments, repeated_ids};
 use html_dom_tree::{HtmlElement, HtmlNode};
 use html_names::{attr, tag};
 use std::alloc::{AllocError, Global};
-use std::fmt::{Error, Write};
+use std::fmt::Write;
 use std::process::Abort;
 use typst_html_read::read_html;
 
@@ -18,7 +18,7 @@ fn root_of(rt: &impl Abort, alloc: Global, text: &str) -> HtmlElement {
 }
 
 /// Adds a path and what stands there to a text.
-fn show(shown: &mut String, path: &[usize], text: &str) -> Result<(), Error> {
+fn show(shown: &mut String, path: &[usize], text: &str) -> Result<(), AllocError> {
     write!(shown, "{path:?} {text};")
 }
 

@@ -1,7 +1,8 @@
 use Rattle.std.proofs.Common.{◌≡◌, false, ◌++◌, ◌∷◌, [], ap, sym, ◌∙◌, chars, rules}
+use Rattle.std.proofs.lemmas.List.{map-append}
 use Rattle.std.specs.Prelude.{option_map, option_to_list}
 use Rattle.html_dom_link.specs.UsedNames.{used_in}
-use Rattle.html_dom_check.specs.Findings.{dead_view}
+use Rattle.html_dom_check.specs.Findings.{dead_fragment_view, dead_view}
 use Rattle.html_dom_check.specs.Fragments.{dead_among, leads}
 use Rattle.html_dom_check.specs.Places.{Placed, placed_at}
 use Rattle.html_dom_check.proofs.DeadParts.{one_dead}
@@ -13,7 +14,10 @@ returns-in_ok-push-clause-dead c =
     let path = c.args.walk.now.path.items in
     let old = dead_view c.args.walk.now.dead.items in
     let here : Placed = (path, chars c.in-Some.fragment.now) in
-    let told : dead_view c.push.new.self.items ≡ old ++ here ∷ [] = search rules in
+    let told : dead_view c.push.new.self.items ≡ old ++ here ∷ [] =
+    ap dead_view c.in_ok-push.ensures.items
+    ∙ (map-append dead_fragment_view c.args.walk.now.dead.items (c.in_ok-link.link ∷ [])
+    ∙ ap (λ d. old ++ d ∷ []) c.in_ok-link.ensures) in
     let lost : leads ids (chars c.in-Some.fragment.now) ≡ false = search rules in
     told
     ∙ (ap (λ l. old ++ l) (one_dead ids here lost)

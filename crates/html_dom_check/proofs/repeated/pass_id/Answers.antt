@@ -1,8 +1,9 @@
 use Rattle.std.proofs.Common.{◌≡◌, true, false, ◌∷◌, [], chars, ap, sym, ◌∙◌, rules, subst, ◌++◌}
+use Rattle.std.proofs.lemmas.List.{map-append}
 use Rattle.html_names.specs.Texts.{text_view}
 use Rattle.html_dom_link.specs.UsedNames.{used_in}
 use Rattle.html_dom_link.specs.NewNames.{with_name}
-use Rattle.html_dom_check.specs.Findings.{repeated_view}
+use Rattle.html_dom_check.specs.Findings.{repeated_id_view, repeated_view}
 use Rattle.html_dom_check.specs.Places.{Placed}
 use Rattle.html_dom_check.specs.RepeatedIds.{Passes}
 use Rattle.html_dom_check.proofs.PassedIds.{found_again, passed_first}
@@ -15,7 +16,10 @@ returns-in_ok-push-clause-passes c =
     let used = used_in walk.ids in
     let here : Placed = (walk.path.items, text_view c.args.id.now) in
     let passed : used (text_view c.args.id.now) ≡ true = search rules in
-    let told : repeated_view c.push.new.self.items ≡ found ++ here ∷ [] = search rules in
+    let told : repeated_view c.push.new.self.items ≡ found ++ here ∷ [] =
+    ap repeated_view c.in_ok-push.ensures.items
+    ∙ (map-append repeated_id_view walk.repeated.items (c.in_ok-place.place ∷ [])
+    ∙ ap (λ r. found ++ r ∷ []) c.in_ok-place.ensures) in
     subst (λ l. Passes found used (here ∷ []) l used) (sym told) (found_again found used here passed)
 
 pub returns-in_ok-put-clause-passes : goal.returns-in_ok-put-clause-passes
