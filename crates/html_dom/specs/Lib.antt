@@ -30,3 +30,8 @@ pub use Rattle.html_dom_link.specs.Namings
 pub use Rattle.html_dom_link.specs.NewNames
 pub use Rattle.html_dom_link.specs.Seen
 pub use Rattle.html_dom_link.specs.Undone
+pub use Rattle.html_dom_check.specs.CheckLaws
+pub use Rattle.html_dom_check.specs.Findings
+pub use Rattle.html_dom_check.specs.Fragments
+pub use Rattle.html_dom_check.specs.PlacedTexts
+pub use Rattle.html_dom_check.specs.RepeatedIds

@@ -6,7 +6,7 @@ use Rattle.html_dom_tree.specs.Views.{node_view, nodes_view}
 use Rattle.html_dom_tree.specs.declared.node.HtmlNode.{HtmlNode}
 use Rattle.html_dom_link.specs.NewNames.{Name}
 use Rattle.html_dom_check.specs.Fragments.{dead_among, fragments_at, leads}
-use Rattle.html_dom_check.specs.Places.{Placed, node_placed, nodes_placed}
+use Rattle.html_dom_check.specs.PlacedTexts.{Placed, node_placed, nodes_placed}
 use Rattle.html_dom_check.proofs.Walks.{placed_in_turn, none_placed}
 
 module _ (is_id : Name → Bool) where

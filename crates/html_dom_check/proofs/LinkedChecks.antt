@@ -3,28 +3,30 @@ use Rattle.std.proofs.Common.{◌≡◌, ℕ, suc, ◌+◌, ◌≤◌, Bool, tru
 use Rattle.std.specs.Prelude.{if◌then◌else◌, option_to_list}
 use Rattle.std.proofs.lemmas.Bool.{and_parts}
 use Rattle.std.proofs.lemmas.List.{append-nil}
-use Rattle.std.proofs.lemmas.Str.{chars-encodes, encodes-IsAscii, is_utf8-from_IsUtf8}
+use Rattle.std.proofs.lemmas.Str.{chars-encodes, is_utf8-from_IsUtf8}
 use lib.Utf8.{encodes, scalars}
-use Rattle.percent_encoding.specs.Percent.{percent_encode, percent_decode}
-use Rattle.percent_encoding.proofs.PercentLemmas.{IsAscii-percent_encode}
+use Rattle.percent_encoding.specs.Percent.{percent_decode}
 use Rattle.html_names.specs.Names.{stands_in}
 use Rattle.html_dom_tree.specs.Attributes.{first}
 use Rattle.html_dom_tree.specs.Tree.{TextPair, Head, NodeView, tag_node, text_node, element_node, frame_node, NodesView, none, node, ElementView}
+use Rattle.html_dom_document.specs.Documents.{document_root}
+use Rattle.html_dom_document.specs.Views.{document_view}
+use Rattle.html_dom_document.specs.declared.document.HtmlDocument.{HtmlDocument}
 use Rattle.html_dom_link.specs.Answered.{shown_names}
 use Rattle.html_dom_link.specs.Distinct.{are_distinct, occurrences}
 use Rattle.html_dom_link.specs.GivenLinks.{AnchorsAreTexts}
 use Rattle.html_dom_link.specs.Links.{Anchors, attrs_with_href, dest_before, head_with_link, href_to, is_open, name_of, node_with_links, nodes_with_links, root_with_links, some_name}
 use Rattle.html_dom_link.specs.NewNames.{Name, all_ids, element_names, first_id, frame_names, nodes_names, with_name}
-use Rattle.html_dom_link.specs.declared.links.TheConstants.{FRAGMENT}
+use Rattle.html_dom_link.proofs.ChangedRoots.{root_has_links}
 use Rattle.html_dom_link.proofs.Counting.{shown_count}
 use Rattle.html_dom_link.proofs.Differing.{are_new, at_most_one, distinct_once, new_distinct, once_distinct}
-use Rattle.html_dom_link.proofs.GivenLinks.{href_leads, known_name, no_href}
+use Rattle.html_dom_link.proofs.GivenLinks.{href_spelled, known_name, no_href, texts_in}
 use Rattle.html_dom_link.proofs.LeadingLinks.{id_stays, names_stay}
 use Rattle.html_dom_link.proofs.Showing.{among-left, among-right}
 use Rattle.html_dom_link.proofs.UsedNames.{or_right}
-use Rattle.html_dom_check.specs.CheckLaws.{AnchorsStand, DistinctAreNotRepeated, LinksAddNoDeadFragment, LinksRepeatNoId, PlacedIdsAreIds}
-use Rattle.html_dom_check.specs.Fragments.{bytes_lead, dead_among, dead_fragments, fragment_links, fragments_at, fragments_of, is_known, is_top, leads, tree_ids, unless_empty}
-use Rattle.html_dom_check.specs.Places.{Placed, placed_at, node_placed, nodes_placed}
+use Rattle.html_dom_check.specs.CheckLaws.{AnchorsStand, DistinctAreNotRepeated, LinksAddNoDeadFragment, LinksRepeatNoId, LinksStaySound, PlacedIdsAreIds}
+use Rattle.html_dom_check.specs.Fragments.{bytes_lead, dead_among, dead_fragments, fragment_links, fragments_at, fragments_in, fragments_of, is_known, is_top, leads, tree_ids, unless_empty}
+use Rattle.html_dom_check.specs.PlacedTexts.{Placed, placed_at, node_placed, nodes_placed}
 use Rattle.html_dom_check.specs.RepeatedIds.{ids_at, placed_ids, repeated, repeated_ids}
 use Rattle.html_dom_check.proofs.DeadParts.{dead-append}
 
@@ -143,15 +145,11 @@ links_repeat_no_id anchor e =
 
 module _ (anchor : Anchors) (is_id : Name → Bool) (texts : AnchorsAreTexts anchor)
     (known : (location : ℕ) (name : Name) → anchor location ≡ Some name → is_id name ≡ true) where
-  -- the fragment of an anchor's name leads
-  name_leads : (name : Name) → scalars name ≡ true → is_id name ≡ true →
-      leads is_id (percent_encode FRAGMENT (encodes name)) ≡ true
+  -- a fragment that decodes to an anchor's name leads
+  name_leads : (name : Name) (fragment : List ℕ) → percent_decode (encodes fragment) ≡ encodes name →
+      scalars name ≡ true → is_id name ≡ true → leads is_id fragment ≡ true
   unfolding leads
-  name_leads name text there =
-      let fragment = percent_encode FRAGMENT (encodes name) in
-      let decoded : percent_decode (encodes fragment) ≡ encodes name =
-      ap percent_decode (encodes-IsAscii fragment (IsAscii-percent_encode FRAGMENT (encodes name)))
-      ∙ (href_leads name text).decodes in
+  name_leads name fragment decoded text there =
       let utf8 = is_utf8-from_IsUtf8 (encodes name) (name, (text, refl)) in
       ap (bytes_lead is_id) decoded
       ∙ (ap (λ b. is_top (encodes name) || b)
@@ -177,19 +175,17 @@ module _ (anchor : Anchors) (is_id : Name → Bool) (texts : AnchorsAreTexts anc
   given_stays : (path : List ℕ) (h : Head) (name : Name) → is_open h ≡ true →
       scalars name ≡ true → is_id name ≡ true →
       dead_at path (record h { attrs = attrs_with_href (Some name) h.attrs }) ≡ dead_at path h
-  unfolding href_to
   given_stays path h name lacks text there =
-      let fragment = percent_encode FRAGMENT (encodes name) in
-      let no = no_href (bytes_eq h.name (codes "a")) h.attrs lacks in
+      let spelled = href_spelled name text in
       by (bytes_eq h.name (codes "a"))
-      (not_dead path fragment (name_leads name text there))
-      (ap (λ href. dead_among is_id (placed_at path (fragments_of href))) (sym no))
+      (ap (λ href. dead_among is_id (placed_at path (fragments_in href))) spelled.1.begins
+      ∙ not_dead path spelled.0 (name_leads name spelled.0 spelled.1.decodes text there))
+      (ap (λ href. dead_among is_id (placed_at path (fragments_of href)))
+      (sym (no_href (bytes_eq h.name (codes "a")) h.attrs lacks)))
     where
-      by : (is_a : Bool) →
-          dead_among is_id (placed_at path (unless_empty (percent_encode FRAGMENT (encodes name)))) ≡ [] →
+      by : (is_a : Bool) → dead_among is_id (placed_at path (fragments_in (href_to name))) ≡ [] →
           [] ≡ dead_among is_id (placed_at path (fragments_of (first h.attrs (codes "href")))) →
-          dead_among is_id (placed_at path (if is_a
-          then unless_empty (percent_encode FRAGMENT (encodes name)) else []))
+          dead_among is_id (placed_at path (if is_a then fragments_in (href_to name) else []))
           ≡ dead_among is_id (placed_at path (if is_a
           then fragments_of (first h.attrs (codes "href")) else []))
       by true new old = new ∙ old
@@ -279,3 +275,17 @@ links_add_no_dead_fragment anchor e stand =
     ap (λ ids. dead_among (stands_in ids) (fragment_links (root_with_links anchor e))) (ids_stay anchor e)
     ∙ tree_stays anchor (stands_in (tree_ids e)) stand.texts
     (λ location name is. below_stands e name (stand.shown location name is)) e.0 e.1
+
+pub document_stays_sound : (d : HtmlDocument) → LinksStaySound (document_view d)
+document_stays_sound d =
+    let v = document_view d in
+    let anchor = v.introspector.anchor in
+    let root = document_root v in
+    let same = ap repeated_ids (root_has_links v) ∙ links_repeat_no_id anchor root in
+    record {
+      dead = λ shown. ap dead_fragments (root_has_links v)
+          ∙ links_add_no_dead_fragment anchor root
+          (record { texts = texts_in d.introspector.anchors; shown = shown });
+      repeated = same;
+      distinct = λ distinct. same ∙ distinct_are_not_repeated root distinct;
+    }

@@ -18,7 +18,7 @@ use Rattle.html_dom_link.specs.Answered.{shown_names}
 use Rattle.html_dom_link.specs.NewNames.{Name, anchor_names, first_id, frame_names, with_name}
 use Rattle.html_dom_link.specs.UsedNames.{with_names}
 use Rattle.html_dom_link.proofs.Gathering.{with-append, with-none}
-use Rattle.html_dom_check.specs.Places.{Placed, placed_at, node_placed, nodes_placed}
+use Rattle.html_dom_check.specs.PlacedTexts.{Placed, placed_at, node_placed, nodes_placed}
 use Rattle.html_dom_check.specs.RepeatedIds.{Passes, ids_at, repeated}
 use Rattle.html_dom_check.proofs.Walks.{placed_in_turn, none_placed}
 

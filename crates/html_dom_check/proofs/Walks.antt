@@ -6,7 +6,7 @@ use Rattle.html_dom_tree.specs.Tree.{NodeView, NodesView, none, node}
 use Rattle.html_dom_tree.specs.Views.{node_view, nodes_view}
 use Rattle.html_dom_tree.specs.declared.node.HtmlNode.{HtmlNode}
 use Rattle.html_dom_tree.proofs.Nodes.{nodes_view-drop}
-use Rattle.html_dom_check.specs.Places.{Placed, placed_at, node_placed, nodes_placed}
+use Rattle.html_dom_check.specs.PlacedTexts.{Placed, placed_at, node_placed, nodes_placed}
 
 -- nodes from an index on are the one there, and those behind it
 pub placed_in_turn : (texts : NodeView → List (List ℕ)) (path : List ℕ) (ns : List HtmlNode)

@@ -2,13 +2,14 @@
 use Rattle.std.specs.Prelude.{◌≡◌, ℕ, true, List, [], map, Some}
 use Rattle.html_names.specs.Names.{stands_in}
 use Rattle.html_dom_tree.specs.Tree.{ElementView}
+use Rattle.html_dom_document.specs.Documents.{DocumentView, document_root}
 use Rattle.html_dom_link.specs.Answered.{shown_names}
-use Rattle.html_dom_link.specs.Distinct.{are_distinct}
-use Rattle.html_dom_link.specs.GivenLinks.{AnchorsAreTexts}
-use Rattle.html_dom_link.specs.Links.{Anchors, root_with_links}
+use Rattle.html_dom_link.specs.Distinct.{IdsAreDistinct, are_distinct}
+use Rattle.html_dom_link.specs.GivenLinks.{AnchorsAreTexts, KnownAnchorsAreShown}
+use Rattle.html_dom_link.specs.Links.{Anchors, document_with_links, root_with_links}
 use Rattle.html_dom_link.specs.NewNames.{Name, element_names}
 use Rattle.html_dom_check.specs.Fragments.{dead_fragments, tree_ids}
-use Rattle.html_dom_check.specs.Places.{Placed}
+use Rattle.html_dom_check.specs.PlacedTexts.{Placed}
 use Rattle.html_dom_check.specs.RepeatedIds.{placed_ids, repeated_ids}
 
 -- the ids at their places are the ids of the tree
@@ -35,3 +36,12 @@ LinksAddNoDeadFragment = (anchor : Anchors) (e : ElementView) → AnchorsStand a
 abbrev pub LinksRepeatNoId : Type 0
 LinksRepeatNoId = (anchor : Anchors) (e : ElementView) →
     repeated_ids (root_with_links anchor e) ≡ repeated_ids e
+
+-- once the links of a document are resolved, where the anchors that are known stand in its tree, its
+-- dead fragments are those that it had; no id is repeated that was not, and none where all differ
+pub record LinksStaySound (d : DocumentView) : Type 0 where
+  pub dead : KnownAnchorsAreShown d →
+      dead_fragments (document_root (document_with_links d)) ≡ dead_fragments (document_root d)
+  pub repeated :
+      repeated_ids (document_root (document_with_links d)) ≡ repeated_ids (document_root d)
+  pub distinct : IdsAreDistinct d → repeated_ids (document_root (document_with_links d)) ≡ []

@@ -1,7 +1,7 @@
 -- Findings as pure values: a path, and a text that stands there.
 use Rattle.std.specs.Prelude.{List, map}
 use Rattle.html_names.specs.Texts.{text_view}
-use Rattle.html_dom_check.specs.Places.{Placed}
+use Rattle.html_dom_check.specs.PlacedTexts.{Placed}
 use Rattle.html_dom_check.specs.declared.fragments.DeadFragment.{DeadFragment}
 use Rattle.html_dom_check.specs.declared.repeated.RepeatedId.{RepeatedId}
 

@@ -11,7 +11,7 @@ use Rattle.html_dom_tree.specs.Attributes.{first}
 use Rattle.html_dom_tree.specs.Tree.{NodeView, tag_node, text_node, element_node, frame_node, node, none, ElementView}
 use Rattle.html_dom_link.specs.Answered.{shown_names}
 use Rattle.html_dom_link.specs.NewNames.{Name}
-use Rattle.html_dom_check.specs.Places.{Placed, element_placed}
+use Rattle.html_dom_check.specs.PlacedTexts.{Placed, element_placed}
 
 abbrev pub unless_empty : List ℕ → List (List ℕ)
 unless_empty [] = []

@@ -1,4 +1,4 @@
-pub mod Places
+pub mod PlacedTexts
 pub mod Fragments
 pub mod RepeatedIds
 pub mod Findings

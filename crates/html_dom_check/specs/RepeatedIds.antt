@@ -3,7 +3,7 @@ use Rattle.std.specs.Prelude.{◌≡◌, Bool, List, [], ◌∷◌, ◌++◌, if
 use Rattle.html_names.specs.Names.{stands_in}
 use Rattle.html_dom_tree.specs.Tree.{NodeView, tag_node, text_node, element_node, frame_node, ElementView}
 use Rattle.html_dom_link.specs.NewNames.{Name, first_id, frame_names, with_name}
-use Rattle.html_dom_check.specs.Places.{Placed, element_placed}
+use Rattle.html_dom_check.specs.PlacedTexts.{Placed, element_placed}
 
 -- the first `id` of an element, and the id and the anchors of a frame
 abbrev pub ids_at : NodeView → List Name

@@ -6,7 +6,7 @@ ghost use Rattle.html_dom_tree.specs.Views.{element_view, node_view, nodes_view,
 ghost use Rattle.html_dom_link.specs.UsedNames.{used_in};
 ghost use Rattle.html_dom_check.specs.Findings.{dead_fragment_view, dead_view};
 ghost use Rattle.html_dom_check.specs.Fragments.{bytes_lead, dead_among, dead_fragments, fragments_at, fragments_in, is_top, leads, unless_empty};
-ghost use Rattle.html_dom_check.specs.Places.{node_placed, nodes_placed, placed_at};
+ghost use Rattle.html_dom_check.specs.PlacedTexts.{node_placed, nodes_placed, placed_at};
 
 use crate::ids::{element_ids, is_known};
 use crate::path::{copy, leave};
@@ -182,7 +182,7 @@ fn add_element(
 
 /// Adds those in a node.
 #[cycle(fragments)]
-#[tactic(auto, unfolding(crate::specs::Places::node_placed))]
+#[tactic(auto, unfolding(crate::specs::PlacedTexts::node_placed))]
 fn add_node(child: &HtmlNode, ids: &BTreeSet<String>, walk: &mut Walk) -> Result<(), AllocError>
     ensures path { OnOk result (walk.new.path.items ≡ walk.old.path.items) }
     ensures dead { OnOk result (dead_view walk.new.dead.items ≡ dead_view walk.old.dead.items

@@ -1,6 +1,9 @@
 //! Laws of dead fragments and repeated ids. Each function has laws as its contract, and does nothing.
 
-ghost use Rattle.html_dom_check.specs.CheckLaws.{DistinctAreNotRepeated, LinksAddNoDeadFragment, LinksRepeatNoId, PlacedIdsAreIds};
+ghost use Rattle.html_dom_check.specs.CheckLaws.{DistinctAreNotRepeated, LinksAddNoDeadFragment, LinksRepeatNoId, LinksStaySound, PlacedIdsAreIds};
+ghost use Rattle.html_dom_document.specs.Views.{document_view};
+
+use html_dom_document::HtmlDocument;
 
 /// The ids that are looked at for repeats are those to which a fragment may lead. Where all names of
 /// a tree differ, as `ids_are_distinct` tells of a document's, none is repeated.
@@ -14,7 +17,15 @@ pub fn repeated()
 /// them, add no dead fragment: those of the new tree are exactly those that the old one had, so none
 /// where no link had an `href` of its own. They repeat no id.
 #[tactic(auto, using(crate::proofs::LinkedChecks::links_add_no_dead_fragment, crate::proofs::LinkedChecks::links_repeat_no_id))]
-pub fn links_stay_sound()
+pub fn given_links_lead()
     ensures dead { LinksAddNoDeadFragment }
     ensures repeated { LinksRepeatNoId }
 {}
+
+/// So it is of a document whose links are resolved, where the anchors that its introspector knows
+/// stand in its tree, as they do in one of `html_document`.
+pub fn links_stay_sound(document: &HtmlDocument)
+    ensures { LinksStaySound (document_view document.now) }
+{
+    let _document = document;
+}

@@ -7,7 +7,7 @@ ghost use Rattle.html_dom_tree.specs.Views.{element_view, node_view, nodes_view,
 ghost use Rattle.html_dom_link.specs.NewNames.{anchor_names};
 ghost use Rattle.html_dom_link.specs.UsedNames.{used_in};
 ghost use Rattle.html_dom_check.specs.Findings.{repeated_id_view, repeated_view};
-ghost use Rattle.html_dom_check.specs.Places.{node_placed, nodes_placed, placed_at};
+ghost use Rattle.html_dom_check.specs.PlacedTexts.{node_placed, nodes_placed, placed_at};
 ghost use Rattle.html_dom_check.specs.RepeatedIds.{Passes, ids_at, repeated_ids};
 
 use crate::ids::{contains, first_id, put};
@@ -151,7 +151,7 @@ fn pass_element(element: &HtmlElement, walk: &mut Walk) -> Result<(), AllocError
 
 /// Passes the ids of a node and of all below it.
 #[cycle(ids)]
-#[tactic(auto, unfolding(crate::specs::Places::node_placed))]
+#[tactic(auto, unfolding(crate::specs::PlacedTexts::node_placed))]
 fn pass_node(child: &HtmlNode, walk: &mut Walk) -> Result<(), AllocError>
     ensures path { OnOk result (walk.new.path.items ≡ walk.old.path.items) }
     ensures passes { OnOk result (Passes (repeated_view walk.old.repeated.items) (used_in walk.old.ids)

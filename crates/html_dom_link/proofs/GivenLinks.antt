@@ -5,10 +5,10 @@ use Rattle.std.specs.Prelude.{if◌then◌else◌, is_some, option_map}
 use Rattle.std.proofs.lemmas.Bool.{and_parts}
 use Rattle.std.proofs.lemmas.Bool.Decides.{nat_tests}
 use Rattle.std.proofs.lemmas.List.Elements.{All-nil, All-cons, All-append, All-weaker}
-use Rattle.std.proofs.lemmas.Str.{IsUtf8-string_bytes, chars-encodes}
+use Rattle.std.proofs.lemmas.Str.{IsUtf8-string_bytes, chars-encodes, encodes-IsAscii}
 use lib.Utf8.{encode, encodes, scalar, scalars}
-use Rattle.percent_encoding.specs.Percent.{percent_encode}
-use Rattle.percent_encoding.proofs.PercentLemmas.{IsByte, round_trip}
+use Rattle.percent_encoding.specs.Percent.{percent_decode, percent_encode}
+use Rattle.percent_encoding.proofs.PercentLemmas.{IsAscii-percent_encode, IsByte, round_trip}
 use Rattle.html_names.specs.Names.{stands_in}
 use Rattle.html_names.specs.Texts.{text_view}
 use Rattle.html_dom_tree.specs.Attributes.{first, has_name}
@@ -48,6 +48,23 @@ href_leads name s = record {
   begins = refl;
   decodes = round_trip FRAGMENT (encodes name) refl (text_bytes name s);
 }
+
+-- the bytes of what stands behind its `#` decode to those of the name
+pub href_spelled : (name : Name) → scalars name ≡ true → (fragment : List ℕ) × record {
+  begins : href_to name ≡ codes "#" ++ fragment;
+  decodes : percent_decode (encodes fragment) ≡ encodes name;
+}
+unfolding href_to
+href_spelled name s =
+    let fragment = percent_encode FRAGMENT (encodes name) in
+    let ascii = IsAscii-percent_encode FRAGMENT (encodes name) in (
+      fragment,
+      record {
+        begins = refl;
+        decodes = ap percent_decode (encodes-IsAscii fragment ascii)
+            ∙ round_trip FRAGMENT (encodes name) refl (text_bytes name s);
+      },
+    )
 
 -- what is no empty name is a name
 pub known_name : (known : Option Name) (name : Name) → some_name known ≡ Some name → known ≡ Some name
@@ -123,7 +140,7 @@ text_is_scalars s =
     let utf8 = IsUtf8-string_bytes s in
     ap scalars (ap chars (sym utf8.1.1) ∙ chars-encodes utf8.0 utf8.1.0) ∙ utf8.1.0
 
-texts_in : (map : BTreeMap Location (String Global)) → AnchorsAreTexts (location_text map)
+pub texts_in : (map : BTreeMap Location (String Global)) → AnchorsAreTexts (location_text map)
 texts_in map location name is = by (get location_cmp map (record { 0 = location })) is
   where
     by : (found : Option (String Global)) → option_map text_view found ≡ Some name →

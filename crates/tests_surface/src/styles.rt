@@ -135,6 +135,8 @@ macro_rules! documents_get_anchors {
         resolve_links($alloc, &mut document)?;
         let document = with_resolved_links($alloc, document)?;
         let _ = dead_links($alloc, &document)?;
+        let _ = dead_fragments($alloc, document.root())?;
+        let _ = repeated_ids($alloc, document.root())?;
         let _ = ids_are_distinct($alloc, &document)?;
         let _ = href_to($alloc, "sec")?;
         Ok(())

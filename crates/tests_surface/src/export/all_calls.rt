@@ -6,9 +6,10 @@ use std::process::Abort;
 use typst_html::{
     Args, AttrType, ConversionLevel, DocumentInfo, ElementInfo, FlatTree, FlowFault, HtmlDocument,
     HtmlElement, HtmlNode, HtmlOutput, Item, Location, Pair, Properties, Span, Tag, Whitespace,
-    attr, bare_spaces, construct, convert_to_nodes, create_link_anchors, dead_links, href_to,
-    html_block_fragment, html_inline_fragment, html_math_fragment, ids_are_distinct,
-    is_depth_limit, push_located, resolve_inline_styles, resolve_links, tag, with_resolved_links,
+    attr, bare_spaces, construct, convert_to_nodes, create_link_anchors, dead_fragments,
+    dead_links, href_to, html_block_fragment, html_inline_fragment, html_math_fragment,
+    ids_are_distinct, is_depth_limit, push_located, repeated_ids, resolve_inline_styles,
+    resolve_links, tag, with_resolved_links,
 };
 
 /// A word and a space, which at the end of a block is kept.
@@ -120,6 +121,16 @@ fn links(rt: HostRuntime) {
     let dead = dead_links(rt.alloc(), &linked).expect(&rt, "memory for the dead links");
     assert!(rt; dead.is_empty());
     assert!(rt; ids_are_distinct(rt.alloc(), &linked).expect(&rt, "memory for the ids"));
+    let dead = dead_fragments(rt.alloc(), linked.root()).expect(
+        &rt,
+        "memory for the dead fragments",
+    );
+    assert!(rt; dead.is_empty());
+    let repeated = repeated_ids(rt.alloc(), linked.root()).expect(
+        &rt,
+        "memory for the repeated ids",
+    );
+    assert!(rt; repeated.is_empty());
     let href = href_to(rt.alloc(), "sec").expect(&rt, "memory for a text");
     assert_text(&rt, &href, "#sec");
 }

@@ -4,7 +4,7 @@ use Rattle.html_dom_tree.specs.Views.{element_view, node_view, nodes_view}
 use Rattle.html_dom_link.specs.UsedNames.{used_in}
 use Rattle.html_dom_check.specs.Findings.{dead_view}
 use Rattle.html_dom_check.specs.Fragments.{dead_among, fragments_at}
-use Rattle.html_dom_check.specs.Places.{node_placed, nodes_placed, placed_at}
+use Rattle.html_dom_check.specs.PlacedTexts.{node_placed, nodes_placed, placed_at}
 use Rattle.html_dom_check.proofs.DeadParts.{both_dead, no_more_dead, one_more_dead}
 use Rattle.html_dom_check.proofs.fragments.+fragments.Goals as goal
 

@@ -3,7 +3,7 @@ use Rattle.html_dom_tree.specs.Views.{nodes_view}
 use Rattle.html_dom_link.specs.UsedNames.{used_in}
 use Rattle.html_dom_check.specs.Findings.{dead_view}
 use Rattle.html_dom_check.specs.Fragments.{dead_among, fragments_at}
-use Rattle.html_dom_check.specs.Places.{nodes_placed}
+use Rattle.html_dom_check.specs.PlacedTexts.{nodes_placed}
 use Rattle.html_dom_check.proofs.fragments.+fragments.Given as goal
 
 abbrev pub invariant-add_nodes-loop-index : goal.invariant-add_nodes-loop-index

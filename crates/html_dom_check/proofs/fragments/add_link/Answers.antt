@@ -4,7 +4,7 @@ use Rattle.std.specs.Prelude.{option_map, option_to_list}
 use Rattle.html_dom_link.specs.UsedNames.{used_in}
 use Rattle.html_dom_check.specs.Findings.{dead_fragment_view, dead_view}
 use Rattle.html_dom_check.specs.Fragments.{dead_among, leads}
-use Rattle.html_dom_check.specs.Places.{Placed, placed_at}
+use Rattle.html_dom_check.specs.PlacedTexts.{Placed, placed_at}
 use Rattle.html_dom_check.proofs.DeadParts.{one_dead}
 use Rattle.html_dom_check.proofs.fragments.add_link.Goals as goal
 

@@ -4,7 +4,7 @@ use Rattle.html_dom_tree.specs.Views.{element_view}
 use Rattle.html_dom_link.specs.UsedNames.{used_in}
 use Rattle.html_dom_check.specs.Findings.{dead_view}
 use Rattle.html_dom_check.specs.Fragments.{dead_among, fragment_links, fragments_at}
-use Rattle.html_dom_check.specs.Places.{node_placed}
+use Rattle.html_dom_check.specs.PlacedTexts.{node_placed}
 use Rattle.html_dom_check.proofs.fragments.dead_fragments.Goals as goal
 
 pub returns : goal.returns

@@ -5,7 +5,7 @@ use Rattle.html_dom_tree.specs.Tree.{element_node}
 use Rattle.html_dom_tree.specs.Views.{element_view, node_view, nodes_view}
 use Rattle.html_dom_link.specs.UsedNames.{used_in}
 use Rattle.html_dom_check.specs.Findings.{repeated_view}
-use Rattle.html_dom_check.specs.Places.{node_placed, nodes_placed, placed_at}
+use Rattle.html_dom_check.specs.PlacedTexts.{node_placed, nodes_placed, placed_at}
 use Rattle.html_dom_check.specs.RepeatedIds.{Passes, ids_at}
 use Rattle.html_dom_check.proofs.PassedIds.{both_passed, no_more_passed, one_more_passed}
 use Rattle.html_dom_check.proofs.repeated.+ids.Goals as goal

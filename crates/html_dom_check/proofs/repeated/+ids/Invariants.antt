@@ -2,7 +2,7 @@ use Rattle.std.proofs.Common.{◌≡◌, drop}
 use Rattle.html_dom_tree.specs.Views.{nodes_view}
 use Rattle.html_dom_link.specs.UsedNames.{used_in}
 use Rattle.html_dom_check.specs.Findings.{repeated_view}
-use Rattle.html_dom_check.specs.Places.{nodes_placed}
+use Rattle.html_dom_check.specs.PlacedTexts.{nodes_placed}
 use Rattle.html_dom_check.specs.RepeatedIds.{ids_at}
 use Rattle.html_dom_check.proofs.PassedIds.{PassesSoFar}
 use Rattle.html_dom_check.proofs.repeated.+ids.Given as goal

@@ -2,7 +2,7 @@ use Rattle.std.proofs.Common.{◌∷◌, [], ◌∙◌, refl, subst}
 use Rattle.html_names.specs.Texts.{text_view}
 use Rattle.html_dom_link.specs.UsedNames.{used_in}
 use Rattle.html_dom_check.specs.Findings.{repeated_view}
-use Rattle.html_dom_check.specs.Places.{placed_at}
+use Rattle.html_dom_check.specs.PlacedTexts.{placed_at}
 use Rattle.html_dom_check.specs.RepeatedIds.{Passes}
 use Rattle.html_dom_check.proofs.PassedIds.{no_anchor_passed, one_anchor_passed}
 use Rattle.html_dom_check.proofs.repeated.pass_anchors.Goals as goal

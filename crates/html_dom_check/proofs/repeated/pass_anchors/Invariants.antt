@@ -3,7 +3,7 @@ use Rattle.html_dom_tree.specs.FrameViews.{anchors_view}
 use Rattle.html_dom_link.specs.NewNames.{anchor_names}
 use Rattle.html_dom_link.specs.UsedNames.{used_in}
 use Rattle.html_dom_check.specs.Findings.{repeated_view}
-use Rattle.html_dom_check.specs.Places.{placed_at}
+use Rattle.html_dom_check.specs.PlacedTexts.{placed_at}
 use Rattle.html_dom_check.proofs.PassedIds.{PassesSoFar}
 use Rattle.html_dom_check.proofs.repeated.pass_anchors.Given as goal
 

@@ -5,7 +5,7 @@ use Rattle.html_dom_tree.specs.FrameViews.{anchors_view, html_frame_view}
 use Rattle.html_dom_link.specs.NewNames.{anchor_names}
 use Rattle.html_dom_link.specs.UsedNames.{used_in}
 use Rattle.html_dom_check.specs.Findings.{repeated_view}
-use Rattle.html_dom_check.specs.Places.{node_placed, placed_at}
+use Rattle.html_dom_check.specs.PlacedTexts.{node_placed, placed_at}
 use Rattle.html_dom_check.specs.RepeatedIds.{Passes}
 use Rattle.html_dom_check.proofs.PassedIds.{both_passed}
 use Rattle.html_dom_check.proofs.Walks.{placed-append}

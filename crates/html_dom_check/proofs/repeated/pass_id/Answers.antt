@@ -4,7 +4,7 @@ use Rattle.html_names.specs.Texts.{text_view}
 use Rattle.html_dom_link.specs.UsedNames.{used_in}
 use Rattle.html_dom_link.specs.NewNames.{with_name}
 use Rattle.html_dom_check.specs.Findings.{repeated_id_view, repeated_view}
-use Rattle.html_dom_check.specs.Places.{Placed}
+use Rattle.html_dom_check.specs.PlacedTexts.{Placed}
 use Rattle.html_dom_check.specs.RepeatedIds.{Passes}
 use Rattle.html_dom_check.proofs.PassedIds.{found_again, passed_first}
 use Rattle.html_dom_check.proofs.repeated.pass_id.Goals as goal

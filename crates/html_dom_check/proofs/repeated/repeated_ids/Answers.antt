@@ -4,7 +4,7 @@ use Rattle.html_names.specs.Texts.{text_view}
 use Rattle.html_dom_tree.specs.Tree.{element_node}
 use Rattle.html_dom_tree.specs.Views.{element_view}
 use Rattle.html_dom_check.specs.Findings.{repeated_view}
-use Rattle.html_dom_check.specs.Places.{node_placed}
+use Rattle.html_dom_check.specs.PlacedTexts.{node_placed}
 use Rattle.html_dom_check.specs.RepeatedIds.{ids_at, placed_ids}
 use Rattle.html_dom_check.proofs.PassedIds.{all_found}
 use Rattle.html_dom_check.proofs.repeated.repeated_ids.Goals as goal
