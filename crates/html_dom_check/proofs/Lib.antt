@@ -3,3 +3,4 @@ pub mod DeadParts
 pub mod PassedIds
 pub mod Hrefs
 pub mod LinkedChecks
+pub mod NormalForms

@@ -24,20 +24,17 @@ use Rattle.html_dom_link.proofs.GivenLinks.{href_spelled, known_name, no_href, t
 use Rattle.html_dom_link.proofs.LeadingLinks.{id_stays, names_stay}
 use Rattle.html_dom_link.proofs.Showing.{among-left, among-right}
 use Rattle.html_dom_link.proofs.UsedNames.{or_right}
-use Rattle.html_dom_check.specs.CheckLaws.{AnchorsStand, DistinctAreNotRepeated, LinksAddNoDeadFragment, LinksRepeatNoId, LinksStaySound, PlacedIdsAreIds}
+use Rattle.html_dom_check.specs.CheckLaws.{AnchorsStand, DistinctAreNotRepeated, LinksAddNoDeadFragment, LinksRepeatNoId, LinksStaySound, PlacedIdsAreIds, texts_of}
 use Rattle.html_dom_check.specs.Fragments.{bytes_lead, dead_among, dead_fragments, fragment_links, fragments_at, fragments_in, fragments_of, is_known, is_top, leads, tree_ids, unless_empty}
 use Rattle.html_dom_check.specs.PlacedTexts.{Placed, placed_at, node_placed, nodes_placed}
 use Rattle.html_dom_check.specs.RepeatedIds.{ids_at, placed_ids, repeated, repeated_ids}
 use Rattle.html_dom_check.proofs.DeadParts.{dead-append}
 
-abbrev texts_of : List Placed → List Name
-texts_of = map (λ (p : Placed). p.1)
-
-texts_of-append : (ps qs : List Placed) → texts_of (ps ++ qs) ≡ texts_of ps ++ texts_of qs
+pub texts_of-append : (ps qs : List Placed) → texts_of (ps ++ qs) ≡ texts_of ps ++ texts_of qs
 texts_of-append [] qs = refl
 texts_of-append (p ∷ ps) qs = ap (λ l. p.1 ∷ l) (texts_of-append ps qs)
 
-texts_of-placed : (path : List ℕ) (texts : List Name) → texts_of (placed_at path texts) ≡ texts
+pub texts_of-placed : (path : List ℕ) (texts : List Name) → texts_of (placed_at path texts) ≡ texts
 texts_of-placed path [] = refl
 texts_of-placed path (t ∷ ts) = ap (λ l. t ∷ l) (texts_of-placed path ts)
 

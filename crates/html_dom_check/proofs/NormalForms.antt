@@ -9,11 +9,11 @@ use Rattle.html_dom_tree.specs.PlainTree.{Plain, words, branch, Plains, no_plain
 use Rattle.html_dom_tree.specs.Tags.{TagView}
 use Rattle.html_dom_tree.specs.Tree.{TextPair, Head, NodeView, tag_node, text_node, element_node, frame_node, NodesView, none, node, ElementView}
 use Rattle.html_dom_link.specs.NewNames.{Name, with_name}
-use Rattle.html_dom_check.specs.CheckLaws.{NormalFormsTell}
+use Rattle.html_dom_check.specs.CheckLaws.{NormalFormsTell, texts_of}
 use Rattle.html_dom_check.specs.Fragments.{dead_among, dead_fragments, fragment_links, fragments_at, fragments_of, leads, tree_ids}
 use Rattle.html_dom_check.specs.PlacedTexts.{Placed, placed_at, node_placed, nodes_placed, element_placed}
 use Rattle.html_dom_check.specs.RepeatedIds.{ids_at, placed_ids, repeated, repeated_ids}
-use Rattle.html_dom_check.proofs.LinkedChecks.{texts_of, texts_of-append, texts_of-placed, placed_ids_are_ids}
+use Rattle.html_dom_check.proofs.LinkedChecks.{texts_of-append, texts_of-placed, placed_ids_are_ids}
 
 -- texts that each element has by its name and its attributes, and no tag or text has
 module _ (texts : NodeView → List Name) (own : (name : List ℕ) → List TextPair → List Name)

@@ -1,6 +1,8 @@
 -- What holds of dead fragments and of repeated ids.
 use Rattle.std.specs.Prelude.{◌≡◌, ℕ, true, List, [], map, Some}
 use Rattle.html_names.specs.Names.{stands_in}
+use Rattle.html_dom_tree.specs.FrameFree.{ElementIsFrameFree}
+use Rattle.html_dom_tree.specs.PlainTree.{element_normal}
 use Rattle.html_dom_tree.specs.Tree.{ElementView}
 use Rattle.html_dom_document.specs.Documents.{DocumentView, document_root}
 use Rattle.html_dom_link.specs.Answered.{shown_names}
@@ -12,9 +14,13 @@ use Rattle.html_dom_check.specs.Fragments.{dead_fragments, tree_ids}
 use Rattle.html_dom_check.specs.PlacedTexts.{Placed}
 use Rattle.html_dom_check.specs.RepeatedIds.{placed_ids, repeated_ids}
 
+-- what is found, wherever it stands
+abbrev pub texts_of : List Placed → List Name
+texts_of = map (λ (p : Placed). p.1)
+
 -- the ids at their places are the ids of the tree
 abbrev pub PlacedIdsAreIds : Type 0
-PlacedIdsAreIds = (e : ElementView) → map (λ (p : Placed). p.1) (placed_ids e) ≡ tree_ids e
+PlacedIdsAreIds = (e : ElementView) → texts_of (placed_ids e) ≡ tree_ids e
 
 -- where all names of a tree differ, none is repeated
 abbrev pub DistinctAreNotRepeated : Type 0
@@ -45,3 +51,13 @@ pub record LinksStaySound (d : DocumentView) : Type 0 where
   pub repeated :
       repeated_ids (document_root (document_with_links d)) ≡ repeated_ids (document_root d)
   pub distinct : IdsAreDistinct d → repeated_ids (document_root (document_with_links d)) ≡ []
+
+-- both trees have the same dead fragments and the same repeated ids, wherever these stand
+pub record TellTheSame (e f : ElementView) : Type 0 where
+  pub dead : texts_of (dead_fragments e) ≡ texts_of (dead_fragments f)
+  pub repeated : texts_of (repeated_ids e) ≡ texts_of (repeated_ids f)
+
+-- so it is of trees without frames that have one normal form
+abbrev pub NormalFormsTell : Type 0
+NormalFormsTell = (e f : ElementView) → ElementIsFrameFree e → ElementIsFrameFree f →
+    element_normal e ≡ element_normal f → TellTheSame e f

@@ -1,6 +1,6 @@
 //! Laws of dead fragments and repeated ids. Each function has laws as its contract, and does nothing.
 
-ghost use Rattle.html_dom_check.specs.CheckLaws.{DistinctAreNotRepeated, LinksAddNoDeadFragment, LinksRepeatNoId, LinksStaySound, PlacedIdsAreIds};
+ghost use Rattle.html_dom_check.specs.CheckLaws.{DistinctAreNotRepeated, LinksAddNoDeadFragment, LinksRepeatNoId, LinksStaySound, NormalFormsTell, PlacedIdsAreIds};
 ghost use Rattle.html_dom_document.specs.Views.{document_view};
 
 use html_dom_document::HtmlDocument;
@@ -29,3 +29,11 @@ pub fn links_stay_sound(document: &HtmlDocument)
 {
     let _document = document;
 }
+
+/// Trees without frames that have one normal form have the same dead fragments and the same repeated
+/// ids, in the same order; only where these stand may differ, since texts are joined. So a tree and
+/// the one that is read from its text tell the same.
+#[tactic(auto, using(crate::proofs::NormalForms::normal_forms_tell))]
+pub fn normal_forms_tell()
+    ensures { NormalFormsTell }
+{}
