@@ -9,6 +9,7 @@ mod given;
 mod items;
 mod names;
 mod nodes;
+mod pages;
 mod taken;
 mod texts;
 mod trees;

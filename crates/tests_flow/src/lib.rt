@@ -29,6 +29,8 @@ mod judged;
 #[cfg(test)]
 mod links;
 #[cfg(test)]
+mod pages;
+#[cfg(test)]
 mod roles;
 #[cfg(test)]
 mod shown;

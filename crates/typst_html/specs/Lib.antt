@@ -17,6 +17,9 @@ pub use Rattle.typst_html_read.specs.PlainElements
 pub use Rattle.typst_html_read.specs.ReadFaults
 pub use Rattle.typst_html_read.specs.ReadLaws
 pub use Rattle.typst_html_read.specs.Reading
+pub use Rattle.typst_html_page.specs.PageLaws
+pub use Rattle.typst_html_page.specs.PageTexts
+pub use Rattle.typst_html_page.specs.PageViews
 pub use Rattle.typst_html_spaces.specs.CleanItems
 pub use Rattle.typst_html_spaces.specs.ItemText
 pub use Rattle.typst_html_spaces.specs.PlainFlow

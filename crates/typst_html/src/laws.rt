@@ -6,5 +6,6 @@ pub use html_names::laws as names;
 pub use html_values::laws as values;
 pub use typst_html_encode::laws as encode;
 pub use typst_html_export::laws as export;
+pub use typst_html_page::laws as page;
 pub use typst_html_read::laws as read;
 pub use typst_html_spaces::laws as spaces;

@@ -138,5 +138,8 @@ pub use typst_html_export::export_linked;
 pub use typst_html_export::html;
 pub use typst_html_export::html_document;
 pub use typst_html_export::html_document_for_bundle;
+pub use typst_html_page::PageText;
+pub use typst_html_page::Shown;
+pub use typst_html_page::page_text;
 pub use typst_html_read::ReadFault;
 pub use typst_html_read::read_html;

@@ -321,7 +321,7 @@ content_collapses level h ns r c =
 
 -- the body
 
-past_words : (s : List ℕ) (ps : Plains) → body_in (put_words s ps) ≡ body_in ps
+pub past_words : (s : List ℕ) (ps : Plains) → body_in (put_words s ps) ≡ body_in ps
 past_words [] ps = refl
 past_words (c ∷ cs) no_plains = refl
 past_words (c ∷ cs) (plain (words t) ps) = refl

@@ -145,3 +145,17 @@ fn texts_are_read(rt: HostRuntime) -> Result<(), Fail> {
     assert!(rt; none.is_none());
     Ok(())
 }
+
+#[test]
+fn pages_are_shown(rt: HostRuntime) -> Result<(), Fail> {
+    use typst_html::{Shown, page_text, read_html};
+
+    let alloc = rt.alloc();
+    let html = "<!DOCTYPE html><html><body><p>Salt  &amp;\n<i>vinegar</i> </p></body></html>";
+    let root = read_html(alloc, html, 50)?.expect(&rt, "an element");
+    let page = page_text(alloc, &root)?;
+    assert!(rt; matches!(page.parts(), [Shown::Edge, Shown::Text(_), Shown::Edge]));
+    let shown = format!(in alloc; "{page}")?;
+    assert_eq!(rt; shown.as_str(), "Salt & vinegar");
+    Ok(())
+}

@@ -1,0 +1,182 @@
+-- One pass over the atoms gathers what is seen by the definition.
+use Rattle.std.proofs.Common.{◌≡◌, ℕ, Bool, true, false, List, [], ◌∷◌, ◌++◌, map, chars, length, eqb, refl, ap, ◌∙◌, sym, append_assoc}
+use Rattle.std.proofs.lemmas.List.{append-nil, map-append}
+use Rattle.std.proofs.lemmas.Bool.{false≢true}
+use Rattle.std.proofs.lemmas.Str.{encodes-chars}
+use Rattle.std.specs.Str.{IsUtf8}
+use lib.Utf8.{encodes}
+use Rattle.html_dom_tree.specs.PlainTree.{nodes_normal}
+use Rattle.html_dom_tree.specs.Tree.{NodeView, NodesView, none, node}
+use Rattle.typst_html_encode.specs.Collapsing.{Atom, visible, ignorable, collapsible, kept, object, break, border, Piece, char, thing, line, edge, is_supported_by, atom_pieces, atoms_pieces, merged_edges, collapsed_pieces}
+use Rattle.typst_html_encode.proofs.NodeAtoms.{node_atoms, nodes_atoms, normal_atoms}
+use Rattle.typst_html_page.specs.Gathering.{Page, with_piece, with_pieces, Before, bare, support, blank, released, seen_at, past, Seen, nothing_seen, step, run, final, past_nodes}
+
+-- pieces one after the other
+
+abbrev pub seen_of : Page → Before → Seen
+seen_of p b = record { page = p; before = b }
+
+pub with_pieces-append : (p : Page) (xs ys : List Piece) →
+    with_pieces p (xs ++ ys) ≡ with_pieces (with_pieces p xs) ys
+unfolding with_pieces
+with_pieces-append p [] ys = refl
+with_pieces-append p (x ∷ xs) ys = with_pieces-append (with_piece p x) xs ys
+
+abbrev pub page_of : List Piece → Bool → Page
+page_of ps b = record { pieces = ps; after_edge = b }
+
+pieces_merged : (ps : List Piece) (b : Bool) (xs : List Piece) →
+    (with_pieces (page_of ps b) xs).pieces ≡ ps ++ merged_edges b xs
+unfolding with_pieces
+pieces_merged ps b [] = sym (append-nil ps)
+pieces_merged ps b (char c ∷ xs) = pieces_merged (ps ++ char c ∷ []) false xs
+    ∙ append_assoc ps (char c ∷ []) (merged_edges false xs)
+pieces_merged ps b (thing name ∷ xs) = pieces_merged (ps ++ thing name ∷ []) false xs
+    ∙ append_assoc ps (thing name ∷ []) (merged_edges false xs)
+pieces_merged ps b (line ∷ xs) = pieces_merged (ps ++ line ∷ []) false xs
+    ∙ append_assoc ps (line ∷ []) (merged_edges false xs)
+pieces_merged ps true (edge ∷ xs) = pieces_merged ps true xs
+pieces_merged ps false (edge ∷ xs) = pieces_merged (ps ++ edge ∷ []) true xs
+    ∙ append_assoc ps (edge ∷ []) (merged_edges true xs)
+
+-- characters alone
+
+chars_added : (ps : List Piece) (b : Bool) (c : ℕ) (cs : List ℕ) →
+    with_pieces (page_of ps b) (char c ∷ map char cs) ≡ page_of (ps ++ char c ∷ map char cs) false
+unfolding with_pieces
+chars_added ps b c [] = refl
+chars_added ps b c (d ∷ ds) =
+    chars_added (ps ++ char c ∷ []) false d ds
+    ∙ ap (λ l. page_of l false) (append_assoc ps (char c ∷ []) (char d ∷ map char ds))
+
+text_by : (p : Page) (bs cs : List ℕ) → chars bs ≡ cs → IsUtf8 bs → eqb (length bs) 0 ≡ false →
+    with_pieces p (map char cs) ≡ page_of (p.pieces ++ map char cs) false
+text_by p bs [] e u h =
+    absurd (false≢true (sym h ∙ ap (λ l. eqb (length l) 0) (sym (encodes-chars bs u) ∙ ap encodes e)))
+text_by p bs (c ∷ cs) e u h = chars_added p.pieces p.after_edge c cs
+
+pub text_added : (p : Page) (bs : List ℕ) → IsUtf8 bs → eqb (length bs) 0 ≡ false →
+    with_pieces p (map char (chars bs)) ≡ page_of (p.pieces ++ map char (chars bs)) false
+text_added p bs u h = text_by p bs (chars bs) refl u h
+
+-- one piece behind others
+pub one_behind : (p q r : Page) (xs : List Piece) (x : Piece) → q ≡ with_pieces p xs →
+    r ≡ with_piece q x → r ≡ with_pieces p (xs ++ x ∷ [])
+unfolding with_pieces
+one_behind p q r xs x e f =
+    f ∙ (ap (λ l. with_piece l x) e ∙ sym (with_pieces-append p xs (x ∷ [])))
+
+-- what is seen of what is held back and of the atoms that are left
+
+abbrev remaining : Before → List Atom → List Piece
+remaining b [] = released false b
+remaining b (a ∷ as') = seen_at b a ++ remaining (past b a) as'
+
+final_of_run : (s : Seen) (as' : List Atom) →
+    final (run s as') ≡ (with_pieces s.page (remaining s.before as')).pieces
+unfolding run
+final_of_run s [] = refl
+final_of_run s (a ∷ as') =
+    final_of_run (step s a) as' ∙ ap (λ p. p.pieces)
+    (sym (with_pieces-append s.page (seen_at s.before a) (remaining (past s.before a) as')))
+
+-- the same by the definition
+abbrev remaining_pieces : Before → List Atom → List Piece
+remaining_pieces bare as' = atoms_pieces false as'
+remaining_pieces support as' = atoms_pieces true as'
+remaining_pieces (blank later) as' =
+    released (is_supported_by as') (blank later) ++ atoms_pieces false as'
+
+-- behind what was held back
+behind : (ps : List Piece) (x : Piece) (qs rs : List Piece) → qs ≡ rs →
+    (ps ++ x ∷ []) ++ qs ≡ ps ++ x ∷ rs
+behind ps x qs rs e = append_assoc ps (x ∷ []) qs ∙ ap (λ l. ps ++ x ∷ l) e
+
+held_text : (later : List ℕ) (c : ℕ) (qs : List Piece) →
+    map char (later ++ c ∷ []) ++ qs ≡ map char later ++ char c ∷ qs
+held_text later c qs =
+    ap (λ l. l ++ qs) (map-append char later (c ∷ []))
+    ∙ append_assoc (map char later) (char c ∷ []) qs
+
+one_held : (s : Bool) (later : List ℕ) (c : ℕ) (qs : List Piece) →
+    released s (blank (later ++ c ∷ [])) ++ qs ≡ released s (blank later) ++ char c ∷ qs
+one_held false later c qs = held_text later c qs
+one_held true later c qs = ap (λ l. char 32 ∷ l) (held_text later c qs)
+
+-- a blank behind what does not support it
+not_seen : (s : Bool) (c : ℕ) (qs : List Piece) →
+    atom_pieces false s (collapsible c) ++ qs ≡ qs
+not_seen true c qs = refl
+not_seen false c qs = refl
+
+-- a blank behind what supports it
+first_held : (s : Bool) (c : ℕ) (qs : List Piece) →
+    released s (blank []) ++ qs ≡ atom_pieces true s (collapsible c) ++ qs
+first_held true c qs = refl
+first_held false c qs = refl
+
+gathered : (b : Before) (as' : List Atom) → remaining b as' ≡ remaining_pieces b as'
+gathered bare [] = refl
+gathered support [] = refl
+gathered (blank later) [] = sym (append-nil (map char later))
+gathered bare (visible c ∷ as') = ap (λ l. char c ∷ l) (gathered support as')
+gathered support (visible c ∷ as') = ap (λ l. char c ∷ l) (gathered support as')
+gathered (blank later) (visible c ∷ as') =
+    behind (released true (blank later)) (char c) _ _ (gathered support as')
+gathered bare (kept c ∷ as') = ap (λ l. char c ∷ l) (gathered support as')
+gathered support (kept c ∷ as') = ap (λ l. char c ∷ l) (gathered support as')
+gathered (blank later) (kept c ∷ as') =
+    behind (released true (blank later)) (char c) _ _ (gathered support as')
+gathered bare (object name ∷ as') = ap (λ l. thing name ∷ l) (gathered support as')
+gathered support (object name ∷ as') = ap (λ l. thing name ∷ l) (gathered support as')
+gathered (blank later) (object name ∷ as') =
+    behind (released true (blank later)) (thing name) _ _ (gathered support as')
+gathered bare (break ∷ as') = ap (λ l. line ∷ l) (gathered bare as')
+gathered support (break ∷ as') = ap (λ l. line ∷ l) (gathered bare as')
+gathered (blank later) (break ∷ as') =
+    behind (released false (blank later)) line _ _ (gathered bare as')
+gathered bare (border ∷ as') = ap (λ l. edge ∷ l) (gathered bare as')
+gathered support (border ∷ as') = ap (λ l. edge ∷ l) (gathered bare as')
+gathered (blank later) (border ∷ as') =
+    behind (released false (blank later)) edge _ _ (gathered bare as')
+gathered bare (ignorable c ∷ as') = ap (λ l. char c ∷ l) (gathered bare as')
+gathered support (ignorable c ∷ as') = ap (λ l. char c ∷ l) (gathered support as')
+gathered (blank later) (ignorable c ∷ as') =
+    gathered (blank (later ++ c ∷ [])) as'
+    ∙ one_held (is_supported_by as') later c (atoms_pieces false as')
+gathered bare (collapsible c ∷ as') =
+    gathered bare as' ∙ sym (not_seen (is_supported_by as') c (atoms_pieces false as'))
+gathered support (collapsible c ∷ as') =
+    gathered (blank []) as' ∙ first_held (is_supported_by as') c (atoms_pieces false as')
+gathered (blank later) (collapsible c ∷ as') =
+    gathered (blank later) as' ∙ ap (λ l. released (is_supported_by as') (blank later) ++ l)
+    (sym (not_seen (is_supported_by as') c (atoms_pieces false as')))
+
+pub seen_is : (p q : Page) (a b : Before) → p ≡ q → a ≡ b → seen_of p a ≡ seen_of q b
+seen_is p q a b e f = ap (λ l. seen_of l a) e ∙ ap (seen_of q) f
+
+pub gathered_is_seen : (as' : List Atom) → final (run nothing_seen as') ≡ collapsed_pieces as'
+gathered_is_seen as' =
+    final_of_run nothing_seen as' ∙ (pieces_merged [] false (remaining bare as')
+    ∙ ap (merged_edges false) (gathered bare as'))
+
+-- nodes one after the other
+
+pub run-append : (s : Seen) (xs ys : List Atom) → run s (xs ++ ys) ≡ run (run s xs) ys
+unfolding run
+run-append s [] ys = refl
+run-append s (x ∷ xs) ys = run-append (step s x) xs ys
+
+pub past_one : (preserved : Bool) (s : Seen) (n : NodeView) →
+    past_nodes preserved s (node n none) ≡ run s (node_atoms preserved n)
+past_one preserved s n =
+    ap (run s) (normal_atoms (node n none) preserved ∙ append-nil (node_atoms preserved n))
+
+pub past_first : (preserved : Bool) (s : Seen) (n : NodeView) (ns : NodesView) →
+    past_nodes preserved s (node n ns)
+    ≡ past_nodes preserved (past_nodes preserved s (node n none)) ns
+past_first preserved s n ns =
+    ap (run s) (normal_atoms (node n ns) preserved)
+    ∙ (run-append s (node_atoms preserved n) (nodes_atoms preserved ns)
+    ∙ (ap (λ t. run t (nodes_atoms preserved ns)) (sym (past_one preserved s n))
+    ∙ ap (run (past_nodes preserved s (node n none))) (sym (normal_atoms ns preserved))))

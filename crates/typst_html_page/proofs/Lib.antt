@@ -1,0 +1,6 @@
+pub mod Gathering
+pub mod Held
+pub mod PageLaws
+pub mod Parts
+pub mod PlainTexts
+pub mod Walks

@@ -1,0 +1,115 @@
+-- Past the nodes of a tree, and the first body.
+use Rattle.std.proofs.Common.{◌≡◌, ℕ, Bool, true, false, ◌||◌, List, [], ◌∷◌, ◌++◌, bytes_eq, codes, Option, Some, None, refl, ap, ◌∙◌, sym}
+use Rattle.std.specs.Prelude.{if◌then◌else◌, option_map, unwrap_or}
+use Rattle.std.proofs.lemmas.List.{append-nil}
+use Rattle.html_names.specs.Kinds.{is_line_break, is_replaced}
+use Rattle.html_dom_tree.specs.Attributes.{or_else}
+use Rattle.html_dom_tree.specs.PlainTree.{nodes_normal}
+use Rattle.html_dom_tree.specs.Tree.{TextPair, Head, NodeView, NodesView, tag_node, text_node, element_node, frame_node, none, node}
+use Rattle.typst_html_encode.specs.Collapsing.{Atom, object, break, border, Piece, preserves, has_border, bordered_atoms, element_atoms, plains_atoms}
+use Rattle.typst_html_encode.specs.IndentsCollapse.{body_of, body_in}
+use Rattle.typst_html_encode.proofs.IndentsCollapse.{past_words}
+use Rattle.typst_html_encode.proofs.NodeAtoms.{nodes_atoms, normal_atoms}
+use Rattle.typst_html_spaces.specs.SeenBody.{seen_plains, seen_body}
+use Rattle.typst_html_page.specs.Gathering.{Seen, nothing_seen, step, run, border_atoms, final, past_node, past_nodes, with_pieces}
+use Rattle.typst_html_page.proofs.Gathering.{gathered_is_seen, run-append, past_one}
+
+-- one node
+
+pub past_node_is : (preserved : Bool) (s : Seen) (n : NodeView) →
+    past_node preserved s n ≡ past_nodes preserved s (node n none)
+unfolding run nodes_normal
+past_node_is preserved s (tag_node t) = refl
+past_node_is preserved s (text_node text span) = sym (past_one preserved s (text_node text span))
+past_node_is preserved s (element_node h kids) =
+    ap (λ l. run s (element_atoms h.name h.attrs l))
+    (normal_atoms kids (preserved || preserves h.name h.attrs))
+    ∙ sym (past_one preserved s (element_node h kids))
+past_node_is preserved s (frame_node b) = refl
+
+-- an element
+
+between_borders : (b : Bool) (s t u v : Seen) (inner : List Atom) → t ≡ run s (border_atoms b) →
+    u ≡ run t inner → v ≡ run u (border_atoms b) → v ≡ run s (bordered_atoms b inner)
+unfolding run
+between_borders false s t u v inner e f g = g ∙ (f ∙ ap (λ l. run l inner) e)
+between_borders true s t u v inner e f g =
+    g ∙ (ap (λ l. run l (border ∷ [])) (f ∙ ap (λ l. run l inner) e)
+    ∙ sym (run-append (step s border) inner (border ∷ [])))
+
+-- what the element shows between its borders
+abbrev content_atoms : (replaced : Bool) → List ℕ → List Atom → List Atom
+content_atoms replaced name inner = if replaced then object name ∷ [] else inner
+
+module _ (name : List ℕ) (attrs : List TextPair) (inner : List Atom) where
+  pub past_break : (s : Seen) → is_line_break name ≡ true →
+      step s break ≡ run s (element_atoms name attrs inner)
+  unfolding run
+  past_break s e = rw e refl
+
+  module _ (no_break : is_line_break name ≡ false) (s t u : Seen)
+      (before : t ≡ run s (border_atoms (has_border name attrs))) where
+    pub past_object : is_replaced name ≡ true → u ≡ step t (object name) →
+        run u (border_atoms (has_border name attrs)) ≡ run s (element_atoms name attrs inner)
+    unfolding run
+    past_object e f =
+        between_borders (has_border name attrs) s t u _ (object name ∷ []) before f refl
+        ∙ rw (no_break, e) refl
+
+    pub past_inner : is_replaced name ≡ false → u ≡ run t inner →
+        run u (border_atoms (has_border name attrs)) ≡ run s (element_atoms name attrs inner)
+    past_inner e f =
+        between_borders (has_border name attrs) s t u _ inner before f refl
+        ∙ rw (no_break, e) refl
+
+-- the first body
+
+by_name : (b : Bool) (kids : NodesView) (rest : Option NodesView) →
+    (if b then Some kids else rest) ≡ or_else (if b then Some kids else None) rest
+by_name true kids rest = refl
+by_name false kids rest = refl
+
+pub body_first : (n : NodeView) (ns : NodesView) →
+    body_of (node n ns) ≡ or_else (body_of (node n none)) (body_of ns)
+body_first (tag_node t) ns = refl
+body_first (text_node s span) ns = refl
+body_first (element_node h kids) ns = by_name (bytes_eq h.name (codes "body")) kids (body_of ns)
+body_first (frame_node b) ns = refl
+
+normal_by_name : (b : Bool) (kids ns : NodesView) →
+    body_in (nodes_normal ns) ≡ option_map nodes_normal (body_of ns) →
+    (if b then Some (nodes_normal kids) else body_in (nodes_normal ns))
+    ≡ option_map nodes_normal (if b then Some kids else body_of ns)
+normal_by_name true kids ns e = refl
+normal_by_name false kids ns e = e
+
+body_in_normal : (ns : NodesView) →
+    body_in (nodes_normal ns) ≡ option_map nodes_normal (body_of ns)
+unfolding nodes_normal
+body_in_normal none = refl
+body_in_normal (node (tag_node t) ns) = body_in_normal ns
+body_in_normal (node (text_node s span) ns) = past_words s (nodes_normal ns) ∙ body_in_normal ns
+body_in_normal (node (element_node h kids) ns) =
+    normal_by_name (bytes_eq h.name (codes "body")) kids ns (body_in_normal ns)
+body_in_normal (node (frame_node b) ns) = body_in_normal ns
+
+-- what is seen of it
+
+abbrev pub seen_in : NodesView → List Piece
+seen_in ns = unwrap_or (seen_body (body_in (nodes_normal ns))) []
+
+seen_by : (ns : NodesView) (o : Option NodesView) → body_of ns ≡ o →
+    seen_in ns ≡ unwrap_or (seen_body (option_map nodes_normal o)) []
+seen_by ns o e =
+    ap (λ l. unwrap_or (seen_body l) []) (body_in_normal ns ∙ ap (option_map nodes_normal) e)
+
+pub body_seen : (ns body : NodesView) (s t : Seen) → body_of ns ≡ Some body → s ≡ nothing_seen →
+    t ≡ past_nodes false s body → final t ≡ seen_in ns
+body_seen ns body s t is e f =
+    ap final (f ∙ ap (λ l. past_nodes false l body) e)
+    ∙ (gathered_is_seen (plains_atoms false (nodes_normal body)) ∙ sym (seen_by ns (Some body) is))
+
+pub nothing_in : (ns : NodesView) (s : Seen) → body_of ns ≡ None → s ≡ nothing_seen →
+    final s ≡ seen_in ns
+unfolding with_pieces
+nothing_in ns s is e = ap final e ∙ sym (seen_by ns None is)

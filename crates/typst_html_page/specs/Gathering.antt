@@ -1,0 +1,112 @@
+-- What is seen, gathered in one pass over the atoms: a blank is held back until what follows says
+-- whether it is seen.
+use Rattle.std.specs.Prelude.{ℕ, Bool, true, false, ◌||◌, List, [], ◌∷◌, ◌++◌, map, if◌then◌else◌}
+use Rattle.html_dom_tree.specs.PlainTree.{nodes_normal}
+use Rattle.html_dom_tree.specs.Tree.{NodeView, tag_node, text_node, element_node, frame_node, NodesView}
+use Rattle.typst_html_encode.specs.Collapsing.{Atom, visible, ignorable, collapsible, kept, object, break, border, Piece, char, thing, line, edge, text_atoms, preserves, element_atoms, plains_atoms}
+
+-- pieces in which neighbouring edges are one, and whether an edge stands last
+pub record Page : Type 0 where
+  pub pieces : List Piece
+  pub after_edge : Bool
+
+abbrev pub empty_page : Page
+empty_page = record { pieces = []; after_edge = false }
+
+abbrev pub with_piece : Page → Piece → Page
+with_piece p (char c) = record { pieces = p.pieces ++ char c ∷ []; after_edge = false }
+with_piece p (thing name) = record { pieces = p.pieces ++ thing name ∷ []; after_edge = false }
+with_piece p line = record { pieces = p.pieces ++ line ∷ []; after_edge = false }
+with_piece p edge = if p.after_edge then p
+    else record { pieces = p.pieces ++ edge ∷ []; after_edge = true }
+
+unfoldable pub with_pieces : Page → List Piece → Page
+with_pieces p [] = p
+with_pieces p (x ∷ xs) = with_pieces (with_piece p x) xs
+
+-- what stands before a place
+pub data Before : Type 0 where
+  -- nothing that supports a blank
+  bare : Before
+  support : Before
+  -- a blank that has support before it, and the ignorable characters behind the blank: they are
+  -- held back until it is known whether support follows
+  blank : (later : List ℕ) → Before
+
+-- what was held back, where support follows and where none does
+abbrev pub released : (supported : Bool) → Before → List Piece
+released supported bare = []
+released supported support = []
+released true (blank later) = char 32 ∷ map char later
+released false (blank later) = map char later
+
+-- an ignorable character is seen, but behind what is held back
+
+abbrev pub ignorable_pieces : Before → ℕ → List Piece
+ignorable_pieces bare c = char c ∷ []
+ignorable_pieces support c = char c ∷ []
+ignorable_pieces (blank later) c = []
+
+abbrev pub past_ignorable : Before → ℕ → Before
+past_ignorable bare c = bare
+past_ignorable support c = support
+past_ignorable (blank later) c = blank (later ++ c ∷ [])
+
+-- the first blank of a row is held back, the others are not seen
+abbrev pub past_collapsible : Before → Before
+past_collapsible bare = bare
+past_collapsible support = blank []
+past_collapsible (blank later) = blank later
+
+-- what is seen up to an atom, but for what is held back
+abbrev pub seen_at : Before → Atom → List Piece
+seen_at b (visible c) = released true b ++ char c ∷ []
+seen_at b (ignorable c) = ignorable_pieces b c
+seen_at b (collapsible c) = []
+seen_at b (kept c) = released true b ++ char c ∷ []
+seen_at b (object name) = released true b ++ thing name ∷ []
+seen_at b break = released false b ++ line ∷ []
+seen_at b border = released false b ++ edge ∷ []
+
+abbrev pub past : Before → Atom → Before
+past b (visible c) = support
+past b (ignorable c) = past_ignorable b c
+past b (collapsible c) = past_collapsible b
+past b (kept c) = support
+past b (object name) = support
+past b break = bare
+past b border = bare
+
+-- what is gathered so far
+pub record Seen : Type 0 where
+  pub page : Page
+  pub before : Before
+
+abbrev pub nothing_seen : Seen
+nothing_seen = record { page = empty_page; before = bare }
+
+abbrev pub step : Seen → Atom → Seen
+step s a = record { page = with_pieces s.page (seen_at s.before a); before = past s.before a }
+
+unfoldable pub run : Seen → List Atom → Seen
+run s [] = s
+run s (a ∷ as') = run (step s a) as'
+
+abbrev pub border_atoms : Bool → List Atom
+border_atoms b = if b then border ∷ [] else []
+
+-- no support follows the last atom
+abbrev pub final : Seen → List Piece
+final s = (with_pieces s.page (released false s.before)).pieces
+
+-- past a node
+abbrev pub past_node : (preserved : Bool) → Seen → NodeView → Seen
+past_node preserved s (tag_node t) = s
+past_node preserved s (text_node text span) = run s (text_atoms preserved text)
+past_node preserved s (element_node h kids) = run s (element_atoms h.name h.attrs
+    (plains_atoms (preserved || preserves h.name h.attrs) (nodes_normal kids)))
+past_node preserved s (frame_node b) = s
+
+-- past the nodes of a list
+abbrev pub past_nodes : (preserved : Bool) → Seen → NodesView → Seen
+past_nodes preserved s ns = run s (plains_atoms preserved (nodes_normal ns))

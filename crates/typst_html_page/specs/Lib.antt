@@ -1,0 +1,5 @@
+pub mod Gathering
+pub mod PageLaws
+pub mod PageTexts
+pub mod PageViews
+pub mod PlainTexts

@@ -1,0 +1,10 @@
+-- What a browser shows of a root's body.
+use Rattle.std.specs.Prelude.{◌≡◌, ℕ, List, [], Option, Some, None, unwrap_or}
+use Rattle.html_dom_tree.specs.PlainTree.{element_normal}
+use Rattle.html_dom_tree.specs.Tree.{ElementView}
+use Rattle.typst_html_encode.specs.Collapsing.{Piece}
+use Rattle.typst_html_spaces.specs.SeenBody.{seen_tree}
+
+-- what is seen of the body of a root's normal form; a root without a body shows nothing
+abbrev pub page_pieces : ElementView → List Piece
+page_pieces root = unwrap_or (seen_tree (Some (element_normal root))) []

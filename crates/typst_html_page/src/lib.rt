@@ -1,0 +1,14 @@
+//! What a browser shows: the text of a page once white space has collapsed.
+#![tactic(auto)]
+
+pub mod laws;
+mod page;
+mod seen;
+mod shown;
+mod style;
+#[cfg(test)]
+mod tests;
+mod walk;
+
+pub use shown::{PageText, Shown};
+pub use walk::page_text;

@@ -1,0 +1,121 @@
+//! A page while it is gathered.
+
+ghost use Rattle.std.specs.Prelude.{◌≡◌, ◌++◌, [], OnOk, IfOk, map};
+ghost use Rattle.typst_html_encode.specs.Collapsing.{char, thing, line, edge};
+ghost use Rattle.typst_html_page.specs.Gathering.{empty_page, with_piece, with_pieces};
+ghost use Rattle.typst_html_page.specs.PageViews.{page_text_view, page_view, parts_view, shown_pieces};
+
+use crate::shown::{PageText, Shown};
+use html_names::HtmlTag;
+use html_names::output::Output;
+use std::alloc::{AllocError, Global};
+use std::mem;
+
+/// The parts so far, and the characters that the next text begins with.
+#[derive(Drop)]
+pub(crate) struct Page {
+    alloc: Global,
+    parts: Vec<Shown>,
+    text: Output,
+    after_edge: bool,
+}
+
+impl Page {
+    /// A page that shows nothing.
+    pub(crate) fn new(alloc: Global) -> Page
+        ensures { page_view result ≡ empty_page }
+    {
+        Page {
+            alloc,
+            parts: Vec::new(alloc),
+            text: Output::new(alloc),
+            after_edge: false,
+        }
+    }
+
+    /// Adds a character.
+    pub(crate) fn push_char(&mut self, c: char) -> Result<(), AllocError>
+        ensures { OnOk result (page_view self.new ≡ with_piece (page_view self.old) (char c)) }
+    {
+        self.text.push(c)?;
+        self.after_edge = false;
+        Ok(())
+    }
+
+    /// Adds the characters of a text.
+    pub(crate) fn push_text(&mut self, text: &Output) -> Result<(), AllocError>
+        ensures { OnOk result (page_view self.new
+            ≡ with_pieces (page_view self.old) (map char text.now)) }
+    {
+        if text.as_str().is_empty() {
+            return Ok(());
+        }
+        self.text.push_str(text.as_str())?;
+        self.after_edge = false;
+        Ok(())
+    }
+
+    /// Adds a replaced element.
+    pub(crate) fn push_object(&mut self, tag: &HtmlTag) -> Result<(), AllocError>
+        ensures { OnOk result (page_view self.new
+            ≡ with_piece (page_view self.old) (thing tag.now)) }
+    {
+        let tag = tag.try_clone()?;
+        self.push_part(Shown::Object(tag))?;
+        self.after_edge = false;
+        Ok(())
+    }
+
+    /// Adds a line break.
+    pub(crate) fn push_line_break(&mut self) -> Result<(), AllocError>
+        ensures { OnOk result (page_view self.new ≡ with_piece (page_view self.old) line) }
+    {
+        self.push_part(Shown::LineBreak)?;
+        self.after_edge = false;
+        Ok(())
+    }
+
+    /// Adds an edge, unless one stands last.
+    pub(crate) fn push_edge(&mut self) -> Result<(), AllocError>
+        ensures { OnOk result (page_view self.new ≡ with_piece (page_view self.old) edge) }
+    {
+        if self.after_edge {
+            return Ok(());
+        }
+        self.push_part(Shown::Edge)?;
+        self.after_edge = true;
+        Ok(())
+    }
+
+    /// Adds a part that is no text.
+    fn push_part(&mut self, part: Shown) -> Result<(), AllocError>
+        ensures { OnOk result ((page_view self.new).pieces
+            ≡ (page_view self.old).pieces ++ shown_pieces part) }
+    {
+        self.end_text()?;
+        self.parts.push(part)?;
+        Ok(())
+    }
+
+    /// Ends the text, where one has begun.
+    fn end_text(&mut self) -> Result<(), AllocError>
+        ensures ended { OnOk result (self.new.text ≡ []) }
+        ensures same { OnOk result (parts_view self.new.parts.items
+            ≡ (page_view self.old).pieces) }
+    {
+        if self.text.as_str().is_empty() {
+            return Ok(());
+        }
+        let text = mem::replace(&mut self.text, Output::new(self.alloc));
+        self.parts.push(Shown::Text(text.into_string()))?;
+        Ok(())
+    }
+
+    /// All that was added.
+    pub(crate) fn into_page_text(mut self) -> Result<PageText, AllocError>
+        ensures { IfOk result (λ text. page_text_view text ≡ (page_view self).pieces) }
+    {
+        self.end_text()?;
+        Ok(PageText { parts: self.parts })
+    }
+}

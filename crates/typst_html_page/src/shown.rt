@@ -1,0 +1,95 @@
+//! What is shown of a page.
+
+ghost use Rattle.std.specs.Prelude.{◌≡◌};
+ghost use Rattle.typst_html_page.specs.PageViews.{page_text_view, parts_view};
+ghost use Rattle.typst_html_page.specs.PlainTexts.{before_edge, is_edge, part_bytes, past_edge};
+
+use html_names::HtmlTag;
+use std::fmt;
+
+/// A part of what is shown of a page.
+#[derive(Debug, PartialEq, Eq, Drop)]
+pub enum Shown {
+    /// Characters that stand side by side. There is at least one.
+    Text(String),
+    /// A replaced element, by its name: CSS sees one object in its place.
+    Object(HtmlTag),
+    /// A line break, of `br`.
+    LineBreak,
+    /// A border of blocks: a line ends before it, and one begins after it.
+    Edge,
+}
+
+impl Shown {
+    /// Whether it is an edge.
+    fn is_edge(&self) -> bool
+        ensures { result ≡ is_edge self.now }
+    {
+        matches!(self, Shown::Edge)
+    }
+
+    /// The part as plain text.
+    fn as_plain(&self) -> &str
+        ensures { result.now ≡ part_bytes self.now }
+    {
+        match self {
+            Shown::Text(text) => text.as_str(),
+            Shown::Object(_) => "\u{fffc}",
+            Shown::LineBreak => "\n",
+            Shown::Edge => "\n",
+        }
+    }
+}
+
+/// The parts without an edge that stands first.
+fn past_edge(parts: &[Shown]) -> &[Shown]
+    ensures { result.now ≡ past_edge parts.now }
+{
+    let Some((first, rest)) = parts.split_first() else {
+        return parts;
+    };
+    if first.is_edge() { rest } else { parts }
+}
+
+/// The parts without an edge that stands last.
+fn before_edge(parts: &[Shown]) -> &[Shown]
+    ensures { result.now ≡ before_edge parts.now }
+{
+    let Some((last, rest)) = parts.split_last() else {
+        return parts;
+    };
+    if last.is_edge() { rest } else { parts }
+}
+
+/// What a browser shows of a page once white space has collapsed.
+#[derive(Debug, PartialEq, Eq, Drop)]
+pub struct PageText {
+    pub(crate) parts: Vec<Shown>,
+}
+
+impl PageText {
+    /// The parts, in the order in which they are shown. No two texts and no two edges are
+    /// neighbours.
+    pub fn parts(&self) -> &[Shown]
+        ensures { parts_view result.now ≡ page_text_view self.now }
+    {
+        &self.parts
+    }
+}
+
+/// The page as plain text: each line break and each edge is a line feed, but for an edge that stands
+/// first or last, and an object is U+FFFC (object replacement character).
+impl fmt::Display for PageText {
+    ghost use Rattle.std.specs.Prelude.{Some};
+    ghost use Rattle.typst_html_page.specs.PlainTexts.{plain_text};
+
+    ghost output = { λ page. Some (plain_text page.parts.items) };
+
+    fn fmt<W: fmt::Write>(&self, f: &mut fmt::Formatter<W>) -> fmt::Result {
+        let parts = before_edge(past_edge(&self.parts));
+        for part in parts {
+            f.write_str(part.as_plain())?;
+        }
+        Ok(())
+    }
+}

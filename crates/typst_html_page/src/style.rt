@@ -1,0 +1,68 @@
+//! What an element's name and style say of the white space in it.
+
+ghost use Rattle.std.specs.Prelude.{◌≡◌, ◌||◌, IsTrue};
+ghost use Rattle.html_names.specs.Kinds.{is_line_break};
+ghost use Rattle.html_names.specs.Names.{is_ascii};
+ghost use Rattle.html_dom_tree.specs.Views.{element_view, attrs_view};
+ghost use Rattle.typst_html_encode.specs.Collapsing.{has_border, has_border_display, preserves, style_is};
+
+use html_dom_tree::{HtmlAttrs, HtmlElement};
+use html_names::property::Display;
+use html_names::{HtmlTag, attr, tag};
+
+/// Whether the first value of `style` is exactly that text of ASCII.
+#[tactic(auto, unfolding(html_names::specs::Tables::known_attrs))]
+fn style_is(attrs: &HtmlAttrs, style: &'static str) -> bool
+    requires { IsTrue (is_ascii style.now) }
+    ensures { result ≡ style_is style.now (attrs_view attrs.now) }
+{
+    match attrs.get(&attr::style) {
+        None => false,
+        Some(value) => style == value.as_str(),
+    }
+}
+
+/// Whether white space inside is preserved.
+#[tactic(auto, unfolding(html_names::specs::Tables::known_tags, typst_html_encode::specs::Collapsing::preserves))]
+fn preserves(element: &HtmlElement) -> bool
+    ensures { let head = (element_view element.now).0 in
+        result ≡ preserves head.name head.attrs }
+{
+    element.tag == tag::pre
+        || style_is(&element.attrs, "white-space: pre-wrap")
+        || style_is(&element.attrs, "display: block; white-space: pre-wrap")
+}
+
+/// Whether white space inside is preserved, where it is around the element or not.
+pub(crate) fn preserves_inside(around: bool, element: &HtmlElement) -> bool
+    ensures { let head = (element_view element.now).0 in
+        result ≡ (around || preserves head.name head.attrs) }
+{
+    around || preserves(element)
+}
+
+/// Whether a line ends before and after such an element by default.
+fn has_border_display(tag: &HtmlTag) -> bool
+    ensures { result ≡ has_border_display tag.now }
+{
+    Display::default_for(tag).is_some_and(|display| display.is_border())
+}
+
+/// Whether a line ends before and after the element.
+#[tactic(auto, unfolding(typst_html_encode::specs::Collapsing::has_border))]
+pub(crate) fn has_border(element: &HtmlElement) -> bool
+    ensures { let head = (element_view element.now).0 in
+        result ≡ has_border head.name head.attrs }
+{
+    has_border_display(&element.tag)
+        || style_is(&element.attrs, "display: block")
+        || style_is(&element.attrs, "display: block; white-space: pre-wrap")
+}
+
+/// Whether the element is `br`.
+#[tactic(auto, unfolding(html_names::specs::Tables::known_tags, html_names::specs::Names::stands_in))]
+pub(crate) fn is_line_break(tag: &HtmlTag) -> bool
+    ensures { result ≡ is_line_break tag.now }
+{
+    tag::br == *tag
+}

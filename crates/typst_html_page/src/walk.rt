@@ -1,0 +1,137 @@
+//! The walk over a page's nodes.
+
+ghost use Rattle.std.specs.Prelude.{◌≡◌, OnOk, IfOk, option_map};
+ghost use Rattle.html_dom_tree.specs.Tree.{element_node, node, none};
+ghost use Rattle.html_dom_tree.specs.Views.{element_view, node_view, nodes_view};
+ghost use Rattle.typst_html_encode.specs.IndentsCollapse.{body_of};
+ghost use Rattle.typst_html_page.specs.Gathering.{past_node, past_nodes};
+ghost use Rattle.typst_html_page.specs.PageTexts.{page_pieces};
+ghost use Rattle.typst_html_page.specs.PageViews.{page_text_view, seen_view};
+
+use crate::seen::Seen;
+use crate::shown::PageText;
+use crate::style::{has_border, is_line_break, preserves_inside};
+use html_dom_tree::{HtmlElement, HtmlNode};
+use html_names::tag;
+use std::alloc::{AllocError, Global};
+
+/// What a browser shows of a root's body, the first of its children that is named `body`, once white
+/// space has collapsed (CSS Text, white space processing, as this project states it). A root without
+/// such a child shows nothing, and neither does a frame. It fails only where an allocation does.
+///
+/// A tab, line feed, carriage return or space is shown as a space where it is supported by what
+/// stands before it and by what stands after it, further such blanks after it aside; else it is not
+/// shown. Visible characters, preserved blanks and objects support it; line breaks, edges and the
+/// ends of the body do not. Characters that are not shown by default do not count here, and are
+/// shown as they are.
+///
+/// Blanks in `pre`, and where `style` says exactly `white-space: pre-wrap` or
+/// `display: block; white-space: pre-wrap`, are preserved: they are shown as they are. An edge
+/// stands where a block, a list item, a table or a part of one begins and ends, and where `style`
+/// says exactly `display: block` or the latter of the two. Neighbouring edges are one. No other css
+/// counts, nor whether an element is hidden, as `script` is.
+///
+/// Items in plain flow are shown as they are: of what is read of the text that `export` makes of
+/// them, plain or pretty, the page text is exactly the items' text.
+///
+/// Cost: grows with the size of the tree.
+///
+/// ```
+/// use typst_html::{Shown, page_text, read_html};
+///
+/// let alloc = rt.alloc();
+/// let html = "<!DOCTYPE html><html><body><p>Salt  &amp;\n<i>vinegar</i> </p></body></html>";
+/// let root = read_html(alloc, html, 50)?.expect(&rt, "an element");
+/// let page = page_text(alloc, &root)?;
+/// assert!(rt; matches!(page.parts(), [Shown::Edge, Shown::Text(_), Shown::Edge]));
+/// let shown = format!(in alloc; "{page}")?;
+/// assert_eq!(rt; shown.as_str(), "Salt & vinegar");
+/// ```
+pub fn page_text(alloc: Global, root: &HtmlElement) -> Result<PageText, AllocError>
+    ensures { IfOk result (λ text. page_text_view text ≡ page_pieces (element_view root.now)) }
+{
+    let mut seen = Seen::new(alloc);
+    if let Some(body) = body_of(&root.children) {
+        add_nodes(&body.children, false, &mut seen)?;
+    }
+    seen.into_page_text()
+}
+
+/// The element that a node is, if its name is `body`.
+#[tactic(auto, unfolding(html_names::specs::Tables::known_tags))]
+fn as_body(child: &HtmlNode) -> Option<&HtmlElement>
+    ensures { option_map (λ body. (element_view body.now).1) result
+        ≡ body_of (node (node_view child.now) none) }
+{
+    match child {
+        HtmlNode::Element(element) => {
+            if element.tag == tag::body {
+                Some(element)
+            } else {
+                None
+            }
+        }
+        HtmlNode::Tag(_) | HtmlNode::Text(_, _) | HtmlNode::Frame(_) => None,
+    }
+}
+
+/// The first element of the nodes whose name is `body`.
+fn body_of(nodes: &[HtmlNode]) -> Option<&HtmlElement>
+    ensures { option_map (λ body. (element_view body.now).1) result
+        ≡ body_of (nodes_view nodes.now) }
+{
+    for child in nodes {
+        if let Some(body) = as_body(child) {
+            return Some(body);
+        }
+    }
+    None
+}
+
+// Each node stands first among the parameters: its depth shows that the calls end.
+
+/// Adds an element, where blanks are preserved around it or not.
+#[cycle(walk)]
+fn add_element(element: &HtmlElement, preserved: bool, seen: &mut Seen) -> Result<(), AllocError>
+    ensures { let e = element_view element.now in
+        OnOk result (seen_view seen.new
+        ≡ past_node preserved (seen_view seen.old) (element_node e.0 e.1)) }
+{
+    if is_line_break(&element.tag) {
+        return seen.line_break();
+    }
+    let has_border = has_border(element);
+    seen.border_if(has_border)?;
+    if tag::is_replaced(&element.tag) {
+        seen.object(&element.tag)?;
+    } else {
+        let preserved = preserves_inside(preserved, element);
+        add_nodes(&element.children, preserved, seen)?;
+    }
+    seen.border_if(has_border)
+}
+
+/// Adds a node.
+#[cycle(walk)]
+fn add_node(child: &HtmlNode, preserved: bool, seen: &mut Seen) -> Result<(), AllocError>
+    ensures { OnOk result (seen_view seen.new
+        ≡ past_node preserved (seen_view seen.old) (node_view child.now)) }
+{
+    match child {
+        HtmlNode::Text(text, _) => seen.text(preserved, text.as_str()),
+        HtmlNode::Element(element) => add_element(element, preserved, seen),
+        HtmlNode::Tag(_) | HtmlNode::Frame(_) => Ok(()),
+    }
+}
+
+/// Adds the nodes of a list.
+#[cycle(walk)]
+fn add_nodes(nodes: &[HtmlNode], preserved: bool, seen: &mut Seen) -> Result<(), AllocError>
+    ensures { OnOk result (seen_view seen.new
+        ≡ past_nodes preserved (seen_view seen.old) (nodes_view nodes.now)) }
+{
+    for child in nodes {
+        add_node(child, preserved, seen)?;
+    }
+    Ok(())
+}
