@@ -5,7 +5,6 @@ use Rattle.std.proofs.lemmas.Bool.{false≢true}
 use Rattle.std.proofs.lemmas.Str.{encodes-chars}
 use Rattle.std.specs.Str.{IsUtf8}
 use lib.Utf8.{encodes}
-use Rattle.html_dom_tree.specs.PlainTree.{nodes_normal}
 use Rattle.html_dom_tree.specs.Tree.{NodeView, NodesView, none, node}
 use Rattle.typst_html_encode.specs.Collapsing.{Atom, visible, ignorable, collapsible, kept, object, break, border, Piece, char, thing, line, edge, is_supported_by, atom_pieces, atoms_pieces, merged_edges, collapsed_pieces}
 use Rattle.typst_html_encode.proofs.NodeAtoms.{node_atoms, nodes_atoms, normal_atoms}

@@ -1,16 +1,15 @@
 -- Past the nodes of a tree, and the first body.
-use Rattle.std.proofs.Common.{◌≡◌, ℕ, Bool, true, false, ◌||◌, List, [], ◌∷◌, ◌++◌, bytes_eq, codes, Option, Some, None, refl, ap, ◌∙◌, sym}
+use Rattle.std.proofs.Common.{◌≡◌, ℕ, Bool, true, false, ◌||◌, List, [], ◌∷◌, bytes_eq, codes, Option, Some, None, refl, ap, ◌∙◌, sym}
 use Rattle.std.specs.Prelude.{if◌then◌else◌, option_map, unwrap_or}
-use Rattle.std.proofs.lemmas.List.{append-nil}
 use Rattle.html_names.specs.Kinds.{is_line_break, is_replaced}
 use Rattle.html_dom_tree.specs.Attributes.{or_else}
 use Rattle.html_dom_tree.specs.PlainTree.{nodes_normal}
-use Rattle.html_dom_tree.specs.Tree.{TextPair, Head, NodeView, NodesView, tag_node, text_node, element_node, frame_node, none, node}
+use Rattle.html_dom_tree.specs.Tree.{TextPair, NodeView, NodesView, tag_node, text_node, element_node, frame_node, none, node}
 use Rattle.typst_html_encode.specs.Collapsing.{Atom, object, break, border, Piece, preserves, has_border, bordered_atoms, element_atoms, plains_atoms}
 use Rattle.typst_html_encode.specs.IndentsCollapse.{body_of, body_in}
 use Rattle.typst_html_encode.proofs.IndentsCollapse.{past_words}
-use Rattle.typst_html_encode.proofs.NodeAtoms.{nodes_atoms, normal_atoms}
-use Rattle.typst_html_spaces.specs.SeenBody.{seen_plains, seen_body}
+use Rattle.typst_html_encode.proofs.NodeAtoms.{normal_atoms}
+use Rattle.typst_html_spaces.specs.SeenBody.{seen_body}
 use Rattle.typst_html_page.specs.Gathering.{Seen, nothing_seen, step, run, border_atoms, final, past_node, past_nodes, with_pieces}
 use Rattle.typst_html_page.proofs.Gathering.{gathered_is_seen, run-append, past_one}
 

@@ -1,5 +1,5 @@
 -- What a browser shows of a root's body.
-use Rattle.std.specs.Prelude.{◌≡◌, ℕ, List, [], Option, Some, None, unwrap_or}
+use Rattle.std.specs.Prelude.{List, [], Some, unwrap_or}
 use Rattle.html_dom_tree.specs.PlainTree.{element_normal}
 use Rattle.html_dom_tree.specs.Tree.{ElementView}
 use Rattle.typst_html_encode.specs.Collapsing.{Piece}

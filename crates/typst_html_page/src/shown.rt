@@ -10,13 +10,14 @@ use std::fmt;
 /// A part of what is shown of a page.
 #[derive(Debug, PartialEq, Eq, Drop)]
 pub enum Shown {
-    /// Characters that stand side by side. There is at least one.
+    /// Characters that stand side by side.
     Text(String),
     /// A replaced element, by its name: CSS sees one object in its place.
     Object(HtmlTag),
     /// A line break, of `br`.
     LineBreak,
-    /// A border of blocks: a line ends before it, and one begins after it.
+    /// A border of blocks: a line ends before it, and one begins after it. Neighbouring borders are
+    /// one edge.
     Edge,
 }
 
@@ -68,8 +69,7 @@ pub struct PageText {
 }
 
 impl PageText {
-    /// The parts, in the order in which they are shown. No two texts and no two edges are
-    /// neighbours.
+    /// The parts, in the order in which they are shown.
     pub fn parts(&self) -> &[Shown]
         ensures { parts_view result.now ≡ page_text_view self.now }
     {

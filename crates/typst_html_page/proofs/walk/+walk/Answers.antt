@@ -1,4 +1,4 @@
-use Rattle.std.proofs.Common.{◌≡◌, ◌+◌, ◌||◌, true, false, List, [], drop, length-drop, ap, sym, subst, arith, ◌∙◌}
+use Rattle.std.proofs.Common.{◌≡◌, ◌+◌, ◌||◌, true, false, [], drop, length-drop, ap, sym, subst, arith, ◌∙◌}
 use Rattle.std.proofs.lemmas.List.{nil_from_length}
 use Rattle.std.specs.Prelude.{OnOk}
 use Rattle.html_names.specs.Kinds.{is_line_break, is_replaced}

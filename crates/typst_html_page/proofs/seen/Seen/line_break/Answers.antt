@@ -1,4 +1,4 @@
-use Rattle.std.proofs.Common.{false, [], ◌∷◌}
+use Rattle.std.proofs.Common.{false}
 use Rattle.typst_html_encode.specs.Collapsing.{line}
 use Rattle.typst_html_page.specs.Gathering.{released}
 use Rattle.typst_html_page.specs.PageViews.{before_view, page_view}

@@ -1,4 +1,4 @@
-use Rattle.std.proofs.Common.{true, [], ◌∷◌}
+use Rattle.std.proofs.Common.{true}
 use Rattle.typst_html_encode.specs.Collapsing.{char}
 use Rattle.typst_html_page.specs.Gathering.{released}
 use Rattle.typst_html_page.specs.PageViews.{before_view, page_view}
