@@ -11,6 +11,7 @@ use html_dom_tree::{HtmlElement, HtmlNode, Span};
 use html_names::tag;
 use std::alloc::{AllocError, Global};
 use std::process::Abort;
+use tests_reading::reads_back;
 use typst_html_encode::{ExportFault, FrameWriter, HtmlOptions, html_in_bundle};
 
 const PLAIN: HtmlOptions = HtmlOptions { pretty: false };
@@ -25,7 +26,7 @@ fn shown(alloc: Global, answer: Result<String, ExportFault>) -> Result<String, A
     }
 }
 
-/// Asserts what writing the element answers: a text, or a fault with its fields.
+/// Asserts what writing the element answers: a text, which is read back, or a fault with its fields.
 fn assert_answer<F: FrameWriter>(
     rt: &impl Abort,
     root: &HtmlElement,
@@ -35,6 +36,9 @@ fn assert_answer<F: FrameWriter>(
 ) {
     let alloc = *root.children.allocator();
     let answer = html_in_bundle(alloc, root, options, frames);
+    if let Ok(text) = &answer {
+        assert!(rt; reads_back(alloc, root, options, text), "{text}");
+    }
     let answer = shown(alloc, answer).expect(rt, "memory for the answer");
     assert_text(rt, &answer, wanted);
 }

@@ -9,6 +9,7 @@ use html_flow::{FrameElem, Item, Pair, Role};
 use html_values_css::Abs;
 use std::alloc::Global;
 use std::process::Abort;
+use tests_reading::reads_back;
 use typst_html_encode::HtmlOptions;
 use typst_html_export::{export, html, html_document, html_document_for_bundle};
 
@@ -18,9 +19,15 @@ pub(crate) fn document_of(rt: &impl Abort, alloc: Global, items: &[Pair]) -> Htm
     html_document(alloc, items, &info, &[], 50).expect(rt, "a document")
 }
 
+/// The HTML of a document, plainly written. It is read back.
 pub(crate) fn html_of(rt: &impl Abort, alloc: Global, document: &HtmlDocument) -> String {
     let (options, frames) = (HtmlOptions::default(), frame_writer(rt, alloc));
-    html(alloc, document, &options, &frames).expect(rt, "HTML")
+    let text = html(alloc, document, &options, &frames).expect(rt, "HTML");
+    assert!(rt;
+        reads_back(alloc, document.root(), &options, &text),
+        "{text}"
+    );
+    text
 }
 
 /// The same in one call.

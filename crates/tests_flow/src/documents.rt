@@ -7,10 +7,11 @@ use html_dom_document::{DocumentInfo, Locale};
 use html_flow::Pair;
 use std::alloc::Global;
 use std::process::Abort;
+use tests_reading::reads_back;
 use typst_html_encode::{ExportFault, HtmlOptions};
 use typst_html_export::{html, html_document_for_bundle};
 
-/// The HTML of a document, plainly written, or why there is none.
+/// The HTML of a document, plainly written, or why there is none. It is read back.
 fn written(
     rt: &impl Abort,
     alloc: Global,
@@ -22,7 +23,13 @@ fn written(
     assert!(rt; 1 <= limit && limit <= 10_000);
     let document = html_document_for_bundle(alloc, items, info, footnotes, limit)?;
     let frames = frame_writer(rt, alloc);
-    html(alloc, &document, &HtmlOptions::default(), &frames)
+    let options = HtmlOptions::default();
+    let text = html(alloc, &document, &options, &frames)?;
+    assert!(rt;
+        reads_back(alloc, document.root(), &options, &text),
+        "{text}"
+    );
+    Ok(text)
 }
 
 /// The HTML of a document of which nothing is known, or the fault with its fields. The numbers of

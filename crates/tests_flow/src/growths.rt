@@ -10,6 +10,7 @@ mod items;
 mod names;
 mod nodes;
 mod pages;
+mod reading;
 mod taken;
 mod texts;
 mod trees;

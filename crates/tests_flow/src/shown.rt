@@ -9,6 +9,7 @@ use html_flow::{ConversionLevel, Pair, Whitespace, convert_to_nodes};
 use html_names::tag;
 use std::alloc::Global;
 use std::process::Abort;
+use tests_reading::reads_back;
 use typst_html_encode::{FrameFault, FrameWriter, HtmlOptions, html_in_bundle};
 
 /// Writes one text for each frame.
@@ -80,12 +81,15 @@ pub(crate) fn nodes_of(
     convert_to_nodes(alloc, items, level, whitespace, role, 0, 50).expect(rt, "nodes")
 }
 
-/// The HTML of a `body` with these nodes.
+/// The HTML of a `body` with these nodes. It is read back.
 fn html_of(rt: &impl Abort, alloc: Global, nodes: Vec<HtmlNode>) -> String {
     let mut body = HtmlElement::new(alloc, tag::body).with_children(nodes);
     resolve_inline_styles(alloc, &mut body).expect(rt, "memory for styles");
     let frames = frame_writer(rt, alloc);
-    html_in_bundle(alloc, &body, &HtmlOptions::default(), &frames).expect(rt, "HTML")
+    let options = HtmlOptions::default();
+    let text = html_in_bundle(alloc, &body, &options, &frames).expect(rt, "HTML");
+    assert!(rt; reads_back(alloc, &body, &options, &text), "{text}");
+    text
 }
 
 /// Asserts that a list of items with that role has that HTML.

@@ -2,6 +2,7 @@
 
 mod brackets;
 mod names;
+mod reading;
 mod siblings;
 mod targets;
 mod texts;

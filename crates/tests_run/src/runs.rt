@@ -1,12 +1,18 @@
 //! Runs on given inputs, and what they are held to.
 
-use html_tool_run::{Status, run};
+use html_tool_run::{Status, element_in, items_in, run};
+use serde_json::Value;
 use std::alloc::Global;
 use std::io::Read;
 use std::process::Abort;
+use tests_reading::reads_back;
+use typst_html::{DocumentInfo, HtmlDocument, HtmlOptions, html_document};
 
 // A test that calls a few small functions is proved in a second or two; the time grows with the
 // square of what one function does itself.
+
+/// How deep the bodies of items may stand.
+const DEPTH_LIMIT: usize = 50;
 
 /// How the rows of a table are run: the program's words, the status, and what is written before and
 /// after the text of each row.
@@ -138,7 +144,30 @@ pub(crate) fn whole(rt: &impl Abort, alloc: Global, group: &Group, text: &str) -
     whole.expect(rt, "memory for the text")
 }
 
-/// Asserts that a run on the bytes answers as the group says. The label tells which row did not.
+/// The document of the items that a value spells.
+fn document_in(alloc: Global, value: Value) -> Option<HtmlDocument> {
+    let items = items_in(alloc, value).ok()?;
+    let info = DocumentInfo::new(alloc);
+    html_document(alloc, &items, &info, &[], DEPTH_LIMIT).ok()
+}
+
+/// Whether what is written for the input of the group is read back.
+fn is_read_back(alloc: Global, group: &Group, input: &[u8], text: &str) -> bool {
+    let pretty = group.words.len() == 2;
+    let options = HtmlOptions { pretty };
+    let Ok(value) = Value::from_slice(alloc, input) else {
+        return false;
+    };
+    if group.words.first().is_some_and(|word| *word == "tree") {
+        let root = element_in(alloc, value);
+        return root.is_ok_and(|root| reads_back(alloc, &root, &options, text));
+    }
+    let document = document_in(alloc, value);
+    document.is_some_and(|document| reads_back(alloc, document.root(), &options, text))
+}
+
+/// Asserts that a run on the bytes answers as the group says, and that a text is read back. The label
+/// tells which row is not.
 pub(crate) fn assert_bytes(
     rt: &impl Abort,
     alloc: Global,
@@ -152,6 +181,9 @@ pub(crate) fn assert_bytes(
     assert!(rt; status == group.status, "{label}");
     let wanted = whole(rt, alloc, group, text);
     assert!(rt; out.as_slice() == wanted.as_bytes(), "{label}");
+    if status == Status::Done {
+        assert!(rt; is_read_back(alloc, group, input, &wanted), "{label}");
+    }
 }
 
 /// Asserts that a run on the input answers as the group says.

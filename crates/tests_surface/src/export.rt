@@ -11,6 +11,7 @@ mod reading;
 use crate::asserts::{assert_keys, assert_some, assert_text, only, text_of};
 use std::alloc::Global;
 use std::process::Abort;
+use tests_reading::reads_back;
 use typst_html::{
     Abs, DocumentInfo, ExportFault, Frame, FrameElem, FrameFault, FrameWriter, HtmlDocument,
     HtmlElement, HtmlFrame, HtmlNode, HtmlOptions, Item, Location, Pair, Span, export, html,
@@ -60,10 +61,12 @@ fn whole(rt: &impl Abort, alloc: Global, body: &str) -> String {
     format!(in alloc; "{before}<body>{body}</body></html>").expect(rt, "memory for a text")
 }
 
-/// Asserts that the plain text of a document has that in its body.
+/// Asserts that the plain text of a document has that in its body, and is read back.
 fn assert_html(rt: &impl Abort, alloc: Global, document: &HtmlDocument, body: &str) {
-    let text = html(alloc, document, &HtmlOptions::default(), &()).expect(rt, "a text");
+    let options = HtmlOptions::default();
+    let text = html(alloc, document, &options, &()).expect(rt, "a text");
     assert_text(rt, &text, &whole(rt, alloc, body));
+    assert!(rt; reads_back(alloc, document.root(), &options, &text));
 }
 
 const ANCHORED: &str = r#"<span id="loc-1"></span>"#;

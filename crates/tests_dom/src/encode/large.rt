@@ -6,13 +6,15 @@ use html_dom_tree::{HtmlElement, HtmlNode, Span};
 use html_names::tag;
 use std::alloc::Global;
 use std::process::Abort;
+use tests_reading::reads_back;
 use typst_html_encode::{HtmlOptions, html_in_bundle};
 
-/// Asserts how many bytes are written for the element.
+/// Asserts how many bytes are written for the element, and that the text is read back.
 fn assert_length(rt: &impl Abort, root: &HtmlElement, options: &HtmlOptions, wanted: usize) {
     let alloc = *root.children.allocator();
     let text = html_in_bundle(alloc, root, options, &()).expect(rt, "a text");
     assert_number(rt, text.as_str().len(), wanted);
+    assert!(rt; reads_back(alloc, root, options, &text));
 }
 
 /// 5,000 `div`, one in another.
