@@ -1,5 +1,5 @@
 //! Texts that are hostile to the reader: large ones, each beginning of a page, and a page with one
-//! character changed.
+//! character in the place of another.
 
 use super::{LETTERS, Piece, joined};
 use std::alloc::Global;
@@ -181,24 +181,40 @@ fn beginnings_of_a_page(rt: HostRuntime) {
     }
 }
 
-/// What stands in the place of one character.
-const CHANGES: [char; 5] = ['<', '&', '"', ' ', 'x'];
+/// Asserts that the page with that character in the place of one is read, if at all, as what reads the
+/// same again.
+fn assert_changed(rt: &impl Abort, alloc: Global, before: &str, c: char, behind: &str) {
+    let page = format!(in alloc; "{before}{c}{behind}").expect(rt, "memory for a page");
+    let is_read = tree_of(rt, alloc, &page).is_some();
+    assert!(rt; !is_read || reads_again(alloc, &page), "{page}");
+}
 
-/// Asserts that the page with a character changed is read as what reads the same again, if as anything.
-fn assert_changed(rt: &impl Abort, alloc: Global, before: &str, behind: &str) {
-    for c in CHANGES {
-        let page = format!(in alloc; "{before}{c}{behind}").expect(rt, "memory for a page");
-        let is_read = tree_of(rt, alloc, &page).is_some();
-        assert!(rt; !is_read || reads_again(alloc, &page), "{page}");
+/// Asserts the same for each character that is one byte.
+fn assert_each_changed(rt: &impl Abort, alloc: Global, c: char) {
+    for at in 0..PAGE.len() {
+        let behind = PAGE.get(at.saturating_add(1)..);
+        if let (Some(before), Some(behind)) = (PAGE.get(..at), behind) {
+            assert_changed(rt, alloc, before, c, behind);
+        }
     }
 }
 
 #[test]
-fn changed_characters_of_a_page(rt: HostRuntime) {
-    for at in 0..PAGE.len() {
-        let behind = PAGE.get(at.saturating_add(1)..);
-        if let (Some(before), Some(behind)) = (PAGE.get(..at), behind) {
-            assert_changed(&rt, rt.alloc(), before, behind);
-        }
-    }
+fn a_page_with_a_letter_more(rt: HostRuntime) {
+    assert_each_changed(&rt, rt.alloc(), 'x');
+}
+
+#[test]
+fn a_page_with_a_tag_more(rt: HostRuntime) {
+    assert_each_changed(&rt, rt.alloc(), '<');
+}
+
+#[test]
+fn a_page_with_a_reference_more(rt: HostRuntime) {
+    assert_each_changed(&rt, rt.alloc(), '&');
+}
+
+#[test]
+fn a_page_with_a_quote_more(rt: HostRuntime) {
+    assert_each_changed(&rt, rt.alloc(), '"');
 }
