@@ -83,7 +83,7 @@ front_taken text front rest e =
     ∙ (ap (take (length front)) e ∙ take-append_seam front rest)
 
 -- common characters are ASCII, a byte each
-common_ascii : (bs : List ℕ) → all is_common bs ≡ true → IsAscii bs
+pub common_ascii : (bs : List ℕ) → all is_common bs ≡ true → IsAscii bs
 common_ascii [] h = IsAscii-nil
 common_ascii (b ∷ bs) h =
     let both = and_parts (is_common b) (all is_common bs) h in

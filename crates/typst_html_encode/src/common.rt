@@ -36,8 +36,12 @@ fn are_common(bytes: &[u8], at: usize) -> bool
         && is_common(bytes[at + 3])
 }
 
-/// The text from its first byte on that is no common character. Four bytes are tested at a time.
-pub(crate) fn past_common(text: &str) -> &str
+/// The text from its first byte on that is no common character: visible ASCII or the space, but no
+/// `"`, `&` or `<`. Whether read or written, such a character stands as it is in a text and in a
+/// value.
+///
+/// Cost: grows with what is passed. Four bytes are tested at a time.
+pub fn past_common(text: &str) -> &str
     ensures { PassesCommon text.now result.now }
 {
     let bytes = text.as_bytes();

@@ -41,6 +41,7 @@ mod siblings;
 mod tags;
 mod write;
 
+pub use common::past_common;
 pub use export::{html_in_bundle, html_of};
 pub use fault::ExportFault;
 pub use frame::{FrameFault, FrameWriter};

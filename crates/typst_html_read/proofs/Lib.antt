@@ -1,4 +1,5 @@
 pub mod Closings
+pub mod CommonStretches
 pub mod Loops
 pub mod Names
 pub mod Normal

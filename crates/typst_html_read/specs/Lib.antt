@@ -1,3 +1,4 @@
+pub mod CommonStretches
 pub mod Endings
 pub mod OpenViews
 pub mod PlainElements

@@ -2,6 +2,7 @@
 #![tactic(auto)]
 
 mod closing;
+mod common;
 mod content;
 mod fault;
 pub mod laws;

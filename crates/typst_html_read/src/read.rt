@@ -57,7 +57,17 @@ fn read_root(alloc: Global, text: &str, limit: usize) -> Result<Option<HtmlEleme
 {
     let mut reader = Reader::new(alloc);
     let mut before = 14;
-    for c in text.chars() {
+    let mut rest = text;
+    loop {
+        let past = reader.read_common(rest)?;
+        before += rest.len() - past.len();
+        let mut left = past.chars();
+        let Some(c) = left.next() else {
+            return match reader.into_root() {
+                None => Ok(None),
+                Some(root) => Ok(Some(root.into_element())),
+            };
+        };
         if reader.begins_deep(limit, c) {
             return Err(ReadFault::TooDeep { place: before });
         }
@@ -66,9 +76,6 @@ fn read_root(alloc: Global, text: &str, limit: usize) -> Result<Option<HtmlEleme
             return Ok(None);
         }
         before += 1;
-    }
-    match reader.into_root() {
-        None => Ok(None),
-        Some(root) => Ok(Some(root.into_element())),
+        rest = left.as_str();
     }
 }
