@@ -16,7 +16,7 @@ use Rattle.html_dom_link.specs.Answered.{shown_names}
 use Rattle.html_dom_link.specs.Distinct.{are_distinct, occurrences}
 use Rattle.html_dom_link.specs.GivenLinks.{AnchorsAreTexts}
 use Rattle.html_dom_link.specs.Links.{Anchors, attrs_with_href, dest_before, head_with_link, href_to, is_open, name_of, node_with_links, nodes_with_links, root_with_links, some_name}
-use Rattle.html_dom_link.specs.NewNames.{Name, all_ids, element_names, first_id, frame_names, nodes_names, with_name}
+use Rattle.html_dom_link.specs.NewNames.{Name, all_ids, element_names, first_id, frame_names, nodes_names, with_used_name}
 use Rattle.html_dom_link.proofs.ChangedRoots.{root_has_links}
 use Rattle.html_dom_link.proofs.Counting.{shown_count}
 use Rattle.html_dom_link.proofs.Differing.{are_new, at_most_one, distinct_once, new_distinct, once_distinct}
@@ -78,11 +78,11 @@ none_repeated : (used : Name → Bool) (ps : List Placed) → are_new used (text
 unfolding repeated
 none_repeated used [] new = refl
 none_repeated used (p ∷ ps) new =
-    let parts = and_parts (not (used p.1)) (are_new (with_name p.1 used) (texts_of ps)) new in
-    by (used p.1) parts.0 (none_repeated (with_name p.1 used) ps parts.1)
+    let parts = and_parts (not (used p.1)) (are_new (with_used_name p.1 used) (texts_of ps)) new in
+    by (used p.1) parts.0 (none_repeated (with_used_name p.1 used) ps parts.1)
   where
-    by : (b : Bool) → not b ≡ true → repeated (with_name p.1 used) ps ≡ [] →
-        (if b then p ∷ [] else []) ++ repeated (with_name p.1 used) ps ≡ []
+    by : (b : Bool) → not b ≡ true → repeated (with_used_name p.1 used) ps ≡ [] →
+        (if b then p ∷ [] else []) ++ repeated (with_used_name p.1 used) ps ≡ []
     by true e so = cc
     by false e so = so
 

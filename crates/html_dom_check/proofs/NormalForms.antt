@@ -8,7 +8,7 @@ use Rattle.html_dom_tree.specs.FrameFree.{NodeIsFrameFree, NodesAreFrameFree, El
 use Rattle.html_dom_tree.specs.PlainTree.{Plain, words, branch, Plains, no_plains, plain, put_words, nodes_normal, element_normal}
 use Rattle.html_dom_tree.specs.Tags.{TagView}
 use Rattle.html_dom_tree.specs.Tree.{TextPair, Head, NodeView, tag_node, text_node, element_node, frame_node, NodesView, none, node, ElementView}
-use Rattle.html_dom_link.specs.NewNames.{Name, with_name}
+use Rattle.html_dom_link.specs.NewNames.{Name, with_used_name}
 use Rattle.html_dom_check.specs.CheckLaws.{NormalFormsTell, texts_of}
 use Rattle.html_dom_check.specs.Fragments.{dead_among, dead_fragments, fragment_links, fragments_at, fragments_of, leads, tree_ids}
 use Rattle.html_dom_check.specs.PlacedTexts.{Placed, placed_at, node_placed, nodes_placed, element_placed}
@@ -108,19 +108,19 @@ lost_are_dead is_id (p ∷ ps) = by (leads is_id p.1) (lost_are_dead is_id ps)
 abbrev again : (is_passed : Name → Bool) → List Name → List Name
 again is_passed [] = []
 again is_passed (t ∷ ts) =
-    (if is_passed t then t ∷ [] else []) ++ again (with_name t is_passed) ts
+    (if is_passed t then t ∷ [] else []) ++ again (with_used_name t is_passed) ts
 
 again_are_repeated : (is_passed : Name → Bool) (ps : List Placed) →
     texts_of (repeated is_passed ps) ≡ again is_passed (texts_of ps)
 unfolding repeated
 again_are_repeated is_passed [] = refl
 again_are_repeated is_passed (p ∷ ps) =
-    by (is_passed p.1) (again_are_repeated (with_name p.1 is_passed) ps)
+    by (is_passed p.1) (again_are_repeated (with_used_name p.1 is_passed) ps)
   where
-    by : (b : Bool) → texts_of (repeated (with_name p.1 is_passed) ps)
-        ≡ again (with_name p.1 is_passed) (texts_of ps) →
-        texts_of ((if b then p ∷ [] else []) ++ repeated (with_name p.1 is_passed) ps)
-        ≡ (if b then p.1 ∷ [] else []) ++ again (with_name p.1 is_passed) (texts_of ps)
+    by : (b : Bool) → texts_of (repeated (with_used_name p.1 is_passed) ps)
+        ≡ again (with_used_name p.1 is_passed) (texts_of ps) →
+        texts_of ((if b then p ∷ [] else []) ++ repeated (with_used_name p.1 is_passed) ps)
+        ≡ (if b then p.1 ∷ [] else []) ++ again (with_used_name p.1 is_passed) (texts_of ps)
     by true so = ap (λ l. p.1 ∷ l) so
     by false so = so
 

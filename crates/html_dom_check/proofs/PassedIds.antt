@@ -15,15 +15,15 @@ use Rattle.html_dom_tree.specs.declared.node.HtmlNode.{HtmlNode, the_lemmas}
 use Rattle.html_dom_tree.specs.declared.span.Span.{Span}
 use Rattle.html_dom_tree.proofs.Nodes.{nodes_view-drop}
 use Rattle.html_dom_link.specs.Answered.{shown_names}
-use Rattle.html_dom_link.specs.NewNames.{Name, anchor_names, first_id, frame_names, with_name}
+use Rattle.html_dom_link.specs.NewNames.{Name, anchor_names, first_id, frame_names, with_used_name}
 use Rattle.html_dom_link.specs.UsedNames.{with_names}
 use Rattle.html_dom_link.proofs.Gathering.{with-append, with-none}
 use Rattle.html_dom_check.specs.PlacedTexts.{Placed, placed_at, node_placed, nodes_placed}
-use Rattle.html_dom_check.specs.RepeatedIds.{Passes, ids_at, repeated}
+use Rattle.html_dom_check.specs.RepeatedIds.{LeavesToFind, ids_at, repeated}
 use Rattle.html_dom_check.proofs.Walks.{placed_in_turn, none_placed}
 
 -- an id that is passed already is used no more than before
-still_used : (used : Name → Bool) (n : Name) → used n ≡ true → with_name n used ≡ used
+still_used : (used : Name → Bool) (n : Name) → used n ≡ true → with_used_name n used ≡ used
 still_used used n passed = fun_ext (λ m. by m (bytes_eq n m) refl)
   where
     by : (m : Name) (b : Bool) → bytes_eq n m ≡ b → (b || used m) ≡ used m
@@ -31,34 +31,34 @@ still_used used n passed = fun_ext (λ m. by m (bytes_eq n m) refl)
     by m false is = refl
 
 module _ (found : List Placed) (used : Name → Bool) where
-  pub none_passed : Passes found used [] found used
+  pub none_passed : LeavesToFind found used [] found used
   none_passed rest = refl
 
   -- an id that is passed already is found
-  pub found_again : (p : Placed) → used p.1 ≡ true → Passes found used (p ∷ []) (found ++ p ∷ []) used
+  pub found_again : (p : Placed) → used p.1 ≡ true → LeavesToFind found used (p ∷ []) (found ++ p ∷ []) used
   unfolding repeated
   found_again p passed rest =
       append_assoc found (p ∷ []) (repeated used rest)
       ∙ ap (λ l. found ++ l) (by (used p.1) passed)
     where
       by : (b : Bool) → b ≡ true → p ∷ repeated used rest
-          ≡ (if b then p ∷ [] else []) ++ repeated (with_name p.1 used) rest
+          ≡ (if b then p ∷ [] else []) ++ repeated (with_used_name p.1 used) rest
       by true e = ap (λ u. p ∷ repeated u rest) (sym (still_used used p.1 passed))
       by false e = cc
 
   -- another is passed from then on
-  pub passed_first : (p : Placed) → used p.1 ≡ false → Passes found used (p ∷ []) found (with_name p.1 used)
+  pub passed_first : (p : Placed) → used p.1 ≡ false → LeavesToFind found used (p ∷ []) found (with_used_name p.1 used)
   unfolding repeated
   passed_first p new rest = ap (λ l. found ++ l) (by (used p.1) new)
     where
-      by : (b : Bool) → b ≡ false → repeated (with_name p.1 used) rest
-          ≡ (if b then p ∷ [] else []) ++ repeated (with_name p.1 used) rest
+      by : (b : Bool) → b ≡ false → repeated (with_used_name p.1 used) rest
+          ≡ (if b then p ∷ [] else []) ++ repeated (with_used_name p.1 used) rest
       by true e = cc
       by false e = refl
 
 -- all that is found
 pub all_found : (found first : List Placed) (u v w : Name → Bool) (ps qs : List Placed) →
-    first ≡ [] → u ≡ v → ps ≡ qs → Passes first u ps found w → found ≡ repeated v qs
+    first ≡ [] → u ≡ v → ps ≡ qs → LeavesToFind first u ps found w → found ≡ repeated v qs
 unfolding repeated
 all_found found first u v w ps qs empty same placed passes =
     sym (append-nil found)
@@ -68,7 +68,7 @@ all_found found first u v w ps qs empty same placed passes =
 
 -- two parts, one after the other
 pub both_passed : (f g h : List Placed) (u v w : Name → Bool) (ps qs : List Placed) →
-    Passes f u ps g v → Passes g v qs h w → Passes f u (ps ++ qs) h w
+    LeavesToFind f u ps g v → LeavesToFind g v qs h w → LeavesToFind f u (ps ++ qs) h w
 both_passed f g h u v w ps qs first next rest =
     next rest ∙ (first (qs ++ rest) ∙ ap (λ l. f ++ repeated u l) (sym (append_assoc ps qs rest)))
 
@@ -83,7 +83,7 @@ pub one_more_passed : (path : List ℕ) (ns : List HtmlNode) (i : ℕ) (x : Html
     (f g h : List Placed) (u v w : Name → Bool) (all : List Placed) →
     i < length ns → x ≡ get_or ns i x →
     PassesSoFar f u (nodes_placed ids_at path i (nodes_view (drop i ns))) h w all →
-    Passes f u (node_placed ids_at (path ++ i ∷ []) (node_view x)) g v →
+    LeavesToFind f u (node_placed ids_at (path ++ i ∷ []) (node_view x)) g v →
     PassesSoFar g v (nodes_placed ids_at path (i + 1) (nodes_view (drop (i + 1) ns))) h w all
 one_more_passed path ns i x f g h u v w all within is so_far more rest =
     let here = node_placed ids_at (path ++ i ∷ []) (node_view x) in
@@ -96,7 +96,7 @@ one_more_passed path ns i x f g h u v w all within is so_far more rest =
 pub no_more_passed : (path : List ℕ) (ns : List HtmlNode) (i : ℕ)
     (f h : List Placed) (u w : Name → Bool) (all : List Placed) → length ns ≤ i →
     PassesSoFar f u (nodes_placed ids_at path i (nodes_view (drop i ns))) h w all →
-    Passes h w all f u
+    LeavesToFind h w all f u
 no_more_passed path ns i f h u w all past so_far rest =
     ap (λ l. f ++ repeated u (l ++ rest)) (sym (none_placed ids_at path ns i past)) ∙ so_far rest
 
@@ -208,7 +208,7 @@ pub one_anchor_passed : (path : List ℕ) (xs : List (Point × String Global)) (
     (x : Point × String Global) (f g h : List Placed) (u v w : Name → Bool) (all : List Placed) →
     i < length xs → x ≡ get_or xs i x →
     PassesSoFar f u (placed_at path (anchor_names (anchors_view (drop i xs)))) h w all →
-    Passes f u (placed_at path (text_view x.1 ∷ [])) g v →
+    LeavesToFind f u (placed_at path (text_view x.1 ∷ [])) g v →
     PassesSoFar g v (placed_at path (anchor_names (anchors_view (drop (i + 1) xs)))) h w all
 one_anchor_passed path xs i x f g h u v w all within is so_far more rest =
     let left = placed_at path (anchor_names (anchors_view (drop (i + 1) xs))) in
@@ -219,7 +219,7 @@ one_anchor_passed path xs i x f g h u v w all within is so_far more rest =
 pub no_anchor_passed : (path : List ℕ) (xs : List (Point × String Global)) (i : ℕ)
     (f h : List Placed) (u w : Name → Bool) (all : List Placed) → length xs ≤ i →
     PassesSoFar f u (placed_at path (anchor_names (anchors_view (drop i xs)))) h w all →
-    Passes h w all f u
+    LeavesToFind h w all f u
 no_anchor_passed path xs i f h u w all past so_far rest =
     ap (λ l. f ++ repeated u (placed_at path (anchor_names (anchors_view l)) ++ rest))
     (sym (drop_all i xs past))

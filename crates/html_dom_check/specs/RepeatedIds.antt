@@ -2,7 +2,7 @@
 use Rattle.std.specs.Prelude.{◌≡◌, Bool, List, [], ◌∷◌, ◌++◌, if◌then◌else◌, option_to_list}
 use Rattle.html_names.specs.Names.{stands_in}
 use Rattle.html_dom_tree.specs.Tree.{NodeView, tag_node, text_node, element_node, frame_node, ElementView}
-use Rattle.html_dom_link.specs.NewNames.{Name, first_id, frame_names, with_name}
+use Rattle.html_dom_link.specs.NewNames.{Name, first_id, frame_names, with_used_name}
 use Rattle.html_dom_check.specs.PlacedTexts.{Placed, element_placed}
 
 -- the first `id` of an element, and the id and the anchors of a frame
@@ -20,13 +20,13 @@ placed_ids = element_placed ids_at
 unfoldable pub repeated : (is_passed : Name → Bool) → List Placed → List Placed
 repeated is_passed [] = []
 repeated is_passed (p ∷ ps) =
-    (if is_passed p.1 then p ∷ [] else []) ++ repeated (with_name p.1 is_passed) ps
+    (if is_passed p.1 then p ∷ [] else []) ++ repeated (with_used_name p.1 is_passed) ps
 
 abbrev pub repeated_ids : ElementView → List Placed
 repeated_ids e = repeated (stands_in []) (placed_ids e)
 
 -- once these ids are passed, what was found before, and what is found in all that follows, is found
-abbrev pub Passes : (found : List Placed) (is_passed : Name → Bool) → List Placed →
+abbrev pub LeavesToFind : (found : List Placed) (is_passed : Name → Bool) → List Placed →
     (new_found : List Placed) (is_passed_then : Name → Bool) → Type 0
-Passes found is_passed ps new_found is_passed_then = (rest : List Placed) →
+LeavesToFind found is_passed ps new_found is_passed_then = (rest : List Placed) →
     new_found ++ repeated is_passed_then rest ≡ found ++ repeated is_passed (ps ++ rest)

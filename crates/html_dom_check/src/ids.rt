@@ -6,7 +6,7 @@ ghost use Rattle.html_dom_tree.specs.FrameViews.{anchors_view, html_frame_view};
 ghost use Rattle.html_dom_tree.specs.Tree.{element_node, frame_node, node, none};
 ghost use Rattle.html_dom_tree.specs.Views.{element_view, node_view, nodes_view, text_view};
 ghost use Rattle.html_dom_link.specs.Answered.{shown_names};
-ghost use Rattle.html_dom_link.specs.NewNames.{anchor_names, first_id, with_name};
+ghost use Rattle.html_dom_link.specs.NewNames.{anchor_names, first_id, with_used_name};
 ghost use Rattle.html_dom_link.specs.UsedNames.{used_in, with_names};
 ghost use Rattle.html_dom_check.specs.Fragments.{is_known, tree_ids};
 
@@ -35,7 +35,7 @@ pub(crate) fn is_known(ids: &BTreeSet<String>, name: &[u8]) -> bool
 
 /// Puts an id into a set.
 pub(crate) fn put(ids: &mut BTreeSet<String>, id: String) -> Result<(), AllocError>
-    ensures { OnOk result (used_in ids.new ≡ with_name (text_view id) (used_in ids.old)) }
+    ensures { OnOk result (used_in ids.new ≡ with_used_name (text_view id) (used_in ids.old)) }
 {
     ids.insert(id)?;
     Ok(())

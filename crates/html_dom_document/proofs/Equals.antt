@@ -10,7 +10,8 @@ use Rattle.std.proofs.lemmas.Slice.Eq.{bytes_eq-Decides}
 use Rattle.html_names.proofs.Texts.{text_views}
 use Rattle.html_dom_tree.specs.Views.{text_view, optional_text_view}
 use Rattle.html_dom_document.specs.Documents.{LocaleView, InfoView}
-use Rattle.html_dom_document.specs.Views.{texts_view, locale_view, info_view}
+use Rattle.html_names.specs.Texts.{texts_view}
+use Rattle.html_dom_document.specs.Views.{locale_view, info_view}
 use Rattle.html_dom_document.specs.declared.info.Locale.{Locale}
 use Rattle.html_dom_document.specs.declared.info.DocumentInfo.{DocumentInfo}
 

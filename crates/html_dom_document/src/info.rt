@@ -1,7 +1,8 @@
 ghost use Rattle.std.specs.Prelude.{◌≡◌, IfOk};
 ghost use Rattle.html_dom_tree.specs.Views.{optional_text_view, text_view};
 ghost use Rattle.html_dom_document.specs.Documents.{locale_of, no_info};
-ghost use Rattle.html_dom_document.specs.Views.{texts_view, locale_view, info_view};
+ghost use Rattle.html_names.specs.Texts.{texts_view};
+ghost use Rattle.html_dom_document.specs.Views.{locale_view, info_view};
 
 use std::alloc::{AllocError, Global};
 

@@ -8,7 +8,7 @@ use Rattle.html_dom_tree.specs.Views.{nodes_of}
 use Rattle.html_dom_tree.specs.declared.node.HtmlNode.{HtmlNode}
 use Rattle.html_dom_flat.specs.Flat.{FlatNodeView, flat_tag, flat_text, flat_frame, flat_element, node_count, nodes_count, front, back, spelled_nodes}
 use Rattle.html_dom_flat.specs.FlatViews.{flat_node_view, flat_nodes_view}
-use Rattle.html_dom_flat.specs.Stacks.{PlacedView, placed_view, placed_node, stack_view, stack_nodes, is_top_before, nodes_before, IsPopped, rest_after, made_of, list_stack}
+use Rattle.html_dom_flat.specs.Stacks.{PlacedView, placed_view, placed_node, stack_view, stack_nodes, is_top_before, stacked_before, IsPopped, rest_after, made_of, list_stack}
 use Rattle.html_dom_flat.specs.declared.flat_node.FlatNode.{FlatNode}
 
 -- the nodes stand one after another, the first at that place
@@ -37,16 +37,16 @@ taken_step :
     (past place : ℕ) (x : PlacedView) (xs : List PlacedView) (b : Bool) (count : ℕ) →
     nat_lt x.0 past ≡ b → past - place ≡ count → IsLaid place (x ∷ xs) →
     Taken (past - (place + node_count x.1)) (place + node_count x.1) (stack_nodes xs)
-    (nodes_before past xs) (rest_after past xs) →
-    Taken count place (stack_nodes (x ∷ xs)) (if b then x.1 ∷ nodes_before past xs else [])
+    (stacked_before past xs) (rest_after past xs) →
+    Taken count place (stack_nodes (x ∷ xs)) (if b then x.1 ∷ stacked_before past xs else [])
     (if b then rest_after past xs else x ∷ xs)
 unfolding front back node_count
 taken_step past place x xs true zero test is laid later =
     absurd (omega (arith, ltb-true _ _ test, is, laid.0))
 taken_step past place x xs true (suc count) test is laid later =
     let less : past - (place + node_count x.1) ≡ suc count - node_count x.1 = omega (arith, is) in
-    let counted : place + node_count x.1 + nodes_count (nodes_of (nodes_before past xs))
-    ≡ place + (node_count x.1 + nodes_count (nodes_of (nodes_before past xs))) = omega arith in
+    let counted : place + node_count x.1 + nodes_count (nodes_of (stacked_before past xs))
+    ≡ place + (node_count x.1 + nodes_count (nodes_of (stacked_before past xs))) = omega arith in
     record {
       first = ap (node x.1) (later.first ∙ ap (λ k. front k (stack_nodes xs)) less);
       others = later.others ∙ ap (λ k. back k (stack_nodes xs)) less;
@@ -63,8 +63,8 @@ taken_step past place x xs false (suc count) test is laid later =
     absurd (let no : false ≡ true = sym test ∙ lt-ltb _ _ below in cc)
 
 taken : (past place : ℕ) (xs : List PlacedView) → IsLaid place xs →
-    Taken (past - place) place (stack_nodes xs) (nodes_before past xs) (rest_after past xs)
-unfolding nodes_before rest_after
+    Taken (past - place) place (stack_nodes xs) (stacked_before past xs) (rest_after past xs)
+unfolding stacked_before rest_after
 taken past place [] laid =
     record {
       first = sym (front_none (past - place));
@@ -95,7 +95,7 @@ stacked_all place (flat_element h past ∷ fs) =
     let later = stacked_all (place + 1) fs in
     let stack = list_stack (place + 1) fs in
     let parts = taken past (place + 1) stack later.laid in
-    let inside = nodes_count (nodes_of (nodes_before past stack)) in
+    let inside = nodes_count (nodes_of (stacked_before past stack)) in
     let counted : place + 1 + inside ≡ place + (1 + inside) = omega arith in
     record {
       same = rw (parts.first, parts.others, later.same) refl;
@@ -137,8 +137,8 @@ stacked_more names nodes place d old mid new made below before makes puts =
 
 -- a node taken from the stack
 pub popped_before : (past place : ℕ) (n : NodeView) (xs : List PlacedView) →
-    nat_lt place past ≡ true → nodes_before past ((place, n) ∷ xs) ≡ n ∷ nodes_before past xs
-unfolding nodes_before
+    nat_lt place past ≡ true → stacked_before past ((place, n) ∷ xs) ≡ n ∷ stacked_before past xs
+unfolding stacked_before
 popped_before past place n xs test = rw test refl
 
 pub popped_after : (past place : ℕ) (n : NodeView) (xs : List PlacedView) →
@@ -149,7 +149,7 @@ popped_after past place n xs test = rw test refl
 -- where the top does not stand before that place, nothing is taken
 pub none_popped : (past : ℕ) (xs : List PlacedView) → is_top_before past xs ≡ false →
     IsPopped past xs xs None
-unfolding nodes_before rest_after
+unfolding stacked_before rest_after
 none_popped past [] test = (refl, refl, refl)
 none_popped past (x ∷ xs) test = (rw test refl, rw test refl, refl)
 

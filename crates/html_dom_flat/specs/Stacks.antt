@@ -25,9 +25,9 @@ abbrev pub stack_nodes : List PlacedView → NodesView
 stack_nodes stack = nodes_of (map placed_node stack)
 
 -- the nodes that stand before a place
-unfoldable pub nodes_before : (past : ℕ) → List PlacedView → List NodeView
-nodes_before past [] = []
-nodes_before past (x ∷ xs) = if nat_lt x.0 past then x.1 ∷ nodes_before past xs else []
+unfoldable pub stacked_before : (past : ℕ) → List PlacedView → List NodeView
+stacked_before past [] = []
+stacked_before past (x ∷ xs) = if nat_lt x.0 past then x.1 ∷ stacked_before past xs else []
 
 -- the others
 unfoldable pub rest_after : (past : ℕ) → List PlacedView → List PlacedView
@@ -43,7 +43,7 @@ is_top_before past (x ∷ xs) = nat_lt x.0 past
 abbrev pub IsPopped : (past : ℕ) → (old new : List PlacedView) → Option NodeView → Type 0
 IsPopped past old new (Some n) = (place : ℕ) × (nat_lt place past ≡ true) × (old ≡ (place, n) ∷ new)
 IsPopped past old new None =
-    (nodes_before past old ≡ []) × (rest_after past old ≡ old) × (new ≡ old)
+    (stacked_before past old ≡ []) × (rest_after past old ≡ old) × (new ≡ old)
 
 -- the node that is made of one of the list, where that stack holds what follows it, and the stack
 -- that is left
@@ -52,7 +52,7 @@ made_of (flat_tag t) stack = (tag_node t, stack)
 made_of (flat_text s span) stack = (text_node s span, stack)
 made_of (flat_frame f) stack = (frame_node f, stack)
 made_of (flat_element h past) stack =
-    (element_node h (nodes_of (nodes_before past stack)), rest_after past stack)
+    (element_node h (nodes_of (stacked_before past stack)), rest_after past stack)
 
 -- the stack for a list, of which the first stands at that place
 unfoldable pub list_stack : (place : ℕ) → List FlatNodeView → List PlacedView

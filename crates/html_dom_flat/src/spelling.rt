@@ -5,7 +5,7 @@ ghost use Rattle.std.specs.List.{list_all};
 ghost use Rattle.html_dom_tree.specs.Views.{attrs_view, node_view, element_view, nodes_view};
 ghost use Rattle.html_dom_flat.specs.Flat.{spelled_nodes};
 ghost use Rattle.html_dom_flat.specs.FlatViews.{flat_pair, flat_head, flat_node_view, flat_nodes_view, is_pair_given, is_given, is_node_given, are_given};
-ghost use Rattle.html_dom_flat.specs.Stacks.{stack_view, is_top_before, nodes_before, rest_after, IsPopped, made_of, list_stack};
+ghost use Rattle.html_dom_flat.specs.Stacks.{stack_view, is_top_before, stacked_before, rest_after, IsPopped, made_of, list_stack};
 
 use crate::flat_node::{FlatElement, FlatNode};
 use html_dom_tree::{HtmlAttrs, HtmlElement, HtmlNode};
@@ -79,7 +79,7 @@ fn take_before(
     past: usize,
 ) -> Result<Vec<HtmlNode>, AllocError>
     ensures taken { IfOk result (λ nodes.
-        map node_view nodes.items ≡ nodes_before past (stack_view stack.old.items)) }
+        map node_view nodes.items ≡ stacked_before past (stack_view stack.old.items)) }
     ensures rest { OnOk result
         (stack_view stack.new.items ≡ rest_after past (stack_view stack.old.items)) }
 {

@@ -8,7 +8,7 @@ use Rattle.html_names.specs.Names.{stands_in}
 use Rattle.html_names.specs.Texts.{text_view}
 use Rattle.html_dom_link.specs.Distinct.{are_distinct, names_view, occurrences}
 use Rattle.html_dom_link.specs.Fresh.{AreNew}
-use Rattle.html_dom_link.specs.NewNames.{Name, with_name}
+use Rattle.html_dom_link.specs.NewNames.{Name, with_used_name}
 use Rattle.html_dom_link.specs.UsedNames.{with_names}
 use Rattle.html_dom_link.proofs.Gathering.{with-more, with-none}
 use Rattle.html_dom_link.proofs.UsedNames.{bytes_eq-sym}
@@ -96,7 +96,7 @@ once_distinct (m ∷ ms) once =
 pub new_once : (ms : List Name) (used : Name → Bool) (n : Name) → AreNew used ms →
     occurrences ms n + cond (used n) 1 0 ≤ 1
 new_once [] used n new = omega (arith, occurrences-none n, at_most_one (used n))
-new_once (m ∷ ms) used n new = by (bytes_eq m n) refl (new_once ms (with_name m used) n new.1)
+new_once (m ∷ ms) used n new = by (bytes_eq m n) refl (new_once ms (with_used_name m used) n new.1)
   where
     by : (b : Bool) → bytes_eq m n ≡ b →
         occurrences ms n + cond (b || used n) 1 0 ≤ 1 →
@@ -116,14 +116,14 @@ new_once (m ∷ ms) used n new = by (bytes_eq m n) refl (new_once ms (with_name 
 -- each name is none of those in use, nor of those before it
 abbrev pub are_new : (used : Name → Bool) → List Name → Bool
 are_new used [] = true
-are_new used (n ∷ ns) = not (used n) && are_new (with_name n used) ns
+are_new used (n ∷ ns) = not (used n) && are_new (with_used_name n used) ns
 
 abbrev none_used : (used : Name → Bool) → List Name → Bool
 none_used used [] = true
 none_used used (n ∷ ns) = not (used n) && none_used used ns
 
 none_used-more : (m : Name) (used : Name → Bool) (ns : List Name) →
-    none_used (with_name m used) ns ≡ (not (stands_in ns m) && none_used used ns)
+    none_used (with_used_name m used) ns ≡ (not (stands_in ns m) && none_used used ns)
 unfolding stands_in
 none_used-more m used [] = refl
 none_used-more m used (n ∷ ns) =
@@ -145,7 +145,7 @@ unfolding are_distinct
 are_new-parts used [] = refl
 are_new-parts used (n ∷ ns) =
     ap (λ b. not (used n) && b)
-    (are_new-parts (with_name n used) ns
+    (are_new-parts (with_used_name n used) ns
     ∙ ap (λ b. b && are_distinct ns) (none_used-more n used ns))
     ∙ by (used n) (stands_in ns n) (none_used used ns) (are_distinct ns)
   where
@@ -171,7 +171,7 @@ new_distinct ns =
 -- of references to names one more is put in use
 pub put_in_turn : (names : List (Bor (String Global))) (i : ℕ) (name : Bor (String Global))
     (old new all : Name → Bool) → i < length names → with_names (names_view (drop i names)) old ≡ all →
-    new ≡ with_name (text_view (get_or names i name).now) old →
+    new ≡ with_used_name (text_view (get_or names i name).now) old →
     with_names (names_view (drop (i + 1) names)) new ≡ all
 put_in_turn names i name old new all h so_far more =
     let rest = names_view (drop (suc i) names) in

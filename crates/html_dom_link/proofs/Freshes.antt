@@ -3,7 +3,7 @@ use Rattle.std.proofs.Common.{◌≡◌, Bool, ◌||◌, List, [], ◌∷◌, �
 use Rattle.std.specs.Prelude.{option_to_list}
 use Rattle.html_dom_tree.specs.Tree.{ElementView}
 use Rattle.html_names.specs.Names.{stands_in}
-use Rattle.html_dom_link.specs.NewNames.{Name, with_name, new_name, anchor_names, element_names}
+use Rattle.html_dom_link.specs.NewNames.{Name, with_used_name, new_name, anchor_names, element_names}
 use Rattle.html_dom_link.specs.UsedNames.{with_names, IsBounded}
 use Rattle.html_dom_link.specs.Events.{Start, FrameStart, Event, Targets, events}
 use Rattle.html_dom_link.specs.Groups.{Cut, own_name, label_for, cuts}
@@ -30,7 +30,7 @@ new-append : (as' bs : List Name) (used : Name → Bool) → AreNew used as' →
 new-append [] bs used a b = subst (λ u. AreNew u bs) (with-none used) b
 new-append (n ∷ ns) bs used a b = (
   a.0,
-  new-append ns bs (with_name n used) a.1 (subst (λ u. AreNew u bs) (with-more n ns used) b),
+  new-append ns bs (with_used_name n used) a.1 (subst (λ u. AreNew u bs) (with-more n ns used) b),
 )
 
 starts_named : (ss : List FrameStart) (used : Name → Bool) →
@@ -38,7 +38,7 @@ starts_named : (ss : List FrameStart) (used : Name → Bool) →
 starts_named [] used = with-none used
 starts_named (s ∷ ss) used =
     let n = new_name s.label used in
-    let next = with_name n used in
+    let next = with_used_name n used in
     with-more n (anchor_names (start_pairs next ss)) used ∙ starts_named ss next
 
 before_starts : (ss : List FrameStart) (used : Name → Bool) →
@@ -52,7 +52,7 @@ starts_new : (ss : List FrameStart) (used : Name → Bool) →
 starts_new [] used b = tt
 starts_new (s ∷ ss) used b = (
   new_is_new s.label used (before_starts (s ∷ ss) used b),
-  starts_new ss (with_name (new_name s.label used) used) b,
+  starts_new ss (with_used_name (new_name s.label used) used) b,
 )
 
 own_named : (made : Option Name) (used : Name → Bool) →

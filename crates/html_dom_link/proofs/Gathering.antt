@@ -12,7 +12,7 @@ use Rattle.html_dom_tree.specs.Views.{text_view, node_view}
 use Rattle.html_dom_tree.specs.declared.introspection.Tag.{Tag}
 use Rattle.html_dom_tree.specs.declared.node.HtmlNode.{HtmlNode}
 use Rattle.html_dom_tree.specs.declared.span.Span.{Span}
-use Rattle.html_dom_link.specs.NewNames.{Name, with_name, all_ids, anchor_names, frame_names, nodes_names}
+use Rattle.html_dom_link.specs.NewNames.{Name, with_used_name, all_ids, anchor_names, frame_names, nodes_names}
 use Rattle.html_dom_link.specs.UsedNames.{with_names}
 
 or-assoc : (a b c : Bool) → ((a || b) || c) ≡ (a || (b || c))
@@ -29,7 +29,7 @@ pub with-none : (used : Name → Bool) → with_names [] used ≡ used
 unfolding stands_in
 with-none used = refl
 
-pub with-one : (n : Name) (used : Name → Bool) → with_names (n ∷ []) used ≡ with_name n used
+pub with-one : (n : Name) (used : Name → Bool) → with_names (n ∷ []) used ≡ with_used_name n used
 unfolding stands_in
 with-one n used = fun_ext (λ m. or-assoc (bytes_eq n m) false (used m))
 
@@ -58,7 +58,7 @@ with-all names = fun_ext (λ n. or_false (stands_in names n))
 
 -- a name more
 pub with-more : (n : Name) (ns : List Name) (used : Name → Bool) →
-    with_names (n ∷ ns) used ≡ with_names ns (with_name n used)
+    with_names (n ∷ ns) used ≡ with_names ns (with_used_name n used)
 with-more n ns used = with-append (n ∷ []) ns used ∙ ap (with_names ns) (with-one n used)
 
 -- one thing more of a list, by the names of each

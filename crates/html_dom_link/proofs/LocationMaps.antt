@@ -10,7 +10,8 @@ use Rattle.html_dom_tree.specs.FrameViews.{optional_text_view}
 use Rattle.html_dom_tree.specs.declared.introspection.Location.{Location}
 use Rattle.html_names.specs.Texts.{text_view}
 use Rattle.html_dom_link.specs.NewNames.{Name}
-use Rattle.html_dom_link.specs.LocationMaps.{location_cmp, labels_in, names_in}
+use Rattle.html_dom_document.specs.Introspectors.{location_cmp}
+use Rattle.html_dom_link.specs.LocationMaps.{labels_in, names_in}
 use Rattle.html_dom_link.specs.AnchorWalk.{with_entry}
 use Rattle.html_dom_link.proofs.States.{or_else-none}
 

@@ -13,7 +13,7 @@ use Rattle.html_dom_link.specs.Groups.{is_in_group, first_label, label_of}
 use Rattle.html_dom_link.specs.LinkAnchors.{document_targets}
 use Rattle.html_dom_link.specs.Links.{Anchors, dest_before, document_with_links, nodes_with_links, node_with_links}
 use Rattle.html_dom_link.specs.Namings.{Naming, made_for, group_answers, start_pairs, start_answers, with_made, all_answers, last_name}
-use Rattle.html_dom_link.specs.NewNames.{Name, new_name, with_name, first_id, element_names}
+use Rattle.html_dom_link.specs.NewNames.{Name, new_name, with_used_name, first_id, element_names}
 use Rattle.html_dom_link.specs.Serving.{AnchorsServe, KnownAnchorsServe, Mark, start_mark, place_mark, inner_marks, marks, name_entries, next_name, paired_marks, served_names, start_marks}
 use Rattle.html_dom_link.proofs.ChangedRoots.{root_has_links}
 use Rattle.html_dom_link.proofs.LeadingLinks.{id_stays}
@@ -127,7 +127,7 @@ drop_front front back n is =
 length-pairs : (ss : List FrameStart) (used : Name → Bool) →
     length ss ≡ length (start_pairs used ss)
 length-pairs [] used = refl
-length-pairs (s ∷ ss) used = ap suc (length-pairs ss (with_name (new_name s.label used) used))
+length-pairs (s ∷ ss) used = ap suc (length-pairs ss (with_used_name (new_name s.label used) used))
 
 starts_served : (ss : List FrameStart) (used : Name → Bool) (ms : List Mark) →
     served_names (paired_marks ss (start_pairs used ss) ++ ms)
@@ -135,7 +135,7 @@ starts_served : (ss : List FrameStart) (used : Name → Bool) (ms : List Mark) �
 starts_served [] used ms = refl
 starts_served (s ∷ ss) used ms =
     let n = new_name s.label used in
-    ap (λ l. (s.location, n) ∷ l) (starts_served ss (with_name n used) ms)
+    ap (λ l. (s.location, n) ∷ l) (starts_served ss (with_used_name n used) ms)
 
 inner_served : (ss : List FrameStart) (used : Name → Bool) (old : List (PointView × Name))
     (ms : List Mark) →

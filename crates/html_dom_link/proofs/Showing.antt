@@ -7,7 +7,7 @@ use Rattle.html_dom_tree.specs.Attributes.{or_else}
 use Rattle.html_dom_tree.specs.Frames.{PointView}
 use Rattle.html_dom_tree.specs.Tree.{Head, starts, ends, tag_node, text_node, element_node, frame_node, NodesView, none, node}
 use Rattle.html_names.specs.Names.{stands_in}
-use Rattle.html_dom_link.specs.NewNames.{Name, with_name, new_name, anchor_names, first_id, element_names}
+use Rattle.html_dom_link.specs.NewNames.{Name, with_used_name, new_name, anchor_names, first_id, element_names}
 use Rattle.html_dom_link.specs.Events.{Start, FrameStart, end_tag, element, text, html_frame, Targets, start_event, frame_starts, events}
 use Rattle.html_dom_link.specs.Groups.{is_in_group, first_label, label_of}
 use Rattle.html_dom_link.specs.Namings.{Naming, made_for, group_answers, start_pairs, start_answers, with_made, all_answers, last_name}
@@ -79,10 +79,10 @@ starts_among : (ss : List FrameStart) (used : Name → Bool) →
 starts_among [] used = tt
 starts_among (s ∷ ss) used =
     let n = new_name s.label used in
-    let names = anchor_names (start_pairs (with_name n used) ss) in (
+    let names = anchor_names (start_pairs (with_used_name n used) ss) in (
       itself n names,
-      all-right (start_answers (with_name n used) ss) (n ∷ []) names
-          (starts_among ss (with_name n used)),
+      all-right (start_answers (with_used_name n used) ss) (n ∷ []) names
+          (starts_among ss (with_used_name n used)),
     )
 
 pub answers-append : (as' bs : List Naming) →

@@ -12,12 +12,13 @@ use Rattle.html_dom_tree.specs.declared.introspection.Tag.{Tag}
 use Rattle.html_dom_tree.specs.declared.node.HtmlElement.{HtmlElement}
 use Rattle.html_dom_tree.specs.declared.node.HtmlNode.{HtmlNode, the_lemmas}
 use Rattle.html_dom_tree.specs.declared.node.HtmlNode as HtmlNode
-use Rattle.html_dom_link.specs.NewNames.{Name, with_name, new_name}
+use Rattle.html_dom_link.specs.NewNames.{Name, with_used_name, new_name}
 use Rattle.html_dom_link.specs.Events.{Targets, FrameStart, frame_starts}
 use Rattle.html_dom_link.specs.Namings.{start_pairs, used_after_starts}
 use Rattle.html_dom_link.specs.Anchors.{span_before, text_in_span}
 use Rattle.html_dom_link.specs.AnchorWalk.{WalkState, after_tag_start, first_waiting, Serves, made_now, after_server, after_start, after_starts, Walked, walk}
-use Rattle.html_dom_link.specs.Joined.{◌then◌, nodes_before, with_starts}
+use Rattle.html_dom_document.specs.DomIndices.{◌then◌}
+use Rattle.html_dom_link.specs.Joined.{walked_behind, with_starts}
 
 pub then-none : (ns : NodesView) → (ns then none) ≡ ns
 then-none none = refl
@@ -33,7 +34,7 @@ span_before-then None as' bs = refl
 span_before-then (Some n) as' bs = refl
 
 pub walks_on : (x : Targets) (as' bs : NodesView) (st : WalkState) → let first = walk x as' st in
-    walk x (as' then bs) st ≡ nodes_before first.0 (walk x bs first.1)
+    walk x (as' then bs) st ≡ walked_behind first.0 (walk x bs first.1)
 unfolding walk
 walks_on x none bs st = refl
 walks_on x (node (tag_node (starts l label dest)) ns) bs st = rw (walks_on x ns bs _) refl
@@ -60,7 +61,7 @@ pub start_pairs-append : (ss ts : List FrameStart) (used : Name → Bool) →
 start_pairs-append [] ts used = refl
 start_pairs-append (s ∷ ss) ts used =
     let n = new_name s.label used in
-    ap (λ ps. (s.point, n) ∷ ps) (start_pairs-append ss ts (with_name n used))
+    ap (λ ps. (s.point, n) ∷ ps) (start_pairs-append ss ts (with_used_name n used))
 
 -- one node more at the end of a list
 pub nodes_view-push : (ns : List HtmlNode) (n : HtmlNode) →

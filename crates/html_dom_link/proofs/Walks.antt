@@ -7,7 +7,7 @@ use Rattle.std.proofs.lemmas.List.{append-nil}
 use Rattle.html_dom_tree.specs.Attributes.{or_else}
 use Rattle.html_dom_tree.specs.Tree.{starts, ends, NodeView, tag_node, text_node, element_node, frame_node, NodesView, none, node}
 use Rattle.html_names.specs.Names.{stands_in}
-use Rattle.html_dom_link.specs.NewNames.{Name, new_name, with_name, first_id, element_names}
+use Rattle.html_dom_link.specs.NewNames.{Name, new_name, with_used_name, first_id, element_names}
 use Rattle.html_dom_link.specs.Events.{Start, FrameStart, end_tag, element, text, html_frame, Targets, start_event, frame_starts, events}
 use Rattle.html_dom_link.specs.Groups.{is_in_group, Cut, first_label, label_of}
 use Rattle.html_dom_link.specs.Namings.{made_for, group_answers, start_pairs, start_answers, used_after_starts, with_made, Naming, naming, used_after, all_answers, last_name}
@@ -169,7 +169,7 @@ starts_is : (ss : List FrameStart) (st : WalkState) → after_starts ss st ≡ r
 starts_is [] st = refl
 starts_is (s ∷ ss) st =
     let n = new_name s.label st.used in
-    let used = with_name n st.used in
+    let used = with_used_name n st.used in
     starts_is ss (record st {
       used = used;
       answers = λ l. if s.location == l then Some n else st.answers l;

@@ -14,7 +14,8 @@ use Rattle.html_dom_link.specs.Events.{Targets}
 use Rattle.html_dom_link.specs.Anchors.{with_id}
 use Rattle.html_dom_link.specs.LinkAnchors.{targets_in, document_targets, document_with_new_anchors, document_anchor}
 use Rattle.html_dom_link.specs.AnchorWalk.{WalkState, first_waiting, Serves, after_server, at_first, Walked, walk, element_walk}
-use Rattle.html_dom_link.specs.Joined.{◌then◌, nodes_before, is_end}
+use Rattle.html_dom_document.specs.DomIndices.{◌then◌}
+use Rattle.html_dom_link.specs.Joined.{walked_behind, is_end}
 use Rattle.html_dom_link.proofs.Steps.{then-none, then-assoc, walks_on, nodes_view-push}
 use Rattle.html_dom_link.proofs.Walks.{one_walk_serves}
 
@@ -35,33 +36,33 @@ element_served x h head kids inside st after last made serves named below =
 -- a node, and what follows it, behind nodes that are made already
 pub node_placed : (x : Targets) (n m : NodeView) (more old new : NodesView)
     (st after : WalkState) → (node m more, after) ≡ walk x (node n none) st →
-    new ≡ (old then node m more) → (new, after) ≡ nodes_before old (walk x (node n none) st)
-node_placed x n m more old new st after step placed = rw placed (ap (nodes_before old) step)
+    new ≡ (old then node m more) → (new, after) ≡ walked_behind old (walk x (node n none) st)
+node_placed x n m more old new st after step placed = rw placed (ap (walked_behind old) step)
 
 -- one node more of a list
 pub node_walked : (x : Targets) (ns others : List HtmlNode) (n : HtmlNode)
     (old new : NodesView) (st after : WalkState) (all : Walked) → ns ≡ n ∷ others →
-    nodes_before old (walk x (nodes_view ns) st) ≡ all →
-    (new, after) ≡ nodes_before old (walk x (node (node_view n) none) st) →
-    nodes_before new (walk x (nodes_view others) after) ≡ all
+    walked_behind old (walk x (nodes_view ns) st) ≡ all →
+    (new, after) ≡ walked_behind old (walk x (node (node_view n) none) st) →
+    walked_behind new (walk x (nodes_view others) after) ≡ all
 node_walked x ns others n old new st after all first_is so_far more =
     let rest = nodes_view others in
     let first = walk x (node (node_view n) none) st in
     let last = walk x rest first.1 in
-    ap (λ (w : Walked). nodes_before w.0 (walk x rest w.1)) more
+    ap (λ (w : Walked). walked_behind w.0 (walk x rest w.1)) more
     ∙ (ap (λ (ms : NodesView). (ms, last.1)) (then-assoc old first.0 last.0)
-    ∙ (ap (nodes_before old) (sym (walks_on x (node (node_view n) none) rest st))
-    ∙ (ap (λ ms. nodes_before old (walk x (nodes_view ms) st)) (sym first_is)
+    ∙ (ap (walked_behind old) (sym (walks_on x (node (node_view n) none) rest st))
+    ∙ (ap (λ ms. walked_behind old (walk x (nodes_view ms) st)) (sym first_is)
     ∙ so_far)))
 
 -- all nodes of a list
 pub nodes_walked : (x : Targets) (ns : List HtmlNode) (made : NodesView) (st : WalkState)
-    (all : Walked) → ns ≡ [] → nodes_before made (walk x (nodes_view ns) st) ≡ all →
+    (all : Walked) → ns ≡ [] → walked_behind made (walk x (nodes_view ns) st) ≡ all →
     (made, st) ≡ all
 unfolding walk
 nodes_walked x ns made st all none_left so_far =
     ap (λ (ms : NodesView). (ms, st)) (sym (then-none made))
-    ∙ (ap (λ ms. nodes_before made (walk x (nodes_view ms) st)) (sym none_left) ∙ so_far)
+    ∙ (ap (λ ms. walked_behind made (walk x (nodes_view ms) st)) (sym none_left) ∙ so_far)
 
 -- nothing follows a node that is no end tag
 abbrev others : NodesView → NodesView
@@ -98,9 +99,9 @@ has_end = list_any (λ n. is_end (node_view n))
 pub node_kept : (x : Targets) (ns new : List HtmlNode) (i : ℕ) (d m : HtmlNode)
     (more : NodesView) (st after : WalkState) (all : Walked) →
     i < length ns → new ≡ set ns i m → has_end (drop i ns) ≡ false →
-    nodes_before (nodes_view (take i ns)) (walk x (nodes_view (drop i ns)) st) ≡ all →
+    walked_behind (nodes_view (take i ns)) (walk x (nodes_view (drop i ns)) st) ≡ all →
     (node (node_view m) more, after) ≡ walk x (node (node_view (get_or ns i d)) none) st →
-    (nodes_before (nodes_view (take (i + 1) new)) (walk x (nodes_view (drop (i + 1) new)) after)
+    (walked_behind (nodes_view (take (i + 1) new)) (walk x (nodes_view (drop (i + 1) new)) after)
     ≡ all) × (has_end (drop (i + 1) new) ≡ false)
 node_kept x ns new i d m more st after all h is no_end so_far step =
     let n = get_or ns i d in
@@ -115,7 +116,7 @@ node_kept x ns new i d m more st after all h is no_end so_far step =
     ap (λ l. nodes_view (take (i + 1) l)) is
     ∙ (ap nodes_view (take_more_set ns i m h) ∙ nodes_view-push (take i ns) m) in
     let alone = node_alone x (node_view n) (node_view m) more st after clear.0 step in (
-      ap (λ l. nodes_before (nodes_view (take (i + 1) new)) (walk x (nodes_view l) after)) left
+      ap (λ l. walked_behind (nodes_view (take (i + 1) new)) (walk x (nodes_view l) after)) left
           ∙ node_walked x (drop i ns) rest n old (nodes_view (take (i + 1) new)) st after all first so_far
           (node_placed x (node_view n) (node_view m) none old _ st after alone made),
       ap has_end left ∙ clear.1,
@@ -124,7 +125,7 @@ node_kept x ns new i d m more st after all h is no_end so_far step =
 -- all nodes of a list, changed where they stand
 pub nodes_kept : (x : Targets) (ns : List HtmlNode) (i : ℕ) (st : WalkState) (all : Walked) →
     length ns ≤ i →
-    nodes_before (nodes_view (take i ns)) (walk x (nodes_view (drop i ns)) st) ≡ all →
+    walked_behind (nodes_view (take i ns)) (walk x (nodes_view (drop i ns)) st) ≡ all →
     (nodes_view ns, st) ≡ all
 nodes_kept x ns i st all h so_far =
     ap (λ (l : List HtmlNode). (nodes_view l, st)) (sym (take_all i ns h))

@@ -5,7 +5,7 @@ use Rattle.std.specs.Prelude.{◌≡◌, ℕ, Bool, ◌==◌, if◌then◌else�
 use Rattle.html_dom_tree.specs.Attributes.{or_else}
 use Rattle.html_dom_tree.specs.Tree.{starts, ends, NodeView, tag_node, text_node, element_node, frame_node, NodesView, none, node, ElementView}
 use Rattle.html_names.specs.Names.{stands_in}
-use Rattle.html_dom_link.specs.NewNames.{Name, with_name, new_name, first_id, element_names}
+use Rattle.html_dom_link.specs.NewNames.{Name, with_used_name, new_name, first_id, element_names}
 use Rattle.html_dom_link.specs.Events.{Targets, FrameStart, frame_starts}
 use Rattle.html_dom_link.specs.Namings.{start_pairs}
 use Rattle.html_dom_link.specs.Anchors.{with_id, named_frame, text_in_span, span_before, element_with_anchors, anchor_of}
@@ -67,7 +67,7 @@ abbrev pub after_server : Option (Option Name) → (own : Option Name) → WalkS
 after_server None own st = st
 after_server (Some label) (Some n) st = with_answers n st
 after_server (Some label) None st =
-    let n = new_name label st.used in with_answers n (with_used (with_name n st.used) st)
+    let n = new_name label st.used in with_answers n (with_used (with_used_name n st.used) st)
 
 -- what a server does by the label that waits, and by its own name
 pub record Serves (old new : WalkState) (waiting : Option (Option Name)) (own made : Option Name) :
@@ -79,7 +79,7 @@ pub record Serves (old new : WalkState) (waiting : Option (Option Name)) (own ma
 abbrev pub after_start : FrameStart → WalkState → WalkState
 after_start s st =
     let n = new_name s.label st.used in
-    record st { used = with_name n st.used; answers = with_entry s.location n st.answers }
+    record st { used = with_used_name n st.used; answers = with_entry s.location n st.answers }
 
 abbrev pub after_starts : List FrameStart → WalkState → WalkState
 after_starts [] st = st

@@ -2,7 +2,7 @@
 use Rattle.std.specs.Prelude.{◌≡◌, ℕ, ◌≤◌, ◌<◌, ◌^◌, Bool, true, false, List, [], ◌∷◌, ◌++◌, option_to_list}
 use Rattle.html_dom_tree.specs.Tree.{ElementView}
 use Rattle.html_names.specs.Names.{stands_in}
-use Rattle.html_dom_link.specs.NewNames.{Name, with_name, anchor_names, element_names, name_with_number, stem_of, first_number, first_free}
+use Rattle.html_dom_link.specs.NewNames.{Name, with_used_name, anchor_names, element_names, name_with_number, stem_of, first_number, first_free}
 use Rattle.html_dom_link.specs.Events.{Targets}
 use Rattle.html_dom_link.specs.Namings.{Naming}
 use Rattle.html_dom_link.specs.UsedNames.{with_names, IsBounded}
@@ -11,7 +11,7 @@ use Rattle.html_dom_link.specs.Anchors.{element_namings}
 -- each name is none of those in use, nor of those made before it
 abbrev pub AreNew : (used : Name → Bool) → List Name → Type 0
 AreNew used [] = Unit {0}
-AreNew used (n ∷ ns) = (used n ≡ false) × AreNew (with_name n used) ns
+AreNew used (n ∷ ns) = (used n ≡ false) × AreNew (with_used_name n used) ns
 
 abbrev pub names_made : Naming → List Name
 names_made c = option_to_list c.made ++ anchor_names c.pairs

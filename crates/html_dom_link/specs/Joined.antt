@@ -2,19 +2,15 @@
 use Rattle.html_dom_tree.specs.Frames.{PointView}
 use Rattle.html_dom_tree.specs.Tree.{starts, ends, NodeView, tag_node, text_node, element_node, frame_node, NodesView, none, node}
 use Rattle.std.specs.Prelude.{ℕ, Bool, true, false, List, ◌++◌}
+use Rattle.html_dom_document.specs.DomIndices.{◌then◌}
 use Rattle.html_dom_link.specs.Events.{FrameStart}
 use Rattle.html_dom_link.specs.Namings.{start_pairs}
-use Rattle.html_dom_link.specs.NewNames.{Name, with_name}
+use Rattle.html_dom_link.specs.NewNames.{Name, with_used_name}
 use Rattle.html_dom_link.specs.AnchorWalk.{with_entry, WalkState, after_starts, Walked}
 
-infixl 20 ◌then◌
-abbrev pub ◌then◌ : NodesView → NodesView → NodesView
-none then ms = ms
-(node n ns) then ms = node n (ns then ms)
-
 -- nodes that are made already, before those of a walk
-abbrev pub nodes_before : NodesView → Walked → Walked
-nodes_before made w = (made then w.0, w.1)
+abbrev pub walked_behind : NodesView → Walked → Walked
+walked_behind made w = (made then w.0, w.1)
 
 -- an end tag, behind which a new `span` may stand
 abbrev pub is_end : NodeView → Bool
@@ -26,7 +22,7 @@ is_end (frame_node f) = false
 
 -- a name is made for one location
 abbrev pub named_at : ℕ → Name → WalkState → WalkState
-named_at l n st = record st { used = with_name n st.used; answers = with_entry l n st.answers }
+named_at l n st = record st { used = with_used_name n st.used; answers = with_entry l n st.answers }
 
 -- the state, and the anchors of a frame
 abbrev pub InFrame : Type 0

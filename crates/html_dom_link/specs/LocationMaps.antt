@@ -1,16 +1,12 @@
 -- Maps by location as functions.
 use Rattle.std.specs.Prelude.{ℕ, List, map, Option, option_map, String}
 use Rattle.std.specs.declared.alloc.Global.{Global}
-use Rattle.std.specs.declared.cmp.Ordering.{Ordering}
 use Rattle.std.specs.BTreeMap.{BTreeMap, get}
-use Rattle.std.specs.Ordering.{nat_cmp}
 use Rattle.html_dom_tree.specs.FrameViews.{optional_text_view}
 use Rattle.html_dom_tree.specs.declared.introspection.Location.{Location}
+use Rattle.html_dom_document.specs.Introspectors.{location_cmp}
 use Rattle.html_names.specs.Texts.{text_view}
 use Rattle.html_dom_link.specs.NewNames.{Name}
-
-abbrev pub location_cmp : Location → Location → Ordering
-location_cmp a b = nat_cmp a.0 b.0
 
 -- what a map has at a location
 abbrev pub at_location : {X : Type 0} → BTreeMap Location X → ℕ → Option X

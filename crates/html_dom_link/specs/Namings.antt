@@ -2,7 +2,7 @@
 use Rattle.std.specs.Prelude.{ℕ, Bool, List, [], ◌∷◌, ◌++◌, ◌==◌, if◌then◌else◌, Option, Some, None}
 use Rattle.html_dom_tree.specs.Attributes.{or_else}
 use Rattle.html_dom_tree.specs.Frames.{PointView}
-use Rattle.html_dom_link.specs.NewNames.{Name, with_name, new_name}
+use Rattle.html_dom_link.specs.NewNames.{Name, with_used_name, new_name}
 use Rattle.html_dom_link.specs.Events.{Start, FrameStart, Event, html_frame}
 use Rattle.html_dom_link.specs.Groups.{Cut, own_name, label_for}
 
@@ -33,24 +33,24 @@ starts_in e = []
 abbrev pub start_pairs : (used : Name → Bool) → List FrameStart → List (PointView × Name)
 start_pairs used [] = []
 start_pairs used (s ∷ ss) =
-    let n = new_name s.label used in (s.point, n) ∷ start_pairs (with_name n used) ss
+    let n = new_name s.label used in (s.point, n) ∷ start_pairs (with_used_name n used) ss
 
 abbrev pub start_answers : (used : Name → Bool) → List FrameStart → List (ℕ × Name)
 start_answers used [] = []
 start_answers used (s ∷ ss) =
-    let n = new_name s.label used in (s.location, n) ∷ start_answers (with_name n used) ss
+    let n = new_name s.label used in (s.location, n) ∷ start_answers (with_used_name n used) ss
 
 -- the names in use after them
 abbrev pub used_after_starts : (used : Name → Bool) → List FrameStart → Name → Bool
 used_after_starts used [] = used
-used_after_starts used (s ∷ ss) = used_after_starts (with_name (new_name s.label used) used) ss
+used_after_starts used (s ∷ ss) = used_after_starts (with_used_name (new_name s.label used) used) ss
 
 abbrev pub made_at : (used : Name → Bool) → Cut → Option Name
 made_at used c = made_for (own_name c.event) (label_for c.event c.group) used c.group
 
 abbrev pub with_made : Option Name → (used : Name → Bool) → Name → Bool
 with_made None used = used
-with_made (Some n) used = with_name n used
+with_made (Some n) used = with_used_name n used
 
 -- a frame's own name is made before those of its start tags
 abbrev pub used_after_made : (used : Name → Bool) → Cut → Name → Bool

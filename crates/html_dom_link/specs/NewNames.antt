@@ -9,8 +9,8 @@ abbrev pub Name : Type 0
 Name = List ℕ
 
 -- which names are in use, with one more
-abbrev pub with_name : Name → (used : Name → Bool) → Name → Bool
-with_name n used name = bytes_eq n name || used name
+abbrev pub with_used_name : Name → (used : Name → Bool) → Name → Bool
+with_used_name n used name = bytes_eq n name || used name
 
 -- the first value of `id`, which may be empty
 abbrev pub first_id : Head → Option Name

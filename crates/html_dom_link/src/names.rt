@@ -2,7 +2,7 @@
 
 ghost use Rattle.std.specs.Prelude.{Bool, true, [], ◌≡◌, ◌-◌, ◌≤◌, ◌<◌, ◌^◌, ◌+◌, chars, IfOk, OnOk};
 ghost use Rattle.html_dom_tree.specs.Views.{text_view, optional_text_view};
-ghost use Rattle.html_dom_link.specs.NewNames.{Name, name_with_number, stem_of, first_number, first_free, free_name, text_of_label, name_for, new_name, with_name};
+ghost use Rattle.html_dom_link.specs.NewNames.{Name, name_with_number, stem_of, first_number, first_free, free_name, text_of_label, name_for, new_name, with_used_name};
 ghost use Rattle.html_dom_link.specs.UsedNames.{used_in, is_nothing, AreUsedBelow, IsCounted, IsBounded};
 
 use std::alloc::{AllocError, Global};
@@ -56,7 +56,7 @@ pub(crate) fn is_used(used: &BTreeSet<String>, name: &String) -> bool
 
 /// Puts a name in use.
 pub(crate) fn put_in_use(used: &mut BTreeSet<String>, name: String) -> Result<(), AllocError>
-    ensures ok { OnOk result (used_in used.new ≡ with_name (text_view name) (used_in used.old)) }
+    ensures ok { OnOk result (used_in used.new ≡ with_used_name (text_view name) (used_in used.old)) }
     ensures grows { (n : Name) → used_in used.old n ≡ true → used_in used.new n ≡ true }
 {
     used.insert(name)?;
@@ -108,7 +108,7 @@ impl AnchorNames {
     /// Puts a name in use.
     pub(crate) fn put(&mut self, name: &String) -> Result<(), AllocError>
         ensures { OnOk result (used_in self.new.used
-            ≡ with_name (text_view name.now) (used_in self.old.used)) }
+            ≡ with_used_name (text_view name.now) (used_in self.old.used)) }
     {
         put_in_use(&mut self.used, name.clone()?)
     }
@@ -122,7 +122,7 @@ impl AnchorNames {
         ensures name { IfOk result (λ name. text_view name
             ≡ new_name (optional_text_view label.now) (used_in self.old.used)) }
         ensures used { IfOk result (λ name. used_in self.new.used
-            ≡ with_name (text_view name) (used_in self.old.used)) }
+            ≡ with_used_name (text_view name) (used_in self.old.used)) }
     {
         let name = self.new_name(alloc, label_text(alloc, label)?)?;
         self.put(&name)?;

@@ -8,7 +8,8 @@ ghost use Rattle.html_dom_tree.specs.Tree.{node, none, tag_node, text_node, fram
 ghost use Rattle.html_dom_tree.specs.Views.{node_view, nodes_view, optional_text_view};
 ghost use Rattle.html_dom_link.specs.Anchors.{span_before};
 ghost use Rattle.html_dom_link.specs.Events.{Targets};
-ghost use Rattle.html_dom_link.specs.Joined.{◌then◌, is_end};
+ghost use Rattle.html_dom_document.specs.DomIndices.{◌then◌};
+ghost use Rattle.html_dom_link.specs.Joined.{is_end};
 ghost use Rattle.html_dom_link.specs.AnchorWalk.{walk};
 ghost use Rattle.html_dom_link.specs.WalkViews.{walk_view, targets_view};
 

@@ -23,7 +23,7 @@ impl Walk {
     ghost use Rattle.std.specs.Prelude.{◌≡◌, Some, None, IfOk, OnOk, option_map};
     ghost use Rattle.html_dom_tree.specs.Views.{text_view, optional_text_view};
     ghost use Rattle.std.specs.BTreeSet.{contains};
-    ghost use Rattle.html_dom_link.specs.LocationMaps.{location_cmp};
+    ghost use Rattle.html_dom_document.specs.Introspectors.{location_cmp};
     ghost use Rattle.html_dom_link.specs.AnchorWalk.{with_waiting, after_tag_start, with_answers, first_waiting, at_first, Serves};
     ghost use Rattle.html_dom_link.specs.Joined.{named_at};
     ghost use Rattle.html_dom_link.specs.NewNames.{new_name};

@@ -13,7 +13,7 @@ abbrev pub text_row : RattleType
 text_row = text.the_row global.the_row ghosts
 
 -- with that text as the value of the pair at a place
-abbrev pub with_text : HtmlAttrs → ℕ → String Global → HtmlAttrs
-with_text attrs place value =
+abbrev pub with_text_at : HtmlAttrs → ℕ → String Global → HtmlAttrs
+with_text_at attrs place value =
     let name = (slice_index_or attrs.0.items place ([], value)).0 in
     record attrs { 0 = with_item attrs.0 place (name, value) }

@@ -18,7 +18,7 @@ impl HtmlAttrs {
     ghost use Rattle.std.specs.Prelude.{OnSome, ◌<◌, vec_len, slice_index_or};
     ghost use Rattle.std.specs.Borrow.{Lends, LendsSo, sem};
     ghost use Rattle.html_dom_tree.specs.Attributes.{with_value};
-    ghost use Rattle.html_dom_tree.specs.Lending.{text_row, with_text};
+    ghost use Rattle.html_dom_tree.specs.Lending.{text_row, with_text_at};
     ghost use Rattle.html_dom_tree.specs.contracts.attrs.HtmlAttrs.{the_row};
 
     /// The empty list.
@@ -92,7 +92,7 @@ impl HtmlAttrs {
     fn value_mut(&mut self, place: usize) -> &mut String
         requires { place < vec_len self.old.0 }
         ensures* writes_back { sem 𝓛 (Lends the_row text_row self.entry result
-            (with_text self.old place)) }
+            (with_text_at self.old place)) }
         ensures value { result.now ≡ (slice_index_or self.old.0.items place ([], result.now)).1 }
     {
         &mut self.0[place].1

@@ -153,12 +153,12 @@ abbrev pub Construction : Type 0
 Construction = ElemView × List ArgView
 
 -- the element of that name, with these attributes and that body
-abbrev pub element_of : List ℕ → List TextPair → BodyView → ElemView
-element_of name pairs body = (record (new_head name) { attrs = pairs }, body)
+abbrev pub constructed_element : List ℕ → List TextPair → BodyView → ElemView
+constructed_element name pairs body = (record (new_head name) { attrs = pairs }, body)
 
 -- the element with the body that was chosen
 abbrev pub with_body : List ℕ → List Entry → List TextPair → BodyChoice → Option Construction
-with_body name es pairs (takes body left) = Some (element_of name pairs body, other_args es left)
+with_body name es pairs (takes body left) = Some (constructed_element name pairs body, other_args es left)
 with_body name es pairs (fails span) = None
 
 -- what arguments construct, where a body can be chosen

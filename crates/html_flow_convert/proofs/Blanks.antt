@@ -7,7 +7,7 @@ use Rattle.std.specs.List.{filter}
 use Rattle.html_dom_tree.specs.Views.{nodes_of}
 use Rattle.html_flow_convert.specs.Nodes.{is_one, is_tag, pre_wrap_head}
 use Rattle.html_flow_convert.specs.OpenRuns.{goes_on, has_kept_run}
-use Rattle.html_flow_convert.specs.Runs.{is_blank_node, are_kept, first_span, run_nodes, front_nodes, front, after_front, nodes_with_runs}
+use Rattle.html_flow_convert.specs.Runs.{is_blank_node, are_kept, first_span, run_nodes, front_nodes, blank_front, after_front, nodes_with_runs}
 
 -- what stands from a place on, as a slice
 pub from_there : {A : Type 0} (start : ℕ) (xs : List A) →
@@ -32,13 +32,13 @@ run_is (n ∷ ns) h = rw h refl
 
 -- nodes that are made, an open run, and what is left
 abbrev pub runs_of : (made run left : List NodeView) → List NodeView
-runs_of made run left = made ++ (front_nodes (run ++ front left) ++ after_front left)
+runs_of made run left = made ++ (front_nodes (run ++ blank_front left) ++ after_front left)
 
 -- a blank or a tag goes on with the run
 pub run_goes_on : (made run left : List NodeView) (n : NodeView) →
     (is_blank_node n || is_tag n) ≡ true →
     runs_of made run (n ∷ left) ≡ runs_of made (run ++ n ∷ []) left
-unfolding front after_front
+unfolding blank_front after_front
 run_goes_on made run left n h = rw (h, append_assoc) refl
 
 pub goes_on_node : (run : List NodeView) (n : NodeView) → goes_on run n ≡ true →
@@ -60,7 +60,7 @@ begins_on (m ∷ run) n h on = h
 ends_at_other : (made run left : List NodeView) (n : NodeView) → begins_with_tag run ≡ false →
     (is_blank_node n || is_tag n) ≡ false →
     runs_of made run (n ∷ left) ≡ runs_of ((made ++ run_nodes run) ++ n ∷ []) [] left
-unfolding front after_front
+unfolding blank_front after_front
 ends_at_other made run left n h other = rw (
   other,
   append-nil run,
@@ -72,7 +72,7 @@ ends_at_other made run left n h other = rw (
 passes_tag : (made left : List NodeView) (n : NodeView) → is_tag n ≡ true →
     is_blank_node n ≡ false →
     runs_of made [] (n ∷ left) ≡ runs_of ((made ++ run_nodes []) ++ n ∷ []) [] left
-unfolding front after_front
+unfolding blank_front after_front
 passes_tag made left n tag other =
     rw (other, tag, tag, append-nil made, append_assoc made (n ∷ [])) refl
 
@@ -93,7 +93,7 @@ run_ends made (m ∷ run) left n h other = ends_at_other made (m ∷ run) left n
 -- at the end
 pub runs_end : (made run : List NodeView) → begins_with_tag run ≡ false →
     runs_of made run [] ≡ made ++ run_nodes run
-unfolding front after_front
+unfolding blank_front after_front
 runs_end made run h = rw (append-nil run, run_is run h, append-nil) refl
 
 -- blanks that are kept
@@ -107,7 +107,7 @@ left_run ns e = rw e refl
 
 -- nodes without a run of kept blanks stay
 mutual
-  unfolding front after_front
+  unfolding blank_front after_front
 
   pub runs_stay : (ns : List NodeView) → has_kept_run false ns ≡ false → ns ≡ nodes_with_runs ns
   runs_stay [] e = refl
@@ -127,7 +127,7 @@ mutual
 
   -- the run that goes on has one space
   run_stays : (ns : List NodeView) → has_kept_run true ns ≡ false →
-      (filter is_blank_node (front ns) ≡ []) × (ns ≡ front ns ++ after_front ns)
+      (filter is_blank_node (blank_front ns) ≡ []) × (ns ≡ blank_front ns ++ after_front ns)
   run_stays [] e = (refl, refl)
   run_stays (tag_node t ∷ ns) e =
       let left = run_stays ns e in (left.0, ap (λ l. tag_node t ∷ l) left.1)

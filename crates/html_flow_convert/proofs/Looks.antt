@@ -3,7 +3,7 @@ use Rattle.std.proofs.Common.{◌≡◌, ℕ, Bool, true, false, ◌||◌, ◌&&
 use Rattle.std.specs.List.{list_any, list_all}
 use Rattle.html_dom_tree.specs.Tree.{Head}
 use Rattle.html_flow_convert.specs.Nodes.{is_one}
-use Rattle.html_flow_convert.specs.BareSpaces.{Thing, border, visible, space, text_things, is_border, is_entered, element_things, makes_block}
+use Rattle.html_flow_convert.specs.BareSpaces.{Thing, border, visible, space, text_things, is_border_element, is_entered, element_things, makes_block}
 use Rattle.html_flow_convert.specs.Looks.{look_things, head_look, text_look, is_inside}
 use Rattle.html_flow_convert.specs.declared.look.Look.{Look}
 use Rattle.html_flow_convert.specs.declared.look.Look.TheVariants.{Border, Visible, Space, Nothing, Inside}
@@ -28,7 +28,7 @@ things_by false false false inside = refl
 
 pub element_seen : (h : Head) (inside : List Thing) →
     element_things h inside ≡ look_things (head_look h) inside
-unfolding is_border
+unfolding is_border_element
 element_seen h inside =
     things_by (makes_block h.css || is_whitespace_collapsing h.name) (is_replaced h.name) h.pre_span inside
 
@@ -42,7 +42,7 @@ entered_by false false false = refl
 
 -- it is looked into where it looks like what stands in it
 pub is_entered_by : (h : Head) → is_entered h ≡ is_inside (head_look h)
-unfolding is_entered is_border
+unfolding is_entered is_border_element
 is_entered_by h =
     entered_by (makes_block h.css || is_whitespace_collapsing h.name) (is_replaced h.name) h.pre_span
 

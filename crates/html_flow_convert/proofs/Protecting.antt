@@ -10,7 +10,7 @@ use Rattle.html_dom_tree.specs.Views.{node_view, nodes_of, nodes_view}
 use Rattle.html_dom_tree.specs.declared.node.HtmlNode.{HtmlNode}
 use Rattle.html_dom_flat.proofs.Flats.{joined, joined_none}
 use Rattle.html_flow_convert.specs.Nodes.{is_one}
-use Rattle.html_flow_convert.specs.BareSpaces.{Thing, border, visible, space, element_things, node_things, nodes_things, is_entered, is_border, bare_after, bare_spaces}
+use Rattle.html_flow_convert.specs.BareSpaces.{Thing, border, visible, space, element_things, node_things, nodes_things, is_entered, is_border_element, bare_after, bare_spaces}
 use Rattle.html_flow_convert.specs.Protected.{space_count, is_bare, text_by_answer, node_by_answers, nodes_by_answers, protected_nodes}
 
 -- how many answers are used
@@ -34,7 +34,7 @@ shut_by false false false inside e = cc
 pub shut_count : (h : Head) (inside : List Thing) → is_entered h ≡ false →
     space_count (element_things h inside) ≡ 0
 unfolding is_entered
-shut_count h inside e = shut_by (is_border h) (is_replaced h.name) h.pre_span inside e
+shut_count h inside e = shut_by (is_border_element h) (is_replaced h.name) h.pre_span inside e
 
 opened_by : (block replaced references : Bool) (inside : List Thing) →
     (not block && not replaced && not references) ≡ true →
@@ -48,7 +48,7 @@ opened_by false false false inside e = refl
 pub opened_things : (h : Head) (inside : List Thing) → is_entered h ≡ true →
     element_things h inside ≡ inside
 unfolding is_entered
-opened_things h inside e = opened_by (is_border h) (is_replaced h.name) h.pre_span inside e
+opened_things h inside e = opened_by (is_border_element h) (is_replaced h.name) h.pre_span inside e
 
 -- each space has an answer
 answer_count : (before : Option Thing) (ts : List Thing) →

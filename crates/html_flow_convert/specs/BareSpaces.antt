@@ -23,12 +23,12 @@ abbrev pub makes_block : (css : List TextPair) → Bool
 makes_block = list_any is_display_block
 
 -- an element with lines of its own, by its css or its default display, or `br`
-unfoldable pub is_border : Head → Bool
-is_border h = makes_block h.css || is_whitespace_collapsing h.name
+unfoldable pub is_border_element : Head → Bool
+is_border_element h = makes_block h.css || is_whitespace_collapsing h.name
 
 -- elements that are looked into
 unfoldable pub is_entered : Head → Bool
-is_entered h = not (is_border h) && not (is_replaced h.name) && not h.pre_span
+is_entered h = not (is_border_element h) && not (is_replaced h.name) && not h.pre_span
 
 abbrev pub text_things : List ℕ → List Thing
 text_things text =
@@ -37,7 +37,7 @@ text_things text =
 
 abbrev pub element_things : Head → (inside : List Thing) → List Thing
 element_things h inside =
-    if is_border h then border ∷ []
+    if is_border_element h then border ∷ []
     else (if is_replaced h.name then visible ∷ [] else (if h.pre_span then [] else inside))
 
 unfoldable mutual

@@ -11,13 +11,13 @@ use Rattle.html_values_css.specs.declared.cast_fault.CastFault.{CastFault}
 use Rattle.html_flow_convert.specs.declared.construct_fault.ConstructFault.{ConstructFault}
 use Rattle.html_flow_convert.specs.declared.construct_fault.ConstructFault.TheVariants.{OutOfMemory, Casts, BodyKind}
 
-abbrev pub first_number : List (CastFault × Span) → ℕ
-first_number [] = 0
-first_number (f ∷ fs) = casts.number_of f.0
+abbrev pub first_fault_number : List (CastFault × Span) → ℕ
+first_fault_number [] = 0
+first_fault_number (f ∷ fs) = casts.number_of f.0
 
 abbrev pub number_of : ConstructFault → ℕ
 number_of OutOfMemory = 0
-number_of (Casts fs) = first_number fs.items
+number_of (Casts fs) = first_fault_number fs.items
 number_of (BodyKind span) = 24
 
 abbrev pub first_span : List (CastFault × Span) → ℕ

@@ -8,7 +8,7 @@ use Rattle.html_names.specs.declared.property.Display.TheVariants as display
 use Rattle.html_values_css.specs.Properties.{with_value, without}
 use Rattle.html_dom_tree.specs.Attributes.{first}
 use Rattle.html_dom_tree.specs.Tree.{Head, NodeView, tag_node, text_node, element_node, frame_node, NodesView, none, node}
-use Rattle.html_flow_convert.specs.Nodes.{plain_head, is_tag}
+use Rattle.html_flow_convert.specs.Nodes.{made_head, is_tag}
 use Rattle.html_flow_convert.specs.declared.lone.DisplayChange.{DisplayChange}
 use Rattle.html_flow_convert.specs.declared.lone.DisplayChange.TheVariants.{Removed, SetTo}
 
@@ -111,10 +111,10 @@ block_change_of (Some n) = block_change n
 -- what stands for a box or a block whose nodes leave none to stand for it
 abbrev pub box_head : (span : ℕ) → Head
 box_head span =
-    plain_head (codes "span") ((codes "display", codes "inline-block") ∷ []) span
+    made_head (codes "span") ((codes "display", codes "inline-block") ∷ []) span
 
 abbrev pub block_head : (span : ℕ) → Head
-block_head span = plain_head (codes "div") [] span
+block_head span = made_head (codes "div") [] span
 
 -- the nodes of a box and of a block, by those of their bodies
 abbrev pub box_nodes : (span : ℕ) → NodesView → List NodeView

@@ -3,18 +3,18 @@ use Rattle.std.specs.Prelude.{ℕ, Bool, true, false, ◌==◌, List, [], ◌∷
 use Rattle.html_dom_tree.specs.Tree.{Head, NodeView, tag_node, text_node, element_node, frame_node, none}
 
 -- an element apart from its children: of that name, css and span, and with nothing else
-abbrev pub plain_head : (name : List ℕ) (css : List (List ℕ × List ℕ)) (span : ℕ) → Head
-plain_head name css span =
+abbrev pub made_head : (name : List ℕ) (css : List (List ℕ × List ℕ)) (span : ℕ) → Head
+made_head name css span =
     record { name = name; attrs = []; css = css; parent = None; span = span; pre_span = false }
 
 -- a forced line break
 abbrev pub break_node : (span : ℕ) → NodeView
-break_node span = element_node (plain_head (codes "br") [] span) none
+break_node span = element_node (made_head (codes "br") [] span) none
 
 -- a `span` in which white space stays (CSS Text 3: `white-space: pre-wrap`)
 abbrev pub pre_wrap_head : (span : ℕ) → Head
 pre_wrap_head span = record
-    (plain_head (codes "span") ((codes "white-space", codes "pre-wrap") ∷ []) span)
+    (made_head (codes "span") ((codes "white-space", codes "pre-wrap") ∷ []) span)
     { pre_span = true }
 
 -- the text is that one character

@@ -49,16 +49,16 @@ front_nodes [] = []
 front_nodes (n ∷ ns) = if is_tag n then n ∷ front_nodes ns else run_nodes (n ∷ ns)
 
 -- the blanks and tags at the front of a list; what comes after them, each run in it in its place
-unfoldable pub front : List NodeView → List NodeView
-front [] = []
-front (n ∷ ns) = if is_blank_node n || is_tag n then n ∷ front ns else []
+unfoldable pub blank_front : List NodeView → List NodeView
+blank_front [] = []
+blank_front (n ∷ ns) = if is_blank_node n || is_tag n then n ∷ blank_front ns else []
 
 unfoldable pub after_front : List NodeView → List NodeView
 after_front [] = []
 after_front (n ∷ ns) =
     if is_blank_node n || is_tag n then after_front ns
-    else n ∷ (front_nodes (front ns) ++ after_front ns)
+    else n ∷ (front_nodes (blank_front ns) ++ after_front ns)
 
 -- nodes in which each run of kept blanks is one `span`
 abbrev pub nodes_with_runs : List NodeView → List NodeView
-nodes_with_runs ns = front_nodes (front ns) ++ after_front ns
+nodes_with_runs ns = front_nodes (blank_front ns) ++ after_front ns

@@ -3,7 +3,7 @@
 ghost use Rattle.std.specs.Prelude.{◌≡◌, [], ◌∷◌, IfOk, codes};
 ghost use Rattle.html_dom_tree.specs.Tree.{element_node, none};
 ghost use Rattle.html_dom_tree.specs.Views.{element_view, head_of, node_view, nodes_view};
-ghost use Rattle.html_flow_convert.specs.Nodes.{plain_head, pre_wrap_head};
+ghost use Rattle.html_flow_convert.specs.Nodes.{made_head, pre_wrap_head};
 
 use html_dom_tree::{HtmlElement, HtmlNode, Span};
 use html_names::tag;
@@ -13,7 +13,7 @@ use std::alloc::{AllocError, Global};
 /// A forced line break.
 #[tactic(auto, unfolding(html_names::specs::Tables::known_tags))]
 pub fn break_element(alloc: Global, span: Span) -> HtmlElement
-    ensures { element_view result ≡ (plain_head (codes "br") [] span.0, none) }
+    ensures { element_view result ≡ (made_head (codes "br") [] span.0, none) }
 {
     HtmlElement::new(alloc, tag::br).spanned(span)
 }

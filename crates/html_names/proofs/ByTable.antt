@@ -5,7 +5,7 @@ use Rattle.std.proofs.lemmas.Bool.{and_parts}
 use Rattle.std.proofs.lemmas.Slice.Eq.{bytes_eq-Decides}
 use Rattle.html_names.specs.Names.{stands_in}
 use Rattle.html_names.specs.Characters.{is_tag_char}
-use Rattle.html_names.specs.Held.{name_of, IsHeld}
+use Rattle.html_names.specs.Held.{held_text, IsHeld}
 use Rattle.html_names.specs.ByNumber.{has_kind, name_has, name_display}
 use Rattle.html_names.specs.Tables.{known_tags, tag_count}
 use Rattle.html_names.specs.Kinds.{is_void, void_names, is_raw, raw_names, is_escapable_raw, escapable_raw_names, is_foreign_self_closing, foreign_self_closing_names, is_mathml, mathml_names, is_token, token_names, is_metadata_content, metadata_content_names, is_sectioning_content, sectioning_content_names, is_heading_content, heading_content_names, is_phrasing_content, phrasing_content_names, is_flow_beside_phrasing, flow_beside_phrasing_names, is_not_palpable, not_palpable_names, is_embedded_content, embedded_content_names, is_interactive_content, interactive_content_names, is_script_supporting_element, script_supporting_element_names, is_replaced, replaced_names, line_break_names, is_line_break}
@@ -42,7 +42,7 @@ outside table (l ∷ ls) t a h =
 -- the table says of each known tag whether it is of the kind, as the test of its text does
 abbrev pub HasKind : (kind : ℕ) → (test : List ℕ → Bool) → Type 0
 HasKind kind test = (name : Name) → IsHeld tag_count known_tags is_tag_char name →
-    name_has kind name ≡ test (name_of known_tags name)
+    name_has kind name ≡ test (held_text known_tags name)
 
 by_table : (kind : ℕ) (list : List (List ℕ)) →
     map (has_kind kind) KINDS ≡ map (stands_in list) known_tags →
@@ -134,7 +134,7 @@ unfolding known_tags stands_in
 line_break_by_table = by_table LINE_BREAK line_break_names refl refl refl
 
 pub display_by_table : (name : Name) → IsHeld tag_count known_tags is_tag_char name →
-    name_display name ≡ default_display (name_of known_tags name)
+    name_display name ≡ default_display (held_text known_tags name)
 unfolding default_display known_tags stands_in
 display_by_table (Known n) h =
     at_place (λ d. d) default_display DISPLAYS known_tags None [] n refl h

@@ -4,7 +4,7 @@ use Rattle.std.specs.Borrow.{Bor}
 use Rattle.std.proofs.lemmas.Bool.{and_parts}
 use Rattle.html_names.specs.Names.{texts, are_ascii, stands_in}
 use Rattle.html_names.specs.Characters.{all, IsOf, is_tag_char, is_attr_char}
-use Rattle.html_names.specs.Held.{name_of, IsHeld, IsLookup, IsMade}
+use Rattle.html_names.specs.Held.{held_text, IsHeld, IsLookup, IsMade}
 use Rattle.html_names.specs.Tables.{known_tags, known_attrs, tag_count, attr_count}
 use Rattle.html_names.specs.declared.name.Name.{Name}
 use Rattle.html_names.specs.declared.name.Name.TheVariants.{Known, Own}
@@ -36,7 +36,7 @@ known_valid p (t ∷ ts) zero h a = of_test p t (and_parts _ _ a).0
 known_valid p (t ∷ ts) (suc n) h a = known_valid p ts n (omega arith) (and_parts _ _ a).1
 
 held_valid : (p : ℕ → Bool) (table : List (List ℕ)) (name : Name) → all_of p table ≡ true →
-    IsHeld (length table) table p name → IsOf p (name_of table name)
+    IsHeld (length table) table p name → IsOf p (held_text table name)
 held_valid p table (Known n) a h = known_valid p table n h a
 held_valid p table (Own s) a h = h.0
 
@@ -49,12 +49,12 @@ unfolding known_attrs
 attr_texts = refl
 
 pub tag_valid : (name : Name) → IsHeld tag_count known_tags is_tag_char name →
-    IsOf is_tag_char (name_of known_tags name)
+    IsOf is_tag_char (held_text known_tags name)
 unfolding known_tags
 tag_valid name h = held_valid is_tag_char known_tags name refl h
 
 pub attr_valid : (name : Name) → IsHeld attr_count known_attrs is_attr_char name →
-    IsOf is_attr_char (name_of known_attrs name)
+    IsOf is_attr_char (held_text known_attrs name)
 unfolding known_attrs
 attr_valid name h = held_valid is_attr_char known_attrs name refl h
 
@@ -69,7 +69,7 @@ attr_long = refl
 -- the name that is made of a valid text and of its place is held as names are, and has that text
 pub made : (count : ℕ) (table : List (List ℕ)) (p : ℕ → Bool) → length table ≡ count →
     (place : Option ℕ) (text : List ℕ) (name : Name) → IsOf p text → IsLookup table text place →
-    IsMade place text name → IsHeld count table p name × (name_of table name ≡ text)
+    IsMade place text name → IsHeld count table p name × (held_text table name ≡ text)
 made count table p long (Some m) text (Known n) v at e =
     (omega (arith, long, at.0, e), ap (λ k. get_or table k []) e ∙ at.1)
 made count table p long (Some m) text (Own s) v at e = absurd e

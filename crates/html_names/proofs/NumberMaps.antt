@@ -10,7 +10,7 @@ use Rattle.html_names.specs.declared.name.Name.{Name}
 use Rattle.html_names.specs.declared.name.Name.TheVariants.{Known, Own}
 use Rattle.html_names.specs.declared.name_table.number_map.NumberMap.{NumberMap}
 use Rattle.html_names.specs.Names.{stands_in}
-use Rattle.html_names.specs.Held.{name_of, IsHeld, same_held}
+use Rattle.html_names.specs.Held.{held_text, IsHeld, same_held}
 use Rattle.html_names.specs.NameTables.{number_in, name_at, IsNumbered}
 use Rattle.html_names.specs.NumberMaps.{number_of, HoldsNone, number_where, IsNumbering}
 use Rattle.html_names.proofs.Ascending.{stands}
@@ -78,29 +78,29 @@ added_where names name other false new e =
 -- a new name goes to the end of the list, and gets the next number
 module _ (count : ℕ) (table : List (List ℕ)) (is_valid : ℕ → Bool)
     (alike : (x y : Name) → IsHeld count table is_valid x → IsHeld count table is_valid y →
-    same_held x y ≡ bytes_eq (name_of table x) (name_of table y)) where
+    same_held x y ≡ bytes_eq (held_text table x) (held_text table y)) where
   next : (old new : NumberMap) (names : List (List ℕ)) (name : Name) →
       IsNumbering count table is_valid old names → IsHeld count table is_valid name →
-      stands_in names (name_of table name) ≡ false →
+      stands_in names (held_text table name) ≡ false →
       ((other : Name) → number_of new other
       ≡ (if same_held name other then Some (length names) else number_of old other)) →
-      IsNumbering count table is_valid new (names ++ name_of table name ∷ [])
+      IsNumbering count table is_valid new (names ++ held_text table name ∷ [])
   next old new names name was held absent put = (
-    numbered names (name_of table name) was.0 absent,
+    numbered names (held_text table name) was.0 absent,
     λ other h. put other
         ∙ rw (alike name other held h, was.1 other h)
-        (added_where names (name_of table name) (name_of table other) _ absent refl),
+        (added_where names (held_text table name) (held_text table other) _ absent refl),
   )
 
   pub numbering : (old new : NumberMap) (names after : List (List ℕ)) (name : Name) (text : List ℕ)
-      (number : ℕ) → name_of table name ≡ text → after ≡ names ++ text ∷ [] →
+      (number : ℕ) → held_text table name ≡ text → after ≡ names ++ text ∷ [] →
       number ≡ length names → IsNumbering count table is_valid old names →
       IsHeld count table is_valid name → stands_in names text ≡ false →
       ((other : Name) → number_of new other
       ≡ (if same_held name other then Some number else number_of old other)) →
       IsNumbering count table is_valid new after
   numbering old new names after name text number named added counted was held absent put =
-      let new_there : stands_in names (name_of table name) ≡ false = rw named absent in
+      let new_there : stands_in names (held_text table name) ≡ false = rw named absent in
       rw (added, sym named)
       (next old new names name was held new_there (λ other. put other ∙ rw counted refl))
 

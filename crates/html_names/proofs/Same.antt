@@ -6,7 +6,7 @@ use Rattle.std.proofs.lemmas.Slice.Eq.{bytes_eq-Decides}
 use Rattle.std.proofs.lemmas.Str.{IsUtf8-string_bytes}
 use Rattle.html_names.specs.Names.{rises, stands_in}
 use Rattle.html_names.specs.Characters.{is_tag_char, is_attr_char}
-use Rattle.html_names.specs.Held.{name_of, IsHeld, same_held}
+use Rattle.html_names.specs.Held.{held_text, IsHeld, same_held}
 use Rattle.html_names.specs.Tables.{known_tags, known_attrs, tag_count, attr_count}
 use Rattle.html_names.specs.declared.name.Name.{Name}
 use Rattle.html_names.specs.declared.name.Name.TheVariants.{Known, Own}
@@ -48,7 +48,7 @@ module _ (count : ℕ) (table : List (List ℕ)) (p : ℕ → Bool) (up : rises 
   places m n false h l e = sym (differ m n (ltb m n) h l (eqb-false m n e) refl)
 
   pub same_by : (x y : Name) → IsHeld count table p x → IsHeld count table p y →
-      same_held x y ≡ bytes_eq (name_of table x) (name_of table y)
+      same_held x y ≡ bytes_eq (held_text table x) (held_text table y)
   same_by (Known m) (Known n) h l = places m n (m == n) h l refl
   same_by (Own s) (Own t) h l =
       let a = string_bytes s in
@@ -63,12 +63,12 @@ module _ (count : ℕ) (table : List (List ℕ)) (p : ℕ → Bool) (up : rises 
 
 pub tag_same : (x y : Name) → IsHeld tag_count known_tags is_tag_char x →
     IsHeld tag_count known_tags is_tag_char y →
-    same_held x y ≡ bytes_eq (name_of known_tags x) (name_of known_tags y)
+    same_held x y ≡ bytes_eq (held_text known_tags x) (held_text known_tags y)
 unfolding known_tags
 tag_same x y h l = same_by tag_count known_tags is_tag_char refl refl x y h l
 
 pub attr_same : (x y : Name) → IsHeld attr_count known_attrs is_attr_char x →
     IsHeld attr_count known_attrs is_attr_char y →
-    same_held x y ≡ bytes_eq (name_of known_attrs x) (name_of known_attrs y)
+    same_held x y ≡ bytes_eq (held_text known_attrs x) (held_text known_attrs y)
 unfolding known_attrs
 attr_same x y h l = same_by attr_count known_attrs is_attr_char refl refl x y h l

@@ -1,7 +1,7 @@
 -- How calls end: with what is expected, or by the first of the faults; want of memory may come
 -- before either. `IsFirst e faults` says of a fault type that e is the first of them, or want of
 -- memory.
-use Rattle.std.specs.Prelude.{◌≡◌, List, [], ◌++◌, Result, OnOk, OnErr, IfOk, IfErr}
+use Rattle.std.specs.Prelude.{◌≡◌, List, [], ◌++◌, Result, OnOk, IfOk, IfErr}
 
 -- a value is given
 pub record GivesBy {A B E F : Type 0} (IsFirst : E → List F → Type 0) (view : A → B)
@@ -14,13 +14,5 @@ pub record GivesBy {A B E F : Type 0} (IsFirst : E → List F → Type 0) (view 
 pub record AddsBy {A E F : Type 0} (IsFirst : E → List F → Type 0) (r : Result (Unit {0}) E)
     (old new added : List A) (faults : List F) : Type 0 where
   pub appended : OnOk r (new ≡ old ++ added)
-  pub clean : OnOk r (faults ≡ [])
-  pub fault : IfErr r (λ e. IsFirst e faults)
-
--- what is borrowed becomes what is expected, and stays as it was after an error
-pub record SetsBy {A E F : Type 0} (IsFirst : E → List F → Type 0) (r : Result (Unit {0}) E)
-    (old new expected : A) (faults : List F) : Type 0 where
-  pub set : OnOk r (new ≡ expected)
-  pub kept : OnErr r (new ≡ old)
   pub clean : OnOk r (faults ≡ [])
   pub fault : IfErr r (λ e. IsFirst e faults)

@@ -6,9 +6,9 @@ use Rattle.html_names.specs.Characters.{IsOf}
 use Rattle.html_names.specs.Names.{stands_in, IsPlace}
 
 -- the name's characters
-abbrev pub name_of : List (List ℕ) → Name → List ℕ
-name_of table (Known n) = slice_index_or table n []
-name_of table (Own s) = chars (string_bytes s)
+abbrev pub held_text : List (List ℕ) → Name → List ℕ
+held_text table (Known n) = slice_index_or table n []
+held_text table (Own s) = chars (string_bytes s)
 
 -- a place in a table of that length, or a text of valid characters that is not in the table
 abbrev pub IsHeld : (count : ℕ) (table : List (List ℕ)) (is_valid : ℕ → Bool) → Name → Type 0

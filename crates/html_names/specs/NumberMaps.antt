@@ -7,7 +7,7 @@ use Rattle.html_names.specs.declared.name.Name.TheVariants.{Known, Own}
 use Rattle.html_names.specs.declared.name_table.number_map.NumberMap.{NumberMap}
 use Rattle.html_names.specs.Names.{stands_in}
 use Rattle.html_names.specs.NameTables.{number_in, IsNumbered}
-use Rattle.html_names.specs.Held.{name_of, IsHeld, same_held}
+use Rattle.html_names.specs.Held.{held_text, IsHeld, same_held}
 
 -- the number of a name, by how it is held, if it has one
 abbrev pub number_of : NumberMap → Name → Option ℕ
@@ -34,7 +34,7 @@ number_where names name = if stands_in names name then Some (number_in names nam
 abbrev pub IsExact : (count : ℕ) (table : List (List ℕ)) (is_valid : ℕ → Bool) → NumberMap →
     List (List ℕ) → Type 0
 IsExact count table is_valid numbers names = (name : Name) → IsHeld count table is_valid name →
-    number_of numbers name ≡ number_where names (name_of table name)
+    number_of numbers name ≡ number_where names (held_text table name)
 
 -- no name stands twice among the names, and each name has the number that it has there
 abbrev pub IsNumbering : (count : ℕ) (table : List (List ℕ)) (is_valid : ℕ → Bool) → NumberMap →

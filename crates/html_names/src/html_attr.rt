@@ -31,11 +31,11 @@ impl Model for HtmlAttr {
 
     ghost Value = { List ℕ };
 
-    ghost use Rattle.html_names.specs.Held.{name_of, IsHeld};
+    ghost use Rattle.html_names.specs.Held.{held_text, IsHeld};
     ghost use Rattle.html_names.specs.Tables.{known_attrs, attr_count};
     ghost use Rattle.html_names.specs.Characters.{is_attr_char};
 
-    ghost view = { λ t. name_of known_attrs t.name };
+    ghost view = { λ t. held_text known_attrs t.name };
 
     ghost invariant = { λ t. IsHeld attr_count known_attrs is_attr_char t.name };
 }

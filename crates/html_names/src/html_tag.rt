@@ -31,11 +31,11 @@ impl Model for HtmlTag {
 
     ghost Value = { List ℕ };
 
-    ghost use Rattle.html_names.specs.Held.{name_of, IsHeld};
+    ghost use Rattle.html_names.specs.Held.{held_text, IsHeld};
     ghost use Rattle.html_names.specs.Tables.{known_tags, tag_count};
     ghost use Rattle.html_names.specs.Characters.{is_tag_char};
 
-    ghost view = { λ t. name_of known_tags t.name };
+    ghost view = { λ t. held_text known_tags t.name };
 
     ghost invariant = { λ t. IsHeld tag_count known_tags is_tag_char t.name };
 }

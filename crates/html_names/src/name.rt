@@ -18,7 +18,7 @@ pub(crate) enum Name {
 }
 
 impl Name {
-    ghost use Rattle.html_names.specs.Held.{name_of, IsWithin};
+    ghost use Rattle.html_names.specs.Held.{held_text, IsWithin};
     ghost use Rattle.html_names.specs.ByNumber.{name_has, name_display};
     ghost use Rattle.html_names.specs.Held.{IsMade, same_held, IsOwn, IsCopy};
 
@@ -27,7 +27,7 @@ impl Name {
     pub(crate) fn as_str(&self, table: &'static [&'static str]) -> &str
         requires ascii { IsTrue (are_ascii (texts table.now)) }
         requires within { IsWithin (length table.now) self.now }
-        ensures { chars result.now ≡ name_of (texts table.now) self.now }
+        ensures { chars result.now ≡ held_text (texts table.now) self.now }
     {
         match self {
             Name::Known(place) => table[*place as usize],

@@ -19,7 +19,7 @@ pub enum Display {
 }
 
 impl Display {
-    ghost use Rattle.html_names.specs.Displays.{default_display, is_tabular, is_border, text_of};
+    ghost use Rattle.html_names.specs.Displays.{default_display, is_tabular, is_border, display_text};
 
     /// The display that a tag has without a style sheet, where it has one: this project's profile
     /// of HTML Standard 15.3.
@@ -58,7 +58,7 @@ impl Display {
 
     /// The css text.
     pub fn as_str(self) -> &'static str
-        ensures { result.now ≡ text_of self }
+        ensures { result.now ≡ display_text self }
     {
         match self {
             Display::Block => "block",

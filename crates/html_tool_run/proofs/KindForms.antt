@@ -5,7 +5,7 @@ use Rattle.serde_json.specs.declared.value.Value.{Value}
 use Rattle.serde_json.specs.Data.{Items}
 use Rattle.serde_json.specs.View.{view, items_view}
 use Rattle.serde_json.specs.Find.{as_str}
-use Rattle.html_tool_run.specs.Kinds.{named_kind, list_kind, node_of_kind, item_of_kind}
+use Rattle.html_tool_run.specs.FormKinds.{named_kind, list_kind, node_of_kind, item_of_kind}
 use Rattle.html_tool_run.specs.Spelled as tree
 use Rattle.html_tool_run.specs.SpelledItems as flow
 use Rattle.html_tool_run.specs.SpelledItems.{leaf_form}

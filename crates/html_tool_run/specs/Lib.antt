@@ -2,7 +2,7 @@ pub mod Answers
 pub mod ExportRefusals
 pub mod Fields
 pub mod Json
-pub mod Kinds
+pub mod FormKinds
 pub mod NameRefusals
 pub mod Reading
 pub mod Refusals

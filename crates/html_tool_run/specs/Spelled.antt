@@ -8,12 +8,12 @@ use Rattle.serde_json.specs.Find.{as_str}
 use Rattle.html_dom_tree.specs.Tree.{TextPair, Head, NodeView, tag_node, text_node, element_node, frame_node, NodesView, none, node, ElementView}
 use Rattle.html_tool_run.specs.Fields.{text_at, pairs_at, text_form, start_form, end_form, leaf, element_from, row_from}
 
-abbrev pub head_of : (tag : List ℕ) (pairs : List TextPair) (span : ℕ) → Head
-head_of tag pairs span =
+abbrev pub spelled_head : (tag : List ℕ) (pairs : List TextPair) (span : ℕ) → Head
+spelled_head tag pairs span =
     record { name = tag; attrs = pairs; css = []; parent = None; span = span; pre_span = false }
 
 abbrev pub element_made : (span : ℕ) → List ℕ → List TextPair → NodesView → NodeView
-element_made span tag pairs kids = element_node (head_of tag pairs span) kids
+element_made span tag pairs kids = element_node (spelled_head tag pairs span) kids
 
 abbrev pub kind_from : (kind : List ℕ)
     (as_text as_element as_start as_end : Option (NodeView × ℕ)) → Option (NodeView × ℕ)

@@ -5,7 +5,7 @@ ghost use Rattle.serde_json.specs.View.{view, items_view};
 ghost use Rattle.html_dom_tree.specs.Views.{tag_view};
 ghost use Rattle.html_flow_convert.specs.Items.{tag_item, space_item, break_item, hole_item};
 ghost use Rattle.html_tool_run.specs.Fields.{leaf, text_at, pairs_at, element_from};
-ghost use Rattle.html_tool_run.specs.Kinds.{item_of_kind};
+ghost use Rattle.html_tool_run.specs.FormKinds.{item_of_kind};
 ghost use Rattle.html_tool_run.specs.Reading.{ReadsItem, ReadsItems};
 ghost use Rattle.html_tool_run.specs.SpelledItems.{spelled_items, spelled_item, spelled_text, lone};
 ghost use Rattle.html_tool_run.specs.SpelledItems.{element_form, block_form, box_form};

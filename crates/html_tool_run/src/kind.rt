@@ -2,7 +2,7 @@
 
 ghost use Rattle.std.specs.Prelude.{◌≡◌};
 ghost use Rattle.serde_json.specs.View.{items_view};
-ghost use Rattle.html_tool_run.specs.Kinds.{list_kind, named_kind};
+ghost use Rattle.html_tool_run.specs.FormKinds.{list_kind, named_kind};
 
 use serde_json::Value;
 
@@ -40,7 +40,7 @@ pub(crate) fn list_kind(list: &[Value]) -> Option<Kind>
 }
 
 /// The kind of that name.
-#[tactic(auto, unfolding(crate::specs::Kinds::named_kind))]
+#[tactic(auto, unfolding(crate::specs::FormKinds::named_kind))]
 fn named_kind(name: &str) -> Option<Kind>
     ensures { result ≡ named_kind name.now }
 {

@@ -5,7 +5,7 @@ ghost use Rattle.serde_json.specs.View.{view, items_view};
 ghost use Rattle.html_dom_tree.specs.Tree.{tag_node};
 ghost use Rattle.html_dom_tree.specs.Views.{tag_view};
 ghost use Rattle.html_tool_run.specs.Fields.{leaf, text_at, pairs_at, element_from};
-ghost use Rattle.html_tool_run.specs.Kinds.{node_of_kind};
+ghost use Rattle.html_tool_run.specs.FormKinds.{node_of_kind};
 ghost use Rattle.html_tool_run.specs.Reading.{ReadsNode, ReadsNodes};
 ghost use Rattle.html_tool_run.specs.Spelled.{spelled_element, spelled_node, spelled_text};
 ghost use Rattle.html_tool_run.specs.Spelled.{element_form, element_made, list_at};

@@ -6,14 +6,14 @@ use Rattle.std.specs.Fmt.{decimal, signed_decimal}
 use Rattle.std.specs.List.{join_by, list_any}
 use Rattle.std.specs.declared.alloc.Global.{Global}
 use Rattle.html_names.specs.Names.{stands_in}
-use Rattle.html_names.specs.Texts.{text_view}
+use Rattle.html_names.specs.Texts.{text_view, texts_view}
 use Rattle.html_values_css.specs.CastFaults.{IsFirst}
 use Rattle.html_values_css.specs.Colors.{color_text}
 use Rattle.html_values_css.specs.Endings.{Gives}
 use Rattle.html_values_css.specs.declared.direction.Dir.{Dir}
 use Rattle.html_values_css.specs.declared.direction.Dir.TheVariants.{LTR, RTL, TTB, BTT}
 use Rattle.html_values.specs.AttrTexts.{word_of, dir_text, has_year, moment_text, duration_text, size_text, candidate_text}
-use Rattle.html_values.specs.Types.{texts_view, AttrTypeView, presence, native, strings, union, list, AttrTypesView, no_attr_types, attr_type}
+use Rattle.html_values.specs.Types.{AttrTypeView, presence, native, strings, union, list, AttrTypesView, no_attr_types, attr_type}
 use Rattle.html_values.specs.Values.{ValueView, none_value, auto_value, bool_value, int_value, str_value, color_value, datetime_value, duration_value, dir_value, image_value, array_value, ValuesView, no_values, value}
 use Rattle.html_values.specs.declared.image.ImageCandidate.{ImageCandidate}
 use Rattle.html_values_css.specs.declared.cast_fault.CastFault.{CastFault}
@@ -221,11 +221,11 @@ item_texts inner separator (value v vs) =
     and_then (item_text separator (inner v)) (item_texts inner separator vs)
 
 -- a space stands after a comma
-abbrev pub separator_text : ℕ → List ℕ
-separator_text separator = if separator == 44 then codes ", " else separator ∷ []
+abbrev pub list_separator_text : ℕ → List ℕ
+list_separator_text separator = if separator == 44 then codes ", " else separator ∷ []
 
 abbrev pub list_answer : ℕ → Texts → CastAnswer
-list_answer separator (Ok texts) = gives (join_by (λ t. t) (separator_text separator) texts)
+list_answer separator (Ok texts) = gives (join_by (λ t. t) (list_separator_text separator) texts)
 list_answer separator (Err f) = refuses f
 
 -- how a call ends that makes the texts of an array's items

@@ -2,7 +2,7 @@
 use Rattle.std.specs.Prelude.{ℕ, List, [], ◌∷◌, map, Bool, String}
 use Rattle.std.specs.Box.{box_value}
 use Rattle.std.specs.declared.alloc.Global.{Global}
-use Rattle.html_names.specs.Texts.{text_view}
+use Rattle.html_names.specs.Texts.{texts_view, text_view}
 use Rattle.html_values.specs.declared.native_type.NativeType.{NativeType}
 use Rattle.html_values.specs.declared.attr_type.AttrType.{AttrType, AttrType-F, fold-AttrType}
 use Rattle.html_values.specs.declared.attr_type.ListType.{ListType, ListType-F}
@@ -22,9 +22,6 @@ mutual
 abbrev pub attr_types_of : List AttrTypeView → AttrTypesView
 attr_types_of [] = no_attr_types
 attr_types_of (k ∷ ks) = attr_type k (attr_types_of ks)
-
-abbrev pub texts_view : List (String Global) → List (List ℕ)
-texts_view = map text_view
 
 abbrev pub list_type_step : ListType-F AttrTypeView AttrTypeView → AttrTypeView
 list_type_step l = list (box_value l.inner) l.separator l.shorthand

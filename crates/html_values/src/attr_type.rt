@@ -1,7 +1,7 @@
 ghost use Rattle.std.specs.Prelude.{◌≡◌, ◌&&◌, false, IfOk, IfErr, Ok};
-ghost use Rattle.html_names.specs.Texts.{text_view};
+ghost use Rattle.html_names.specs.Texts.{text_view, texts_view};
 ghost use Rattle.html_values.specs.Casts.{GivesCast, GivesTexts, shorthand_answer, option_answer, cast, castable, castable_by_any, first_cast, has_presence, item_texts, presence_in, text_answer};
-ghost use Rattle.html_values.specs.Types.{inner_view, list, list_type_view, texts_view, attr_type_view, attr_types_view};
+ghost use Rattle.html_values.specs.Types.{inner_view, list, list_type_view, attr_type_view, attr_types_view};
 ghost use Rattle.html_values.specs.Values.{value_view, values_view};
 
 use crate::cast::{allowed_text, is_among, join, text_or_empty, without_separator};

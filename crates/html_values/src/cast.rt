@@ -4,10 +4,9 @@ ghost use Rattle.std.specs.Prelude.{◌≡◌, ◌++◌, ◌==◌, chars, IfOk, 
 ghost use Rattle.std.specs.List.{flat_map, join_by, list_any};
 ghost use Rattle.std.specs.Str.{bytes_eq};
 ghost use Rattle.html_names.specs.Names.{stands_in};
-ghost use Rattle.html_names.specs.Texts.{text_view};
+ghost use Rattle.html_names.specs.Texts.{text_view, texts_view};
 ghost use Rattle.html_values.specs.Attributes.{IsText};
-ghost use Rattle.html_values.specs.Casts.{option_answer, separator_text, item_answer, gives, GivesCast, text_answer, text_result, item_text, strings_cast};
-ghost use Rattle.html_values.specs.Types.{texts_view};
+ghost use Rattle.html_values.specs.Casts.{option_answer, list_separator_text, item_answer, gives, GivesCast, text_answer, text_result, item_text, strings_cast};
 ghost use Rattle.html_values.specs.Values.{value_view};
 
 use crate::text::empty;
@@ -82,7 +81,7 @@ pub(crate) fn without_separator(text: String, separator: char) -> Result<String,
 
 /// Adds the separator, and a space after a comma.
 fn push_separator(text: &mut Output, separator: char) -> Result<(), AllocError>
-    ensures { OnOk result (text.new ≡ text.old ++ separator_text separator) }
+    ensures { OnOk result (text.new ≡ text.old ++ list_separator_text separator) }
 {
     text.push(separator)?;
     if separator == ',' {
@@ -93,7 +92,7 @@ fn push_separator(text: &mut Output, separator: char) -> Result<(), AllocError>
 
 /// Texts with the separator between them.
 pub(crate) fn join(alloc: Global, texts: &[String], separator: char) -> Result<String, AllocError>
-    ensures { IsText result (join_by (λ t. t) (separator_text separator) (texts_view texts.now)) }
+    ensures { IsText result (join_by (λ t. t) (list_separator_text separator) (texts_view texts.now)) }
 {
     let mut text = Output::new(alloc);
     if let [first, others @ ..] = texts {
@@ -106,7 +105,7 @@ pub(crate) fn join(alloc: Global, texts: &[String], separator: char) -> Result<S
 /// Adds texts, each after the separator.
 fn push_others(text: &mut Output, others: &[String], separator: char) -> Result<(), AllocError>
     ensures { OnOk result (text.new ≡ text.old
-        ++ flat_map (λ t. separator_text separator ++ t) (texts_view others.now)) }
+        ++ flat_map (λ t. list_separator_text separator ++ t) (texts_view others.now)) }
 {
     for other in others {
         push_separator(text, separator)?;

@@ -5,7 +5,7 @@ use Rattle.std.proofs.lemmas.Str.{chars-append, chars-nil, IsUtf8-append, encode
 use lib.Utf8.{encodes}
 use Rattle.html_names.specs.Texts.{text_view}
 use Rattle.html_names.proofs.Lists.{chars_ascii}
-use Rattle.html_values_css.specs.Properties.{property_view, list_view, declaration, following, inline_text}
+use Rattle.html_values_css.specs.Properties.{property_view, list_view, declaration, following_pairs, inline_text}
 use Rattle.html_values_css.specs.declared.property.Property.{Property}
 
 abbrev pub declaration_bytes : Property → List ℕ
@@ -36,11 +36,11 @@ declaration_is p =
       colon,
     ) refl
 
-following_is : (ps : List Property) → encodes (following (list_view ps)) ≡ following_bytes ps
+following_is : (ps : List Property) → encodes (following_pairs (list_view ps)) ≡ following_bytes ps
 following_is [] = refl
 following_is (p ∷ ps) =
     rw (
-      encodes-append (codes "; " ++ declaration (property_view p)) (following (list_view ps)),
+      encodes-append (codes "; " ++ declaration (property_view p)) (following_pairs (list_view ps)),
       encodes-append (codes "; ") (declaration (property_view p)),
       semicolon,
       declaration_is p,
@@ -50,7 +50,7 @@ following_is (p ∷ ps) =
 pub inline_is : (ps : List Property) → encodes (inline_text (list_view ps)) ≡ inline_bytes ps
 inline_is [] = refl
 inline_is (p ∷ ps) = rw (
-  encodes-append (declaration (property_view p)) (following (list_view ps)),
+  encodes-append (declaration (property_view p)) (following_pairs (list_view ps)),
   declaration_is p,
   following_is ps,
 ) refl
@@ -80,7 +80,7 @@ declaration_chars p =
     ∙ ap (λ t. t ++ text_view p.value) (chars-append (string_bytes p.name) (codes ": ")
     (IsUtf8-string_bytes p.name) ∙ ap (λ t. text_view p.name ++ t) colon_chars)
 
-following_chars : (ps : List Property) → chars (following_bytes ps) ≡ following (list_view ps)
+following_chars : (ps : List Property) → chars (following_bytes ps) ≡ following_pairs (list_view ps)
 following_chars [] = chars-nil
 following_chars (p ∷ ps) =
     chars-append (codes "; " ++ declaration_bytes p) (following_bytes ps)

@@ -3,7 +3,7 @@ use Rattle.std.proofs.Common.{◌≡◌, ℕ, ℤ, List, [], ◌∷◌, ◌++◌
 use Rattle.std.specs.List.{filter, flat_map}
 use Rattle.std.specs.declared.alloc.AllocError.{AllocError}
 use Rattle.html_values_css.specs.Quantities.{is_zero, is_negative}
-use Rattle.html_values_css.specs.Sums.{Part, Parts, Zero, One, More, following, whole_sum, sum_text, written_sum, next, next_parts, next_text, next_warnings, with_part, sum_end, quantity_part}
+use Rattle.html_values_css.specs.Sums.{Part, Parts, Zero, One, More, following_part, whole_sum, sum_text, written_sum, next, next_parts, next_text, next_warnings, with_part, sum_end, quantity_part}
 use Rattle.html_values_css.specs.Writer.{WriterState, Emits, SumsUp}
 use Rattle.html_values_css.specs.Sink.{StartsWith, SinkAnswers}
 use Rattle.html_values_css.specs.declared.sink.Warning.{Warning}
@@ -22,33 +22,33 @@ kept z p ps = if not z then p ∷ shown ps else shown ps
 
 more_step : (z : Bool) (own : List ℕ) (p : Part) (ps : List Part)
     → ((own : List ℕ) → written_sum More own ps ≡ own
-    ++ (flat_map following (shown ps) ++ codes ")"))
-    → stepped z More own p ps ≡ own ++ (flat_map following (kept z p ps) ++ codes ")")
+    ++ (flat_map following_part (shown ps) ++ codes ")"))
+    → stepped z More own p ps ≡ own ++ (flat_map following_part (kept z p ps) ++ codes ")")
 more_step true own p ps h = h own
-more_step false own p ps h = h (own ++ following p) ∙ append_assoc own (following p) _
-    ∙ ap (λ l. own ++ l) (sym (append_assoc (following p) (flat_map following (shown ps))
+more_step false own p ps h = h (own ++ following_part p) ∙ append_assoc own (following_part p) _
+    ∙ ap (λ l. own ++ l) (sym (append_assoc (following_part p) (flat_map following_part (shown ps))
     (codes ")")))
 
 -- the parts after a second one
 after_more : (ps : List Part) (own : List ℕ) → written_sum More own ps ≡ own
-    ++ (flat_map following (shown ps) ++ codes ")")
+    ++ (flat_map following_part (shown ps) ++ codes ")")
 after_more [] own = refl
 after_more (p ∷ ps) own = more_step (is_zero p.number) own p ps (after_more ps)
 
 -- one part, and then these
 abbrev with_first : List ℕ → List Part → List ℕ
 with_first own [] = own
-with_first own (q ∷ qs) = codes "calc(" ++ own ++ flat_map following (q ∷ qs) ++ codes ")"
+with_first own (q ∷ qs) = codes "calc(" ++ own ++ flat_map following_part (q ∷ qs) ++ codes ")"
 
 one_step : (z : Bool) (own : List ℕ) (p : Part) (ps : List Part) → written_sum One own ps
     ≡ with_first own (shown ps) → stepped z One own p ps ≡ with_first own (kept z p ps)
 one_step true own p ps h = h
 one_step false own p ps h =
-    after_more ps (codes "calc(" ++ own ++ following p)
-    ∙ append_assoc (codes "calc(" ++ own) (following p) _
-    ∙ ap (λ l. codes "calc(" ++ own ++ l) (sym (append_assoc (following p)
-    (flat_map following (shown ps)) (codes ")")))
-    ∙ sym (append_assoc (codes "calc(" ++ own) (following p ++ flat_map following (shown ps))
+    after_more ps (codes "calc(" ++ own ++ following_part p)
+    ∙ append_assoc (codes "calc(" ++ own) (following_part p) _
+    ∙ ap (λ l. codes "calc(" ++ own ++ l) (sym (append_assoc (following_part p)
+    (flat_map following_part (shown ps)) (codes ")")))
+    ∙ sym (append_assoc (codes "calc(" ++ own) (following_part p ++ flat_map following_part (shown ps))
     (codes ")"))
 
 after_one : (ps : List Part) (own : List ℕ) → written_sum One own ps ≡ with_first own (shown ps)

@@ -9,7 +9,7 @@ use Rattle.std.proofs.lemmas.Fmt.{decimal_is_IsNumeral}
 use lib.IntN.{+ℤ_idl, +ℤ_idr}
 use Rattle.html_names.specs.Names.{listed_names}
 use Rattle.html_values_css.specs.Quantities.{IsQuantity, is_zero, is_negative, nearest_hundreds, point_text, sign_text, fixed_text, abs_text, em_text, ratio_text}
-use Rattle.html_values_css.specs.Sums.{Part, following, whole_sum, sum_text, quantity_part}
+use Rattle.html_values_css.specs.Sums.{Part, following_part, whole_sum, sum_text, quantity_part}
 use Rattle.html_values_css.specs.Lengths.{Amounts, nothing, negative_amounts, amounts_sum, both, part_value, value_with_sign, terms, sum_value, before_close, of_body, css_value, round, LengthValue, RelValue}
 use Rattle.html_values_css.proofs.Digits.{whole_fits, power_above}
 use Rattle.html_values_css.proofs.Values.{of_abs, of_em, of_ratio, abs_value, em_value, ratio_value, fraction_all}
@@ -153,10 +153,10 @@ next_word false w x y rest ws p q r h = first_word w (codes "+ " ++ y ++ rest) p
 
 -- the words of a sum
 listed_sum : (ts : List Term) (w : List ℕ) → IsWord w
-    → listed_names (w ++ flat_map following (map as_part ts)) ≡ w ∷ words ts
+    → listed_names (w ++ flat_map following_part (map as_part ts)) ≡ w ∷ words ts
 listed_sum [] w p = ap listed_names (append-nil w) ∙ one_word w p
 listed_sum (t ∷ ts) w p = next_word (is_negative t.z) w (t.text (neg_ℤ t.z)) (t.text t.z)
-    (flat_map following (map as_part ts)) (words ts) p t.opposite_word t.word (listed_sum ts)
+    (flat_map following_part (map as_part ts)) (words ts) p t.opposite_word t.word (listed_sum ts)
 
 signed_value : (t : Term) → value_with_sign (if is_negative t.z then codes "-" else codes "+")
     (part_value (if is_negative t.z then t.text (neg_ℤ t.z) else t.text t.z))
@@ -205,7 +205,7 @@ enclosed_value (t ∷ []) = alone (t.text t.z) t.part ∙ t.value
     ∙ ap Some (sym (added_nothing (t.amount (round t.z))))
 enclosed_value (t ∷ s ∷ ts) =
     let first = t.text t.z in
-    let others = flat_map following (map as_part (s ∷ ts)) in
+    let others = flat_map following_part (map as_part (s ∷ ts)) in
     ap css_value (append_assoc (codes "calc(" ++ first) others (codes ")")
     ∙ append_assoc (codes "calc(") first (others ++ codes ")")
     ∙ ap (λ l. codes "calc(" ++ l) (sym (append_assoc first others (codes ")"))))

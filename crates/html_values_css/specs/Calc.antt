@@ -1,6 +1,6 @@
 -- What a sum has written, and what stood before it.
 use Rattle.std.specs.Prelude.{◌≡◌, ◌≤◌, ℕ, ℤ, List, ◌++◌, codes, take, drop, length, chars, string_bytes}
-use Rattle.html_values_css.specs.Sums.{Part, Parts, Zero, One, More, following}
+use Rattle.html_values_css.specs.Sums.{Part, Parts, Zero, One, More, following_part}
 use Rattle.html_values_css.specs.Writer.{WriterState}
 use Rattle.html_values_css.specs.declared.sink.Warning.{Warning}
 use Rattle.html_values_css.specs.declared.writer.CssWriter.{CssWriter}
@@ -35,8 +35,8 @@ part_of number text warnings opposite x = record {
 -- what one more part appends
 abbrev pub next_part_text : Parts → Part → List ℕ
 next_part_text Zero p = p.text
-next_part_text One p = following p
-next_part_text More p = following p
+next_part_text One p = following_part p
+next_part_text More p = following_part p
 
 -- the opening comes with the second part
 abbrev pub with_opening : Parts → List ℕ → List ℕ

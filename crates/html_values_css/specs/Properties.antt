@@ -16,8 +16,8 @@ use Rattle.html_values_css.specs.declared.property.Property.{Property}
 abbrev pub property_view : Property → TextPair
 property_view p = (text_view p.name, text_view p.value)
 
-abbrev pub name_of : Property → List ℕ
-name_of p = text_view p.name
+abbrev pub property_name : Property → List ℕ
+property_name p = text_view p.name
 
 abbrev pub list_view : List Property → List TextPair
 list_view = map property_view
@@ -46,10 +46,10 @@ abbrev pub declaration : TextPair → List ℕ
 declaration p = p.0 ++ codes ": " ++ p.1
 
 -- declarations after a first one
-abbrev pub following : List TextPair → List ℕ
-following = flat_map (λ p. codes "; " ++ declaration p)
+abbrev pub following_pairs : List TextPair → List ℕ
+following_pairs = flat_map (λ p. codes "; " ++ declaration p)
 
 -- `name: value` joined by `; `
 abbrev pub inline_text : List TextPair → List ℕ
 inline_text [] = []
-inline_text (p ∷ ps) = declaration p ++ following ps
+inline_text (p ∷ ps) = declaration p ++ following_pairs ps

@@ -15,14 +15,14 @@ pub record Part : Type 0 where
   pub opposite_warnings : List Warning
 
 -- a part as one that follows others
-abbrev pub following : Part → List ℕ
-following p = if is_negative p.number then codes " - " ++ p.opposite_text else codes " + " ++ p.text
+abbrev pub following_part : Part → List ℕ
+following_part p = if is_negative p.number then codes " - " ++ p.opposite_text else codes " + " ++ p.text
 
 -- none is `0`, one stands alone, and more stand in `calc`
 abbrev pub whole_sum : List Part → List ℕ
 whole_sum [] = codes "0"
 whole_sum (p ∷ []) = p.text
-whole_sum (p ∷ q ∷ ps) = codes "calc(" ++ p.text ++ flat_map following (q ∷ ps) ++ codes ")"
+whole_sum (p ∷ q ∷ ps) = codes "calc(" ++ p.text ++ flat_map following_part (q ∷ ps) ++ codes ")"
 
 -- parts of exactly zero are dropped
 abbrev pub sum_text : List Part → List ℕ
@@ -57,8 +57,8 @@ next_parts parts p = if is_zero p.number then parts else next parts
 -- the second part puts the opening before the first
 abbrev pub with_part : Parts → List ℕ → Part → List ℕ
 with_part Zero own p = own ++ p.text
-with_part One own p = codes "calc(" ++ own ++ following p
-with_part More own p = own ++ following p
+with_part One own p = codes "calc(" ++ own ++ following_part p
+with_part More own p = own ++ following_part p
 
 abbrev pub next_text : Parts → List ℕ → Part → List ℕ
 next_text parts own p = if is_zero p.number then own else with_part parts own p

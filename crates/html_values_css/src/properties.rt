@@ -1,6 +1,6 @@
 ghost use Rattle.std.specs.Prelude.{◌≡◌, ◌↔◌, ℕ, [], IsTrue, chars, MatchResult, OnOk, OnErr, IfOk, IfErr};
 ghost use Rattle.html_names.specs.Texts.{text_view};
-ghost use Rattle.html_values_css.specs.Properties.{list_view, property_view, by_name, name_of, IsListed, with_value, without, inline_text};
+ghost use Rattle.html_values_css.specs.Properties.{list_view, property_view, by_name, property_name, IsListed, with_value, without, inline_text};
 ghost use lib.Utf8.{encodes};
 ghost use Rattle.html_values_css.specs.Search.{IsFound, IsGap};
 
@@ -155,15 +155,15 @@ impl Hash for Properties {
 /// Where the property of that name stands, or where it would stand.
 fn search(list: &[Property], name: &str) -> Result<usize, usize>
     requires { IsListed (list_view list.now) }
-    ensures { MatchResult result (IsFound by_name name_of list.now (chars name.now))
-        (IsGap by_name name_of list.now (chars name.now)) }
+    ensures { MatchResult result (IsFound by_name property_name list.now (chars name.now))
+        (IsGap by_name property_name list.now (chars name.now)) }
 {
     list.binary_search_by(|property| compare(property, name))
 }
 
 /// How the property's name compares to another, byte by byte.
 fn compare(property: &Property, name: &str) -> Ordering
-    ensures { result ≡ by_name (name_of property.now) (chars name.now) }
+    ensures { result ≡ by_name (property_name property.now) (chars name.now) }
 {
     property.name.as_str().cmp(name)
 }
@@ -192,7 +192,7 @@ fn put_at(
     name: &str,
     value: String,
 ) -> Result<(), Refused<String>>
-    requires { IsGap by_name name_of list.old.items (chars name.now) at }
+    requires { IsGap by_name property_name list.old.items (chars name.now) at }
     ensures ok { OnOk result (list_view list.new.items ≡ with_value (list_view list.old.items)
         (chars name.now) (text_view value)) }
     ensures kept { OnErr result (list_view list.new.items ≡ list_view list.old.items) }

@@ -1,6 +1,6 @@
 ghost use Rattle.std.specs.Prelude.{◌≡◌, ℕ, List, [], IfOk, chars, codes, ◌++◌};
 ghost use Rattle.html_names.specs.Texts.{text_view};
-ghost use Rattle.html_names.specs.Displays.{text_of};
+ghost use Rattle.html_names.specs.Displays.{display_text};
 ghost use Rattle.html_values_css.specs.Sink.{TakesWarning, Hands};
 ghost use Rattle.html_values_css.specs.Writer.{writer_state, Emits};
 ghost use Rattle.html_values_css.specs.declared.sink.Warning.{Warning};
@@ -89,7 +89,7 @@ impl ToCss for String {
 }
 
 impl ToCss for Display {
-    ghost text = { text_of };
+    ghost text = { display_text };
 
     ghost warnings = { λ _. [] };
 

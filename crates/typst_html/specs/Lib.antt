@@ -16,7 +16,7 @@ pub use Rattle.typst_html_read.specs.Endings as ReadEndings
 pub use Rattle.typst_html_read.specs.PlainElements
 pub use Rattle.typst_html_read.specs.ReadFaults
 pub use Rattle.typst_html_read.specs.ReadLaws
-pub use Rattle.typst_html_read.specs.Reading
+pub use Rattle.typst_html_read.specs.LimitedReading
 pub use Rattle.typst_html_page.specs.PageLaws
 pub use Rattle.typst_html_page.specs.PageTexts
 pub use Rattle.typst_html_page.specs.PageViews

@@ -10,7 +10,7 @@ use Rattle.html_dom_tree.specs.PlainTree.{words, branch, Plains, no_plains, plai
 use Rattle.html_dom_tree.specs.Tree.{TextPair, Head, NodeView, tag_node, text_node, element_node, frame_node, NodesView, none, node}
 use Rattle.typst_html_encode.specs.Collapsing.{Atom, visible, ignorable, collapsible, kept, object, break, border, Piece, char, edge, merged_edges, text_atoms, preserves, has_border_display, has_border, element_atoms, plains_atoms, is_supported_by, then_supports, atoms_pieces, collapsed_pieces}
 use Rattle.typst_html_encode.specs.Indented.{with_indent, node_layout, nodes_layout, content_layout}
-use Rattle.typst_html_encode.specs.IndentsCollapse.{HeadIsEdged, NodesAreEdged, body_of, body_in, ContentCollapses, BodyCollapses}
+use Rattle.typst_html_encode.specs.IndentsCollapse.{HeadIsEdged, NodesAreEdged, body_children, body_in, ContentCollapses, BodyCollapses}
 use Rattle.typst_html_encode.specs.Layout.{spaces, indent, allows_pretty_inside, wants_pretty_around, nodes_want_pretty, is_pretty_inside}
 use Rattle.typst_html_encode.specs.Text.{ends_at_once}
 use Rattle.typst_html_encode.specs.declared.layout.Margin.{Margin}
@@ -340,7 +340,7 @@ body_is_not_raw = refl
 is_body : (name : List ℕ) → bytes_eq name (codes "body") ≡ true → is_raw name ≡ false
 is_body name e = ap is_raw ((bytes_eq-Decides name (codes "body")).0 e) ∙ body_is_not_raw
 
-pub body_normal : (ns below : NodesView) → body_of ns ≡ Some below →
+pub body_normal : (ns below : NodesView) → body_children ns ≡ Some below →
     body_in (nodes_normal ns) ≡ Some (nodes_normal below)
 unfolding nodes_normal
 body_normal none below e = cc
@@ -352,7 +352,7 @@ body_normal (node (element_node h kids) ns) below e =
     elim (cases_Bool (bytes_eq h.name (codes "body"))) [
       | inl t ↦ let f : Some kids ≡ Some below = rw t at e in let g : kids ≡ below =
           cc in rw (t, g) refl
-      | inr t ↦ let f : body_of ns ≡ Some below = rw t at e in rw t (body_normal ns below f)
+      | inr t ↦ let f : body_children ns ≡ Some below = rw t at e in rw t (body_normal ns below f)
     ]
 
 -- the first body of the row collapses to the same
@@ -361,7 +361,7 @@ HoldsBody ms below = (inside : Plains) × (body_in (nodes_normal ms) ≡ Some in
     × (collapsed_pieces (plains_atoms false inside)
     ≡ collapsed_pieces (plains_atoms false (nodes_normal below)))
 
-row_body : (due : Bool) (level : ℕ) (ns below : NodesView) → body_of ns ≡ Some below →
+row_body : (due : Bool) (level : ℕ) (ns below : NodesView) → body_children ns ≡ Some below →
     NodesAreEdged below → HoldsBody (nodes_layout due (pretty_at level) ns) below
 unfolding node_layout nodes_layout nodes_normal
 row_body due level none below e c = absurd (cc)
@@ -395,7 +395,7 @@ row_body due level (node (element_node h kids) ns) below e c =
             rw g (content_collapses (level + 1) h below (is_body h.name t) c),
           )
       | inr t ↦
-          let f : body_of ns ≡ Some below = rw t at e in
+          let f : body_children ns ≡ Some below = rw t at e in
           let r = row_body (wants_pretty_around h) level ns below f c in
           (r.0, past ∙ rw t r.1, r.2)
     ]

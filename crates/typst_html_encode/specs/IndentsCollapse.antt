@@ -25,13 +25,13 @@ NodesAreEdged (node (element_node h kids) ns) = (HeadIsEdged h × NodesAreEdged 
 NodesAreEdged (node (frame_node b) ns) = ⊥
 
 -- the children of the first `body`
-abbrev pub body_of : NodesView → Option NodesView
-body_of none = None
-body_of (node (tag_node t) ns) = body_of ns
-body_of (node (text_node s span) ns) = body_of ns
-body_of (node (element_node h kids) ns) = if bytes_eq h.name (codes "body") then Some kids
-    else body_of ns
-body_of (node (frame_node b) ns) = body_of ns
+abbrev pub body_children : NodesView → Option NodesView
+body_children none = None
+body_children (node (tag_node t) ns) = body_children ns
+body_children (node (text_node s span) ns) = body_children ns
+body_children (node (element_node h kids) ns) = if bytes_eq h.name (codes "body") then Some kids
+    else body_children ns
+body_children (node (frame_node b) ns) = body_children ns
 
 abbrev pub body_in : Plains → Option Plains
 body_in no_plains = None
@@ -51,7 +51,7 @@ ContentCollapses = (level : ℕ) (h : Head) (ns : NodesView) → is_raw h.name �
 -- to the same
 abbrev pub BodyCollapses : Type 0
 BodyCollapses = (e : ElementView) (below : NodesView) → is_raw e.0.name ≡ false →
-    body_of e.1 ≡ Some below → NodesAreEdged below →
+    body_children e.1 ≡ Some below → NodesAreEdged below →
     (inside : Plains) × (body_in (nodes_normal (element_layout e).1) ≡ Some inside)
     × (collapsed_pieces (plains_atoms false inside)
     ≡ collapsed_pieces (plains_atoms false (nodes_normal below)))

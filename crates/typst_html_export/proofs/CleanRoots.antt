@@ -37,7 +37,7 @@ use Rattle.typst_html_spaces.specs.PlainFlow.{is_plain_flow}
 use Rattle.typst_html_spaces.proofs.Each.{Each, Each-append}
 use Rattle.typst_html_export.specs.Assembled.{document_nodes}
 use Rattle.typst_html_export.specs.CleanInfo.{are_clean_texts, is_clean_locale, is_clean_info, CleanDocumentsAreWritten, CleanLinkedDocumentsAreWritten}
-use Rattle.typst_html_export.specs.DocumentHead.{made_node, charset_node, entry_node, viewport_node, title_node, title_nodes, description_nodes, joined_text, list_nodes, entry_nodes, lang_text}
+use Rattle.typst_html_export.specs.DocumentHead.{made_node, charset_node, entry_node, viewport_node, title_node, title_nodes, description_nodes, joined_text, list_meta_nodes, entry_nodes, lang_text}
 use Rattle.typst_html_export.specs.Exported.{linked_root, root_faults}
 use Rattle.typst_html_export.specs.SpacesInDocuments.{ArePlainItems}
 use Rattle.typst_html_export.proofs.AnchoredRoots.{MadePasses, nodes_are_anchored}
@@ -188,7 +188,7 @@ joined_is_clean (t ∷ ts) e =
     (others_are_clean ts both.1)
 
 list_entries : (name : List ℕ) (ts : List (List ℕ)) → all is_text_char name ≡ true →
-    are_clean_texts ts ≡ true → Each IsEntry (list_nodes name ts)
+    are_clean_texts ts ≡ true → Each IsEntry (list_meta_nodes name ts)
 list_entries name [] e f = tt
 list_entries name (t ∷ ts) e f =
     (named_entry name (joined_text (t ∷ ts)) e (joined_is_clean (t ∷ ts) f), tt)
@@ -222,8 +222,8 @@ info_parts info e =
 all_entries : (info : InfoView) → InfoParts info →
     Each IsEntry (charset_node ∷ viewport_node ∷ entry_nodes info)
 all_entries info parts =
-    let authors = list_nodes (codes "authors") info.author in
-    let keywords = list_nodes (codes "keywords") info.keywords in
+    let authors = list_meta_nodes (codes "authors") info.author in
+    let keywords = list_meta_nodes (codes "keywords") info.keywords in
     let descriptions = description_nodes info.description in (
       meta_entry ((codes "charset", codes "utf-8") ∷ []) refl,
       (

@@ -9,7 +9,8 @@ use Rattle.html_dom_tree.specs.Views.{node_view, nodes_view}
 use Rattle.html_dom_tree.specs.declared.node.HtmlNode.{HtmlNode}
 use Rattle.html_dom_document.specs.Documents.{is_element_at}
 use Rattle.typst_html_export.proofs.Nodes.{from_place}
-use Rattle.typst_html_export.specs.Assembled.{Outline, own_html, own_body, nothing_own, own_among_others, own_head, is_own, is_html, own_after, first_own, shown_count, outline_by, document_outline}
+use Rattle.html_dom_document.specs.Places.{is_html}
+use Rattle.typst_html_export.specs.Assembled.{Outline, own_html, own_body, nothing_own, own_among_others, own_head, is_own, own_after, first_own, shown_count, outline_by, document_outline}
 
 -- so many nodes more
 after_after : (k : ℕ) (found : Option (ℕ × Head))

@@ -7,8 +7,8 @@ use Rattle.html_dom_tree.specs.Styled.{head_with_style, styled_node, styled_node
 use Rattle.html_dom_tree.specs.Tree.{NodeView, tag_node, text_node, element_node, frame_node, NodesView, none, node, ElementView, new_element}
 use Rattle.html_dom_tree.specs.Views.{nodes_of}
 use Rattle.html_flow_convert.specs.Protected.{nodes_by_answers}
-use Rattle.html_flow_convert.specs.Runs.{front, after_front}
-use Rattle.typst_html_encode.specs.IndentsCollapse.{body_of}
+use Rattle.html_flow_convert.specs.Runs.{blank_front, after_front}
+use Rattle.typst_html_encode.specs.IndentsCollapse.{body_children}
 use Rattle.html_dom_document.specs.Documents.{InfoView, OutputView, DocumentView, node_of, root_of, given_root, with_root, document_root}
 use Rattle.html_dom_link.specs.Anchors.{element_with_anchors}
 use Rattle.html_dom_link.specs.Events.{Targets}
@@ -23,7 +23,7 @@ use Rattle.typst_html_spaces.proofs.PlainNodes.{makes_plain_nodes, names_are_ins
 use Rattle.typst_html_spaces.specs.ReadableNodes.{AreReadable}
 use Rattle.typst_html_spaces.proofs.ReadableNodes.{styled_readable}
 use Rattle.typst_html_export.specs.Assembled.{own_head, first_own, nothing_own, document_outline, outline_by, shown_count, both_nodes, body_node, document_nodes, document_output, assembled_document}
-use Rattle.typst_html_export.specs.DocumentHead.{title_nodes, description_nodes, list_nodes, entry_nodes, head_node, lang_text}
+use Rattle.typst_html_export.specs.DocumentHead.{title_nodes, description_nodes, list_meta_nodes, entry_nodes, head_node, lang_text}
 use Rattle.typst_html_export.specs.Linked.{linked_document}
 use Rattle.typst_html_export.specs.SpacesInDocuments.{PlainDocumentsAreMade}
 
@@ -65,7 +65,7 @@ nodes_of_list none = refl
 nodes_of_list (node n ns) = ap (node n) (nodes_of_list ns)
 
 no_notes : (ns : NodesView) → both_nodes ns (document_nodes no_items) ≡ ns
-unfolding node_list item_nodes front after_front nodes_by_answers
+unfolding node_list item_nodes blank_front after_front nodes_by_answers
 no_notes ns = ap nodes_of (append-nil (node_list ns)) ∙ nodes_of_list ns
 
 -- the root that is made, with styles
@@ -85,7 +85,7 @@ unfolding styled_node
 output_is info items e = rw (outline items e, no_notes (document_nodes items)) refl
 
 pub body_is : (info : InfoView) (ns : NodesView) →
-    body_of (root_over info ns).1 ≡ Some (styled_nodes ns)
+    body_children (root_over info ns).1 ≡ Some (styled_nodes ns)
 unfolding styled_node
 body_is info ns = refl
 
@@ -124,7 +124,7 @@ description_readable : (t : Option (List ℕ)) → AreReadable (nodes_of (descri
 description_readable None = tt
 description_readable (Some t) = ((meta_not_raw, tt), tt)
 
-list_readable : (name : List ℕ) (ts : List (List ℕ)) → AreReadable (nodes_of (list_nodes name ts))
+list_readable : (name : List ℕ) (ts : List (List ℕ)) → AreReadable (nodes_of (list_meta_nodes name ts))
 list_readable name [] = tt
 list_readable name (t ∷ ts) = ((meta_not_raw, tt), tt)
 
@@ -132,7 +132,7 @@ entries_readable : (info : InfoView) → AreReadable (nodes_of (entry_nodes info
 entries_readable info =
     both_readable (title_nodes info.title) _ (title_readable info.title)
     (both_readable (description_nodes info.description) _ (description_readable info.description)
-    (both_readable (list_nodes (codes "authors") info.author) _
+    (both_readable (list_meta_nodes (codes "authors") info.author) _
     (list_readable (codes "authors") info.author)
     (list_readable (codes "keywords") info.keywords)))
 

@@ -19,7 +19,7 @@ use Rattle.typst_html_encode.specs.Text.{document_text}
 use Rattle.typst_html_encode.specs.declared.fault.ExportFault.{ExportFault}
 use Rattle.typst_html_encode.specs.declared.options.HtmlOptions.{HtmlOptions}
 use Rattle.typst_html_encode.proofs.ReadIds.{layout_keeps_ids, past_words}
-use Rattle.typst_html_export.specs.ReadLinks.{GivenLinksLeadWhenRead, IsReadable}
+use Rattle.typst_html_export.specs.ReadLinks.{GivenLinksLeadWhenRead, DocumentIsReadable}
 
 -- the ids of a tree's normal form
 normal_ids : (ns : NodesView) → plains_ids (nodes_normal ns) ≡ first_ids ns
@@ -76,12 +76,12 @@ pub lead_when_read : (frames : Frames) (options : HtmlOptions)
     (options.pretty ≡ true → ElementIsFrameFree (document_root e) →
     ElementEndsWell true (document_root e) →
     IfOk r (λ t. read (text_view t) ≡ Some (element_normal (element_layout (document_root e))))) →
-    IsReadable options (document_with_links l) →
+    DocumentIsReadable options (document_with_links l) →
     IfOk r (λ t. GivenLinksLeadWhenRead l (document_with_links l) (text_view t))
 lead_when_read frames options (Err f) d e l d_is e_is lead makes plainly prettily can = tt
 lead_when_read frames options (Ok t) d e l d_is e_is lead makes plainly prettily can =
     let is : e ≡ document_with_links l = e_is ∙ ap document_with_links d_is in
-    let here : IsReadable options e = subst (IsReadable options) (sym is) can in
+    let here : DocumentIsReadable options e = subst (DocumentIsReadable options) (sym is) can in
     let read_here : GivenLinksLeadWhenRead d e (text_view t) =
     links_lead_when_read frames options d e (text_view t) here.frame_free makes.clean
     (λ p. plainly p here.frame_free) (λ p. prettily p here.frame_free (here.ends_well p)) lead in

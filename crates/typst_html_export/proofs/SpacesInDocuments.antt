@@ -9,7 +9,7 @@ use Rattle.typst_html_encode.specs.Collapsing.{collapsed_pieces}
 use Rattle.typst_html_encode.specs.ExportFaults as writing
 use Rattle.typst_html_encode.specs.FrameWriters.{Frames}
 use Rattle.typst_html_encode.specs.Indented.{NodeEndsWell}
-use Rattle.typst_html_encode.specs.IndentsCollapse.{NodesAreEdged, body_of}
+use Rattle.typst_html_encode.specs.IndentsCollapse.{NodesAreEdged, body_children}
 use Rattle.typst_html_encode.specs.ReadingBack.{ElementIsNamed}
 use Rattle.typst_html_encode.specs.Text.{document_text}
 use Rattle.html_dom_document.specs.Documents.{InfoView, DocumentView, document_root}
@@ -41,7 +41,7 @@ record ShowsItems (root : ElementView) (items : ItemsView) : Type 0 where
   not_raw : is_raw root.0.name ≡ false
   readable : AreReadable root.1
   body : NodesView
-  body_is : body_of root.1 ≡ Some body
+  body_is : body_children root.1 ≡ Some body
   edged : NodesAreEdged body
   seen : seen_plains (nodes_normal body) ≡ items_text items
 

@@ -7,6 +7,7 @@ use Rattle.html_dom_tree.specs.Tree.{Head, NodeView, tag_node, text_node, elemen
 use Rattle.html_dom_tree.specs.Views.{nodes_of}
 use Rattle.html_dom_document.specs.Documents.{InfoView, OutputView, DocumentView, new_document}
 use Rattle.html_flow_convert.specs.Nodes.{is_tag}
+use Rattle.html_dom_document.specs.Places.{is_html}
 use Rattle.html_flow_convert.specs.Converted.{converted_nodes}
 use Rattle.html_flow_convert.specs.Depth.{items_too_deep}
 use Rattle.html_flow_convert.specs.Items.{ItemsView, no_items, item, item_span}
@@ -15,9 +16,6 @@ use Rattle.html_flow_convert.specs.declared.convert.ConversionLevel.TheVariants.
 use Rattle.html_flow_convert.specs.declared.convert.Whitespace.TheVariants.{Normal}
 use Rattle.typst_html_encode.specs.FaultViews.{ExportFaultView, too_deep, not_alone, footnotes}
 use Rattle.typst_html_export.specs.DocumentHead.{made_node, head_node, lang_text}
-
-abbrev pub is_html : Head → Bool
-is_html h = bytes_eq h.name (codes "html")
 
 -- an element that a document has of its own where one of its nodes is that
 abbrev pub is_own : Head → Bool

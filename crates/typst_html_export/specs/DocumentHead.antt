@@ -38,13 +38,13 @@ abbrev pub joined_text : List (List ℕ) → List ℕ
 joined_text = join_by (λ text. text) (codes ", ")
 
 -- where there are texts, even empty ones
-abbrev pub list_nodes : (name : List ℕ) → List (List ℕ) → List NodeView
-list_nodes name [] = []
-list_nodes name (text ∷ texts) = entry_node name (joined_text (text ∷ texts)) ∷ []
+abbrev pub list_meta_nodes : (name : List ℕ) → List (List ℕ) → List NodeView
+list_meta_nodes name [] = []
+list_meta_nodes name (text ∷ texts) = entry_node name (joined_text (text ∷ texts)) ∷ []
 
 abbrev pub entry_nodes : InfoView → List NodeView
 entry_nodes info = title_nodes info.title ++ (description_nodes info.description
-    ++ (list_nodes (codes "authors") info.author ++ list_nodes (codes "keywords") info.keywords))
+    ++ (list_meta_nodes (codes "authors") info.author ++ list_meta_nodes (codes "keywords") info.keywords))
 
 abbrev pub head_node : InfoView → NodeView
 head_node info =

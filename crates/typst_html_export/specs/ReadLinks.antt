@@ -16,6 +16,6 @@ GivenLinksLeadWhenRead old new text =
 
 -- a root whose text can be read: it has no frame, and pretty writing puts no raw text on lines of its
 -- own that ends in a closing tag without its last character
-pub record IsReadable (options : HtmlOptions) (d : DocumentView) : Type 0 where
+pub record DocumentIsReadable (options : HtmlOptions) (d : DocumentView) : Type 0 where
   pub frame_free : ElementIsFrameFree (document_root d)
   pub ends_well : options.pretty ≡ true → ElementEndsWell true (document_root d)

@@ -24,7 +24,7 @@ ghost use Rattle.typst_html_export.specs.CleanInfo.{is_clean_info};
 ghost use Rattle.typst_html_export.specs.Exported.{export_faults, export_linked_faults, export_linked_text, export_text};
 ghost use Rattle.typst_html_export.specs.Exported.{linked_root, resolved_document, resolved_root, root_faults};
 ghost use Rattle.typst_html_export.specs.Linked.{linked_document};
-ghost use Rattle.typst_html_export.specs.ReadLinks.{GivenLinksLeadWhenRead, IsReadable};
+ghost use Rattle.typst_html_export.specs.ReadLinks.{GivenLinksLeadWhenRead, DocumentIsReadable};
 ghost use Rattle.typst_html_export.specs.SpacesInDocuments.{ArePlainItems, SpacesAreSeen};
 
 use crate::document::{document_of_items, html_document};
@@ -196,7 +196,7 @@ pub fn export_linked<F: FrameWriter>(
         (resolved_document info items notes)) }
     ensures read { let info = info_view info.now in
         let items = items_view items.now in let notes = items_view footnotes.now in
-        IsReadable options.now (resolved_document info items notes) →
+        DocumentIsReadable options.now (resolved_document info items notes) →
         IfOk result (λ text. GivenLinksLeadWhenRead (linked_document info items notes)
         (resolved_document info items notes) (text_view text)) }
     ensures left { let info = info_view info.now in

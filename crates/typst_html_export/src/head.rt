@@ -5,9 +5,10 @@ ghost use Rattle.std.specs.Prelude.{◌≡◌, ◌++◌, IfOk, IsTrue, OnOk, cod
 ghost use Rattle.std.specs.List.{flat_map};
 ghost use Rattle.html_names.specs.Names.{is_ascii};
 ghost use Rattle.html_dom_tree.specs.Views.{element_view, node_view, optional_text_view, text_view};
-ghost use Rattle.html_dom_document.specs.Views.{info_view, locale_view, texts_view};
+ghost use Rattle.html_names.specs.Texts.{texts_view};
+ghost use Rattle.html_dom_document.specs.Views.{info_view, locale_view};
 ghost use Rattle.typst_html_export.specs.DocumentHead.{charset_node, description_nodes, entry_node, entry_nodes, head_node};
-ghost use Rattle.typst_html_export.specs.DocumentHead.{joined_text, lang_text, list_nodes, region_text, title_node, title_nodes, viewport_node};
+ghost use Rattle.typst_html_export.specs.DocumentHead.{joined_text, lang_text, list_meta_nodes, region_text, title_node, title_nodes, viewport_node};
 
 use html_dom_document::{DocumentInfo, Locale};
 use html_dom_tree::{HtmlElement, HtmlNode, Span};
@@ -83,7 +84,7 @@ fn push_list(
 ) -> Result<(), AllocError>
     requires { IsTrue (is_ascii name.now) }
     ensures { OnOk result (map node_view nodes.new.items
-        ≡ map node_view nodes.old.items ++ list_nodes name.now (texts_view texts.now)) }
+        ≡ map node_view nodes.old.items ++ list_meta_nodes name.now (texts_view texts.now)) }
 {
     if texts.is_empty() {
         return Ok(());

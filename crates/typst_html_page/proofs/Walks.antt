@@ -6,7 +6,7 @@ use Rattle.html_dom_tree.specs.Attributes.{or_else}
 use Rattle.html_dom_tree.specs.PlainTree.{nodes_normal}
 use Rattle.html_dom_tree.specs.Tree.{TextPair, NodeView, NodesView, tag_node, text_node, element_node, frame_node, none, node}
 use Rattle.typst_html_encode.specs.Collapsing.{Atom, object, break, border, Piece, preserves, has_border, bordered_atoms, element_atoms, plains_atoms}
-use Rattle.typst_html_encode.specs.IndentsCollapse.{body_of, body_in}
+use Rattle.typst_html_encode.specs.IndentsCollapse.{body_children, body_in}
 use Rattle.typst_html_encode.proofs.IndentsCollapse.{past_words}
 use Rattle.typst_html_encode.proofs.NodeAtoms.{normal_atoms}
 use Rattle.typst_html_spaces.specs.SeenBody.{seen_body}
@@ -69,21 +69,21 @@ by_name true kids rest = refl
 by_name false kids rest = refl
 
 pub body_first : (n : NodeView) (ns : NodesView) →
-    body_of (node n ns) ≡ or_else (body_of (node n none)) (body_of ns)
+    body_children (node n ns) ≡ or_else (body_children (node n none)) (body_children ns)
 body_first (tag_node t) ns = refl
 body_first (text_node s span) ns = refl
-body_first (element_node h kids) ns = by_name (bytes_eq h.name (codes "body")) kids (body_of ns)
+body_first (element_node h kids) ns = by_name (bytes_eq h.name (codes "body")) kids (body_children ns)
 body_first (frame_node b) ns = refl
 
 normal_by_name : (b : Bool) (kids ns : NodesView) →
-    body_in (nodes_normal ns) ≡ option_map nodes_normal (body_of ns) →
+    body_in (nodes_normal ns) ≡ option_map nodes_normal (body_children ns) →
     (if b then Some (nodes_normal kids) else body_in (nodes_normal ns))
-    ≡ option_map nodes_normal (if b then Some kids else body_of ns)
+    ≡ option_map nodes_normal (if b then Some kids else body_children ns)
 normal_by_name true kids ns e = refl
 normal_by_name false kids ns e = e
 
 body_in_normal : (ns : NodesView) →
-    body_in (nodes_normal ns) ≡ option_map nodes_normal (body_of ns)
+    body_in (nodes_normal ns) ≡ option_map nodes_normal (body_children ns)
 unfolding nodes_normal
 body_in_normal none = refl
 body_in_normal (node (tag_node t) ns) = body_in_normal ns
@@ -97,18 +97,18 @@ body_in_normal (node (frame_node b) ns) = body_in_normal ns
 abbrev pub seen_in : NodesView → List Piece
 seen_in ns = unwrap_or (seen_body (body_in (nodes_normal ns))) []
 
-seen_by : (ns : NodesView) (o : Option NodesView) → body_of ns ≡ o →
+seen_by : (ns : NodesView) (o : Option NodesView) → body_children ns ≡ o →
     seen_in ns ≡ unwrap_or (seen_body (option_map nodes_normal o)) []
 seen_by ns o e =
     ap (λ l. unwrap_or (seen_body l) []) (body_in_normal ns ∙ ap (option_map nodes_normal) e)
 
-pub body_seen : (ns body : NodesView) (s t : Seen) → body_of ns ≡ Some body → s ≡ nothing_seen →
+pub body_seen : (ns body : NodesView) (s t : Seen) → body_children ns ≡ Some body → s ≡ nothing_seen →
     t ≡ past_nodes false s body → final t ≡ seen_in ns
 body_seen ns body s t is e f =
     ap final (f ∙ ap (λ l. past_nodes false l body) e)
     ∙ (gathered_is_seen (plains_atoms false (nodes_normal body)) ∙ sym (seen_by ns (Some body) is))
 
-pub nothing_in : (ns : NodesView) (s : Seen) → body_of ns ≡ None → s ≡ nothing_seen →
+pub nothing_in : (ns : NodesView) (s : Seen) → body_children ns ≡ None → s ≡ nothing_seen →
     final s ≡ seen_in ns
 unfolding with_pieces
 nothing_in ns s is e = ap final e ∙ sym (seen_by ns None is)

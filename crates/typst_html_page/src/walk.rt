@@ -3,7 +3,7 @@
 ghost use Rattle.std.specs.Prelude.{◌≡◌, OnOk, IfOk, option_map};
 ghost use Rattle.html_dom_tree.specs.Tree.{element_node, node, none};
 ghost use Rattle.html_dom_tree.specs.Views.{element_view, node_view, nodes_view};
-ghost use Rattle.typst_html_encode.specs.IndentsCollapse.{body_of};
+ghost use Rattle.typst_html_encode.specs.IndentsCollapse.{body_children};
 ghost use Rattle.typst_html_page.specs.Gathering.{past_node, past_nodes};
 ghost use Rattle.typst_html_page.specs.PageTexts.{page_pieces};
 ghost use Rattle.typst_html_page.specs.PageViews.{page_text_view, seen_view};
@@ -51,7 +51,7 @@ pub fn page_text(alloc: Global, root: &HtmlElement) -> Result<PageText, AllocErr
     ensures { IfOk result (λ text. page_text_view text ≡ page_pieces (element_view root.now)) }
 {
     let mut seen = Seen::new(alloc);
-    if let Some(body) = body_of(&root.children) {
+    if let Some(body) = body_children(&root.children) {
         add_nodes(&body.children, false, &mut seen)?;
     }
     seen.into_page_text()
@@ -61,7 +61,7 @@ pub fn page_text(alloc: Global, root: &HtmlElement) -> Result<PageText, AllocErr
 #[tactic(auto, unfolding(html_names::specs::Tables::known_tags))]
 fn as_body(child: &HtmlNode) -> Option<&HtmlElement>
     ensures { option_map (λ body. (element_view body.now).1) result
-        ≡ body_of (node (node_view child.now) none) }
+        ≡ body_children (node (node_view child.now) none) }
 {
     match child {
         HtmlNode::Element(element) => {
@@ -76,9 +76,9 @@ fn as_body(child: &HtmlNode) -> Option<&HtmlElement>
 }
 
 /// The first element of the nodes whose name is `body`.
-fn body_of(nodes: &[HtmlNode]) -> Option<&HtmlElement>
+fn body_children(nodes: &[HtmlNode]) -> Option<&HtmlElement>
     ensures { option_map (λ body. (element_view body.now).1) result
-        ≡ body_of (nodes_view nodes.now) }
+        ≡ body_children (nodes_view nodes.now) }
 {
     for child in nodes {
         if let Some(body) = as_body(child) {

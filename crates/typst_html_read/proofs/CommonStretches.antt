@@ -9,7 +9,7 @@ use Rattle.typst_html_encode.specs.PlainStretches.{is_common}
 use Rattle.typst_html_encode.specs.Reader.{Open, ReaderState, Outside, Content, Fresh, Reference, Raw, Less, StartName, Space, AttrName, Equals, Value, ValueReference, Quoted, Slash, EndName, Stop}
 use Rattle.typst_html_encode.proofs.Stretches.{common_ascii, front_length}
 use Rattle.typst_html_read.specs.CommonStretches.{takes_text, with_more, ReadsCommon}
-use Rattle.typst_html_read.specs.Reading.{next, begins_deep, deep_places}
+use Rattle.typst_html_read.specs.LimitedReading.{next_state, begins_deep, deep_places}
 use Rattle.typst_html_read.proofs.Loops.{deep_later}
 use Rattle.typst_html_read.proofs.Names.{taken, outcome, next_outcome}
 
@@ -19,7 +19,7 @@ other c d h k = ne_eqb c d (λ e. false≢true (sym k ∙ (ap is_common (sym e) 
 
 -- a text that grows by each common character, where nothing begins
 pub record Grows (f : List ℕ → ReaderState) : Type 0 where
-  pub adds : (t : List ℕ) (c : ℕ) → is_common c ≡ true → next (f t) c ≡ f (t ++ c ∷ [])
+  pub adds : (t : List ℕ) (c : ℕ) → is_common c ≡ true → next_state (f t) c ≡ f (t ++ c ∷ [])
   pub flat : (limit : ℕ) (t : List ℕ) (c : ℕ) → begins_deep limit (f t) c ≡ false
 
 in_text : (stack : List Open) → Grows (λ t. Content t stack)

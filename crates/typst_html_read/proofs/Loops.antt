@@ -8,22 +8,22 @@ use Rattle.std.proofs.lemmas.Slice.Eq.{bytes_eq-Decides}
 use lib.Utf8.{encodes}
 use Rattle.html_names.specs.Names.{is_ascii}
 use Rattle.typst_html_encode.specs.Reader.{ReaderState, Stop}
-use Rattle.typst_html_read.specs.Reading.{next, begins_deep, deep_places}
+use Rattle.typst_html_read.specs.LimitedReading.{next_state, begins_deep, deep_places}
 use Rattle.typst_html_read.proofs.Words.{word_before}
 
 pub deep_later : (limit before : ℕ) (s : ReaderState) (c : ℕ) (cs : List ℕ) →
     begins_deep limit s c ≡ false →
-    deep_places limit before s (c ∷ cs) ≡ deep_places limit (before + 1) (next s c) cs
+    deep_places limit before s (c ∷ cs) ≡ deep_places limit (before + 1) (next_state s c) cs
 unfolding deep_places
 deep_later limit before s c cs h =
-    ap (λ b. (if b then before ∷ [] else []) ++ deep_places limit (before + 1) (next s c) cs) h
+    ap (λ b. (if b then before ∷ [] else []) ++ deep_places limit (before + 1) (next_state s c) cs) h
 
 pub deep_here : (limit before : ℕ) (s : ReaderState) (c : ℕ) (cs : List ℕ) →
     begins_deep limit s c ≡ true →
-    deep_places limit before s (c ∷ cs) ≡ before ∷ deep_places limit (before + 1) (next s c) cs
+    deep_places limit before s (c ∷ cs) ≡ before ∷ deep_places limit (before + 1) (next_state s c) cs
 unfolding deep_places
 deep_here limit before s c cs h =
-    ap (λ b. (if b then before ∷ [] else []) ++ deep_places limit (before + 1) (next s c) cs) h
+    ap (λ b. (if b then before ∷ [] else []) ++ deep_places limit (before + 1) (next_state s c) cs) h
 
 pub deep_stopped : (limit before : ℕ) (cs : List ℕ) → deep_places limit before Stop cs ≡ []
 unfolding deep_places

@@ -12,7 +12,7 @@ use Rattle.typst_html_encode.specs.ClosingTags.{is_tag_end, ends_closing, ends_e
 use Rattle.typst_html_encode.specs.References.{reference}
 use Rattle.typst_html_encode.specs.Reader.{drops_feed, ◌then◌, Open, ReaderState, Outside, Content, Fresh, Reference, Raw, Less, StartName, Space, AttrName, Equals, Value, ValueReference, Quoted, Slash, EndName, Stop, with_text, add_text, complete, holds_text_alone, after_start_tag, after, close, or_stop, in_content, step, run, final_root}
 use Rattle.typst_html_read.specs.PlainElements.{plain_element, is_named, are_named, accepted}
-use Rattle.typst_html_read.specs.Reading.{ends_refused, next}
+use Rattle.typst_html_read.specs.LimitedReading.{ends_refused, next_state}
 
 -- all names so far are names, but for the one that is being read
 
@@ -293,7 +293,7 @@ none_after (c ∷ cs) s (inr e) = none_after cs (step s c)
 
 -- it is the same where nothing is read after a name that is none
 pub next_outcome : (s : ReaderState) (c : ℕ) (cs : List ℕ) →
-    outcome (next s c) cs ≡ outcome s (c ∷ cs)
+    outcome (next_state s c) cs ≡ outcome s (c ∷ cs)
 next_outcome s c cs =
     elim (cases_Bool (ends_refused s c)) [
       | inl e ↦
@@ -304,7 +304,7 @@ next_outcome s c cs =
     ]
 
 -- and the names stay taken
-pub next_taken : (s : ReaderState) (c : ℕ) → taken s ≡ true → Holds (next s c) true
+pub next_taken : (s : ReaderState) (c : ℕ) → taken s ≡ true → Holds (next_state s c) true
 next_taken s c h =
     elim (cases_Bool (ends_refused s c)) [
       | inl e ↦ inl (ap (λ b. if b then Stop else step s c) e)

@@ -6,12 +6,12 @@ use Rattle.html_dom_tree.specs.Tree.{TextPair}
 use Rattle.html_dom_tree.specs.PlainTree.{no_plains}
 use Rattle.typst_html_encode.specs.ClosingTags.{is_tag_end, ends_closing, ends_exact, before_closing}
 use Rattle.typst_html_encode.specs.Reader.{Open, AttrName, Raw, with_text, complete, after, step}
-use Rattle.typst_html_read.specs.Reading.{next}
+use Rattle.typst_html_read.specs.LimitedReading.{next_state}
 
 -- an attribute without a value
 pub attr_step : (name : List ℕ) (attrs : List TextPair) (attr : List ℕ) (stack : List Open)
     (c : ℕ) → is_attr_char c ≡ false → attr_fault attr ≡ None → (c ≡ 61 → ⊥) →
-    after name (attrs ++ (attr, []) ∷ []) stack c ≡ next (AttrName name attrs attr stack) c
+    after name (attrs ++ (attr, []) ∷ []) stack c ≡ next_state (AttrName name attrs attr stack) c
 attr_step name attrs attr stack c h k m =
     let other : eqb c 61 ≡ false = ne_eqb c 61 m in rw (h, k, other) refl
 

@@ -7,4 +7,4 @@ pub mod RawEnds
 pub mod ReadFaults
 pub mod ReadLaws
 pub mod ReaderViews
-pub mod Reading
+pub mod LimitedReading

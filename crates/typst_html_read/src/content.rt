@@ -4,7 +4,7 @@ ghost use Rattle.std.specs.Prelude.{◌≡◌, OnOk};
 ghost use Rattle.html_dom_tree.specs.Views.{text_view};
 ghost use Rattle.typst_html_encode.specs.Reader as reader;
 ghost use Rattle.typst_html_read.specs.OpenViews.{open_of, stack_of};
-ghost use Rattle.typst_html_read.specs.Reading.{next};
+ghost use Rattle.typst_html_read.specs.LimitedReading.{next_state};
 ghost use Rattle.typst_html_read.specs.ReaderViews.{reader_state};
 ghost use Rattle.typst_html_read.specs.declared.reader.Mode.TheVariants as mode;
 
@@ -19,7 +19,7 @@ impl Reader {
     /// A character outside the root.
     pub(crate) fn outside(&mut self, c: char) -> Result<(), AllocError>
         requires { self.old.mode ≡ mode.Outside }
-        ensures { OnOk result (reader_state self.new ≡ next (reader_state self.old) c) }
+        ensures { OnOk result (reader_state self.new ≡ next_state (reader_state self.old) c) }
     {
         if matches!(c, '\t' | '\n' | '\r' | ' ') {
             return Ok(());
@@ -57,7 +57,7 @@ impl Reader {
     /// The character after a start tag at which a line feed is dropped.
     pub(crate) fn fresh(&mut self, c: char) -> Result<(), AllocError>
         requires { self.old.mode ≡ mode.Fresh }
-        ensures { OnOk result (reader_state self.new ≡ next (reader_state self.old) c) }
+        ensures { OnOk result (reader_state self.new ≡ next_state (reader_state self.old) c) }
     {
         empty(&mut self.text);
         self.mode = Mode::Content;
@@ -70,7 +70,7 @@ impl Reader {
     /// A character of a reference in a text.
     pub(crate) fn reference(&mut self, c: char) -> Result<(), AllocError>
         requires { self.old.mode ≡ mode.Reference }
-        ensures { OnOk result (reader_state self.new ≡ next (reader_state self.old) c) }
+        ensures { OnOk result (reader_state self.new ≡ next_state (reader_state self.old) c) }
     {
         if c != ';' {
             add(&mut self.word, c)?;
@@ -109,7 +109,7 @@ impl Reader {
     /// A character of the name of an end tag.
     pub(crate) fn end_name(&mut self, c: char) -> Result<(), AllocError>
         requires { self.old.mode ≡ mode.EndName }
-        ensures { OnOk result (reader_state self.new ≡ next (reader_state self.old) c) }
+        ensures { OnOk result (reader_state self.new ≡ next_state (reader_state self.old) c) }
     {
         if is_valid_in_tag_name(c) {
             add(&mut self.word, c)?;

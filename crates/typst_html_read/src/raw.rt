@@ -1,7 +1,7 @@
 //! Reading raw text.
 
 ghost use Rattle.std.specs.Prelude.{◌≡◌, OnOk};
-ghost use Rattle.typst_html_read.specs.Reading.{next};
+ghost use Rattle.typst_html_read.specs.LimitedReading.{next_state};
 ghost use Rattle.typst_html_read.specs.ReaderViews.{reader_state};
 ghost use Rattle.typst_html_read.specs.declared.reader.Mode.TheVariants as mode;
 
@@ -14,7 +14,7 @@ impl Reader {
     /// A character within a raw element.
     pub(crate) fn raw(&mut self, c: char) -> Result<(), AllocError>
         requires { self.old.mode ≡ mode.Raw }
-        ensures { OnOk result (reader_state self.new ≡ next (reader_state self.old) c) }
+        ensures { OnOk result (reader_state self.new ≡ next_state (reader_state self.old) c) }
     {
         let end = end_of(self.tag.resolve(), self.text.as_str(), c);
         let Some((length, is_exact)) = end else {

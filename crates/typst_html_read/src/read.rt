@@ -2,7 +2,7 @@ ghost use Rattle.std.specs.Prelude.{◌≡◌, ◌≤◌, chars, None};
 ghost use Rattle.typst_html_encode.specs.Reader.{Outside, final_root, read, run};
 ghost use Rattle.typst_html_read.specs.Endings.{Gives};
 ghost use Rattle.typst_html_read.specs.PlainElements.{accepted};
-ghost use Rattle.typst_html_read.specs.Reading.{deep_places, too_deep};
+ghost use Rattle.typst_html_read.specs.LimitedReading.{deep_places, too_deep};
 
 use crate::fault::ReadFault;
 use crate::reader::Reader;

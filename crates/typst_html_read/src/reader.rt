@@ -4,7 +4,7 @@ ghost use Rattle.std.specs.Prelude.{◌≡◌, ◌↔◌, OnOk, IsTrue, None, op
 ghost use Rattle.typst_html_read.specs.OpenViews.{open_of};
 ghost use Rattle.typst_html_read.specs.PlainViews.{completed};
 ghost use Rattle.typst_html_encode.specs.Reader.{Outside, Stop, final_root};
-ghost use Rattle.typst_html_read.specs.Reading.{next, begins_deep};
+ghost use Rattle.typst_html_read.specs.LimitedReading.{next_state, begins_deep};
 ghost use Rattle.typst_html_read.specs.ReaderViews.{reader_state};
 
 use crate::open::OpenElement;
@@ -92,7 +92,7 @@ impl Reader {
 
     /// Reads a character.
     pub(crate) fn step(&mut self, c: char) -> Result<(), AllocError>
-        ensures { OnOk result (reader_state self.new ≡ next (reader_state self.old) c) }
+        ensures { OnOk result (reader_state self.new ≡ next_state (reader_state self.old) c) }
     {
         match self.mode {
             Mode::Outside => self.outside(c),

@@ -6,7 +6,7 @@ ghost use Rattle.html_dom_tree.specs.PlainTree.{no_plains};
 ghost use Rattle.html_dom_tree.specs.Views.{attrs_view, text_view};
 ghost use Rattle.typst_html_encode.specs.Reader as reader;
 ghost use Rattle.typst_html_read.specs.OpenViews.{open_of, stack_of};
-ghost use Rattle.typst_html_read.specs.Reading.{next};
+ghost use Rattle.typst_html_read.specs.LimitedReading.{next_state};
 ghost use Rattle.typst_html_read.specs.ReaderViews.{reader_state};
 ghost use Rattle.typst_html_read.specs.declared.reader.Mode.TheVariants as mode;
 
@@ -56,7 +56,7 @@ impl Reader {
     /// The character after `<`.
     pub(crate) fn less(&mut self, c: char) -> Result<(), AllocError>
         requires { self.old.mode ≡ mode.Less }
-        ensures { OnOk result (reader_state self.new ≡ next (reader_state self.old) c) }
+        ensures { OnOk result (reader_state self.new ≡ next_state (reader_state self.old) c) }
     {
         if c == '/' {
             empty(&mut self.word);
@@ -73,7 +73,7 @@ impl Reader {
     /// A character of the name of a start tag.
     pub(crate) fn start_name(&mut self, c: char) -> Result<(), AllocError>
         requires { self.old.mode ≡ mode.StartName }
-        ensures { OnOk result (reader_state self.new ≡ next (reader_state self.old) c) }
+        ensures { OnOk result (reader_state self.new ≡ next_state (reader_state self.old) c) }
     {
         if is_valid_in_tag_name(c) {
             add(&mut self.word, c)?;
@@ -95,7 +95,7 @@ impl Reader {
     /// The character after the space before an attribute.
     pub(crate) fn space(&mut self, c: char) -> Result<(), AllocError>
         requires { self.old.mode ≡ mode.Space }
-        ensures { OnOk result (reader_state self.new ≡ next (reader_state self.old) c) }
+        ensures { OnOk result (reader_state self.new ≡ next_state (reader_state self.old) c) }
     {
         self.mode = Mode::Stop;
         if is_valid_in_attribute_name(c) {
@@ -108,7 +108,7 @@ impl Reader {
     /// A character of the name of an attribute.
     pub(crate) fn attr_name(&mut self, c: char) -> Result<(), AllocError>
         requires { self.old.mode ≡ mode.AttrName }
-        ensures { OnOk result (reader_state self.new ≡ next (reader_state self.old) c) }
+        ensures { OnOk result (reader_state self.new ≡ next_state (reader_state self.old) c) }
     {
         if is_valid_in_attribute_name(c) {
             add(&mut self.word, c)?;
@@ -134,7 +134,7 @@ impl Reader {
     /// The character after `=`.
     pub(crate) fn equals(&mut self, c: char) -> Result<(), AllocError>
         requires { self.old.mode ≡ mode.Equals }
-        ensures { OnOk result (reader_state self.new ≡ next (reader_state self.old) c) }
+        ensures { OnOk result (reader_state self.new ≡ next_state (reader_state self.old) c) }
     {
         empty(&mut self.text);
         self.mode = if c == '"' { Mode::Value } else { Mode::Stop };
@@ -144,7 +144,7 @@ impl Reader {
     /// A character of a value.
     pub(crate) fn value(&mut self, c: char) -> Result<(), AllocError>
         requires { self.old.mode ≡ mode.Value }
-        ensures { OnOk result (reader_state self.new ≡ next (reader_state self.old) c) }
+        ensures { OnOk result (reader_state self.new ≡ next_state (reader_state self.old) c) }
     {
         match c {
             '"' => {
@@ -165,7 +165,7 @@ impl Reader {
     /// A character of a reference in a value.
     pub(crate) fn value_reference(&mut self, c: char) -> Result<(), AllocError>
         requires { self.old.mode ≡ mode.ValueReference }
-        ensures { OnOk result (reader_state self.new ≡ next (reader_state self.old) c) }
+        ensures { OnOk result (reader_state self.new ≡ next_state (reader_state self.old) c) }
     {
         if c != ';' {
             add(&mut self.word, c)?;
@@ -184,7 +184,7 @@ impl Reader {
     /// The character after a value.
     pub(crate) fn quoted(&mut self, c: char) -> Result<(), AllocError>
         requires { self.old.mode ≡ mode.Quoted }
-        ensures { OnOk result (reader_state self.new ≡ next (reader_state self.old) c) }
+        ensures { OnOk result (reader_state self.new ≡ next_state (reader_state self.old) c) }
     {
         self.after(c)
     }
@@ -192,7 +192,7 @@ impl Reader {
     /// The character after the `/` of a start tag.
     pub(crate) fn slash(&mut self, c: char) -> Result<(), AllocError>
         requires { self.old.mode ≡ mode.Slash }
-        ensures { OnOk result (reader_state self.new ≡ next (reader_state self.old) c) }
+        ensures { OnOk result (reader_state self.new ≡ next_state (reader_state self.old) c) }
     {
         if c != '>' {
             self.mode = Mode::Stop;

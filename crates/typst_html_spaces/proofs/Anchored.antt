@@ -10,7 +10,7 @@ use Rattle.typst_html_encode.specs.Collapsing.{text_atoms, preserves, has_border
 use Rattle.typst_html_encode.specs.IndentsCollapse.{HeadIsEdged, NodesAreEdged}
 use Rattle.typst_html_encode.specs.Layout.{allows_pretty_inside, wants_pretty_around}
 use Rattle.typst_html_encode.proofs.NodeAtoms.{nodes_atoms, normal_atoms}
-use Rattle.typst_html_spaces.specs.Anchored.{NewAttribute, new_id, new_href, attribute_name, with_new, anchor_head, Anchored, at_end, at_tag, after_tag, at_text, around_text, at_element, of_element, at_frame, AnchorsAreUnseen, AnchorsKeepEdges, AnchorsKeepPlainNodes}
+use Rattle.typst_html_spaces.specs.Anchored.{NewAttribute, new_id, new_href, attribute_name, with_front_attribute, anchor_head, Anchored, at_end, at_tag, after_tag, at_text, around_text, at_element, of_element, at_frame, AnchorsAreUnseen, AnchorsKeepEdges, AnchorsKeepPlainNodes}
 use Rattle.typst_html_spaces.specs.CleanNodes.{is_clean_tag, are_clean_values, is_clean_content, is_empty, is_clean_head, is_clean_node, are_clean_nodes, IsCleanValue, AnchorsKeepCleanNodes}
 use Rattle.typst_html_spaces.specs.PlainFlow.{is_plain_name}
 use Rattle.typst_html_spaces.specs.PlainNodes.{is_plain_node, are_plain_nodes}
@@ -31,7 +31,7 @@ new_border new_id value name attrs = refl
 new_border new_href value name attrs = refl
 
 new_around : (a : NewAttribute) (value : List ℕ) (h : Head) →
-    wants_pretty_around (with_new a value h) ≡ wants_pretty_around h
+    wants_pretty_around (with_front_attribute a value h) ≡ wants_pretty_around h
 unfolding wants_pretty_around
 new_around new_id value h = refl
 new_around new_href value h = refl
@@ -54,7 +54,7 @@ element_by k h kids new ns ms e f =
     ∙ ap (λ xs. element_atoms h.name h.attrs (nodes_atoms j kids) ++ xs) f
 
 new_by : (k : Bool) (a : NewAttribute) (value : List ℕ) (h : Head) (new ms : NodesView) →
-    nodes_atoms k (node (element_node (with_new a value h) new) ms)
+    nodes_atoms k (node (element_node (with_front_attribute a value h) new) ms)
     ≡ nodes_atoms k (node (element_node h new) ms)
 new_by k a value h new ms =
     rw (new_preserves a value h.name h.attrs, new_border a value h.name h.attrs) refl
@@ -89,7 +89,7 @@ unfolding wants_pretty_around allows_pretty_inside is_raw is_mathml is_token is_
 anchor_edged id span = (refl, λ e. absurd (false≢true e), λ e. absurd (false≢true e))
 
 new_edged : (a : NewAttribute) (value : List ℕ) (h : Head) → HeadIsEdged h →
-    HeadIsEdged (with_new a value h)
+    HeadIsEdged (with_front_attribute a value h)
 new_edged a value h c = (
   c.0,
   λ e. c.1 (sym (new_around a value h) ∙ e),
@@ -175,7 +175,7 @@ head_kept h kids new e c =
     ap (λ b. is_plain_name h.name && are_clean_values h.attrs && (not (is_void h.name) || b)) e ∙ c
 
 new_clean : (a : NewAttribute) (value : List ℕ) (h : Head) (ns : NodesView) →
-    IsCleanValue value → is_clean_head h ns ≡ true → is_clean_head (with_new a value h) ns ≡ true
+    IsCleanValue value → is_clean_head h ns ≡ true → is_clean_head (with_front_attribute a value h) ns ≡ true
 new_clean a value h ns i c = rw i c
 
 anchored_clean : {ns ms : NodesView} → Anchored IsCleanValue ns ms → (p : Bool) →

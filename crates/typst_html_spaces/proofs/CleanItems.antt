@@ -5,7 +5,7 @@ use Rattle.html_names.specs.Characters.{all, is_text_char}
 use Rattle.html_names.specs.Kinds.{is_void}
 use Rattle.html_names.specs.Names.{stands_in}
 use Rattle.html_dom_tree.specs.Tree.{Head, element_node, NodesView}
-use Rattle.html_flow_convert.specs.Nodes.{plain_head, pre_wrap_head, is_one}
+use Rattle.html_flow_convert.specs.Nodes.{made_head, pre_wrap_head, is_one}
 use Rattle.html_flow_convert.specs.Pieces.{PieceView, stretch, alone, line_break, is_in_stretch, in_stretch, is_carriage_return, outside_stretch, pieces_after, piece_node}
 use Rattle.html_flow_convert.specs.Converted.{RoleText, item_role, passes_role, role_pairs, element_head, body_level, body_whitespace, body_role, text_item_nodes, item_nodes, items_nodes, body_nodes, converted_nodes}
 use Rattle.html_flow_convert.specs.Items.{RoleView, inherits, sets, unsets, ElemHead, ItemView, tag_item, element_item, space_item, text_item, hole_item, break_item, box_item, block_item, frame_item, ItemsView, no_items, item, BodyView, absent, present}
@@ -22,7 +22,7 @@ use Rattle.typst_html_spaces.proofs.DeepNodes.{HoldsOnTheWay, of_list, of_block}
 use Rattle.typst_html_spaces.proofs.Each.{Each, Each-append, Each-map}
 use Rattle.typst_html_spaces.proofs.MadeHeads.{stands_for_block}
 use Rattle.typst_html_spaces.proofs.MadeNodes.{break_made, wrap_made, block_made}
-use Rattle.typst_html_spaces.proofs.PlainParts.{plain_head as plain_parts, element_made}
+use Rattle.typst_html_spaces.proofs.PlainParts.{made_head as plain_parts, element_made}
 use Rattle.typst_html_spaces.proofs.ReadyRuns.{one_char}
 
 -- what conversion makes on the way
@@ -55,7 +55,7 @@ clean_block span b = record {
   void = λ e. absurd (false≢true (sym div_is_not_void ∙ e));
 }
 
-clean_break : (span : ℕ) → CleanHead (plain_head (codes "br") [] span) true
+clean_break : (span : ℕ) → CleanHead (made_head (codes "br") [] span) true
 clean_break span = record { made = break_made span; values = refl; void = λ e. refl }
 
 clean_lone : (h : Head) (kids : NodesView) (change : DisplayChangeView) →

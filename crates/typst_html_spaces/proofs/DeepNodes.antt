@@ -9,7 +9,7 @@ use Rattle.html_dom_tree.specs.Views.{nodes_of}
 use Rattle.html_flow_convert.specs.BareSpaces.{node_things, nodes_things, is_entered}
 use Rattle.html_flow_convert.specs.Nodes.{pre_wrap_head, is_one, is_tag}
 use Rattle.html_flow_convert.specs.Protected.{text_by_answer}
-use Rattle.html_flow_convert.specs.Runs.{is_blank_node, first_span, are_kept, run_nodes, front_nodes, front, after_front, nodes_with_runs}
+use Rattle.html_flow_convert.specs.Runs.{is_blank_node, first_span, are_kept, run_nodes, front_nodes, blank_front, after_front, nodes_with_runs}
 use Rattle.html_flow_convert.specs.Converted.{list_nodes}
 use Rattle.html_flow_convert.specs.LoneNode.{node_list, are_tags, lone_node, DisplayChangeView, css_with_display, node_with_display, block_change, changed_or_in, block_change_of, block_head, block_nodes}
 use Rattle.html_flow_convert.specs.declared.convert.ConversionLevel.{ConversionLevel}
@@ -97,16 +97,16 @@ module _ (OfHead : Head → (is_empty : Bool) → Type 0)
     | inr f ↦ rw f (of_run p (n ∷ ns) e r)
   ]
 
-  of_front : (p : Bool) (ns : List NodeView) → Each (Of p) ns → Each (Of p) (front ns)
-  unfolding front
+  of_front : (p : Bool) (ns : List NodeView) → Each (Of p) ns → Each (Of p) (blank_front ns)
+  unfolding blank_front
   of_front p [] r = tt
   of_front p (n ∷ ns) r = elim (cases_Bool (is_blank_node n || is_tag n)) [
     | inl e ↦ rw e (r.0, of_front p ns r.1)
     | inr e ↦ rw e tt
   ]
 
-  of_begin : (p : Bool) (ns : List NodeView) → Each (Of p) ns → Each (Of p) (front_nodes (front ns))
-  of_begin p ns r = of_front_nodes p (front ns) (front_is_run ns) (of_front p ns r)
+  of_begin : (p : Bool) (ns : List NodeView) → Each (Of p) ns → Each (Of p) (front_nodes (blank_front ns))
+  of_begin p ns r = of_front_nodes p (blank_front ns) (front_is_run ns) (of_front p ns r)
 
   of_rest : (p : Bool) (ns : List NodeView) → Each (Of p) ns → Each (Of p) (after_front ns)
   unfolding after_front
@@ -115,13 +115,13 @@ module _ (OfHead : Head → (is_empty : Bool) → Type 0)
     | inl e ↦ rw e (of_rest p ns r.1)
     | inr e ↦ rw e (
       r.0,
-      Each-append (Of p) (front_nodes (front ns)) (after_front ns) (of_begin p ns r.1)
+      Each-append (Of p) (front_nodes (blank_front ns)) (after_front ns) (of_begin p ns r.1)
           (of_rest p ns r.1),
     )
   ]
 
   of_runs : (p : Bool) (ns : List NodeView) → Each (Of p) ns → Each (Of p) (nodes_with_runs ns)
-  of_runs p ns r = Each-append (Of p) (front_nodes (front ns)) (after_front ns) (of_begin p ns r)
+  of_runs p ns r = Each-append (Of p) (front_nodes (blank_front ns)) (after_front ns) (of_begin p ns r)
       (of_rest p ns r)
 
   -- protected spaces

@@ -20,7 +20,7 @@ use Rattle.html_flow_convert.specs.declared.convert.ConversionLevel.TheVariants.
 use Rattle.html_flow_convert.specs.declared.convert.Whitespace.{Whitespace}
 use Rattle.html_flow_convert.specs.declared.convert.Whitespace.TheVariants.{Normal, Pre}
 use Rattle.typst_html_spaces.specs.ItemText.{chars_by_line}
-use Rattle.typst_html_spaces.specs.PlainFlow.{is_nothing, are_nothing, is_break, are_one_break, is_one_break}
+use Rattle.typst_html_spaces.specs.PlainFlow.{is_unseen_item, are_unseen_items, is_break, are_one_break, is_one_break}
 use Rattle.typst_html_spaces.proofs.Runs.{with_runs}
 use Rattle.typst_html_spaces.proofs.TextPieces.{in_stretch_no_line}
 
@@ -262,7 +262,7 @@ add_at_most u v w x (inr e) f = inr (ap (λ y. add y w) e)
 
 abbrev pub item_content : Whitespace → ItemView → Content
 item_content whitespace i =
-    cond (is_nothing i) nothing (cond (is_break whitespace i) one_break other)
+    cond (is_unseen_item i) nothing (cond (is_break whitespace i) one_break other)
 
 abbrev pub items_content : Whitespace → ItemsView → Content
 items_content whitespace no_items = nothing
@@ -298,10 +298,10 @@ not_nothing true other = refl
 not_nothing false w = refl
 
 are_nothing_is : (whitespace : Whitespace) (items : ItemsView) →
-    holds_nothing (items_content whitespace items) ≡ are_nothing items
+    holds_nothing (items_content whitespace items) ≡ are_unseen_items items
 are_nothing_is whitespace no_items = refl
 are_nothing_is whitespace (item i role items) =
-    elim (cases_Bool (is_nothing i)) [
+    elim (cases_Bool (is_unseen_item i)) [
       | inl e ↦ rw e (are_nothing_is whitespace items)
       | inr e ↦ rw e (not_nothing (is_break whitespace i) (items_content whitespace items))
     ]
@@ -310,7 +310,7 @@ are_one_break_is : (whitespace : Whitespace) (items : ItemsView) →
     holds_one_break (items_content whitespace items) ≡ are_one_break whitespace items
 are_one_break_is whitespace no_items = refl
 are_one_break_is whitespace (item i role items) =
-    elim (cases_Bool (is_nothing i)) [
+    elim (cases_Bool (is_unseen_item i)) [
       | inl e ↦ rw e (are_one_break_is whitespace items)
       | inr e ↦ elim (cases_Bool (is_break whitespace i)) [
         | inl f ↦ rw (e, f) (break_and_nothing (items_content whitespace items)

@@ -15,7 +15,7 @@ use Rattle.html_values_css.specs.Properties.{with_value, without}
 use Rattle.html_dom_tree.specs.Attributes.{first}
 use Rattle.html_dom_tree.specs.Styled.{styled_attrs}
 use Rattle.html_dom_tree.specs.Tree.{Head, element_node, NodesView}
-use Rattle.html_flow_convert.specs.BareSpaces.{is_border, makes_block}
+use Rattle.html_flow_convert.specs.BareSpaces.{is_border_element, makes_block}
 use Rattle.html_flow_convert.specs.LoneNode.{DisplayChangeView, removed, set_to, css_with_display, change_by_display, block_change}
 use Rattle.typst_html_encode.specs.Collapsing.{preserves, has_border, style_is}
 use Rattle.typst_html_spaces.specs.PlainFlow.{is_inline, is_plain_name, unplain_names}
@@ -247,15 +247,15 @@ removed_preserves name attrs others wrap e f = preserves_by name attrs others (r
 removed_preserves name attrs others block_wrap e f = preserves_by name attrs others (rw (e, f) refl)
 
 css_border : (h : Head) (c : MadeCss) (css : List TextPair) → css ≡ made_css (with_block c) →
-    is_border (record h { css = css }) ≡ true
-unfolding is_border with_block
+    is_border_element (record h { css = css }) ≡ true
+unfolding is_border_element with_block
 css_border h plain css e = rw e refl
 css_border h block css e = rw e refl
 css_border h wrap css e = rw e refl
 css_border h block_wrap css e = rw e refl
 
-pub name_is_border : (h : Head) → shows_border (default_display h.name) ≡ true → is_border h ≡ true
-unfolding is_border
+pub name_is_border : (h : Head) → shows_border (default_display h.name) ≡ true → is_border_element h ≡ true
+unfolding is_border_element
 name_is_border h e = or_right (makes_block h.css) (is_whitespace_collapsing h.name)
     (or_right (is_line_break h.name) (shows_border (default_display h.name)) e)
 
@@ -265,7 +265,7 @@ pub record StandsForBlock (h : Head) (css : List TextPair) : Type 0 where
   pub borders : has_border h.name (styled_attrs css h.attrs) ≡ true
   pub preserved : preserves h.name (styled_attrs css h.attrs)
       ≡ preserves h.name (styled_attrs h.css h.attrs)
-  pub is_one : is_border (record h { css = css }) ≡ true
+  pub is_one : is_border_element (record h { css = css }) ≡ true
 
 set_block : (h : Head) (m : MadeHead h) (css : List TextPair) →
     with_value h.css (codes "display") (codes "block") ≡ css → StandsForBlock h css

@@ -5,7 +5,7 @@ use Rattle.html_names.specs.Displays.{default_display}
 use Rattle.html_names.specs.Kinds.{is_replaced, shows_border}
 use Rattle.html_names.specs.Names.{stands_in}
 use Rattle.html_dom_tree.specs.Tree.{NodeView, NodesView}
-use Rattle.html_flow_convert.specs.Nodes.{plain_head, pre_wrap_head}
+use Rattle.html_flow_convert.specs.Nodes.{made_head, pre_wrap_head}
 use Rattle.html_flow_convert.specs.Pieces.{PieceView, stretch, alone, line_break, piece_node, pieces}
 use Rattle.html_flow_convert.specs.Converted.{RoleText, item_role, body_level, body_whitespace, body_role, text_item_nodes, list_nodes, item_nodes, items_nodes, body_nodes}
 use Rattle.html_flow_convert.specs.Items.{ItemView, tag_item, element_item, space_item, text_item, hole_item, break_item, box_item, block_item, frame_item, ItemsView, no_items, item, BodyView, absent, present}
@@ -18,7 +18,7 @@ use Rattle.typst_html_spaces.specs.PlainFlow.{is_plain_name, is_plain_head, is_o
 use Rattle.typst_html_spaces.proofs.DeepNodes.{HoldsOf, HoldsOfAll, HoldsOnTheWay, of_list, of_block}
 use Rattle.typst_html_spaces.proofs.Each.{Each, Each-append, Each-map}
 use Rattle.typst_html_spaces.proofs.MadeHeads.{plain, wrap, MadeHead, stands_for_block}
-use Rattle.typst_html_spaces.proofs.PlainParts.{plain_head as plain_parts, element_made}
+use Rattle.typst_html_spaces.proofs.PlainParts.{made_head as plain_parts, element_made}
 
 -- no frame, and each element is made as conversion makes it
 abbrev pub IsMade : (pre_span : Bool) → NodeView → Type 0
@@ -45,7 +45,7 @@ span_in_line : shows_border (default_display (codes "span")) ≡ false
 unfolding default_display stands_in
 span_in_line = refl
 
-pub break_made : (span : ℕ) → MadeHead (plain_head (codes "br") [] span)
+pub break_made : (span : ℕ) → MadeHead (made_head (codes "br") [] span)
 break_made span = record { kind = plain; css_is = refl; no_style = refl; named = named_break; in_line = λ e. absurd (false≢true e) }
 
 pub wrap_made : (span : ℕ) → MadeHead (pre_wrap_head span)

@@ -6,7 +6,7 @@ use Rattle.html_names.specs.Names.{stands_in}
 use Rattle.html_dom_tree.specs.Styled.{styled_node, styled_nodes}
 use Rattle.html_dom_tree.specs.Tree.{tag_node, text_node, element_node, frame_node, NodesView, none, node}
 use Rattle.typst_html_encode.specs.Indented.{NodeEndsWell, NodesEndWell}
-use Rattle.typst_html_encode.specs.IndentsCollapse.{body_of}
+use Rattle.typst_html_encode.specs.IndentsCollapse.{body_children}
 use Rattle.typst_html_encode.specs.Layout.{is_pretty_inside}
 use Rattle.html_dom_tree.specs.FrameFree.{NodeIsFrameFree, NodesAreFrameFree}
 use Rattle.typst_html_spaces.specs.ReadableNodes.{AreReadable, ReadableNodesCanBeRead, AnchorsKeepReadable, AnchorsKeepFrameFree, AnchorsKeepBody}
@@ -94,18 +94,18 @@ module _ (Passes : List ℕ → Type 0) where
 
   -- the body with anchors
   abbrev pub HasBody : NodesView → NodesView → Type 0
-  HasBody ms body = (new : NodesView) × (body_of ms ≡ Some new) × Anchored Passes body new
+  HasBody ms body = (new : NodesView) × (body_children ms ≡ Some new) × Anchored Passes body new
 
   past_element : (b : Bool) (kids new ns ms body : NodesView) → Anchored Passes kids new →
-      (body_of ns ≡ Some body → HasBody ms body) → cond b (Some kids) (body_of ns) ≡ Some body →
-      (found : NodesView) × (cond b (Some new) (body_of ms) ≡ Some found)
+      (body_children ns ≡ Some body → HasBody ms body) → cond b (Some kids) (body_children ns) ≡ Some body →
+      (found : NodesView) × (cond b (Some new) (body_children ms) ≡ Some found)
       × Anchored Passes body found
   past_element true kids new ns ms body a more e =
       let same : kids ≡ body = cc in (new, refl, rw (← same) a)
   past_element false kids new ns ms body a more e = more e
 
   pub anchored_body : {ns ms : NodesView} (body : NodesView) → Anchored Passes ns ms →
-      body_of ns ≡ Some body → HasBody ms body
+      body_children ns ≡ Some body → HasBody ms body
   anchored_body body at_end e = cc
   anchored_body body (at_tag a) e = anchored_body body a e
   anchored_body body (after_tag id span p a) e = anchored_body body a e

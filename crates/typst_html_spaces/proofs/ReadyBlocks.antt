@@ -6,7 +6,7 @@ use Rattle.html_names.specs.Kinds.{is_replaced, is_line_break}
 use Rattle.html_names.specs.Names.{stands_in}
 use Rattle.html_dom_tree.specs.Styled.{styled_attrs, styled_node, styled_nodes}
 use Rattle.html_dom_tree.specs.Tree.{TextPair, Head, NodeView, tag_node, text_node, element_node, frame_node, NodesView, none, node}
-use Rattle.html_flow_convert.specs.BareSpaces.{is_border}
+use Rattle.html_flow_convert.specs.BareSpaces.{is_border_element}
 use Rattle.typst_html_encode.specs.Collapsing.{Atom, object, preserves, has_border, bordered_atoms}
 use Rattle.typst_html_encode.proofs.NodeAtoms.{nodes_atoms}
 use Rattle.html_flow_convert.specs.LoneNode.{node_list, are_tags, lone_node, DisplayChangeView, css_with_display, node_with_display, block_change, changed_or_in, block_change_of, block_head, block_nodes}
@@ -97,8 +97,8 @@ changed_ready (node (frame_node f) ns) n change e c r s = absurd r.0
 
 -- a block of its own
 
-div_border : (span : ℕ) → is_border (block_head span) ≡ true
-unfolding is_border default_display stands_in
+div_border : (span : ℕ) → is_border_element (block_head span) ≡ true
+unfolding is_border_element default_display stands_in
 div_border span = refl
 
 div_atoms : (span : ℕ) (ns : NodesView) →

@@ -11,7 +11,7 @@ use Rattle.html_dom_tree.specs.Attributes.{first}
 use Rattle.html_dom_tree.specs.Styled.{styled_attrs, styled_node, styled_nodes}
 use Rattle.html_dom_tree.specs.Tree.{Head, NodeView, tag_node, text_node, element_node, frame_node, NodesView, none, node}
 use Rattle.html_dom_tree.specs.Views.{nodes_of}
-use Rattle.html_flow_convert.specs.BareSpaces.{is_border, makes_block, is_entered}
+use Rattle.html_flow_convert.specs.BareSpaces.{is_border_element, makes_block, is_entered}
 use Rattle.html_flow_convert.specs.Runs.{nodes_with_runs}
 use Rattle.typst_html_encode.specs.Collapsing.{Atom, object, char_atom, text_atoms, preserves, has_border, element_atoms}
 use Rattle.typst_html_encode.proofs.NodeAtoms.{node_atoms, nodes_atoms}
@@ -204,8 +204,8 @@ module _ (role : RoleText) (h : ElemHead) (body : BodyView) (p : PlainHead h)
 
   -- a line break
 
-  break_is_border : is_line_break h.name ≡ true → is_border own ≡ true
-  unfolding is_border
+  break_is_border : is_line_break h.name ≡ true → is_border_element own ≡ true
+  unfolding is_border_element
   break_is_border e = or_right (makes_block own.css) (is_whitespace_collapsing h.name)
       (or_left (is_line_break h.name) (shows_border (default_display h.name)) e)
 
@@ -216,8 +216,8 @@ module _ (role : RoleText) (h : ElemHead) (body : BodyView) (p : PlainHead h)
   -- an element in a line
 
   no_border : shows_border (default_display h.name) ≡ false → is_line_break h.name ≡ false →
-      is_border own ≡ false
-  unfolding is_border
+      is_border_element own ≡ false
+  unfolding is_border_element
   no_border e f = rw (no_block, f, e) refl
 
   core_atoms : shows_border (default_display h.name) ≡ false → is_line_break h.name ≡ false →

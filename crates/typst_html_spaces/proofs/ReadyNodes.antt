@@ -7,8 +7,8 @@ use Rattle.html_names.specs.Names.{stands_in}
 use Rattle.html_dom_tree.specs.Styled.{styled_node, styled_nodes}
 use Rattle.html_dom_tree.specs.Tree.{TagView, Head, tag_node, text_node, element_node, NodeView, NodesView, none}
 use Rattle.html_dom_tree.specs.Views.{nodes_of}
-use Rattle.html_flow_convert.specs.BareSpaces.{border, visible, space, text_things, node_things, nodes_things, is_border, is_entered}
-use Rattle.html_flow_convert.specs.Nodes.{plain_head, pre_wrap_head, break_node, is_one}
+use Rattle.html_flow_convert.specs.BareSpaces.{border, visible, space, text_things, node_things, nodes_things, is_border_element, is_entered}
+use Rattle.html_flow_convert.specs.Nodes.{made_head, pre_wrap_head, break_node, is_one}
 use Rattle.html_flow_convert.specs.Protected.{text_by_answer}
 use Rattle.html_flow_convert.proofs.Protecting.{opened_things}
 use Rattle.typst_html_encode.specs.Collapsing.{Atom, collapsible, kept, object, break, text_atoms, preserves, has_border}
@@ -30,11 +30,11 @@ wrap_atoms span ns = refl
 
 wrap_things : (span : ℕ) (ns : NodesView) →
     node_things (element_node (pre_wrap_head span) ns) ≡ []
-unfolding node_things is_border default_display stands_in is_replaced
+unfolding node_things is_border_element default_display stands_in is_replaced
 wrap_things span ns = refl
 
 wrap_is_shut : (span : ℕ) → is_entered (pre_wrap_head span) ≡ false
-unfolding is_entered is_border default_display stands_in is_replaced
+unfolding is_entered is_border_element default_display stands_in is_replaced
 wrap_is_shut span = refl
 
 shut_between : (h : Head) (ns : NodesView) → is_entered h ≡ false → (before after : Bool) →
@@ -95,16 +95,16 @@ wrap_ready span ns u =
     ∙ wrap_atoms span ns)
     (walks_unseen (nodes_atoms true (styled_nodes ns)) u)
 
-border_is_shut : (h : Head) → is_border h ≡ true → is_entered h ≡ false
+border_is_shut : (h : Head) → is_border_element h ≡ true → is_entered h ≡ false
 unfolding is_entered
 border_is_shut h e = rw e refl
 
-border_things : (h : Head) (ns : NodesView) → is_border h ≡ true →
+border_things : (h : Head) (ns : NodesView) → is_border_element h ≡ true →
     node_things (element_node h ns) ≡ border ∷ []
 unfolding node_things
 border_things h ns e = rw e refl
 
-pub border_ready : (h : Head) (ns : NodesView) → is_border h ≡ true →
+pub border_ready : (h : Head) (ns : NodesView) → is_border_element h ≡ true →
     ((b a : Bool) → AtomsStay b a (head_atoms h ns)) → Ready (element_node h ns)
 border_ready h ns e s =
     let m = element_node h ns in
@@ -115,19 +115,19 @@ break_atoms : (span : ℕ) → node_atoms false (styled_node (break_node span)) 
 unfolding styled_node stands_in
 break_atoms span = refl
 
-break_is_border : (span : ℕ) → is_border (plain_head (codes "br") [] span) ≡ true
-unfolding is_border stands_in
+break_is_border : (span : ℕ) → is_border_element (made_head (codes "br") [] span) ≡ true
+unfolding is_border_element stands_in
 break_is_border span = refl
 
 pub break_ready : (span : ℕ) → Ready (break_node span)
-break_ready span = border_ready (plain_head (codes "br") [] span) none (break_is_border span)
+break_ready span = border_ready (made_head (codes "br") [] span) none (break_is_border span)
     (λ b a. rw (break_atoms span) (tt, tt))
 
 replaced_is_shut : (h : Head) → is_replaced h.name ≡ true → is_entered h ≡ false
 unfolding is_entered
-replaced_is_shut h e = rw (e, and_right (not (is_border h)) false refl) refl
+replaced_is_shut h e = rw (e, and_right (not (is_border_element h)) false refl) refl
 
-replaced_things : (h : Head) (ns : NodesView) → is_border h ≡ false → is_replaced h.name ≡ true →
+replaced_things : (h : Head) (ns : NodesView) → is_border_element h ≡ false → is_replaced h.name ≡ true →
     node_things (element_node h ns) ≡ visible ∷ []
 unfolding node_things
 replaced_things h ns e r = rw (e, r) refl
@@ -135,7 +135,7 @@ replaced_things h ns e r = rw (e, r) refl
 object_seen : (name : List ℕ) → Seen (object name ∷ [])
 object_seen name = record { at = λ a. refl; past = λ b. refl; stay = λ b a. (tt, tt) }
 
-pub replaced_ready : (h : Head) (ns : NodesView) → is_border h ≡ false → is_replaced h.name ≡ true →
+pub replaced_ready : (h : Head) (ns : NodesView) → is_border_element h ≡ false → is_replaced h.name ≡ true →
     head_atoms h ns ≡ object h.name ∷ [] → Ready (element_node h ns)
 replaced_ready h ns e r one =
     let m = element_node h ns in

@@ -6,7 +6,7 @@ use Rattle.html_dom_tree.specs.Styled.{styled_nodes}
 use Rattle.html_dom_tree.specs.Tree.{NodeView, tag_node, text_node, element_node, frame_node}
 use Rattle.html_dom_tree.specs.Views.{nodes_of}
 use Rattle.html_flow_convert.specs.Nodes.{is_one, is_tag}
-use Rattle.html_flow_convert.specs.Runs.{is_space, is_tab, is_blank_node, first_span, are_kept, run_nodes, front_nodes, front, after_front, nodes_with_runs}
+use Rattle.html_flow_convert.specs.Runs.{is_space, is_tab, is_blank_node, first_span, are_kept, run_nodes, front_nodes, blank_front, after_front, nodes_with_runs}
 use Rattle.typst_html_encode.specs.Collapsing.{Atom, kept, text_atoms}
 use Rattle.typst_html_encode.proofs.NodeAtoms.{nodes_atoms}
 use Rattle.typst_html_spaces.proofs.Each.{Each, Each-append}
@@ -18,8 +18,8 @@ use Rattle.typst_html_spaces.proofs.ReadyPieces.{AlmostReady}
 abbrev pub IsInRun : NodeView → Type 0
 IsInRun n = (is_blank_node n || is_tag n) ≡ true
 
-pub front_is_run : (ns : List NodeView) → Each IsInRun (front ns)
-unfolding front
+pub front_is_run : (ns : List NodeView) → Each IsInRun (blank_front ns)
+unfolding blank_front
 front_is_run [] = tt
 front_is_run (n ∷ ns) = elim (cases_Bool (is_blank_node n || is_tag n)) [
   | inl e ↦ rw e (e, front_is_run ns)
@@ -138,11 +138,11 @@ after_front_ready (n ∷ ns) r = elim (cases_Bool (is_blank_node n || is_tag n))
   | inl e ↦ rw e (after_front_ready ns r.1)
   | inr e ↦ rw e (
     no_tab n e r.0,
-    Each-append Ready (front_nodes (front ns)) (after_front ns)
-        (front_ready (front ns) (front_is_run ns)) (after_front_ready ns r.1),
+    Each-append Ready (front_nodes (blank_front ns)) (after_front ns)
+        (front_ready (blank_front ns) (front_is_run ns)) (after_front_ready ns r.1),
   )
 ]
 
 pub runs_ready : (ns : List NodeView) → Each AlmostReady ns → Each Ready (nodes_with_runs ns)
-runs_ready ns r = Each-append Ready (front_nodes (front ns)) (after_front ns)
-    (front_ready (front ns) (front_is_run ns)) (after_front_ready ns r)
+runs_ready ns r = Each-append Ready (front_nodes (blank_front ns)) (after_front ns)
+    (front_ready (blank_front ns) (front_is_run ns)) (after_front_ready ns r)

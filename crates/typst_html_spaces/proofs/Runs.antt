@@ -5,7 +5,7 @@ use Rattle.std.specs.List.{filter}
 use Rattle.html_dom_tree.specs.Tree.{NodeView}
 use Rattle.html_dom_tree.specs.Views.{nodes_of}
 use Rattle.html_flow_convert.specs.Nodes.{is_tag}
-use Rattle.html_flow_convert.specs.Runs.{is_blank_node, are_kept, first_span, run_nodes, front_nodes, front, after_front, nodes_with_runs}
+use Rattle.html_flow_convert.specs.Runs.{is_blank_node, are_kept, first_span, run_nodes, front_nodes, blank_front, after_front, nodes_with_runs}
 use Rattle.typst_html_spaces.proofs.OwnPieces.{list_pieces, list_pieces-append, pre_wrap_pieces}
 
 module _ {M : Type 0} (total : List NodeView → M) (add : M → M → M)
@@ -29,18 +29,18 @@ module _ {M : Type 0} (total : List NodeView → M) (add : M → M → M)
       append (front_nodes xs) ys
       ∙ (ap (λ t. add t (total ys)) (fronted xs) ∙ sym (append xs ys))
 
-  split : (ns : List NodeView) → total (front ns ++ after_front ns) ≡ total ns
-  unfolding front after_front
+  split : (ns : List NodeView) → total (blank_front ns ++ after_front ns) ≡ total ns
+  unfolding blank_front after_front
   split [] = refl
   split (n ∷ ns) =
       elim (cases_Bool (is_blank_node n || is_tag n)) [
-        | inl e ↦ rw e (past_one n (front ns ++ after_front ns) ns (split ns))
-        | inr e ↦ rw e (past_one n (front_nodes (front ns) ++ after_front ns) ns
-            (before_rest (front ns) (after_front ns) ∙ split ns))
+        | inl e ↦ rw e (past_one n (blank_front ns ++ after_front ns) ns (split ns))
+        | inr e ↦ rw e (past_one n (front_nodes (blank_front ns) ++ after_front ns) ns
+            (before_rest (blank_front ns) (after_front ns) ∙ split ns))
       ]
 
   pub with_runs : (ns : List NodeView) → total (nodes_with_runs ns) ≡ total ns
-  with_runs ns = before_rest (front ns) (after_front ns) ∙ split ns
+  with_runs ns = before_rest (blank_front ns) (after_front ns) ∙ split ns
 
 -- what is seen is such a total
 

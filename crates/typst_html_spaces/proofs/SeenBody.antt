@@ -6,7 +6,7 @@ use Rattle.html_dom_tree.specs.Styled.{styled_nodes}
 use Rattle.html_dom_tree.specs.Tree.{NodesView, ElementView}
 use Rattle.typst_html_encode.specs.FrameWriters.{Frames}
 use Rattle.typst_html_encode.specs.Indented.{element_layout}
-use Rattle.typst_html_encode.specs.IndentsCollapse.{NodesAreEdged, body_of}
+use Rattle.typst_html_encode.specs.IndentsCollapse.{NodesAreEdged, body_children}
 use Rattle.typst_html_encode.specs.Text.{document_text, plain_options, pretty_options}
 use Rattle.typst_html_encode.proofs.IndentsCollapse.{body_collapses, body_normal}
 use Rattle.typst_html_encode.proofs.ReadingBack.{reads_back}
@@ -19,7 +19,7 @@ use Rattle.typst_html_spaces.proofs.SpacesStay.{spaces_stay}
 
 -- of the tree that a root's text reads as
 
-module _ (e : ElementView) (body : NodesView) (is : body_of e.1 ≡ Some body) where
+module _ (e : ElementView) (body : NodesView) (is : body_children e.1 ≡ Some body) where
   pub plain_tree_seen : seen_tree (Some (element_normal e)) ≡ Some (seen_plains (nodes_normal body))
   plain_tree_seen = ap seen_body (body_normal e.1 body is)
 
@@ -31,7 +31,7 @@ module _ (e : ElementView) (body : NodesView) (is : body_of e.1 ≡ Some body) w
 
 -- of the text
 
-module _ (frames : Frames) (e : ElementView) (body : NodesView) (is : body_of e.1 ≡ Some body)
+module _ (frames : Frames) (e : ElementView) (body : NodesView) (is : body_children e.1 ≡ Some body)
     (edged : NodesAreEdged body) where
   plain_seen : CanBeRead frames plain_options e →
       seen_text (document_text frames plain_options e) ≡ Some (seen_plains (nodes_normal body))

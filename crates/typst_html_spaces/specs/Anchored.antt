@@ -19,8 +19,8 @@ attribute_name new_id = codes "id"
 attribute_name new_href = codes "href"
 
 -- with that value, in front of all attributes
-abbrev pub with_new : NewAttribute → (value : List ℕ) → Head → Head
-with_new a value h = record h { attrs = (attribute_name a, value) ∷ h.attrs }
+abbrev pub with_front_attribute : NewAttribute → (value : List ℕ) → Head → Head
+with_front_attribute a value h = record h { attrs = (attribute_name a, value) ∷ h.attrs }
 
 -- a `span` with an `id` and nothing else
 abbrev pub anchor_head : (id : List ℕ) (span : ℕ) → Head
@@ -57,7 +57,7 @@ pub data Anchored (Passes : List ℕ → Type 0) : NodesView → NodesView → T
   of_element : {h : Head} {kids new ns ms : NodesView} (a : NewAttribute) (value : List ℕ) →
       Passes value → Anchored Passes kids new → Anchored Passes ns ms →
       Anchored Passes (node (element_node h kids) ns)
-      (node (element_node (with_new a value h) new) ms)
+      (node (element_node (with_front_attribute a value h) new) ms)
   at_frame : {f g : HtmlFrameView} {ns ms : NodesView} → Anchored Passes ns ms →
       Anchored Passes (node (frame_node f) ns) (node (frame_node g) ms)
 

@@ -34,15 +34,15 @@ abbrev pub is_plain_head : ElemHead → Bool
 is_plain_head h = is_plain_name h.name && has_no_css h.css && not (has_name h.attrs (codes "style"))
 
 -- a tag, a hole or an empty text
-abbrev pub is_nothing : ItemView → Bool
-is_nothing (tag_item t) = true
-is_nothing (text_item [] span) = true
-is_nothing hole_item = true
-is_nothing _ = false
+abbrev pub is_unseen_item : ItemView → Bool
+is_unseen_item (tag_item t) = true
+is_unseen_item (text_item [] span) = true
+is_unseen_item hole_item = true
+is_unseen_item _ = false
 
-abbrev pub are_nothing : ItemsView → Bool
-are_nothing no_items = true
-are_nothing (item i role items) = is_nothing i && are_nothing items
+abbrev pub are_unseen_items : ItemsView → Bool
+are_unseen_items no_items = true
+are_unseen_items (item i role items) = is_unseen_item i && are_unseen_items items
 
 -- CR LF, CR or LF alone
 abbrev pub is_break_text : List ℕ → Bool
@@ -59,8 +59,8 @@ is_break _ _ = false
 abbrev pub are_one_break : Whitespace → ItemsView → Bool
 are_one_break whitespace no_items = false
 are_one_break whitespace (item i role items) =
-    if is_nothing i then are_one_break whitespace items
-    else is_break whitespace i && are_nothing items
+    if is_unseen_item i then are_one_break whitespace items
+    else is_break whitespace i && are_unseen_items items
 
 abbrev pub is_one_break : Whitespace → BodyView → Bool
 is_one_break whitespace absent = false

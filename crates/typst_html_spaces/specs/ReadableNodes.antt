@@ -4,7 +4,7 @@ use Rattle.std.specs.Prelude.{◌≡◌, ◌↔◌, Bool, false, Some}
 use Rattle.html_names.specs.Kinds.{is_raw}
 use Rattle.html_dom_tree.specs.Tree.{NodeView, tag_node, text_node, element_node, frame_node, NodesView, none, node}
 use Rattle.typst_html_encode.specs.Indented.{NodesEndWell}
-use Rattle.typst_html_encode.specs.IndentsCollapse.{body_of}
+use Rattle.typst_html_encode.specs.IndentsCollapse.{body_children}
 use Rattle.html_dom_tree.specs.FrameFree.{NodesAreFrameFree}
 use Rattle.typst_html_spaces.specs.Anchored.{Anchored, IsAny}
 
@@ -33,5 +33,5 @@ AnchorsKeepFrameFree = (ns ms : NodesView) → Anchored IsAny ns ms →
 
 -- the first `body` is that of the nodes without anchors, with anchors in it
 abbrev pub AnchorsKeepBody : Type 0
-AnchorsKeepBody = (ns ms body : NodesView) → Anchored IsAny ns ms → body_of ns ≡ Some body →
-    (new : NodesView) × (body_of ms ≡ Some new) × Anchored IsAny body new
+AnchorsKeepBody = (ns ms body : NodesView) → Anchored IsAny ns ms → body_children ns ≡ Some body →
+    (new : NodesView) × (body_children ms ≡ Some new) × Anchored IsAny body new

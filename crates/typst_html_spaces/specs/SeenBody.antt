@@ -8,7 +8,7 @@ use Rattle.typst_html_encode.specs.Collapsing.{Piece, plains_atoms, collapsed_pi
 use Rattle.typst_html_encode.specs.ExportFaults.{document_faults}
 use Rattle.typst_html_encode.specs.FrameWriters.{Frames}
 use Rattle.typst_html_encode.specs.Indented.{ElementEndsWell}
-use Rattle.typst_html_encode.specs.IndentsCollapse.{NodesAreEdged, body_of, body_in}
+use Rattle.typst_html_encode.specs.IndentsCollapse.{NodesAreEdged, body_children, body_in}
 use Rattle.typst_html_encode.specs.Reader.{read}
 use Rattle.html_dom_tree.specs.FrameFree.{ElementIsFrameFree}
 use Rattle.typst_html_encode.specs.ReadingBack.{ElementIsNamed}
@@ -53,7 +53,7 @@ pub record CanBeRead (frames : Frames) (options : HtmlOptions) (e : ElementView)
 -- border
 abbrev pub BodyIsSeen : Type 0
 BodyIsSeen = (frames : Frames) (options : HtmlOptions) (e : ElementView) (body : NodesView) →
-    CanBeRead frames options e → body_of e.1 ≡ Some body → NodesAreEdged body →
+    CanBeRead frames options e → body_children e.1 ≡ Some body → NodesAreEdged body →
     seen_text (document_text frames options e) ≡ Some (seen_plains (nodes_normal body))
 
 -- a document whose body is made of items in plain flow: in its text, plain or pretty, exactly their
@@ -61,5 +61,5 @@ BodyIsSeen = (frames : Frames) (options : HtmlOptions) (e : ElementView) (body :
 abbrev pub ItemsAreSeen : Type 0
 ItemsAreSeen = (frames : Frames) (options : HtmlOptions) (e : ElementView) (role : RoleText)
     (items : ItemsView) → is_plain_flow items ≡ true → CanBeRead frames options e →
-    body_of e.1 ≡ Some (styled_nodes (converted_nodes Block Normal role items)) →
+    body_children e.1 ≡ Some (styled_nodes (converted_nodes Block Normal role items)) →
     seen_text (document_text frames options e) ≡ Some (items_text items)

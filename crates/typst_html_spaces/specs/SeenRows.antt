@@ -11,9 +11,9 @@ use Rattle.typst_html_spaces.specs.PlainFlow.{is_plain_flow}
 use Rattle.typst_html_spaces.specs.SpacesStay.{seen_pieces}
 
 -- items without roles and spans
-abbrev pub items_of : List ItemView → ItemsView
-items_of [] = no_items
-items_of (i ∷ is) = item i inherits (items_of is)
+abbrev pub row_items : List ItemView → ItemsView
+row_items [] = no_items
+row_items (i ∷ is) = item i inherits (row_items is)
 
 abbrev words : List ℕ → ItemView
 words s = text_item s 0
@@ -28,7 +28,7 @@ abbrev end : ItemView
 end = tag_item (ends 4)
 
 abbrev element : List ℕ → List ItemView → ItemView
-element name inside = element_item (new_head name) (present (items_of inside))
+element name inside = element_item (new_head name) (present (row_items inside))
 
 abbrev paragraph : List ItemView → ItemView
 paragraph = element (codes "p")
@@ -37,7 +37,7 @@ abbrev emphasis : List ItemView → ItemView
 emphasis = element (codes "em")
 
 abbrev block : List ItemView → ItemView
-block inside = block_item (present (items_of inside)) 0
+block inside = block_item (present (row_items inside)) 0
 
 abbrev plain_pieces : List ℕ → List Piece
 plain_pieces = map char
@@ -129,7 +129,7 @@ lists_and_tables = (
 -- boxes, names that are no plain flow, and blocks of one line break by any spelling
 abbrev pub others : List (List ItemView)
 others =
-    (box_item (present (items_of (words (codes "y") ∷ []))) 0 ∷ [])
+    (box_item (present (row_items (words (codes "y") ∷ []))) 0 ∷ [])
     ∷ (element (codes "body") (words (codes "x") ∷ []) ∷ [])
     ∷ (element (codes "html") [] ∷ [])
     ∷ (element (codes "noscript") [] ∷ [])
@@ -143,7 +143,7 @@ others =
 -- whether items are plain flow, their text, and what is seen of their nodes
 abbrev pub row_answer : SeenRow → Bool × List Piece × List Piece
 row_answer r =
-    let items = items_of r.0 in
+    let items = row_items r.0 in
     (is_plain_flow items, items_text items, seen_pieces (converted_nodes Block Normal None items))
 
 -- they are, with that text, and the nodes are seen as just that
@@ -154,4 +154,4 @@ abbrev pub AreSeen : List SeenRow → Type 0
 AreSeen rows = map row_answer rows ≡ map expected_answer rows
 
 abbrev pub AreNotPlain : List (List ItemView) → Type 0
-AreNotPlain rows = map (λ is. is_plain_flow (items_of is)) rows ≡ map (λ is. false) rows
+AreNotPlain rows = map (λ is. is_plain_flow (row_items is)) rows ≡ map (λ is. false) rows

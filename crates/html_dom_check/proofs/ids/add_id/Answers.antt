@@ -1,6 +1,6 @@
 use Rattle.std.proofs.Common.{◌≡◌, ap, sym, ◌∙◌, rules}
 use Rattle.html_names.specs.Texts.{text_view}
-use Rattle.html_dom_link.specs.NewNames.{with_name}
+use Rattle.html_dom_link.specs.NewNames.{with_used_name}
 use Rattle.html_dom_link.specs.UsedNames.{used_in}
 use Rattle.html_dom_link.proofs.Gathering.{with-one}
 use Rattle.html_dom_check.proofs.ids.add_id.Goals as goal
@@ -10,4 +10,4 @@ returns c =
     let used = used_in c.args.ids.now in
     let same : text_view c.in_ok-clone.field-0 ≡ text_view c.args.id.now = search rules in
     c.in_ok-put.ensures
-    ∙ (ap (λ n. with_name n used) same ∙ sym (with-one (text_view c.args.id.now) used))
+    ∙ (ap (λ n. with_used_name n used) same ∙ sym (with-one (text_view c.args.id.now) used))

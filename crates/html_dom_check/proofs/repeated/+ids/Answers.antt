@@ -6,7 +6,7 @@ use Rattle.html_dom_tree.specs.Views.{element_view, node_view, nodes_view}
 use Rattle.html_dom_link.specs.UsedNames.{used_in}
 use Rattle.html_dom_check.specs.Findings.{repeated_view}
 use Rattle.html_dom_check.specs.PlacedTexts.{node_placed, nodes_placed, placed_at}
-use Rattle.html_dom_check.specs.RepeatedIds.{Passes, ids_at}
+use Rattle.html_dom_check.specs.RepeatedIds.{LeavesToFind, ids_at}
 use Rattle.html_dom_check.proofs.PassedIds.{both_passed, no_more_passed, one_more_passed}
 use Rattle.html_dom_check.proofs.repeated.+ids.Goals as goal
 
@@ -24,14 +24,14 @@ pass_element-returns-clause-passes t c =
     let new = c.pass_nodes.new.walk in
     let own = placed_at path (ids_at (element_node e.0 e.1)) in
     let below = nodes_placed ids_at path 0 e.1 in
-    let first : Passes (repeated_view old.repeated.items) (used_in old.ids) own
+    let first : LeavesToFind (repeated_view old.repeated.items) (used_in old.ids) own
     (repeated_view mid.repeated.items) (used_in mid.ids) =
-    subst (λ ids. Passes (repeated_view old.repeated.items) (used_in old.ids)
+    subst (λ ids. LeavesToFind (repeated_view old.repeated.items) (used_in old.ids)
     (placed_at path (option_to_list ids)) (repeated_view mid.repeated.items) (used_in mid.ids))
     c.first_id.ensures c.in_ok-pass_optional.ensures.passes in
-    let next : Passes (repeated_view mid.repeated.items) (used_in mid.ids) below
+    let next : LeavesToFind (repeated_view mid.repeated.items) (used_in mid.ids) below
     (repeated_view new.repeated.items) (used_in new.ids) =
-    subst (λ placed. Passes (repeated_view mid.repeated.items) (used_in mid.ids) placed
+    subst (λ placed. LeavesToFind (repeated_view mid.repeated.items) (used_in mid.ids) placed
     (repeated_view new.repeated.items) (used_in new.ids))
     (ap (λ p. nodes_placed ids_at p 0 (nodes_view c.deref.result.now)) c.in_ok-pass_optional.ensures.path
     ∙ ap (λ ns. nodes_placed ids_at path 0 (nodes_view ns)) c.deref.ensures.value)
@@ -58,7 +58,7 @@ pass_nodes-loop-index-preserved t c =
           (repeated_view old.repeated.items) (repeated_view new.repeated.items) _
           (used_in old.ids) (used_in new.ids) _ _
           c.loop-index-test.true c.index-nodes-index.is held.passes
-          (subst (λ p. Passes (repeated_view old.repeated.items) (used_in old.ids)
+          (subst (λ p. LeavesToFind (repeated_view old.repeated.items) (used_in old.ids)
           (node_placed ids_at p (node_view child)) (repeated_view new.repeated.items) (used_in new.ids))
           there c.in_ok-pass_node.ensures.passes);
     }

@@ -3,7 +3,7 @@ use Rattle.html_names.specs.Texts.{text_view}
 use Rattle.html_dom_link.specs.UsedNames.{used_in}
 use Rattle.html_dom_check.specs.Findings.{repeated_view}
 use Rattle.html_dom_check.specs.PlacedTexts.{placed_at}
-use Rattle.html_dom_check.specs.RepeatedIds.{Passes}
+use Rattle.html_dom_check.specs.RepeatedIds.{LeavesToFind}
 use Rattle.html_dom_check.proofs.PassedIds.{no_anchor_passed, one_anchor_passed}
 use Rattle.html_dom_check.proofs.repeated.pass_anchors.Goals as goal
 
@@ -22,7 +22,7 @@ loop-anchor-preserved c =
           (repeated_view old.repeated.items) (repeated_view new.repeated.items) _
           (used_in old.ids) (used_in new.ids) _ _
           c.loop-anchor-test.true c.anchor-item.is held.passes
-          (subst (λ p. Passes (repeated_view old.repeated.items) (used_in old.ids)
+          (subst (λ p. LeavesToFind (repeated_view old.repeated.items) (used_in old.ids)
           (placed_at p (text_view c.anchor-item.result.1 ∷ []))
           (repeated_view new.repeated.items) (used_in new.ids))
           held.path c.in_ok-pass_id.ensures.passes);

@@ -6,7 +6,7 @@ use Rattle.html_dom_link.specs.NewNames.{anchor_names}
 use Rattle.html_dom_link.specs.UsedNames.{used_in}
 use Rattle.html_dom_check.specs.Findings.{repeated_view}
 use Rattle.html_dom_check.specs.PlacedTexts.{node_placed, placed_at}
-use Rattle.html_dom_check.specs.RepeatedIds.{Passes}
+use Rattle.html_dom_check.specs.RepeatedIds.{LeavesToFind}
 use Rattle.html_dom_check.proofs.PassedIds.{both_passed}
 use Rattle.html_dom_check.proofs.Walks.{placed-append}
 use Rattle.html_dom_check.proofs.repeated.pass_frame.Goals as goal
@@ -22,20 +22,20 @@ returns-clause-passes c =
     let id : option_map (λ id. text_view id.now) c.as_ref.result ≡ f.id = search rules in
     let own = placed_at path (option_to_list f.id) in
     let anchors = placed_at path (anchor_names f.anchors) in
-    let first : Passes (repeated_view old.repeated.items) (used_in old.ids) own
+    let first : LeavesToFind (repeated_view old.repeated.items) (used_in old.ids) own
     (repeated_view mid.repeated.items) (used_in mid.ids) =
-    subst (λ i. Passes (repeated_view old.repeated.items) (used_in old.ids)
+    subst (λ i. LeavesToFind (repeated_view old.repeated.items) (used_in old.ids)
     (placed_at path (option_to_list i)) (repeated_view mid.repeated.items) (used_in mid.ids))
     id c.in_ok-pass_optional.ensures.passes in
-    let next : Passes (repeated_view mid.repeated.items) (used_in mid.ids) anchors
+    let next : LeavesToFind (repeated_view mid.repeated.items) (used_in mid.ids) anchors
     (repeated_view new.repeated.items) (used_in new.ids) =
-    subst (λ placed. Passes (repeated_view mid.repeated.items) (used_in mid.ids) placed
+    subst (λ placed. LeavesToFind (repeated_view mid.repeated.items) (used_in mid.ids) placed
     (repeated_view new.repeated.items) (used_in new.ids))
     (ap (λ p. placed_at p (anchor_names (anchors_view c.deref.result.now)))
     c.in_ok-pass_optional.ensures.path
     ∙ ap (λ as'. placed_at path (anchor_names (anchors_view as'))) c.deref.ensures.value)
     c.in_ok-pass_anchors.ensures.passes in
-    subst (λ placed. Passes (repeated_view old.repeated.items) (used_in old.ids) placed
+    subst (λ placed. LeavesToFind (repeated_view old.repeated.items) (used_in old.ids) placed
     (repeated_view new.repeated.items) (used_in new.ids))
     (sym (placed-append path (option_to_list f.id) (anchor_names f.anchors)))
     (both_passed (repeated_view old.repeated.items) (repeated_view mid.repeated.items)

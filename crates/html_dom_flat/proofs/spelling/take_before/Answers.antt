@@ -1,7 +1,7 @@
 use Rattle.std.proofs.Common.{rules, ◌≡◌, [], ◌∷◌, ◌++◌, ap, sym, ◌∙◌, append_assoc, map}
 use Rattle.std.proofs.lemmas.List.{map-append}
 use Rattle.html_dom_tree.specs.Views.{node_view}
-use Rattle.html_dom_flat.specs.Stacks.{stack_view, nodes_before, rest_after}
+use Rattle.html_dom_flat.specs.Stacks.{stack_view, stacked_before, rest_after}
 use Rattle.html_dom_flat.proofs.Stacking.{popped_before, popped_after}
 use Rattle.html_dom_flat.proofs.spelling.take_before.Goals as goal
 
@@ -12,7 +12,7 @@ loop-node-preserved c =
     let left = stack_view c.pop_before.new.stack.items in
     let popped = c.in-Some.ensures in
     let puts : c.push.new.self.items ≡ nodes ++ c.in-Some.node ∷ [] = search rules in
-    let first = ap (nodes_before past) popped.2
+    let first = ap (stacked_before past) popped.2
     ∙ popped_before past popped.0 (node_view c.in-Some.node) left popped.1 in
     let others = ap (rest_after past) popped.2
     ∙ popped_after past popped.0 (node_view c.in-Some.node) left popped.1 in

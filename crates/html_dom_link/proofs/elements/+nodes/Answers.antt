@@ -7,7 +7,7 @@ use Rattle.html_names.specs.Tables.{known_attrs}
 use Rattle.html_dom_tree.specs.Tree.{none, node}
 use Rattle.html_dom_tree.specs.Views.{optional_text_view, node_view, nodes_view, element_view}
 use Rattle.html_dom_link.specs.Anchors.{span_before}
-use Rattle.html_dom_link.specs.Joined.{◌then◌}
+use Rattle.html_dom_document.specs.DomIndices.{◌then◌}
 use Rattle.html_dom_link.specs.AnchorWalk.{first_waiting, Serves, walk}
 use Rattle.html_dom_link.specs.WalkViews.{walk_view, targets_view}
 use Rattle.html_dom_link.proofs.WholeWalk.{element_served, node_placed, node_kept, node_walked, nodes_kept, nodes_walked}

@@ -3,7 +3,7 @@ use Rattle.html_names.specs.Names.{stands_in}
 use Rattle.html_names.specs.Texts.{text_view}
 use Rattle.html_dom_link.specs.Distinct.{names_view}
 use Rattle.html_dom_link.specs.UsedNames.{used_in, with_names}
-use Rattle.html_dom_link.specs.NewNames.{with_name}
+use Rattle.html_dom_link.specs.NewNames.{with_used_name}
 use Rattle.html_dom_link.proofs.Differing.{all_put, put_in_turn}
 use Rattle.html_dom_link.proofs.Gathering.{with-all}
 use Rattle.html_dom_link.proofs.names_in_tree.element_names.Goals as goal
@@ -19,7 +19,7 @@ loop-name-preserved c =
     let used = used_in c.loop-name.names.used in
     put_in_turn c.deref-name-items.result.now c.loop-name.name-index c.name-item.result used
     (used_in c.put.new.self.used) _ (search rules) c.loop-name.invariant
-    (c.in_ok-put.ensures ∙ ap (λ x. with_name (text_view x.now) used) c.name-item.is)
+    (c.in_ok-put.ensures ∙ ap (λ x. with_used_name (text_view x.now) used) c.name-item.is)
 
 pub returns : goal.returns
 returns c =

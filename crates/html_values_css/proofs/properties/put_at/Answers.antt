@@ -1,6 +1,6 @@
 use Rattle.std.proofs.Common.{◌≡◌, ℕ, List, sym, ap, ◌∙◌, chars}
 use Rattle.html_names.specs.Texts.{text_view}
-use Rattle.html_values_css.specs.Properties.{list_view, property_view, name_of, with_value}
+use Rattle.html_values_css.specs.Properties.{list_view, property_view, property_name, with_value}
 use Rattle.html_values_css.specs.declared.property.Property.{Property}
 use Rattle.html_values_css.proofs.Listing.{put_gap}
 use Rattle.html_values_css.proofs.Names.{by_name_total}
@@ -10,8 +10,8 @@ pub returns-in-Ok-insert-clause-ok : goal.returns-in-Ok-insert-clause-ok
 returns-in-Ok-insert-clause-ok c =
     let list = c.args.list.now.items in
     let made = c.new.result in
-    let name : name_of made ≡ chars c.args.name.now =
-    ap (λ (p : Property). name_of p) c.new.ensures ∙ ap chars c.in-Ok.ensures.ok in
+    let name : property_name made ≡ chars c.args.name.now =
+    ap (λ (p : Property). property_name p) c.new.ensures ∙ ap chars c.in-Ok.ensures.ok in
     let value : text_view made.value ≡ text_view c.args.value =
     ap (λ (p : Property). text_view p.value) c.new.ensures in
     ap list_view c.in-Ok-insert.ensures.items

@@ -1,7 +1,7 @@
 use Rattle.std.proofs.Common.{◌≡◌, false, Some, None, ap, sym, subst, ◌∙◌}
 use Rattle.std.specs.Prelude.{option_map, IfOk}
 use Rattle.html_dom_tree.specs.Views.{element_view, nodes_view}
-use Rattle.typst_html_encode.specs.IndentsCollapse.{body_of}
+use Rattle.typst_html_encode.specs.IndentsCollapse.{body_children}
 use Rattle.typst_html_page.specs.Gathering.{nothing_seen, final, past_nodes}
 use Rattle.typst_html_page.specs.PageTexts.{page_pieces}
 use Rattle.typst_html_page.specs.PageViews.{page_text_view, seen_view}
@@ -15,13 +15,13 @@ returns c =
     let ns = nodes_view root.children.items in
     let s = seen_view c.new-seen.result in
     let u = seen_view c.match-body_of.seen in
-    let found : option_map (λ b. (element_view b.now).1) c.body_of.result ≡ body_of ns =
-    c.body_of.ensures ∙ ap (λ l. body_of (nodes_view l)) c.deref.ensures.value in
+    let found : option_map (λ b. (element_view b.now).1) c.body_of.result ≡ body_children ns =
+    c.body_of.ensures ∙ ap (λ l. body_children (nodes_view l)) c.deref.ensures.value in
     let start : s ≡ nothing_seen = c.new-seen.ensures in
     let whole : final u ≡ page_pieces (element_view root) = elim c.match-body_of.branch [
       | in-Some+in_ok-add_nodes w ↦
           let body = nodes_view w.in-Some.body.now.children.items in
-          let is : body_of ns ≡ Some body =
+          let is : body_children ns ≡ Some body =
           sym found ∙ ap (option_map (λ b. (element_view b.now).1)) w.in-Some.is in
           let added : seen_view w.add_nodes.new.seen ≡ past_nodes false s body =
           w.in_ok-add_nodes.ensures
@@ -29,7 +29,7 @@ returns c =
           let here : u ≡ past_nodes false s body = cc (added, w.seen-is) in
           body_seen ns body s u is start here
       | in_default w ↦
-          let is : body_of ns ≡ None =
+          let is : body_children ns ≡ None =
           sym found ∙ ap (option_map (λ b. (element_view b.now).1)) w.in_default.is in
           let here : u ≡ nothing_seen = cc (start, w.seen-is) in
           nothing_in ns u is here

@@ -2,7 +2,7 @@ use Rattle.std.proofs.Common.{◌≡◌, false, ◌++◌, bytes_eq, chars, codes
 use Rattle.typst_html_encode.specs.Reader.{read}
 use Rattle.typst_html_read.specs.Endings.{Gives}
 use Rattle.typst_html_read.specs.PlainElements.{accepted}
-use Rattle.typst_html_read.specs.Reading.{too_deep}
+use Rattle.typst_html_read.specs.LimitedReading.{too_deep}
 use Rattle.typst_html_read.proofs.Loops.{begins_otherwise}
 use Rattle.typst_html_read.proofs.Words.{chars_after_word}
 use Rattle.typst_html_read.proofs.read.read_html.Goals as goal

@@ -9,7 +9,7 @@ use Rattle.typst_html_read.specs.OpenViews.{open_of}
 use Rattle.typst_html_read.specs.PlainElements.{accepted}
 use Rattle.typst_html_read.specs.PlainViews.{completed}
 use Rattle.typst_html_read.specs.ReaderViews.{reader_state}
-use Rattle.typst_html_read.specs.Reading.{next, deep_places}
+use Rattle.typst_html_read.specs.LimitedReading.{next_state, deep_places}
 use Rattle.typst_html_read.proofs.CommonStretches.{goes_on}
 use Rattle.typst_html_read.proofs.Loops.{deep_here, deep_later, deep_stopped, deep_ended}
 use Rattle.typst_html_read.proofs.Names.{taken, outcome, stopped, next_outcome, next_taken, root_read, root_accepted}
@@ -64,7 +64,7 @@ returns-then-begins_deep c =
       made = tt;
       clean = tt;
       fault = (
-        deep_places c.args.limit (before + 1) (next state d) (chars later),
+        deep_places c.args.limit (before + 1) (next_state state d) (chars later),
         sym (gone.deep ∙ held.deep) ∙ (ap (deep_places c.args.limit before state) left
             ∙ deep_here c.args.limit before state d (chars later)
             (sym c.begins_deep.ensures ∙ c.if-begins_deep.true)),
@@ -84,7 +84,7 @@ returns-then-is_stopped c =
     let gone = goes_on c.args.limit at.before (reader_state at.reader) state at.rest.now past got in
     let left = chars_past_char past later d got.rest_utf8
     (sym c.chars-left.ensures.rest ∙ c.in-Some.ensures.steps.0) in
-    let now : next state d ≡ Stop =
+    let now : next_state state d ≡ Stop =
     sym c.in_ok-step.ensures ∙ c.is_stopped.ensures.0 c.if-is_stopped.true in
     record {
       made = sym (sym (gone.read ∙ held.read) ∙ (ap (outcome state) left
@@ -127,8 +127,8 @@ loop-reader-preserved c =
     sym c.chars-left.ensures.rest ∙ (c.in-Some.ensures.steps.0
     ∙ ap (λ l. encode d ++ l) (sym c.as_str-rest.ensures)) in
     let left = chars_past_char past later d got.rest_utf8 parts in
-    let step : reader_state c.step.new.self ≡ next state d = c.in_ok-step.ensures in
-    let names : taken (next state d) ≡ true =
+    let step : reader_state c.step.new.self ≡ next_state state d = c.in_ok-step.ensures in
+    let names : taken (next_state state d) ≡ true =
     elim (next_taken state d (gone.names ∙ held.names)) [
       | inl e ↦ absurd (false≢true (sym c.if-is_stopped.false ∙ c.is_stopped.ensures.1 (step ∙ e)))
       | inr e ↦ e

@@ -3,7 +3,7 @@ use denote.Text.{Utf8}
 use denote.Shadow.{shadow}
 use Rattle.typst_html_encode.specs.Reader.{Outside}
 use Rattle.typst_html_read.specs.ReaderViews.{reader_state}
-use Rattle.typst_html_read.specs.Reading.{deep_places}
+use Rattle.typst_html_read.specs.LimitedReading.{deep_places}
 use Rattle.typst_html_read.proofs.Names.{taken, outcome}
 use Rattle.typst_html_read.proofs.read.read_root.Given as goal
 

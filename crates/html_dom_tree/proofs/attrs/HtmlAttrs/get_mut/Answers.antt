@@ -1,7 +1,7 @@
 use Rattle.std.proofs.Common.{◌≡◌, ◌≤◌, ◌<◌, ap, sym, ◌∙◌, refl, [], Some, length, get_or, arith}
 use Rattle.html_dom_tree.specs.Views.{attrs_view, text_view}
 use Rattle.html_dom_tree.specs.Attributes.{place}
-use Rattle.html_dom_tree.specs.Lending.{with_text}
+use Rattle.html_dom_tree.specs.Lending.{with_text_at}
 use Rattle.html_dom_tree.proofs.Attributes.{put, first_at, first_past}
 use Rattle.html_dom_tree.proofs.attrs.HtmlAttrs.get_mut.Goals as goal
 
@@ -16,7 +16,7 @@ returns-then-place-len c =
     omega (arith, here, c.if-place-len.true, c.len.ensures, attrs.0.ok.0) in
     let value : text ≡ (get_or pairs (place (attrs_view attrs) name) ([], text)).1 =
     c.value_mut.ensures.value ∙ ap (λ n. (get_or pairs n ([], text)).1) here in (
-      (refl, λ w. ap (λ n. attrs_view (with_text attrs n w)) here ∙ put name pairs w, refl),
+      (refl, λ w. ap (λ n. attrs_view (with_text_at attrs n w)) here ∙ put name pairs w, refl),
       record {
         writes_back = tt;
         value = ap (λ s. Some (text_view s)) value ∙ sym (first_at name pairs ([], text) within);

@@ -5,7 +5,7 @@ use Rattle.html_names.specs.Names.{attr_fault}
 use Rattle.html_dom_tree.specs.Views.{attrs_view, text_view}
 use Rattle.typst_html_encode.specs.Reader.{after}
 use Rattle.typst_html_read.specs.OpenViews.{stack_of}
-use Rattle.typst_html_read.specs.Reading.{next}
+use Rattle.typst_html_read.specs.LimitedReading.{next_state}
 use Rattle.typst_html_read.specs.ReaderViews.{reader_state, state_at}
 use Rattle.typst_html_read.proofs.Steps.{attr_step}
 use Rattle.typst_html_read.proofs.reader.Reader.attr_name.Goals as goal
@@ -29,4 +29,4 @@ returns-in_ok-push-in-Some-2 c =
     (sym (ap attr_fault read) ∙ named.1) c.if-c-eq61.false in
     subst (λ s. OnOk c.after.result (reader_state c.after.new.self ≡ s))
     (ap (λ a. after self.tag a stack d) more
-    ∙ (step ∙ ap (λ m. next (state_at m self) d) (sym c.requires))) c.after.ensures
+    ∙ (step ∙ ap (λ m. next_state (state_at m self) d) (sym c.requires))) c.after.ensures

@@ -8,7 +8,7 @@ use Rattle.typst_html_encode.specs.ClosingTags.{before_closing}
 use Rattle.typst_html_encode.specs.Reader.{Open, with_text, complete}
 use Rattle.typst_html_read.specs.OpenViews.{open_of, stack_of}
 use Rattle.typst_html_read.specs.RawEnds.{EndsAt}
-use Rattle.typst_html_read.specs.Reading.{next}
+use Rattle.typst_html_read.specs.LimitedReading.{next_state}
 use Rattle.typst_html_read.specs.ReaderViews.{reader_state, state_at}
 use Rattle.typst_html_read.specs.declared.stack.Stack.{Stack}
 use Rattle.typst_html_read.proofs.Steps.{raw_step}
@@ -55,4 +55,4 @@ returns c =
     ∙ (ap (λ (s : Stack). complete name attrs (with_text (before_closing name text) no_plains)
     (stack_of s))
     c.take_tag.ensures.stack
-    ∙ (step ∙ ap (λ m. next (state_at m self) d) (sym c.requires)))) c.complete.ensures
+    ∙ (step ∙ ap (λ m. next_state (state_at m self) d) (sym c.requires)))) c.complete.ensures

@@ -12,8 +12,8 @@ ends_refused (AttrName name attrs attr stack) c =
 ends_refused s c = false
 
 -- as `step`, but nothing is read after a name that is none
-abbrev pub next : ReaderState → ℕ → ReaderState
-next s c = if ends_refused s c then Stop else step s c
+abbrev pub next_state : ReaderState → ℕ → ReaderState
+next_state s c = if ends_refused s c then Stop else step s c
 
 -- with the character a start tag begins, of an element that would stand deeper than the limit
 abbrev pub begins_deep : (limit : ℕ) → ReaderState → ℕ → Bool
@@ -26,7 +26,7 @@ begins_deep limit s c = false
 unfoldable pub deep_places : (limit before : ℕ) → ReaderState → List ℕ → List ℕ
 deep_places limit before s [] = []
 deep_places limit before s (c ∷ cs) =
-    (if begins_deep limit s c then before ∷ [] else []) ++ deep_places limit (before + 1) (next s c)
+    (if begins_deep limit s c then before ∷ [] else []) ++ deep_places limit (before + 1) (next_state s c)
     cs
 
 -- the places of the start tags that stand too deep in a text
