@@ -48,7 +48,7 @@ abbrev pub front_nodes : List NodeView → List NodeView
 front_nodes [] = []
 front_nodes (n ∷ ns) = if is_tag n then n ∷ front_nodes ns else run_nodes (n ∷ ns)
 
--- the blanks and tags at the front of a list; what comes after them, each run in it in its place
+-- the blanks and tags at the blank_front of a list; what comes after them, each run in it in its place
 unfoldable pub blank_front : List NodeView → List NodeView
 blank_front [] = []
 blank_front (n ∷ ns) = if is_blank_node n || is_tag n then n ∷ blank_front ns else []

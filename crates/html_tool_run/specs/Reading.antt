@@ -1,6 +1,6 @@
 -- How calls end that read a part of a JSON value: those before a name was refused make what the part
 -- spells, and the others only see that it spells something.
-use Rattle.std.specs.Prelude.{◌≡◌, ◌≢◌, ℕ, List, [], ◌∷◌, Option, Some, None, option_map, Result, MatchResult, String, Vec}
+use Rattle.std.specs.Prelude.{◌≡◌, ◌≢◌, ℕ, ◌+◌, List, [], ◌∷◌, ◌++◌, Option, Some, None, option_map, Result, MatchResult, String, Vec, vec_len, vec_capacity}
 use Rattle.std.specs.declared.alloc.Global.{Global}
 use Rattle.html_names.specs.Names.{attr_fault}
 use Rattle.html_names.specs.declared.fault.NameFault.{NameFault}
@@ -60,6 +60,21 @@ Reads view refusals r wanted before after =
 abbrev pub ReadsNode : Result HtmlNode Fault → Option (NodeView × ℕ) → (before after : Reader)
     → Type 0
 ReadsNode = Reads node_view name_refusals
+
+-- a node was read and added to others, of which there may be as many as before
+pub record IsAdded (wanted : Option (NodeView × ℕ)) (old new : Vec HtmlNode Global)
+    (before after : Reader) : Type 0 where
+  pub made : HtmlNode
+  pub added : new.items ≡ old.items ++ made ∷ []
+  pub count : vec_len new ≡ vec_len old + 1
+  pub room : vec_capacity new ≡ vec_capacity old
+  pub read : IsRead name_refusals (node_view made) wanted before after
+
+-- a part was read as a node that was added to others, or it spells none
+abbrev pub AddsNode : Result (Unit {0}) Fault → Option (NodeView × ℕ)
+    → (old new : Vec HtmlNode Global) → (before after : Reader) → Type 0
+AddsNode r wanted old new before after =
+    MatchResult r (λ _. IsAdded wanted old new before after) (IsWrong wanted)
 
 abbrev pub ReadsNodes : Result (Vec HtmlNode Global) Fault → Option (NodesView × ℕ)
     → (before after : Reader) → Type 0

@@ -1,10 +1,11 @@
-use Rattle.std.proofs.Common.{◌≡◌, chars, length, map, refl, sym, ap, ◌∙◌, rules, arith}
+use Rattle.std.proofs.Common.{◌≡◌, false, None, chars, length, map, refl, sym, ap, ◌∙◌, rules, arith}
 use Rattle.std.proofs.lemmas.List.{nil_from_length}
 use Rattle.std.proofs.lemmas.Result.{err_from_is_err_and}
 use Rattle.std.specs.Vec.Iter.{into_iter_items, into_iter_len}
 use Rattle.serde_json.proofs.Views.{view-Array}
 use Rattle.serde_json.specs.View.{view, items_view}
 use Rattle.html_dom_tree.specs.Views.{node_view, nodes_view, attrs_view}
+use Rattle.html_dom_tree.specs.declared.node.HtmlNode as HtmlNode
 use Rattle.html_tool_run.proofs.Forms.{element_form-four, node_view-Element}
 use Rattle.html_tool_run.proofs.KindForms.{form-kind}
 use Rattle.html_tool_run.proofs.NodeRows.{nodes_row, joined-nodes, own_first}
@@ -15,8 +16,8 @@ use Rattle.html_tool_run.specs.NameRefusals.{name_refusals, all_name_refusals}
 use Rattle.html_tool_run.specs.Spelled.{element_made, list_at, spelled_all}
 use Rattle.html_tool_run.proofs.nodes.+spell.Goals as goal
 
-pub node_of-returns-in-Some : goal.node_of-returns-in-Some
-node_of-returns-in-Some t c =
+pub push_node-returns-in-Some : goal.push_node-returns-in-Some
+push_node-returns-in-Some t c =
     rw (
       c.in-Array.is,
       view-Array,
@@ -25,10 +26,10 @@ node_of-returns-in-Some t c =
       ← c.list_kind.ensures,
       c.in-Some.is,
       c.deref.ensures.value,
-    ) c.form_of.ensures
+    ) c.push_form.ensures
 
-pub node_of-returns-in-None : goal.node_of-returns-in-None
-node_of-returns-in-None t c =
+pub push_node-returns-in-None : goal.push_node-returns-in-None
+push_node-returns-in-None t c =
     rw (
       c.in-Array.is,
       view-Array,
@@ -38,25 +39,39 @@ node_of-returns-in-None t c =
       c.in-None.is,
     ) refl
 
-pub element_of-returns : goal.element_of-returns
-element_of-returns t c = search (rules, element_form-four)
+pub push_element-returns : goal.push_element-returns
+push_element-returns t c = search (rules, element_form-four)
 
-pub element_with-returns : goal.element_with-returns
-element_with-returns t c =
-    rw (
-      c.in_ok-text_at.ensures,
-      ← c.deref.ensures,
-      node_view-Element,
-      c.new.ensures,
-      c.in_ok-span.ensures.span,
-    )
-    (read_element element_made name_refusals all_name_refusals own_first
-    (chars c.deref.result.now) c.in_ok-tag.tag (pairs_at (view c.args.pairs))
-    (attrs_view c.in_ok-attrs.attrs) (list_at (view c.args.list))
-    (nodes_view c.in_ok-children.children.items) c.in_ok-span.span.0 c.args.reader.now
-    c.span.new.self c.tag.new.self c.pairs.new.self c.list_of.new.reader
-    c.in_ok-span.ensures.span c.in_ok-span.ensures.next c.in_ok-span.ensures.refused
-    c.in_ok-tag.ensures c.in_ok-attrs.ensures c.in_ok-children.ensures)
+pub push_element_with-returns : goal.push_element_with-returns
+push_element_with-returns t c = record {
+  made = HtmlNode.Element (record {
+    tag = c.in_ok-tag.tag;
+    attrs = c.in_ok-attrs.attrs;
+    css = c.new.result;
+    children = c.in_ok-children.children;
+    parent = None;
+    span = c.in_ok-span.span;
+    pre_span = false;
+  });
+  added = c.push_reserved.ensures.items;
+  count = c.push_reserved.ensures.len;
+  room = c.push_reserved.ensures.capacity;
+  read =
+      rw (
+        c.in_ok-text_at.ensures,
+        ← c.deref.ensures,
+        node_view-Element,
+        c.new.ensures,
+        c.in_ok-span.ensures.span,
+      )
+      (read_element element_made name_refusals all_name_refusals own_first
+      (chars c.deref.result.now) c.in_ok-tag.tag (pairs_at (view c.args.pairs))
+      (attrs_view c.in_ok-attrs.attrs) (list_at (view c.args.list))
+      (nodes_view c.in_ok-children.children.items) c.in_ok-span.span.0 c.args.reader.now
+      c.span.new.self c.tag.new.self c.pairs.new.self c.list_of.new.reader
+      c.in_ok-span.ensures.span c.in_ok-span.ensures.next c.in_ok-span.ensures.refused
+      c.in_ok-tag.ensures c.in_ok-attrs.ensures c.in_ok-children.ensures);
+}
 
 pub list_of-loop-value-init : goal.list_of-loop-value-init
 list_of-loop-value-init t c =
@@ -72,26 +87,34 @@ list_of-loop-value-init t c =
     record {
       read = none_read nodes_row node_view _ left _ c.args.reader.now is c.in_ok-nodes.ensures.items;
       long = long;
+      room = search rules;
     }
 
-pub list_of-returns-in_err-node_of : goal.list_of-returns-in_err-node_of
-list_of-returns-in_err-node_of t c =
-    let failed = err_from_is_err_and c.from_residual-in_err-node_of.result
-    c.from_residual-in_err-node_of.ensures.1 in
+pub list_of-returns-in_err-push_node : goal.list_of-returns-in_err-push_node
+list_of-returns-in_err-push_node t c =
+    let failed = err_from_is_err_and c.from_residual-in_err-push_node.result
+    c.from_residual-in_err-push_node.ensures.1 in
     rw (failed.1, failed.2)
     (wrong_one nodes_row node_view _ _ (into_iter_items c.next.new.self) c.in-Some.value
-    c.loop-value.nodes.items c.args.reader.now c.loop-value.reader c.in_err-node_of.field-0.0
-    c.loop-value.invariant.read c.in-Some.ensures.steps.0 c.in_err-node_of.ensures)
+    c.loop-value.nodes.items c.args.reader.now c.loop-value.reader c.in_err-push_node.field-0.0
+    c.loop-value.invariant.read c.in-Some.ensures.steps.0 c.in_err-push_node.ensures)
 
 pub list_of-loop-value-preserved : goal.list_of-loop-value-preserved
 list_of-loop-value-preserved t c = record {
   read =
-      rw c.in_ok-push.ensures.items
+      rw c.in_ok-push_node.ensures.added
       (one_read nodes_row node_view _ _ (into_iter_items c.next.new.self) c.in-Some.value
-      c.loop-value.nodes.items c.in_ok-node_of.field-0 c.args.reader.now c.loop-value.reader
-      c.node_of.new.reader c.loop-value.invariant.read c.in-Some.ensures.steps.0
-      c.in_ok-node_of.ensures);
+      c.loop-value.nodes.items c.in_ok-push_node.ensures.made c.args.reader.now
+      c.loop-value.reader c.push_node.new.reader c.loop-value.invariant.read
+      c.in-Some.ensures.steps.0 c.in_ok-push_node.ensures.read);
   long = omega (arith, ap length c.in-Some.ensures.steps.0, c.loop-value.invariant.long, c.in-Some.ensures.steps.1);
+  room = omega (
+    arith,
+    c.loop-value.invariant.room,
+    c.in-Some.ensures.steps.1,
+    c.in_ok-push_node.ensures.count,
+    c.in_ok-push_node.ensures.room,
+  );
 }
 
 pub list_of-returns : goal.list_of-returns

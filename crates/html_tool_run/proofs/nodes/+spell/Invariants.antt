@@ -1,6 +1,7 @@
-use Rattle.std.proofs.Common.{◌≡◌, ◌+◌, ◌*◌, length}
+use Rattle.std.proofs.Common.{◌≡◌, ◌+◌, ◌*◌, ◌≤◌, length, vec_len, vec_capacity}
 use Rattle.std.specs.Vec.Iter.{into_iter_items, into_iter_len}
 use Rattle.serde_json.proofs.value.Value.TheLaws.{the_size}
+use Rattle.serde_json.specs.declared.value.Value as Value
 use Rattle.serde_json.specs.View.{view}
 use Rattle.html_dom_tree.specs.Views.{node_view}
 use Rattle.html_tool_run.proofs.NodeRows.{nodes_row}
@@ -10,20 +11,20 @@ use Rattle.html_tool_run.proofs.nodes.+spell.Given as goal
 
 -- the depth of what is read; a call that passes all of it on, or its deepest part, ranks above the
 -- call that it makes
-abbrev pub decreases-node_of : goal.decreases-node_of
-decreases-node_of l = 4 * goal.size-node_of l
+abbrev pub decreases-push_node : goal.decreases-push_node
+decreases-push_node l = 4 * the_size l.value + 3
 
-abbrev pub decreases-form_of : goal.decreases-form_of
-decreases-form_of l = 4 * goal.size-form_of l + 3
+abbrev pub decreases-push_form : goal.decreases-push_form
+decreases-push_form l = 4 * the_size (Value.Array l.list) + 2
 
-abbrev pub decreases-element_of : goal.decreases-element_of
-decreases-element_of l = 4 * goal.size-element_of l + 2
+abbrev pub decreases-push_element : goal.decreases-push_element
+decreases-push_element l = 4 * the_size (Value.Array l.list) + 1
 
-abbrev pub decreases-element_with : goal.decreases-element_with
-decreases-element_with l = 4 * the_size l.list + 1
+abbrev pub decreases-push_element_with : goal.decreases-push_element_with
+decreases-push_element_with l = 4 * the_size l.list + 4
 
 abbrev pub decreases-list_of : goal.decreases-list_of
-decreases-list_of l = 4 * goal.size-list_of l
+decreases-list_of l = 4 * the_size l.value
 
 abbrev pub invariant-list_of-loop-value : goal.invariant-list_of-loop-value
 invariant-list_of-loop-value l =
@@ -32,4 +33,5 @@ invariant-list_of-loop-value l =
       read : IsPartRead nodes_row node_view (list_at (view l.fn.value) l.fn.reader.next) left
           l.nodes.items l.fn.reader l.reader;
       long : into_iter_len l.value-iterator ≡ length left;
+      room : vec_len l.nodes + into_iter_len l.value-iterator ≤ vec_capacity l.nodes;
     }

@@ -1,0 +1,27 @@
+use Rattle.std.proofs.Common.{refl}
+use Rattle.html_dom_tree.specs.Views.{node_view}
+use Rattle.html_dom_tree.specs.declared.node.HtmlNode as HtmlNode
+use Rattle.html_tool_run.proofs.Forms.{node_view-Text}
+use Rattle.html_tool_run.proofs.Readings.{read_clean}
+use Rattle.html_tool_run.specs.NameRefusals.{name_refusals}
+use Rattle.html_tool_run.proofs.nodes.push_text.Goals as goal
+
+pub returns : goal.returns
+unfolding name_refusals
+returns c =
+    let made = HtmlNode.Text c.in_ok-text.text c.in_ok-span.span in
+    record {
+      made = made;
+      added = c.push_reserved.ensures.items;
+      count = c.push_reserved.ensures.len;
+      room = c.push_reserved.ensures.capacity;
+      read =
+          read_clean name_refusals (node_view made) _ c.args.reader.now c.span.new.self
+          (rw (
+            c.in_ok-text.ensures,
+            node_view-Text,
+            c.in_ok-span.ensures.span,
+            c.in_ok-span.ensures.next,
+          ) refl)
+          (rw node_view-Text refl) c.in_ok-span.ensures.refused;
+    }
