@@ -51,7 +51,7 @@ pub fn page_text(alloc: Global, root: &HtmlElement) -> Result<PageText, AllocErr
     ensures { IfOk result (λ text. page_text_view text ≡ page_pieces (element_view root.now)) }
 {
     let mut seen = Seen::new(alloc);
-    if let Some(body) = body_children(&root.children) {
+    if let Some(body) = body_of(&root.children) {
         add_nodes(&body.children, false, &mut seen)?;
     }
     seen.into_page_text()
@@ -76,7 +76,7 @@ fn as_body(child: &HtmlNode) -> Option<&HtmlElement>
 }
 
 /// The first element of the nodes whose name is `body`.
-fn body_children(nodes: &[HtmlNode]) -> Option<&HtmlElement>
+fn body_of(nodes: &[HtmlNode]) -> Option<&HtmlElement>
     ensures { option_map (λ body. (element_view body.now).1) result
         ≡ body_children (nodes_view nodes.now) }
 {
