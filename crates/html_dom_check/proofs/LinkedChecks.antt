@@ -1,5 +1,5 @@
 -- Checks of a tree whose links are given an `href`, and of one whose names differ.
-use Rattle.std.proofs.Common.{◌≡◌, ℕ, suc, ◌+◌, ◌≤◌, Bool, true, false, not, cond, ◌||◌, ◌&&◌, List, [], ◌∷◌, ◌++◌, Option, Some, None, map, chars, codes, bytes_eq, refl, ap, sym, ◌∙◌, append_assoc, arith}
+use Rattle.std.proofs.Common.{◌≡◌, ℕ, suc, Bool, true, false, not, cond, ◌||◌, ◌&&◌, List, [], ◌∷◌, ◌++◌, Option, Some, None, chars, codes, bytes_eq, refl, ap, sym, ◌∙◌, append_assoc, arith}
 use Rattle.std.specs.Prelude.{if◌then◌else◌, option_to_list}
 use Rattle.std.proofs.lemmas.Bool.{and_parts}
 use Rattle.std.proofs.lemmas.List.{append-nil}
@@ -8,7 +8,7 @@ use lib.Utf8.{encodes, scalars}
 use Rattle.percent_encoding.specs.Percent.{percent_decode}
 use Rattle.html_names.specs.Names.{stands_in}
 use Rattle.html_dom_tree.specs.Attributes.{first}
-use Rattle.html_dom_tree.specs.Tree.{TextPair, Head, NodeView, tag_node, text_node, element_node, frame_node, NodesView, none, node, ElementView}
+use Rattle.html_dom_tree.specs.Tree.{Head, NodeView, tag_node, text_node, element_node, frame_node, NodesView, none, node, ElementView}
 use Rattle.html_dom_document.specs.Documents.{document_root}
 use Rattle.html_dom_document.specs.Views.{document_view}
 use Rattle.html_dom_document.specs.declared.document.HtmlDocument.{HtmlDocument}
@@ -24,8 +24,8 @@ use Rattle.html_dom_link.proofs.GivenLinks.{href_spelled, known_name, no_href, t
 use Rattle.html_dom_link.proofs.LeadingLinks.{id_stays, names_stay}
 use Rattle.html_dom_link.proofs.Showing.{among-left, among-right}
 use Rattle.html_dom_link.proofs.UsedNames.{or_right}
-use Rattle.html_dom_check.specs.CheckLaws.{AnchorsStand, DistinctAreNotRepeated, LinksAddNoDeadFragment, LinksRepeatNoId, LinksStaySound, PlacedIdsAreIds, texts_of}
-use Rattle.html_dom_check.specs.Fragments.{bytes_lead, dead_among, dead_fragments, fragment_links, fragments_at, fragments_in, fragments_of, is_known, is_top, leads, tree_ids, unless_empty}
+use Rattle.html_dom_check.specs.CheckLaws.{DistinctAreNotRepeated, LinksAddNoDeadFragment, LinksRepeatNoId, LinksStaySound, PlacedIdsAreIds, texts_of}
+use Rattle.html_dom_check.specs.Fragments.{bytes_lead, dead_among, dead_fragments, fragment_links, fragments_at, fragments_in, fragments_of, is_top, leads, tree_ids, unless_empty}
 use Rattle.html_dom_check.specs.PlacedTexts.{Placed, placed_at, node_placed, nodes_placed}
 use Rattle.html_dom_check.specs.RepeatedIds.{ids_at, placed_ids, repeated, repeated_ids}
 use Rattle.html_dom_check.proofs.DeadParts.{dead-append}

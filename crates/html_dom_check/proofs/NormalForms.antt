@@ -1,5 +1,5 @@
 -- What is told of a tree without frames, as its normal form has it.
-use Rattle.std.proofs.Common.{◌≡◌, ℕ, suc, Bool, true, false, not, cond, List, [], ◌∷◌, ◌++◌, map, codes, bytes_eq, refl, ap, sym, ◌∙◌, append_assoc}
+use Rattle.std.proofs.Common.{◌≡◌, ℕ, suc, Bool, true, false, not, cond, List, [], ◌∷◌, ◌++◌, codes, bytes_eq, refl, ap, sym, ◌∙◌, append_assoc}
 use Rattle.std.specs.List.{filter}
 use Rattle.std.specs.Prelude.{if◌then◌else◌, option_to_list}
 use Rattle.html_names.specs.Names.{stands_in}
@@ -12,7 +12,7 @@ use Rattle.html_dom_link.specs.NewNames.{Name, with_used_name}
 use Rattle.html_dom_check.specs.CheckLaws.{NormalFormsTell, texts_of}
 use Rattle.html_dom_check.specs.Fragments.{dead_among, dead_fragments, fragment_links, fragments_at, fragments_of, leads, tree_ids}
 use Rattle.html_dom_check.specs.PlacedTexts.{Placed, placed_at, node_placed, nodes_placed, element_placed}
-use Rattle.html_dom_check.specs.RepeatedIds.{ids_at, placed_ids, repeated, repeated_ids}
+use Rattle.html_dom_check.specs.RepeatedIds.{ids_at, placed_ids, repeated}
 use Rattle.html_dom_check.proofs.LinkedChecks.{texts_of-append, texts_of-placed, placed_ids_are_ids}
 
 -- texts that each element has by its name and its attributes, and no tag or text has

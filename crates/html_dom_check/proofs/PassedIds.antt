@@ -1,6 +1,6 @@
 -- Ids that are passed in a walk, and ids that are put into a set.
 use Rattle.std.proofs.Common.{◌≡◌, ℕ, ◌+◌, ◌≤◌, ◌<◌, Bool, true, false, ◌||◌, List, [], ◌∷◌, ◌++◌, length, get_or, drop, refl, ap, sym, ◌∙◌, bytes_eq, append_assoc, suc, add-one, drop-cons, String, Global, rules}
-use Rattle.std.specs.Prelude.{if◌then◌else◌, option_to_list, Option}
+use Rattle.std.specs.Prelude.{if◌then◌else◌, option_to_list}
 use Rattle.std.proofs.Math.Path.{fun_ext}
 use Rattle.std.proofs.lemmas.List.{append-nil, drop_all}
 use Rattle.std.proofs.lemmas.Slice.Eq.{bytes_eq-Decides}

@@ -1,4 +1,3 @@
-use Rattle.std.proofs.Common.{refl}
 use Rattle.html_dom_link.specs.UsedNames.{used_in}
 use Rattle.html_dom_check.proofs.PassedIds.{no_anchor_put, one_anchor_put}
 use Rattle.html_dom_check.proofs.ids.add_anchors.Goals as goal

@@ -1,6 +1,5 @@
-use Rattle.std.proofs.Common.{◌≡◌, ◌++◌, ◌∷◌, [], ap, sym, ◌∙◌, subst, refl}
-use Rattle.std.specs.Prelude.{option_map, option_to_list}
-use Rattle.html_names.specs.Texts.{text_view}
+use Rattle.std.proofs.Common.{◌≡◌, ◌++◌, ◌∷◌, [], ap, ◌∙◌, subst, refl}
+use Rattle.std.specs.Prelude.{option_to_list}
 use Rattle.html_dom_tree.specs.Tree.{element_node}
 use Rattle.html_dom_tree.specs.Views.{element_view, node_view, nodes_view}
 use Rattle.html_dom_link.specs.UsedNames.{used_in}

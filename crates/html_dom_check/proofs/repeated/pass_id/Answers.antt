@@ -1,4 +1,4 @@
-use Rattle.std.proofs.Common.{◌≡◌, true, false, ◌∷◌, [], chars, ap, sym, ◌∙◌, rules, subst, ◌++◌}
+use Rattle.std.proofs.Common.{◌≡◌, true, false, ◌∷◌, [], ap, sym, ◌∙◌, rules, subst, ◌++◌}
 use Rattle.std.proofs.lemmas.List.{map-append}
 use Rattle.html_names.specs.Texts.{text_view}
 use Rattle.html_dom_link.specs.UsedNames.{used_in}
