@@ -24,7 +24,7 @@ use Rattle.html_dom_link.proofs.GivenLinks.{href_spelled, known_name, no_href, t
 use Rattle.html_dom_link.proofs.LeadingLinks.{id_stays, names_stay}
 use Rattle.html_dom_link.proofs.Showing.{among-left, among-right}
 use Rattle.html_dom_link.proofs.UsedNames.{or_right}
-use Rattle.html_dom_check.specs.CheckLaws.{DistinctAreNotRepeated, LinksAddNoDeadFragment, LinksRepeatNoId, LinksStaySound, PlacedIdsAreIds, texts_of}
+use Rattle.html_dom_check.specs.CheckLaws.{DistinctAreNotRepeated, LinksAddNoDeadFragment, LinksRepeatNoId, LinksStaySound, PlacedIdsAreIds, ResolvedStaySound, texts_of}
 use Rattle.html_dom_check.specs.Fragments.{bytes_lead, dead_among, dead_fragments, fragment_links, fragments_at, fragments_in, fragments_of, is_top, leads, tree_ids, unless_empty}
 use Rattle.html_dom_check.specs.PlacedTexts.{Placed, placed_at, node_placed, nodes_placed}
 use Rattle.html_dom_check.specs.RepeatedIds.{ids_at, placed_ids, repeated, repeated_ids}
@@ -273,16 +273,19 @@ links_add_no_dead_fragment anchor e stand =
     ∙ tree_stays anchor (stands_in (tree_ids e)) stand.texts
     (λ location name is. below_stands e name (stand.shown location name is)) e.0 e.1
 
-pub document_stays_sound : (d : HtmlDocument) → LinksStaySound (document_view d)
-document_stays_sound d =
-    let v = document_view d in
-    let anchor = v.introspector.anchor in
-    let root = document_root v in
-    let same = ap repeated_ids (root_has_links v) ∙ links_repeat_no_id anchor root in
+pub resolved_stay_sound : ResolvedStaySound
+resolved_stay_sound d texts =
+    let anchor = d.introspector.anchor in
+    let root = document_root d in
+    let same = ap repeated_ids (root_has_links d) ∙ links_repeat_no_id anchor root in
     record {
-      dead = λ shown. ap dead_fragments (root_has_links v)
-          ∙ links_add_no_dead_fragment anchor root
-          (record { texts = texts_in d.introspector.anchors; shown = shown });
+      dead = λ shown. ap dead_fragments (root_has_links d)
+          ∙ links_add_no_dead_fragment anchor root (record { texts = texts; shown = shown });
       repeated = same;
       distinct = λ distinct. same ∙ distinct_are_not_repeated root distinct;
     }
+
+-- the anchors of a document that a program holds are texts
+pub document_stays_sound : (d : HtmlDocument) → LinksStaySound (document_view d)
+document_stays_sound d =
+    resolved_stay_sound (document_view d) (texts_in d.introspector.anchors)

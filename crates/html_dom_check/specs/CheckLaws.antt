@@ -61,3 +61,7 @@ pub record TellTheSame (e f : ElementView) : Type 0 where
 abbrev pub NormalFormsTell : Type 0
 NormalFormsTell = (e f : ElementView) → ElementIsFrameFree e → ElementIsFrameFree f →
     element_normal e ≡ element_normal f → TellTheSame e f
+
+-- so it is of each document whose anchors are texts
+abbrev pub ResolvedStaySound : Type 0
+ResolvedStaySound = (d : DocumentView) → AnchorsAreTexts d.introspector.anchor → LinksStaySound d
