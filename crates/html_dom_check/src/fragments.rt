@@ -54,7 +54,8 @@ struct Walk {
 /// let dead = dead_fragments(alloc, &root)?;
 /// assert_eq!(rt; dead.len(), 1);
 /// for link in &dead {
-///     assert!(rt; link.path == [2] && link.fragment == "c");
+///     assert!(rt; link.path.as_slice() == [2].as_slice());
+///     assert_eq!(rt; link.fragment.as_str(), "c");
 /// }
 /// ```
 pub fn dead_fragments(alloc: Global, root: &HtmlElement) -> Result<Vec<DeadFragment>, AllocError>

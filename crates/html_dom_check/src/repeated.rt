@@ -52,7 +52,8 @@ struct Walk {
 /// let repeated = repeated_ids(alloc, &root)?;
 /// assert_eq!(rt; repeated.len(), 1);
 /// for place in &repeated {
-///     assert!(rt; place.path == [2] && place.id == "a");
+///     assert!(rt; place.path.as_slice() == [2].as_slice());
+///     assert_eq!(rt; place.id.as_str(), "a");
 /// }
 /// ```
 pub fn repeated_ids(alloc: Global, root: &HtmlElement) -> Result<Vec<RepeatedId>, AllocError>

@@ -213,7 +213,8 @@ fn fragments_to_nowhere_are_told(rt: HostRuntime) -> Result<(), Fail> {
     let dead = dead_fragments(alloc, &root)?;
     assert_eq!(rt; dead.len(), 1);
     for link in &dead {
-        assert!(rt; link.path == [2] && link.fragment == "c");
+        assert!(rt; link.path.as_slice() == [2].as_slice());
+        assert_eq!(rt; link.fragment.as_str(), "c");
     }
     Ok(())
 }
@@ -228,7 +229,8 @@ fn repeated_ids_are_told(rt: HostRuntime) -> Result<(), Fail> {
     let repeated = repeated_ids(alloc, &root)?;
     assert_eq!(rt; repeated.len(), 1);
     for place in &repeated {
-        assert!(rt; place.path == [2] && place.id == "a");
+        assert!(rt; place.path.as_slice() == [2].as_slice());
+        assert_eq!(rt; place.id.as_str(), "a");
     }
     Ok(())
 }
