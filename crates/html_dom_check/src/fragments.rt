@@ -1,12 +1,13 @@
 //! Links to fragments of their own page that lead nowhere.
 
-ghost use Rattle.std.specs.Prelude.{◌≡◌, ◌++◌, chars, option_map, option_to_list, IfOk, OnOk};
+ghost use Rattle.std.specs.Prelude.{◌≡◌, chars, option_map, option_to_list, IfOk, OnOk};
 ghost use Rattle.html_dom_tree.specs.Tree.{element_node};
 ghost use Rattle.html_dom_tree.specs.Views.{element_view, node_view, nodes_view, text_view};
 ghost use Rattle.html_dom_link.specs.UsedNames.{used_in};
 ghost use Rattle.html_dom_check.specs.Findings.{dead_fragment_view, dead_view};
-ghost use Rattle.html_dom_check.specs.Fragments.{bytes_lead, dead_among, dead_fragments, fragments_at, fragments_in, is_top, leads, unless_empty};
+ghost use Rattle.html_dom_check.specs.Fragments.{bytes_lead, dead_fragments, fragments_at, fragments_in, is_top, leads, unless_empty};
 ghost use Rattle.html_dom_check.specs.PlacedTexts.{node_placed, nodes_placed, placed_at};
+ghost use Rattle.html_dom_check.specs.Walks.{FindsDead};
 
 use crate::ids::{element_ids, is_known};
 use crate::path::{copy, leave};
@@ -147,8 +148,8 @@ fn add_link(
     walk: &mut Walk,
 ) -> Result<(), AllocError>
     ensures path { OnOk result (walk.new.path.items ≡ walk.old.path.items) }
-    ensures dead { OnOk result (dead_view walk.new.dead.items ≡ dead_view walk.old.dead.items
-        ++ dead_among (used_in ids.now) (placed_at walk.old.path.items
+    ensures dead { OnOk result (FindsDead ids.now walk.old walk.new
+        (placed_at walk.old.path.items
         (option_to_list (option_map (λ t. chars t.now) fragment.entry)))) }
 {
     let Some(fragment) = fragment else {
@@ -172,8 +173,7 @@ fn add_element(
 ) -> Result<(), AllocError>
     ensures path { OnOk result (walk.new.path.items ≡ walk.old.path.items) }
     ensures dead { let e = element_view element.now in
-        OnOk result (dead_view walk.new.dead.items ≡ dead_view walk.old.dead.items
-        ++ dead_among (used_in ids.now)
+        OnOk result (FindsDead ids.now walk.old walk.new
         (node_placed fragments_at walk.old.path.items (element_node e.0 e.1))) }
 {
     add_link(fragment_at(element), ids, walk)?;
@@ -186,8 +186,7 @@ fn add_element(
 #[tactic(auto, unfolding(crate::specs::PlacedTexts::node_placed))]
 fn add_node(child: &HtmlNode, ids: &BTreeSet<String>, walk: &mut Walk) -> Result<(), AllocError>
     ensures path { OnOk result (walk.new.path.items ≡ walk.old.path.items) }
-    ensures dead { OnOk result (dead_view walk.new.dead.items ≡ dead_view walk.old.dead.items
-        ++ dead_among (used_in ids.now)
+    ensures dead { OnOk result (FindsDead ids.now walk.old walk.new
         (node_placed fragments_at walk.old.path.items (node_view child.now))) }
 {
     match child {
@@ -202,8 +201,7 @@ fn add_node(child: &HtmlNode, ids: &BTreeSet<String>, walk: &mut Walk) -> Result
 #[cycle(fragments)]
 fn add_nodes(nodes: &[HtmlNode], ids: &BTreeSet<String>, walk: &mut Walk) -> Result<(), AllocError>
     ensures path { OnOk result (walk.new.path.items ≡ walk.old.path.items) }
-    ensures dead { OnOk result (dead_view walk.new.dead.items ≡ dead_view walk.old.dead.items
-        ++ dead_among (used_in ids.now)
+    ensures dead { OnOk result (FindsDead ids.now walk.old walk.new
         (nodes_placed fragments_at walk.old.path.items 0 (nodes_view nodes.now))) }
 {
     for (index, child) in nodes.iter().enumerate() {

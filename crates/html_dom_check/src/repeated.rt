@@ -5,10 +5,10 @@ ghost use Rattle.html_dom_tree.specs.FrameViews.{anchors_view, html_frame_view};
 ghost use Rattle.html_dom_tree.specs.Tree.{element_node, frame_node};
 ghost use Rattle.html_dom_tree.specs.Views.{element_view, node_view, nodes_view, text_view};
 ghost use Rattle.html_dom_link.specs.NewNames.{anchor_names};
-ghost use Rattle.html_dom_link.specs.UsedNames.{used_in};
 ghost use Rattle.html_dom_check.specs.Findings.{repeated_id_view, repeated_view};
 ghost use Rattle.html_dom_check.specs.PlacedTexts.{node_placed, nodes_placed, placed_at};
-ghost use Rattle.html_dom_check.specs.RepeatedIds.{LeavesToFind, ids_at, repeated_ids};
+ghost use Rattle.html_dom_check.specs.RepeatedIds.{ids_at, repeated_ids};
+ghost use Rattle.html_dom_check.specs.Walks.{PassesIds};
 
 use crate::ids::{contains, first_id, put};
 use crate::path::{copy, leave};
@@ -84,10 +84,8 @@ fn repeated_id(path: &Vec<usize>, id: &String) -> Result<RepeatedId, AllocError>
 /// Passes an id.
 fn pass_id(id: &String, walk: &mut Walk) -> Result<(), AllocError>
     ensures path { OnOk result (walk.new.path.items ≡ walk.old.path.items) }
-    ensures passes { OnOk result (LeavesToFind
-        (repeated_view walk.old.repeated.items) (used_in walk.old.ids)
-        (placed_at walk.old.path.items (text_view id.now ∷ []))
-        (repeated_view walk.new.repeated.items) (used_in walk.new.ids)) }
+    ensures passes { OnOk result (PassesIds walk.old walk.new
+        (placed_at walk.old.path.items (text_view id.now ∷ []))) }
 {
     if contains(&walk.ids, id) {
         let place = repeated_id(&walk.path, id)?;
@@ -101,10 +99,8 @@ fn pass_id(id: &String, walk: &mut Walk) -> Result<(), AllocError>
 /// Passes an id, if there is one.
 fn pass_optional(id: Option<&String>, walk: &mut Walk) -> Result<(), AllocError>
     ensures path { OnOk result (walk.new.path.items ≡ walk.old.path.items) }
-    ensures passes { OnOk result (LeavesToFind
-        (repeated_view walk.old.repeated.items) (used_in walk.old.ids)
-        (placed_at walk.old.path.items (option_to_list (option_map (λ id. text_view id.now) id.entry)))
-        (repeated_view walk.new.repeated.items) (used_in walk.new.ids)) }
+    ensures passes { OnOk result (PassesIds walk.old walk.new
+        (placed_at walk.old.path.items (option_to_list (option_map (λ id. text_view id.now) id.entry)))) }
 {
     match id {
         Some(id) => pass_id(id, walk),
@@ -115,10 +111,8 @@ fn pass_optional(id: Option<&String>, walk: &mut Walk) -> Result<(), AllocError>
 /// Passes the names of anchors.
 fn pass_anchors(anchors: &[(Point, String)], walk: &mut Walk) -> Result<(), AllocError>
     ensures path { OnOk result (walk.new.path.items ≡ walk.old.path.items) }
-    ensures passes { OnOk result (LeavesToFind
-        (repeated_view walk.old.repeated.items) (used_in walk.old.ids)
-        (placed_at walk.old.path.items (anchor_names (anchors_view anchors.now)))
-        (repeated_view walk.new.repeated.items) (used_in walk.new.ids)) }
+    ensures passes { OnOk result (PassesIds walk.old walk.new
+        (placed_at walk.old.path.items (anchor_names (anchors_view anchors.now)))) }
 {
     for anchor in anchors {
         pass_id(&anchor.1, walk)?;
@@ -129,10 +123,8 @@ fn pass_anchors(anchors: &[(Point, String)], walk: &mut Walk) -> Result<(), Allo
 /// Passes the id of a frame and the names of its anchors.
 fn pass_frame(frame: &HtmlFrame, walk: &mut Walk) -> Result<(), AllocError>
     ensures path { OnOk result (walk.new.path.items ≡ walk.old.path.items) }
-    ensures passes { OnOk result (LeavesToFind
-        (repeated_view walk.old.repeated.items) (used_in walk.old.ids)
-        (node_placed ids_at walk.old.path.items (frame_node (html_frame_view frame.now)))
-        (repeated_view walk.new.repeated.items) (used_in walk.new.ids)) }
+    ensures passes { OnOk result (PassesIds walk.old walk.new
+        (node_placed ids_at walk.old.path.items (frame_node (html_frame_view frame.now)))) }
 {
     pass_optional(frame.id.as_ref(), walk)?;
     pass_anchors(&frame.anchors, walk)?;
@@ -145,10 +137,8 @@ fn pass_frame(frame: &HtmlFrame, walk: &mut Walk) -> Result<(), AllocError>
 #[cycle(ids)]
 fn pass_element(element: &HtmlElement, walk: &mut Walk) -> Result<(), AllocError>
     ensures path { OnOk result (walk.new.path.items ≡ walk.old.path.items) }
-    ensures passes { let e = element_view element.now in OnOk result (LeavesToFind
-        (repeated_view walk.old.repeated.items) (used_in walk.old.ids)
-        (node_placed ids_at walk.old.path.items (element_node e.0 e.1))
-        (repeated_view walk.new.repeated.items) (used_in walk.new.ids)) }
+    ensures passes { let e = element_view element.now in OnOk result (PassesIds walk.old walk.new
+        (node_placed ids_at walk.old.path.items (element_node e.0 e.1))) }
 {
     pass_optional(first_id(element), walk)?;
     pass_nodes(&element.children, walk)?;
@@ -160,10 +150,8 @@ fn pass_element(element: &HtmlElement, walk: &mut Walk) -> Result<(), AllocError
 #[tactic(auto, unfolding(crate::specs::PlacedTexts::node_placed))]
 fn pass_node(child: &HtmlNode, walk: &mut Walk) -> Result<(), AllocError>
     ensures path { OnOk result (walk.new.path.items ≡ walk.old.path.items) }
-    ensures passes { OnOk result (LeavesToFind
-        (repeated_view walk.old.repeated.items) (used_in walk.old.ids)
-        (node_placed ids_at walk.old.path.items (node_view child.now))
-        (repeated_view walk.new.repeated.items) (used_in walk.new.ids)) }
+    ensures passes { OnOk result (PassesIds walk.old walk.new
+        (node_placed ids_at walk.old.path.items (node_view child.now))) }
 {
     match child {
         HtmlNode::Tag(_) => Ok(()),
@@ -177,10 +165,8 @@ fn pass_node(child: &HtmlNode, walk: &mut Walk) -> Result<(), AllocError>
 #[cycle(ids)]
 fn pass_nodes(nodes: &[HtmlNode], walk: &mut Walk) -> Result<(), AllocError>
     ensures path { OnOk result (walk.new.path.items ≡ walk.old.path.items) }
-    ensures passes { OnOk result (LeavesToFind
-        (repeated_view walk.old.repeated.items) (used_in walk.old.ids)
-        (nodes_placed ids_at walk.old.path.items 0 (nodes_view nodes.now))
-        (repeated_view walk.new.repeated.items) (used_in walk.new.ids)) }
+    ensures passes { OnOk result (PassesIds walk.old walk.new
+        (nodes_placed ids_at walk.old.path.items 0 (nodes_view nodes.now))) }
 {
     for (index, child) in nodes.iter().enumerate() {
         walk.path.push(index)?;
