@@ -15,12 +15,17 @@ pub fn repeated()
 
 /// Where each anchor stands in the tree, links that are given an `href`, as `resolve_links` gives
 /// them, add no dead fragment: those of the new tree are exactly those that the old one had, so none
-/// where no link had an `href` of its own. They repeat no id. So it is of a whole document.
-#[tactic(auto, using(crate::proofs::LinkedChecks::links_add_no_dead_fragment, crate::proofs::LinkedChecks::links_repeat_no_id, crate::proofs::LinkedChecks::resolved_stay_sound))]
+/// where no link had an `href` of its own. They repeat no id.
+#[tactic(auto, using(crate::proofs::LinkedChecks::links_add_no_dead_fragment, crate::proofs::LinkedChecks::links_repeat_no_id))]
 pub fn given_links_lead()
     ensures dead { LinksAddNoDeadFragment }
     ensures repeated { LinksRepeatNoId }
-    ensures documents { ResolvedStaySound }
+{}
+
+/// So it is of documents as pure values, whose links are resolved.
+#[tactic(auto, using(crate::proofs::LinkedChecks::resolved_stay_sound))]
+pub fn resolved_links_lead()
+    ensures { ResolvedStaySound }
 {}
 
 /// So it is of a document whose links are resolved, where the anchors that its introspector knows
