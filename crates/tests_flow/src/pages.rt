@@ -53,7 +53,7 @@ const TEXTS: [(&str, &str); 17] = [
 ];
 
 /// Blocks, lists, tables and preformatted text.
-const BLOCKS: [(&str, &str); 12] = [
+const BLOCKS: [(&str, &str); 13] = [
     (
         concat!(
             r#"[["el","p",[],[["text","a \u200b b\n"],["el","img",[],[]]]],"#,
@@ -92,6 +92,16 @@ const BLOCKS: [(&str, &str); 12] = [
     (
         r#"[["el","div",[],[["el","h1",[],[["text","a"]]],["el","hr",[],[]],["text"," b"]]]]"#,
         "|[a]|[ b]|",
+    ),
+    (
+        concat!(
+            r##"[["el","h1",[],[["text","Salt & vinegar"]]],"##,
+            r##"["el","p",[],[["text","Two  eggs, "],["el","em",[],[["text"," boiled"]]],"##,
+            r##"["text","; see "],["start",1,2],["el","a",[["href","#loc-1"]],[["text","below"]]],"##,
+            r##"["end",1],["text","."]]],"##,
+            r##"["start",2],["el","p",[["class","note"]],[["text","Cool them."]]],["end",2]]"##
+        ),
+        "|[Salt & vinegar]|[Two  eggs,  boiled; see below.]|[Cool them.]|",
     ),
 ];
 
