@@ -26,7 +26,7 @@ mod words;
 pub use fault::Fault;
 pub use items::items_in;
 pub use nodes::element_in;
-pub use program::{run, run_recorded};
+pub use program::{run, run_recorded, text_of_input};
 pub use recorded::{LastCall, Recorded, WriteFailed};
 pub use status::Status;
 pub use words::{Task, wanted_task, words_of};

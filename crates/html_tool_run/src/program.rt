@@ -6,7 +6,7 @@ ghost use Rattle.html_flow_convert.specs.Views.{items_view};
 ghost use Rattle.serde_json.specs.View.{view};
 ghost use Rattle.html_tool_run.specs.Answers.{Answer, AddsAnswer, AddsAnswerOn, EndsAs, EndsOn, answer_if, bad_input, input_answer};
 ghost use Rattle.html_tool_run.specs.Answers.{doc_answer, doc_refusals, doc_text, refused_answer};
-ghost use Rattle.html_tool_run.specs.Answers.{tree_answer, tree_refusals, tree_text};
+ghost use Rattle.html_tool_run.specs.Answers.{tree_answer, tree_refusals, tree_text, value_answer};
 ghost use Rattle.html_tool_run.specs.Refusals.{Gives};
 ghost use Rattle.html_tool_run.specs.ExportRefusals.{export_refusal};
 ghost use Rattle.html_tool_run.specs.Replies.{GivesAnswer, GivesAnswerOn, IsReply, reply_answer};
@@ -155,6 +155,42 @@ fn spelled_doc(alloc: Global, value: Value, pretty: bool) -> Result<String, Faul
     items_text(alloc, items, pretty)
 }
 
+/// The text of what a value spells.
+fn value_text(alloc: Global, value: Value, task: Task, pretty: bool) -> Result<String, Fault>
+    ensures { GivesAnswer result (value_answer task pretty (view value)) }
+{
+    match task {
+        Task::Tree => spelled_tree(alloc, value, pretty),
+        Task::Doc => spelled_doc(alloc, value, pretty),
+    }
+}
+
+/// The HTML text of what an input spells, which is one JSON value: the bytes that [`run`] writes of
+/// it, or why it writes none.
+///
+/// Where an allocation fails, that is the fault, whatever the input is. Else an input that is no UTF-8
+/// or no JSON value, or that spells no tree or no items, is bad, and what it spells is refused by the
+/// first refusal, with the span of what is refused: the number of its list in the input, from 1 on.
+/// The cost is that of a run.
+///
+/// ```
+/// use html_tool_run::{Fault, Task, text_of_input};
+/// use typst_html::Span;
+///
+/// let alloc = rt.alloc();
+/// let text = text_of_input(alloc, br#"["el","p",[],[["text","a < b"]]]"#, Task::Tree, false)?;
+/// assert_eq!(rt; text.as_str(), "<!DOCTYPE html><p>a &lt; b</p>");
+/// let fault = text_of_input(alloc, br#"["el","P Q",[],[]]"#, Task::Tree, false);
+/// assert!(rt; fault == Err(Fault::Refused(2, Span(1)))); // no tag has a name with a space
+/// ```
+#[tactic(auto, unfolding(crate::specs::Answers::input_answer))]
+pub fn text_of_input(alloc: Global, input: &[u8], task: Task, pretty: bool) -> Result<String, Fault>
+    ensures { GivesAnswer result (input_answer task pretty input.now) }
+{
+    let value = parse(alloc, input)?;
+    value_text(alloc, value, task, pretty)
+}
+
 /// The text of what an input spells. The input is gone before anything is made of its value.
 #[tactic(auto, unfolding(crate::specs::Answers::input_answer))]
 fn answer(alloc: Global, input: Vec<u8>, task: Task, pretty: bool) -> Result<String, Fault>
@@ -162,10 +198,7 @@ fn answer(alloc: Global, input: Vec<u8>, task: Task, pretty: bool) -> Result<Str
 {
     let value = parse(alloc, &input)?;
     drop(input);
-    match task {
-        Task::Tree => spelled_tree(alloc, value, pretty),
-        Task::Doc => spelled_doc(alloc, value, pretty),
-    }
+    value_text(alloc, value, task, pretty)
 }
 
 /// The text that is wanted. A reader that fails counts as want of memory.

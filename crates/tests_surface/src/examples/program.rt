@@ -15,3 +15,21 @@ fn a_run_writes_a_tree(rt: HostRuntime) -> Result<(), Fail> {
     assert!(rt; text.as_slice() == b"<!DOCTYPE html><p>a &lt; b</p>".as_slice());
     Ok(())
 }
+
+#[test]
+fn a_text_is_made_of_an_input(rt: HostRuntime) -> Result<(), Fail> {
+    use html_tool_run::{Fault, Task, text_of_input};
+    use typst_html::Span;
+
+    let alloc = rt.alloc();
+    let text = text_of_input(
+        alloc,
+        br#"["el","p",[],[["text","a < b"]]]"#,
+        Task::Tree,
+        false,
+    )?;
+    assert_eq!(rt; text.as_str(), "<!DOCTYPE html><p>a &lt; b</p>");
+    let fault = text_of_input(alloc, br#"["el","P Q",[],[]]"#, Task::Tree, false);
+    assert!(rt; fault == Err(Fault::Refused(2, Span(1)))); // no tag has a name with a space
+    Ok(())
+}

@@ -1,0 +1,60 @@
+-- What a call replies, and what it leaves in the caller's buffer.
+use Rattle.std.specs.Prelude.{◌≡◌, ◌==◌, ℕ, Bool, true, false, List, ◌++◌, length, drop, nat_le, Option, Some, None, option_map, option_and_then, if◌then◌else◌}
+use Rattle.html_tool_run.specs.Answers.{Answer, bad_input, refused_answer, answer_if, task_answer}
+use Rattle.html_tool_run.specs.declared.fault.Fault.{Fault}
+use Rattle.html_tool_run.specs.declared.fault.Fault.TheVariants.{OutOfMemory, BadInput, Refused}
+use Rattle.html_tool_run.specs.declared.status.Status.TheVariants.{Done}
+use Rattle.html_tool_run.specs.declared.words.Task.{Task}
+use Rattle.html_tool_run.specs.declared.words.Task.TheVariants.{Tree, Doc}
+use Rattle.typst_html_c.specs.declared.reply.Reply.{Reply}
+
+-- the task of that kind: 0 is a tree, and 1 the document of a list of items
+abbrev pub task_of : (kind : ℕ) → Option Task
+task_of kind = if kind == 0 then Some Tree else (if kind == 1 then Some Doc else None)
+
+-- whether pretty text is wanted: 0 is plain, and 1 pretty
+abbrev pub pretty_of : (layout : ℕ) → Option Bool
+pretty_of layout = if layout == 0 then Some false else (if layout == 1 then Some true else None)
+
+-- the task, and whether pretty text is wanted, where both numbers are right
+abbrev pub wanted_task : (kind layout : ℕ) → Option (Task × Bool)
+wanted_task kind layout =
+    option_and_then (λ task. option_map (λ pretty. (task, pretty)) (pretty_of layout)) (task_of kind)
+
+-- the answer to an input: the program's, or bad input where a number is wrong
+abbrev pub write_answer : (kind layout : ℕ) (input : List ℕ) → Answer
+write_answer kind layout input = answer_if (task_answer input) (wanted_task kind layout)
+
+abbrev pub without_text : (status number span : ℕ) → Reply
+without_text status number span =
+    record { length = 0; span = span; status = status; number = number }
+
+-- why there is no text, as a reply
+abbrev pub fault_reply : Fault → Reply
+fault_reply OutOfMemory = without_text 3 0 0
+fault_reply BadInput = without_text 2 0 0
+fault_reply (Refused number span) = without_text 1 number span.0
+
+-- 0 where the text fits, and else 4
+abbrev pub text_reply : (bytes old : List ℕ) → Reply
+text_reply bytes old = record {
+  length = length bytes;
+  span = 0;
+  status = if nat_le (length bytes) (length old) then 0 else 4;
+  number = 0;
+}
+
+-- the text and then what was there, or what was there where the text does not fit
+abbrev pub with_text : (bytes old : List ℕ) → List ℕ
+with_text bytes old =
+    if nat_le (length bytes) (length old) then bytes ++ drop (length bytes) old else old
+
+-- the call replies what the answer says, and leaves its text; or an allocation failed, and nothing is
+-- left
+pub data Replies (a : Answer) (old : List ℕ) (reply : Reply) (new : List ℕ) : Type 0 where
+  made : (bytes : List ℕ) → a ≡ record { status = Done; line = bytes } → reply ≡ text_reply bytes old
+      → new ≡ with_text bytes old → Replies a old reply new
+  refused : (number span : ℕ) → a ≡ refused_answer (number, span)
+      → reply ≡ without_text 1 number span → new ≡ old → Replies a old reply new
+  bad : a ≡ bad_input → reply ≡ without_text 2 0 0 → new ≡ old → Replies a old reply new
+  failed : reply ≡ without_text 3 0 0 → new ≡ old → Replies a old reply new

@@ -1,0 +1,64 @@
+//! The exporter as a static library, for C and for what calls C: HTML text of what JSON spells, in a
+//! buffer of the caller's.
+//!
+//! No call keeps anything, so calls on several threads do not meet. Whatever is passed, a call answers
+//! by a status: the slices alone have to be there, each as a pointer and a length.
+#![tactic(auto)]
+
+ghost use Rattle.std.specs.Prelude.{◌≡◌};
+ghost use Rattle.html_tool_run.specs.Replies.{GivesAnswer};
+ghost use Rattle.typst_html_c.specs.Replies.{Replies, write_answer};
+
+mod numbers;
+mod reply;
+
+use html_tool_run::{Fault, text_of_input};
+use numbers::wanted_task;
+pub use reply::Reply;
+use reply::reply_with;
+use std::alloc::Global;
+
+/// The version of these calls. It grows by one where a call or a status changes its meaning.
+const VERSION: u32 = 1;
+
+/// The version of these calls, to be compared with the one of the header that a caller was made by.
+#[unsafe(no_mangle)]
+pub extern "C" fn typst_html_version() -> u32
+    ensures { result ≡ 1 }
+{
+    VERSION
+}
+
+/// The text of what the input spells, where the numbers of the kind and of the layout are right.
+fn text_of(alloc: Global, kind: u8, layout: u8, input: &[u8]) -> Result<String, Fault>
+    ensures { GivesAnswer result (write_answer kind layout input.now) }
+{
+    match wanted_task(kind, layout) {
+        Some((task, pretty)) => text_of_input(alloc, input, task, pretty),
+        None => Err(Fault::BadInput),
+    }
+}
+
+/// Makes the HTML text of what the input spells in JSON, a tree (kind 0) or the document of a list of
+/// items (kind 1), plain (layout 0) or pretty (layout 1), and copies it into the buffer, where it
+/// fits. The text is that which the program writes.
+///
+/// What the buffer holds beyond the text stays, and so does all of it where the status is not 0.
+/// Status 4 says by `length` how long a buffer the text takes; a second call with one makes the text
+/// once more. Another kind or layout is bad input.
+#[unsafe(no_mangle)]
+pub extern "C" fn typst_html_write(
+    alloc: Global,
+    kind: u8,
+    layout: u8,
+    input: &[u8],
+    output: &mut [u8],
+) -> Reply
+    ensures answered { Replies (write_answer kind layout input.now) output.old result output.new }
+    ensures kept { ¬ (result.status ≡ 0) → output.new ≡ output.old }
+{
+    reply_with(text_of(alloc, kind, layout, input), output)
+}
+
+#[cfg(test)]
+mod tests;

@@ -1,0 +1,87 @@
+//! Replies, and texts in the caller's buffer.
+
+ghost use Rattle.std.specs.Prelude.{◌≡◌};
+ghost use Rattle.html_tool_run.specs.Answers.{Answer};
+ghost use Rattle.html_tool_run.specs.Replies.{GivesAnswer};
+ghost use Rattle.typst_html_c.specs.Replies.{Replies, fault_reply, text_reply, with_text, without_text};
+
+use html_dom_tree::Span;
+use html_tool_run::Fault;
+
+/// How a call ended.
+#[repr(C)]
+#[derive(Clone, Copy, Debug, PartialEq, Eq)]
+pub struct Reply {
+    /// How many bytes the text has; 0 where there is none.
+    pub length: usize,
+    /// The span of what is refused; 0 where nothing is, or where what is refused has none.
+    pub span: u64,
+    /// 0: the text is in the buffer; 1: refused; 2: bad input; 3: an allocation failed; 4: the buffer
+    /// is too short for the text.
+    pub status: u8,
+    /// The number of the refusal; 0 where nothing is refused.
+    pub number: u8,
+}
+
+const DONE: u8 = 0;
+
+const REFUSED: u8 = 1;
+
+const BAD_INPUT: u8 = 2;
+
+const OUT_OF_MEMORY: u8 = 3;
+
+const TOO_SHORT: u8 = 4;
+
+/// The reply of a call that has no text.
+fn without_text(status: u8, number: u8, span: u64) -> Reply
+    ensures { result ≡ without_text status number span }
+{
+    Reply {
+        length: 0,
+        span,
+        status,
+        number,
+    }
+}
+
+/// Copies a text into the buffer, where it fits.
+fn put(text: &[u8], output: &mut [u8]) -> Reply
+    ensures reply { result ≡ text_reply text.now output.old }
+    ensures output { output.new ≡ with_text text.now output.old }
+{
+    let length = text.len();
+    let fits = length <= output.len();
+    if fits {
+        output[..length].copy_from_slice(text);
+    }
+    Reply {
+        length,
+        span: 0,
+        status: if fits { DONE } else { TOO_SHORT },
+        number: 0,
+    }
+}
+
+/// Why there is no text, as a reply.
+fn fault_reply(fault: Fault) -> Reply
+    ensures { result ≡ fault_reply fault }
+{
+    match fault {
+        Fault::OutOfMemory => without_text(OUT_OF_MEMORY, 0, 0),
+        Fault::BadInput => without_text(BAD_INPUT, 0, 0),
+        Fault::Refused(number, Span(span)) => without_text(REFUSED, number, span),
+    }
+}
+
+/// The reply of a call that made this text, which is copied into the buffer, where it fits, or none.
+pub(crate) fn reply_with(text: Result<String, Fault>, output: &mut [u8]) -> Reply
+    ensures answered { (answer : Answer) → GivesAnswer text answer →
+        Replies answer output.old result output.new }
+    ensures kept { ¬ (result.status ≡ 0) → output.new ≡ output.old }
+{
+    match text {
+        Ok(text) => put(text.as_bytes(), output),
+        Err(fault) => fault_reply(fault),
+    }
+}
