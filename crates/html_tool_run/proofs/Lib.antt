@@ -1,5 +1,6 @@
 pub mod Answering
 pub mod Bytes
+pub mod DocumentForms
 pub mod FirstFaults
 pub mod Forms
 pub mod Inputs

@@ -1,4 +1,5 @@
 pub mod Answers
+pub mod Documents
 pub mod ExportRefusals
 pub mod Fields
 pub mod Json
@@ -8,6 +9,7 @@ pub mod Reading
 pub mod Refusals
 pub mod Replies
 pub mod Spelled
+pub mod SpelledDocuments
 pub mod SpelledItems
 pub mod Spelling
 pub mod Words

@@ -4,11 +4,14 @@ use Rattle.std.specs.declared.alloc.Global.{Global}
 use Rattle.html_dom_tree.specs.Tree.{ElementView}
 use Rattle.html_dom_tree.specs.Views.{element_view}
 use Rattle.html_dom_tree.specs.declared.node.HtmlElement.{HtmlElement}
+use Rattle.html_dom_document.specs.Views.{info_view}
 use Rattle.html_flow_convert.specs.Items.{ItemsView}
 use Rattle.html_flow_convert.specs.Views.{items_view}
 use Rattle.html_flow_convert.specs.declared.item.Pair.{Pair}
 use Rattle.html_tool_run.specs.NameRefusals.{Refusal, element_refusals, items_refusals}
 use Rattle.html_tool_run.specs.Refusals.{IsFirst}
+use Rattle.html_tool_run.specs.SpelledDocuments.{Spelling, names_refusals}
+use Rattle.html_tool_run.specs.declared.documents.SpelledDocument.{SpelledDocument}
 use Rattle.html_tool_run.specs.declared.fault.Fault.{Fault}
 use Rattle.html_tool_run.specs.declared.fault.Fault.TheVariants.{OutOfMemory, BadInput, Refused}
 
@@ -31,3 +34,9 @@ GivesElement = GivesSpelled element_view element_refusals
 
 abbrev pub GivesItems : Result (Vec Pair Global) Fault → Option ItemsView → Type 0
 GivesItems = GivesSpelled (λ pairs. items_view pairs.items) items_refusals
+
+abbrev pub spelling_view : SpelledDocument → Spelling
+spelling_view d = (info_view d.info, (items_view d.items.items, items_view d.footnotes.items))
+
+abbrev pub GivesSpelledDocument : Result SpelledDocument Fault → Option Spelling → Type 0
+GivesSpelledDocument = GivesSpelled spelling_view names_refusals

@@ -174,7 +174,7 @@ fn body_of(reader: &mut Reader, list: Vec<Value>) -> Result<Vec<Pair>, Fault>
 
 /// The items that a list spells.
 #[cycle(spell)]
-fn list_of(reader: &mut Reader, value: Value) -> Result<Vec<Pair>, Fault>
+pub(crate) fn list_of(reader: &mut Reader, value: Value) -> Result<Vec<Pair>, Fault>
     ensures { ReadsItems result (list_at (view value) reader.old.next) reader.old reader.new }
 {
     let Value::Array(values) = value else {

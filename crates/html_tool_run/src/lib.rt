@@ -10,7 +10,9 @@
 //! ```
 #![tactic(auto)]
 
+mod documents;
 mod fault;
+mod field;
 mod fields;
 mod items;
 mod json;
@@ -23,6 +25,7 @@ mod status;
 mod whole;
 mod words;
 
+pub use documents::{Settings, text_of_document};
 pub use fault::Fault;
 pub use items::items_in;
 pub use nodes::element_in;

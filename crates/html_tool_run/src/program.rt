@@ -103,7 +103,7 @@ fn reply_of(alloc: Global, text: Result<String, Fault>) -> Result<Reply, AllocEr
 }
 
 /// A fault of a tree or of items.
-fn fault_of(fault: &ExportFault) -> Fault
+pub(crate) fn fault_of(fault: &ExportFault) -> Fault
     ensures { result ≡ export_refusal fault.now }
 {
     match fault.number() {

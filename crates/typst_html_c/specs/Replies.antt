@@ -1,6 +1,8 @@
 -- What a call replies, and what it leaves in the caller's buffer.
-use Rattle.std.specs.Prelude.{◌≡◌, ◌==◌, ℕ, Bool, true, false, List, ◌++◌, length, drop, nat_le, Option, Some, None, option_map, option_and_then, if◌then◌else◌}
+use Rattle.std.specs.Prelude.{◌≡◌, ◌==◌, ◌&&◌, ℕ, Bool, true, false, List, ◌++◌, length, drop, nat_le, Option, Some, None, option_map, option_and_then, if◌then◌else◌}
 use Rattle.html_tool_run.specs.Answers.{Answer, bad_input, refused_answer, answer_if, task_answer}
+use Rattle.html_tool_run.specs.Documents.{document_input_answer}
+use Rattle.html_tool_run.specs.declared.documents.Settings.{Settings}
 use Rattle.html_tool_run.specs.declared.fault.Fault.{Fault}
 use Rattle.html_tool_run.specs.declared.fault.Fault.TheVariants.{OutOfMemory, BadInput, Refused}
 use Rattle.html_tool_run.specs.declared.status.Status.TheVariants.{Done}
@@ -12,9 +14,13 @@ use Rattle.typst_html_c.specs.declared.reply.Reply.{Reply}
 abbrev pub task_of : (kind : ℕ) → Option Task
 task_of kind = if kind == 0 then Some Tree else (if kind == 1 then Some Doc else None)
 
+-- what a number says: 0 is no, and 1 yes
+abbrev pub yes_or_no : (number : ℕ) → Option Bool
+yes_or_no number = if number == 0 then Some false else (if number == 1 then Some true else None)
+
 -- whether pretty text is wanted: 0 is plain, and 1 pretty
 abbrev pub pretty_of : (layout : ℕ) → Option Bool
-pretty_of layout = if layout == 0 then Some false else (if layout == 1 then Some true else None)
+pretty_of = yes_or_no
 
 -- the task, and whether pretty text is wanted, where both numbers are right
 abbrev pub wanted_task : (kind layout : ℕ) → Option (Task × Bool)
@@ -24,6 +30,21 @@ wanted_task kind layout =
 -- the answer to an input: the program's, or bad input where a number is wrong
 abbrev pub write_answer : (kind layout : ℕ) (input : List ℕ) → Answer
 write_answer kind layout input = answer_if (task_answer input) (wanted_task kind layout)
+
+-- how deep the bodies of items may stand: from 1 to 10,000
+abbrev pub limit_of : (limit : ℕ) → Option ℕ
+limit_of limit = if nat_le 1 limit && nat_le limit 10000 then Some limit else None
+
+-- how a document is written, where all three numbers are right
+abbrev pub wanted_settings : (layout links limit : ℕ) → Option Settings
+wanted_settings layout links limit = option_and_then (λ pretty. option_and_then (λ resolved.
+    option_map (λ most. record { pretty = pretty; links = resolved; limit = most })
+    (limit_of limit)) (yes_or_no links)) (pretty_of layout)
+
+-- the answer to an input that spells a document, or bad input where a number is wrong
+abbrev pub document_answer : (layout links limit : ℕ) (input : List ℕ) → Answer
+document_answer layout links limit input =
+    answer_if (λ settings. document_input_answer settings input) (wanted_settings layout links limit)
 
 abbrev pub without_text : (status number span : ℕ) → Reply
 without_text status number span =

@@ -7,13 +7,13 @@
 
 ghost use Rattle.std.specs.Prelude.{◌≡◌};
 ghost use Rattle.html_tool_run.specs.Replies.{GivesAnswer};
-ghost use Rattle.typst_html_c.specs.Replies.{Replies, write_answer};
+ghost use Rattle.typst_html_c.specs.Replies.{Replies, document_answer, write_answer};
 
 mod numbers;
 mod reply;
 
-use html_tool_run::{Fault, text_of_input};
-use numbers::wanted_task;
+use html_tool_run::{Fault, text_of_document, text_of_input};
+use numbers::{wanted_settings, wanted_task};
 pub use reply::Reply;
 use reply::reply_with;
 use std::alloc::Global;
@@ -58,6 +58,48 @@ pub extern "C" fn typst_html_write(
     ensures kept { ¬ (result.status ≡ 0) → output.new ≡ output.old }
 {
     reply_with(text_of(alloc, kind, layout, input), output)
+}
+
+/// The text of the document that the input spells, where the numbers are right.
+fn text_of_settings(
+    alloc: Global,
+    layout: u8,
+    links: u8,
+    limit: u32,
+    input: &[u8],
+) -> Result<String, Fault>
+    ensures { GivesAnswer result (document_answer layout links limit input.now) }
+{
+    match wanted_settings(layout, links, limit) {
+        Some(settings) => text_of_document(alloc, input, &settings),
+        None => Err(Fault::BadInput),
+    }
+}
+
+/// Makes the HTML text of the document that the input spells in JSON, a list of three: what is known
+/// of the document, its items and its footnotes. It is plain (layout 0) or pretty (layout 1), its
+/// links stay as they are (links 0) or get the `href` of their destination (links 1), and bodies may
+/// stand as deep as the limit says, from 1 to 10,000. The text is copied into the buffer, where it
+/// fits.
+///
+/// What is known is a list of fields, each a list of a name and a text: `title`, `description`, `lang`
+/// and, behind it, `region` stand once at most, `author` and `keyword` as often as there are such.
+/// Another field, layout, number for links or limit is bad input. Buffers and replies are those of
+/// [`typst_html_write`].
+#[unsafe(no_mangle)]
+pub extern "C" fn typst_html_document(
+    alloc: Global,
+    layout: u8,
+    links: u8,
+    limit: u32,
+    input: &[u8],
+    output: &mut [u8],
+) -> Reply
+    ensures answered { Replies (document_answer layout links limit input.now) output.old result output.new }
+    ensures kept { ¬ (result.status ≡ 0) → output.new ≡ output.old }
+{
+    let text = text_of_settings(alloc, layout, links, limit, input);
+    reply_with(text, output)
 }
 
 #[cfg(test)]

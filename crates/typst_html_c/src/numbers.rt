@@ -1,9 +1,10 @@
 //! What numbers stand for.
 
 ghost use Rattle.std.specs.Prelude.{◌≡◌};
-ghost use Rattle.typst_html_c.specs.Replies.{pretty_of, task_of, wanted_task};
+ghost use Rattle.typst_html_c.specs.Replies.{limit_of, pretty_of, task_of, yes_or_no};
+ghost use Rattle.typst_html_c.specs.Replies.{wanted_settings, wanted_task};
 
-use html_tool_run::Task;
+use html_tool_run::{Settings, Task};
 
 /// The task, and whether pretty text is wanted, where both numbers are right.
 pub(crate) fn wanted_task(kind: u8, layout: u8) -> Option<(Task, bool)>
@@ -23,13 +24,41 @@ fn task_of(kind: u8) -> Option<Task>
     }
 }
 
+/// How a document is written, where all three numbers are right.
+pub(crate) fn wanted_settings(layout: u8, links: u8, limit: u32) -> Option<Settings>
+    ensures { result ≡ wanted_settings layout links limit }
+{
+    Some(Settings {
+        pretty: pretty_of(layout)?,
+        links: yes_or_no(links)?,
+        limit: limit_of(limit)?,
+    })
+}
+
 /// Whether pretty text is wanted by that layout.
 fn pretty_of(layout: u8) -> Option<bool>
     ensures { result ≡ pretty_of layout }
 {
-    match layout {
+    yes_or_no(layout)
+}
+
+/// What a number says.
+fn yes_or_no(number: u8) -> Option<bool>
+    ensures { result ≡ yes_or_no number }
+{
+    match number {
         0 => Some(false),
         1 => Some(true),
+        _ => None,
+    }
+}
+
+/// How deep the bodies of items may stand.
+fn limit_of(limit: u32) -> Option<usize>
+    ensures { result ≡ limit_of limit }
+{
+    match limit {
+        1..=10_000 => Some(limit as usize),
         _ => None,
     }
 }

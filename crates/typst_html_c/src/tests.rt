@@ -1,4 +1,4 @@
-use super::{typst_html_version, typst_html_write};
+use super::{typst_html_document, typst_html_version, typst_html_write};
 use crate::Reply;
 
 const PARAGRAPH: &[u8] = br#"["el","p",[],[["text","a < b"]]]"#;
@@ -67,4 +67,61 @@ fn bad_input_is_told(rt: HostRuntime) {
 #[test]
 fn the_version_is_1(rt: HostRuntime) {
     assert_eq!(rt; typst_html_version(), 1);
+}
+
+const TIDES: &[u8] = br#"[
+    [["title","Tides"],["author","A"],["author","B"],["lang","de"],["region","AT"]],
+    [["start",1,7],["el","a",[],[["text","Ebbe"]]],["end",1],["start",7],["el","h2",[],[]],["end",7]],
+    [["el","p",[],[["text","1"]]]]
+]"#;
+
+#[test]
+fn a_document_has_what_is_known_footnotes_and_links(rt: HostRuntime) {
+    let mut output = [b'.'; 1000];
+    let reply = typst_html_document(rt.alloc(), 0, 1, 50, TIDES, &mut output);
+    assert_eq!(rt; reply.status, 0);
+    let text = &output[..reply.length];
+    assert!(rt; text.starts_with(br#"<!DOCTYPE html><html lang="de-AT"><head>"#));
+    let body = br##"<body><a href="#loc-1">Ebbe</a><h2 id="loc-1"></h2><p>1</p></body></html>"##;
+    assert!(rt; text.ends_with(body));
+}
+
+#[test]
+fn spans_go_on_through_footnotes(rt: HostRuntime) {
+    let input = br#"[[],[["text","a"],["space"]],[["el","P Q",[],[]]]]"#;
+    let reply = typst_html_document(rt.alloc(), 0, 0, 50, input, &mut [0; 4]);
+    assert_eq!(rt; (reply.status, reply.number, reply.span), (1, 2, 3));
+}
+
+#[test]
+fn a_wrong_number_or_field_is_bad_input(rt: HostRuntime) {
+    let alloc = rt.alloc();
+    let empty = b"[[],[],[]]".as_slice();
+    for (layout, links, limit, input, status) in [
+        (0, 0, 1, empty, 4),
+        (1, 1, 10_000, empty, 4),
+        (2, 0, 50, empty, 2),
+        (0, 2, 50, empty, 2),
+        (0, 0, 0, empty, 2),
+        (0, 0, 10_001, empty, 2),
+        (0, 0, 50, b"[[],[]]".as_slice(), 2),
+        (0, 0, 50, br#"[[["color","red"]],[],[]]"#.as_slice(), 2),
+        (
+            0,
+            0,
+            50,
+            br#"[[["title","a"],["title","b"]],[],[]]"#.as_slice(),
+            2,
+        ),
+        (
+            0,
+            0,
+            50,
+            br#"[[["region","AT"],["lang","de"]],[],[]]"#.as_slice(),
+            2,
+        ),
+    ] {
+        let reply = typst_html_document(alloc, layout, links, limit, input, &mut [0; 4]);
+        assert_eq!(rt; reply.status, status);
+    }
 }

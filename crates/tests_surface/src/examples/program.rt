@@ -33,3 +33,21 @@ fn a_text_is_made_of_an_input(rt: HostRuntime) -> Result<(), Fail> {
     assert!(rt; fault == Err(Fault::Refused(2, Span(1)))); // no tag has a name with a space
     Ok(())
 }
+
+#[test]
+fn a_document_is_made_of_an_input(rt: HostRuntime) -> Result<(), Fail> {
+    use html_tool_run::{Settings, text_of_document};
+
+    let alloc = rt.alloc();
+    let input = br#"[[["title","Tides"],["lang","de"],["region","AT"]],[["text","Ebbe"]],[]]"#;
+    let settings = Settings {
+        pretty: false,
+        links: false,
+        limit: 50,
+    };
+    let text = text_of_document(alloc, input, &settings)?;
+    assert!(rt; text.as_str().contains(r#"<html lang="de-AT">"#));
+    assert!(rt; text.as_str().contains("<title>Tides</title>"));
+    assert!(rt; text.as_str().ends_with("<body>Ebbe</body></html>"));
+    Ok(())
+}

@@ -1,0 +1,34 @@
+-- What is answered to an input that spells a document.
+use Rattle.std.specs.Prelude.{ℕ, List, ◌++◌, map, if◌then◌else◌}
+use Rattle.typst_html_encode.specs.FaultViews.{ExportFaultView}
+use Rattle.typst_html_encode.specs.FrameWriters.{no_frames}
+use Rattle.typst_html_export.specs.Exported.{export_faults, export_text, export_linked_faults, export_linked_text}
+use Rattle.html_tool_run.specs.Answers.{Answer, answer_if, fault_refusal, first_refusal_or_text, options_of}
+use Rattle.html_tool_run.specs.Json.{json_of}
+use Rattle.html_tool_run.specs.NameRefusals.{Refusal}
+use Rattle.html_tool_run.specs.SpelledDocuments.{Spelling, names_refusals, spelled_document}
+use Rattle.html_tool_run.specs.declared.documents.Settings.{Settings}
+
+-- the text of a document, with its links resolved where that is wanted
+abbrev pub document_text : Settings → Spelling → List ℕ
+document_text w s = if w.links
+    then export_linked_text no_frames (options_of w.pretty) s.0 s.1.0 s.1.1
+    else export_text no_frames (options_of w.pretty) s.0 s.1.0 s.1.1
+
+-- what is wrong with it
+abbrev pub document_faults : Settings → Spelling → List ExportFaultView
+document_faults w s = if w.links
+    then export_linked_faults w.limit no_frames (options_of w.pretty) s.0 s.1.0 s.1.1
+    else export_faults w.limit no_frames (options_of w.pretty) s.0 s.1.0 s.1.1
+
+abbrev pub document_refusals : Settings → Spelling → List Refusal
+document_refusals w s = map fault_refusal (document_faults w s)
+
+-- names are refused before what else is wrong
+unfoldable pub document_answer : Settings → Spelling → Answer
+document_answer w s =
+    first_refusal_or_text (names_refusals s ++ document_refusals w s) (document_text w s)
+
+unfoldable pub document_input_answer : Settings → (input : List ℕ) → Answer
+document_input_answer w input =
+    answer_if (λ d. answer_if (document_answer w) (spelled_document d)) (json_of input)

@@ -1,0 +1,204 @@
+//! Documents with what is known of them and with footnotes, as a JSON value spells them.
+
+ghost use Rattle.std.specs.Prelude.{◌≡◌, ◌≤◌};
+ghost use Rattle.serde_json.specs.View as json;
+ghost use Rattle.serde_json.specs.View.{view};
+ghost use Rattle.html_dom_document.specs.Views.{info_view};
+ghost use Rattle.html_flow_convert.specs.Views.{items_view};
+ghost use Rattle.typst_html_encode.specs.FrameWriters.{no_frames};
+ghost use Rattle.html_dom_tree.specs.Views.{text_view};
+ghost use Rattle.html_tool_run.specs.Answers.{answer_if};
+ghost use Rattle.html_tool_run.specs.Documents.{document_answer, document_input_answer};
+ghost use Rattle.html_tool_run.specs.Documents.{document_faults, document_refusals, document_text};
+ghost use Rattle.typst_html_export.specs.Assembles.{GivesDocument};
+ghost use Rattle.typst_html_export.specs.Exported.{export_linked_faults, export_linked_text};
+ghost use Rattle.html_tool_run.specs.Refusals.{Gives};
+ghost use Rattle.html_tool_run.specs.Replies.{GivesAnswer};
+ghost use Rattle.html_tool_run.specs.SpelledDocuments.{document_form, spelled_document, spelling_from};
+ghost use Rattle.html_tool_run.specs.Spelling.{GivesSpelledDocument, spelling_view};
+
+use crate::fault::Fault;
+use crate::field::info_in;
+use crate::fields::parts_of;
+use crate::items::list_of;
+use crate::json::parse;
+use crate::program::fault_of;
+use crate::reader::Reader;
+use html_dom_document::DocumentInfo;
+use html_flow_convert::Pair;
+use serde_json::Value;
+use std::alloc::Global;
+use typst_html_encode::{ExportFault, HtmlOptions};
+use typst_html_export::{export_items, export_linked};
+
+/// How a document is written.
+#[derive(Clone, Copy, Debug, PartialEq, Eq)]
+pub struct Settings {
+    /// Whether the text is laid out.
+    pub pretty: bool,
+    /// Whether links get the `href` of their destination.
+    pub links: bool,
+    /// How deep the bodies of items may stand, from 1 to 10,000.
+    pub limit: usize,
+}
+
+/// What a value spells as a document.
+#[derive(Drop)]
+pub(crate) struct SpelledDocument {
+    info: DocumentInfo,
+    items: Vec<Pair>,
+    footnotes: Vec<Pair>,
+}
+
+/// The document that a value spells, where no name in it is refused.
+fn document_in(alloc: Global, value: Value) -> Result<SpelledDocument, Fault>
+    ensures { GivesSpelledDocument result (spelled_document (view value)) }
+{
+    match value {
+        Value::Array(parts) => document_of(alloc, parts),
+        _ => Err(Fault::BadInput),
+    }
+}
+
+/// The document that a list spells.
+#[tactic(auto, using(crate::proofs::DocumentForms::document_forms))]
+fn document_of(alloc: Global, parts: Vec<Value>) -> Result<SpelledDocument, Fault>
+    ensures { GivesSpelledDocument result (document_form (json.items_view parts.items)) }
+{
+    let [info, items, footnotes] = parts_of::<3>(parts)?;
+    document_by(alloc, info, items, footnotes)
+}
+
+/// The document of what is known, the items and the footnotes that three values spell.
+fn document_by(
+    alloc: Global,
+    info: Value,
+    items: Value,
+    footnotes: Value,
+) -> Result<SpelledDocument, Fault>
+    ensures { GivesSpelledDocument result
+        (spelling_from (view info) (view items) (view footnotes)) }
+{
+    let info = info_in(alloc, info)?;
+    let mut reader = Reader::new(alloc);
+    let items = list_of(&mut reader, items)?;
+    let footnotes = list_of(&mut reader, footnotes)?;
+    match reader.refused() {
+        Some((number, span)) => Err(Fault::Refused(number, span)),
+        None => Ok(SpelledDocument {
+            info,
+            items,
+            footnotes,
+        }),
+    }
+}
+
+/// The text of a document.
+#[tactic(auto, using(crate::proofs::FirstFaults::first_faults))]
+fn document_text(
+    alloc: Global,
+    document: SpelledDocument,
+    settings: &Settings,
+) -> Result<String, Fault>
+    requires some_limit { 1 ≤ settings.now.limit }
+    requires low_limit { settings.now.limit ≤ 10000 }
+    ensures { Gives text_view result (document_text settings.now (spelling_view document))
+        (document_refusals settings.now (spelling_view document)) }
+{
+    match exported(alloc, document, settings) {
+        Ok(text) => Ok(text),
+        Err(fault) => Err(fault_of(&fault)),
+    }
+}
+
+/// The text of a document, as it is exported.
+fn exported(
+    alloc: Global,
+    document: SpelledDocument,
+    settings: &Settings,
+) -> Result<String, ExportFault>
+    requires some_limit { 1 ≤ settings.now.limit }
+    requires low_limit { settings.now.limit ≤ 10000 }
+    ensures { GivesDocument text_view result
+        (document_text settings.now (spelling_view document))
+        (document_faults settings.now (spelling_view document)) }
+{
+    let options = HtmlOptions {
+        pretty: settings.pretty,
+    };
+    let limit = settings.limit;
+    let SpelledDocument {
+        info,
+        items,
+        footnotes,
+    } = document;
+    if settings.links {
+        linked(alloc, &items, &info, &footnotes, limit, &options)
+    } else {
+        export_items(alloc, items, &info, &footnotes, limit, &options, &())
+    }
+}
+
+/// The text of a document whose links are resolved.
+fn linked(
+    alloc: Global,
+    items: &[Pair],
+    info: &DocumentInfo,
+    footnotes: &[Pair],
+    limit: usize,
+    options: &HtmlOptions,
+) -> Result<String, ExportFault>
+    requires some_limit { 1 ≤ limit }
+    requires low_limit { limit ≤ 10000 }
+    ensures { GivesDocument text_view result
+        (export_linked_text no_frames options.now
+        (info_view info.now) (items_view items.now) (items_view footnotes.now))
+        (export_linked_faults limit no_frames options.now
+        (info_view info.now) (items_view items.now) (items_view footnotes.now)) }
+{
+    export_linked(alloc, items, info, footnotes, limit, options, &())
+}
+
+/// The text of the document that a value spells.
+fn spelled_text(alloc: Global, value: Value, settings: &Settings) -> Result<String, Fault>
+    requires some_limit { 1 ≤ settings.now.limit }
+    requires low_limit { settings.now.limit ≤ 10000 }
+    ensures { GivesAnswer result
+        (answer_if (document_answer settings.now) (spelled_document (view value))) }
+{
+    let document = document_in(alloc, value)?;
+    document_text(alloc, document, settings)
+}
+
+/// The HTML text of the document that an input spells, which is one JSON list of three: what is known
+/// of the document, its items, and its footnotes.
+///
+/// What is known is a list of fields, each a list of a name and a text: `title`, `description`, `lang`
+/// and, behind it, `region` stand once at most, `author` and `keyword` as often as there are such. An
+/// input that spells something else, another field too, is bad. Items and footnotes are those of a
+/// run, whose lists are numbered from 1 on, those of the footnotes after those of the items.
+///
+/// The text is that of [`export`](typst_html_export::export), or of
+/// [`export_linked`](typst_html_export::export_linked) where links are wanted; names are refused
+/// before what else is wrong.
+///
+/// ```
+/// use html_tool_run::{Settings, text_of_document};
+///
+/// let alloc = rt.alloc();
+/// let input = br#"[[["title","Tides"],["lang","de"],["region","AT"]],[["text","Ebbe"]],[]]"#;
+/// let settings = Settings { pretty: false, links: false, limit: 50 };
+/// let text = text_of_document(alloc, input, &settings)?;
+/// assert!(rt; text.as_str().contains(r#"<html lang="de-AT">"#));
+/// assert!(rt; text.as_str().contains("<title>Tides</title>"));
+/// assert!(rt; text.as_str().ends_with("<body>Ebbe</body></html>"));
+/// ```
+#[tactic(auto, unfolding(crate::specs::Documents::document_input_answer))]
+pub fn text_of_document(alloc: Global, input: &[u8], settings: &Settings) -> Result<String, Fault>
+    requires some_limit { 1 ≤ settings.now.limit }
+    requires low_limit { settings.now.limit ≤ 10000 }
+    ensures { GivesAnswer result (document_input_answer settings.now input.now) }
+{
+    let value = parse(alloc, input)?;
+    spelled_text(alloc, value, settings)
+}
