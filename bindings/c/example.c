@@ -1,0 +1,88 @@
+/*
+ * example tree|items|document [--pretty] [--links]: JSON from standard input becomes HTML on standard
+ * output. It ends with the status of the call, and tells of a refusal on standard error.
+ */
+#include "typst_html.h"
+
+#include <stdbool.h>
+#include <stdio.h>
+#include <stdlib.h>
+#include <string.h>
+
+struct bytes {
+    uint8_t *at;
+    size_t length;
+};
+
+enum task { TREE, ITEMS, DOCUMENT };
+
+static struct typst_html_reply call(enum task task, bool pretty, bool links, struct bytes input,
+                                    struct bytes output) {
+    if (task == DOCUMENT)
+        return typst_html_document(pretty, links, 50, input.at, input.length, output.at, output.length);
+    return typst_html_write(task == TREE ? TYPST_HTML_TREE : TYPST_HTML_ITEMS, pretty, input.at,
+                            input.length, output.at, output.length);
+}
+
+/* The text in a buffer of its own, which the caller frees. */
+static struct typst_html_reply text_of(enum task task, bool pretty, bool links, struct bytes input,
+                                       struct bytes *text) {
+    /* Four bytes for each of the input are mostly enough; else the call says how many are. */
+    *text = (struct bytes){NULL, 4 * input.length + 1024};
+    for (;;) {
+        uint8_t *room = realloc(text->at, text->length);
+        struct typst_html_reply reply = {.status = TYPST_HTML_OUT_OF_MEMORY};
+        if (room == NULL)
+            return reply;
+        text->at = room;
+        reply = call(task, pretty, links, input, *text);
+        if (reply.status != TYPST_HTML_TOO_SHORT)
+            return reply;
+        text->length = reply.length;
+    }
+}
+
+/* All of a file, in a buffer that the caller frees. */
+static struct bytes all_of(FILE *file) {
+    struct bytes all = {malloc(1 << 16), 0};
+    size_t room = 1 << 16, got;
+    while (all.at != NULL && (got = fread(all.at + all.length, 1, room - all.length, file)) > 0) {
+        all.length += got;
+        if (all.length == room)
+            all.at = realloc(all.at, room *= 2);
+    }
+    return all;
+}
+
+int main(int count, char **words) {
+    bool pretty = false, links = false;
+    enum task task = count > 1 && !strcmp(words[1], "tree")    ? TREE
+                     : count > 1 && !strcmp(words[1], "items") ? ITEMS
+                                                               : DOCUMENT;
+    for (int i = 2; i < count; i++) {
+        pretty |= !strcmp(words[i], "--pretty");
+        links |= !strcmp(words[i], "--links");
+    }
+    if (typst_html_version() != TYPST_HTML_VERSION) {
+        fputs("the library has another version than its header\n", stderr);
+        return 5;
+    }
+    struct bytes input = all_of(stdin), text;
+    if (input.at == NULL)
+        return TYPST_HTML_OUT_OF_MEMORY;
+    struct typst_html_reply reply = text_of(task, pretty, links, input, &text);
+    switch (reply.status) {
+    case TYPST_HTML_DONE:
+        fwrite(text.at, 1, reply.length, stdout);
+        break;
+    case TYPST_HTML_REFUSED:
+        fprintf(stderr, "refused: %u at %llu\n", reply.number, (unsigned long long)reply.span);
+        break;
+    case TYPST_HTML_BAD_INPUT:
+        fputs("bad input\n", stderr);
+        break;
+    }
+    free(text.at);
+    free(input.at);
+    return reply.status;
+}

@@ -1,0 +1,154 @@
+/* What a caller in C sees of the library. The worked rows are those of the program (rows.h is made). */
+#include "typst_html.h"
+
+#include <pthread.h>
+#include <stdbool.h>
+#include <stdio.h>
+#include <stdlib.h>
+#include <string.h>
+
+#include "rows.h"
+
+static int passed, failed;
+
+static void expect(const char *what, bool holds) {
+    if (holds)
+        passed++;
+    else {
+        failed++;
+        printf("FAILED %s\n", what);
+    }
+}
+
+static struct typst_html_reply of_row(const struct row *row, uint8_t *output, size_t room) {
+    return typst_html_write(row->kind, row->layout, (const uint8_t *)row->input, row->length, output,
+                            room);
+}
+
+static bool is_as_wanted(const struct row *row) {
+    uint8_t output[4096];
+    memset(output, '.', sizeof output);
+    struct typst_html_reply reply = of_row(row, output, sizeof output);
+    if (reply.status != row->status || reply.number != row->number || reply.span != row->span)
+        return false;
+    size_t length = row->status == TYPST_HTML_DONE ? row->text_length : 0;
+    for (size_t i = length; i < sizeof output; i++)
+        if (output[i] != '.')
+            return false;
+    return reply.length == length && !memcmp(output, row->text, length);
+}
+
+static void rows_are_as_the_program_writes_them(void) {
+    bool all = true;
+    for (size_t i = 0; i < sizeof rows / sizeof *rows; i++)
+        if (!is_as_wanted(&rows[i])) {
+            printf("row %zu: %s\n", i, rows[i].input);
+            all = false;
+        }
+    expect("rows", all);
+}
+
+static void a_short_buffer_stays_and_its_length_is_told(void) {
+    const struct row *row = &rows[1];
+    uint8_t output[4096];
+    bool all = true;
+    for (size_t room = 0; room < row->text_length; room++) {
+        memset(output, '.', sizeof output);
+        struct typst_html_reply reply = of_row(row, output, room);
+        all &= reply.status == TYPST_HTML_TOO_SHORT && reply.length == row->text_length;
+        for (size_t i = 0; i < sizeof output; i++)
+            all &= output[i] == '.';
+    }
+    expect("short buffers", all);
+    struct typst_html_reply reply = of_row(row, output, row->text_length);
+    expect("a buffer that is long enough", reply.status == TYPST_HTML_DONE);
+}
+
+static uint8_t document_status(uint8_t layout, uint8_t links, uint32_t limit, const char *input) {
+    uint8_t output[1024];
+    return typst_html_document(layout, links, limit, (const uint8_t *)input, strlen(input), output,
+                               sizeof output)
+        .status;
+}
+
+static void wrong_numbers_are_bad_input(void) {
+    const char *tree = "[\"el\",\"p\",[],[]]", *document = "[[],[],[]]";
+    uint8_t output[64];
+    bool all = true;
+    for (unsigned kind = 0; kind < 256; kind++)
+        for (unsigned layout = 0; layout < 256; layout++) {
+            uint8_t status = typst_html_write(kind, layout, (const uint8_t *)tree, strlen(tree), output,
+                                              sizeof output)
+                                 .status;
+            all &= (status == TYPST_HTML_DONE) == (kind == 0 && layout < 2);
+        }
+    expect("wrong kinds and layouts", all);
+    expect("the least limit", document_status(0, 0, 1, document) == TYPST_HTML_DONE);
+    expect("the most limit", document_status(1, 1, 10000, document) == TYPST_HTML_DONE);
+    expect("limit 0", document_status(0, 0, 0, document) == TYPST_HTML_BAD_INPUT);
+    expect("limit 10001", document_status(0, 0, 10001, document) == TYPST_HTML_BAD_INPUT);
+    expect("limit 2^32 - 1", document_status(0, 0, UINT32_MAX, document) == TYPST_HTML_BAD_INPUT);
+    expect("links 2", document_status(0, 2, 50, document) == TYPST_HTML_BAD_INPUT);
+    expect("layout 2", document_status(2, 0, 50, document) == TYPST_HTML_BAD_INPUT);
+    expect("no input", document_status(0, 0, 50, "") == TYPST_HTML_BAD_INPUT);
+}
+
+static void *all_rows_many_times(void *bad) {
+    for (int turn = 0; turn < 50; turn++)
+        for (size_t i = 0; i < sizeof rows / sizeof *rows; i++)
+            if (!is_as_wanted(&rows[i]))
+                *(bool *)bad = true;
+    return NULL;
+}
+
+static void eight_threads_agree(void) {
+    pthread_t threads[8];
+    bool bad[8] = {false}, all = true;
+    for (int i = 0; i < 8; i++)
+        pthread_create(&threads[i], NULL, all_rows_many_times, &bad[i]);
+    for (int i = 0; i < 8; i++) {
+        pthread_join(threads[i], NULL);
+        all &= !bad[i];
+    }
+    expect("eight threads", all);
+}
+
+/* A document of so many paragraphs, each of 100 bytes of JSON. */
+static void ten_megabytes_are_written(void) {
+    enum { COUNT = 100000 };
+    const char *one = "[\"el\",\"p\",[[\"class\",\"long\"]],[[\"text\",\"A paragraph of a long "
+                      "document, with a < b and an & in it.\"]]]";
+    size_t each = strlen(one), length = 0;
+    char *input = malloc(COUNT * (each + 1) + 2);
+    uint8_t *output = malloc(4 * COUNT * each);
+    for (int i = 0; i < COUNT; i++) {
+        input[length++] = i == 0 ? '[' : ',';
+        memcpy(input + length, one, each);
+        length += each;
+    }
+    input[length++] = ']';
+    struct typst_html_reply reply =
+        typst_html_write(TYPST_HTML_ITEMS, TYPST_HTML_PRETTY, (uint8_t *)input, length, output,
+                         4 * COUNT * each);
+    const char *end = "and an &amp; in it.</p>\n  </body>\n</html>\n";
+    size_t tail = strlen(end);
+    expect("ten megabytes", length >= 9000000 && reply.status == TYPST_HTML_DONE &&
+                                reply.length > length / 2 &&
+                                !memcmp(output + reply.length - tail, end, tail));
+    free(input);
+    free(output);
+}
+
+int main(int count, char **words) {
+    bool is_short = count > 1 && !strcmp(words[1], "--short");
+    expect("the version", typst_html_version() == TYPST_HTML_VERSION);
+    rows_are_as_the_program_writes_them();
+    a_short_buffer_stays_and_its_length_is_told();
+    wrong_numbers_are_bad_input();
+    if (!is_short) {
+        eight_threads_agree();
+        ten_megabytes_are_written();
+    }
+    printf("C: %d passed, %d failed\n", passed, failed);
+    return failed != 0;
+}

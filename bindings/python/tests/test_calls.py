@@ -1,0 +1,125 @@
+"""What a caller in Python sees of the library."""
+
+import ctypes
+import doctest
+import json
+import sys
+import unittest
+from concurrent.futures import ThreadPoolExecutor
+from pathlib import Path
+
+BINDINGS = Path(__file__).resolve().parents[2]
+sys.path[:0] = [str(BINDINGS), str(BINDINGS / "python")]
+
+import rows  # noqa: E402
+import typst_html_proved as html  # noqa: E402
+from typst_html_proved import Info, Refused, element  # noqa: E402
+from typst_html_proved._library import LIBRARY  # noqa: E402
+
+ROWS = rows.rows()
+KINDS = ("tree", "items")
+
+
+def outcome(call, *words, **more):
+    """The text, or the number and the span of a refusal, or what else was raised."""
+    try:
+        return call(*words, **more)
+    except Refused as refused:
+        return refused.number, refused.span
+    except html.Failure as failure:
+        return type(failure)
+
+
+def wanted(row):
+    return [row.text.decode(), (row.number, row.span), html.BadInput][row.status]
+
+
+def of_row(row):
+    return outcome(html.write_json, row.input, kind=KINDS[row.kind], pretty=bool(row.layout))
+
+
+class Calls(unittest.TestCase):
+    def test_rows_are_as_the_program_writes_them(self):
+        self.assertGreater(len(ROWS), 40)
+        for row in ROWS:
+            with self.subTest(row.input):
+                self.assertEqual(of_row(row), wanted(row))
+
+    def test_documents_without_information_are_their_items(self):
+        for row in ROWS:
+            if row.kind == 1:
+                with self.subTest(row.input):
+                    data = b"[[]," + row.input + b",[]]"
+                    found = outcome(html.write_json, data, kind="document", pretty=bool(row.layout))
+                    self.assertEqual(found, wanted(row))
+
+    def test_a_short_buffer_stays(self):
+        data = b'["el","p",[],[["text","a"]]]'
+        output = ctypes.create_string_buffer(b"." * 22)
+        reply = LIBRARY.typst_html_write(0, 0, data, len(data), output, 21)
+        self.assertEqual((reply.status, reply.length, output.raw), (4, 23, b"." * 22 + b"\0"))
+
+    def test_a_text_far_longer_than_its_input(self):
+        item = element("ul", *[element("li")] * 400)
+        for _ in range(55):
+            item = element("div", item)
+        text = html.write_tree(item, pretty=True)
+        self.assertGreater(len(text), 4 * len(json.dumps(item)) + 1024)
+        self.assertTrue(text.endswith("\n</div>\n"))
+
+    def test_what_is_known_stands_in_the_head(self):
+        info = Info("T", "D", ["A", "B"], ["k", "l"], "de", "AT")
+        text = html.write([], info=info)
+        for part in ('<html lang="de-AT">', "<title>T</title>", 'content="D"', 'content="A, B"', 'content="k, l"'):
+            self.assertIn(part, text)
+        self.assertIn('<html lang="en">', html.write([], info=Info(region="AT")))
+
+    def test_links_and_footnotes(self):
+        items = [html.start(1, 7), element("a", "b"), html.end(1), html.start(7), element("h2"), html.end(7)]
+        text = html.write(items, footnotes=[element("p", "n")], links=True)
+        self.assertTrue(text.endswith('<body><a href="#loc-1">b</a><h2 id="loc-1"></h2><p>n</p></body></html>'), text)
+        self.assertIn("<a>b</a>", html.write(items))
+
+    def test_every_item(self):
+        body = ["a", html.SPACE, html.BREAK, html.HOLE]
+        self.assertIn("<div>a", html.write([html.block(*body), html.box(*body)]))
+
+    def test_refusals(self):
+        with self.assertRaises(Refused) as caught:
+            html.write(["a", element("p", attrs=[("a b", "c")])], footnotes=["n"])
+        self.assertEqual((caught.exception.number, caught.exception.span), (7, 2))
+        self.assertEqual(str(caught.exception), "a character is not valid in an attribute name (refusal 7 at list 2)")
+        self.assertEqual(outcome(html.write, ["a"], footnotes=[element("P Q")]), (2, 2))
+        self.assertEqual(outcome(html.write, ["\0"]), (11, 1))
+
+    def test_bad_input(self):
+        for bad in ([3], [None], [["text"]], [object()], [["el", "p", {}, []]], ["\ud800"]):
+            with self.subTest(bad):
+                self.assertIs(outcome(html.write, bad), html.BadInput)
+        for limit in (-1, 0, 10_001, 1 << 40):
+            self.assertIs(outcome(html.write, [], limit=limit), html.BadInput)
+        self.assertIs(outcome(html.write_json, "[]", kind="trees"), html.BadInput)
+        self.assertIs(outcome(html.write_tree, html.block()), html.BadInput)
+        deep = []
+        for _ in range(100_000):
+            deep = [deep]
+        self.assertIs(outcome(html.write, deep), html.BadInput)
+
+    def test_eight_threads_agree(self):
+        with ThreadPoolExecutor(8) as threads:
+            for row, found in zip(ROWS * 50, threads.map(of_row, ROWS * 50)):
+                self.assertEqual(found, wanted(row))
+
+    def test_ten_megabytes(self):
+        one = element("p", "A paragraph of a long document, with a < b and an & in it.", attrs=[("class", "long")])
+        text = html.write([one] * 100_000, pretty=True)
+        self.assertEqual(text.count("with a &lt; b and an &amp; in it.</p>\n"), 100_000)
+
+    def test_examples(self):
+        failed, tried = doctest.testmod(html)
+        self.assertGreater(tried, 4)
+        self.assertEqual(failed, 0)
+
+
+if __name__ == "__main__":
+    unittest.main()

@@ -1,0 +1,238 @@
+"""HTML text of documents, written by a library of proved code.
+
+>>> write([element("p", "Salt & vinegar")])[-45:]
+'<body><p>Salt &amp; vinegar</p></body></html>'
+>>> try:
+...     write([element("br", "no")])
+... except Refused as refused:
+...     print(refused, refused.number, refused.span)
+a void element has a child (refusal 12 at list 1) 12 1
+
+A document is a list of items. They are made by the functions `text`, `element`, `block`, `box`, `start` and
+`end` and the constants `SPACE`, `BREAK` and `HOLE`; a `str` where an item may stand is a text. Items are lists
+that JSON can hold, so others may make them.
+
+Calls may be made from any number of threads, and run at once.
+"""
+
+from __future__ import annotations
+
+import json
+from dataclasses import dataclass
+from typing import Any, Iterable, Sequence, Union
+
+from ._library import LIBRARY, VERSION, Reply, called
+
+__all__ = [
+    "BREAK", "HOLE", "SPACE", "VERSION", "BadInput", "Failure", "Info", "Item", "OutOfMemory", "Refused",
+    "block", "box", "element", "end", "start", "text", "write", "write_json", "write_tree",
+]  # fmt: skip
+
+Item = Union[str, Sequence[Any]]
+"""An item: a text, or a list such as `["text", t]` or `["el", tag, [[name, value], ..], [item, ..]]`."""
+
+SPACE: Item = ["space"]
+"""A space, as between two words."""
+
+BREAK: Item = ["break"]
+"""A line break."""
+
+HOLE: Item = ["hole"]
+"""Something that has no place in HTML, and is left out."""
+
+WORDS = {
+    1: "tag name must not be empty",
+    2: "a character is not valid in a tag name",
+    3: "custom element name must start with a lowercase letter",
+    4: "custom element name must not contain uppercase letters",
+    5: "name is reserved and not valid for a custom element",
+    6: "attribute name must not be empty",
+    7: "a character is not valid in an attribute name",
+    8: "a body stands deeper than the limit",
+    9: "an html or body element stands among other nodes",
+    10: "footnotes stand beside an html or body element of the document's own",
+    11: "a character cannot be encoded in HTML",
+    12: "a void element has a child",
+    13: "a raw text element has a child that is no text",
+    14: "a raw text would end its element",
+    15: "a frame is refused",
+}
+"""What is wrong, by the number of the refusal."""
+
+
+class Failure(Exception):
+    """There is no text."""
+
+
+class Refused(Failure):
+    """What is to be written breaks a rule of HTML, or stands where it may not."""
+
+    number: int
+    """Which rule: a key of `WORDS`."""
+
+    span: int
+    """Where: the number of the list of an item, counted from 1 by their opening brackets as they stand in
+    JSON, those of footnotes after those of items; 0 where it has no place."""
+
+    def __init__(self, number: int, span: int) -> None:
+        super().__init__(number, span)
+        self.number, self.span = number, span
+
+    @property
+    def words(self) -> str:
+        """What is wrong."""
+        return WORDS.get(self.number, "refused")
+
+    def __str__(self) -> str:
+        return f"{self.words} (refusal {self.number} at list {self.span})"
+
+
+class BadInput(Failure, ValueError):
+    """The input spells nothing that can be written, or nests more than 127 lists."""
+
+    def __str__(self) -> str:
+        return "bad input"
+
+
+class OutOfMemory(Failure, MemoryError):
+    """An allocation failed."""
+
+    def __str__(self) -> str:
+        return "out of memory"
+
+
+@dataclass(frozen=True)
+class Info:
+    """What is known of a document, for its head."""
+
+    title: str | None = None
+    description: str | None = None
+    authors: Sequence[str] = ()
+    keywords: Sequence[str] = ()
+    lang: str | None = None
+    """The language, as `de`."""
+    region: str | None = None
+    """The region in which the language is spoken, as `AT`. Without a language it is left out."""
+
+    def fields(self) -> list[list[str]]:
+        """What is known as the library reads it."""
+        given = [["title", self.title], ["description", self.description]]
+        given += [["author", author] for author in self.authors]
+        given += [["keyword", keyword] for keyword in self.keywords]
+        given += [["lang", self.lang], ["region", self.region if self.lang is not None else None]]
+        return [[name, value] for name, value in given if value is not None]
+
+
+def _listed(items: Iterable[Item]) -> list[Any]:
+    return [text(item) if isinstance(item, str) else item for item in items]
+
+
+def text(of: str) -> list[Any]:
+    """A text, whatever is in it."""
+    return ["text", of]
+
+
+def element(tag: str, *body: Item, attrs: Iterable[tuple[str, str]] = ()) -> list[Any]:
+    """An element with that body.
+
+    >>> element("a", "Home", attrs=[("href", "/")])
+    ['el', 'a', [['href', '/']], [['text', 'Home']]]
+    """
+    return ["el", tag, [[name, value] for name, value in attrs], _listed(body)]
+
+
+def block(*body: Item) -> list[Any]:
+    """What stands in a block of its own."""
+    return ["block", _listed(body)]
+
+
+def box(*body: Item) -> list[Any]:
+    """What stands in a box within a line."""
+    return ["box", _listed(body)]
+
+
+def start(location: int, destination: int | None = None) -> list[Any]:
+    """A location begins, and perhaps leads to another: links get its `href` where `write` resolves them."""
+    return ["start", location] if destination is None else ["start", location, destination]
+
+
+def end(location: int) -> list[Any]:
+    """The location ends."""
+    return ["end", location]
+
+
+def _spelled(value: Any) -> bytes:
+    """The value in JSON. A text with half of a surrogate pair has no UTF-8, so it is bad input."""
+    try:
+        return json.dumps(value, ensure_ascii=False, separators=(",", ":")).encode()
+    except (TypeError, UnicodeEncodeError, RecursionError) as error:
+        raise BadInput from error
+
+
+def _text(made: tuple[Reply, bytes]) -> str:
+    reply, output = made
+    if reply.status == 0:
+        return output.decode()
+    if reply.status == 1:
+        raise Refused(reply.number, reply.span)
+    raise BadInput if reply.status == 2 else OutOfMemory
+
+
+def write(
+    items: Iterable[Item],
+    *,
+    info: Info = Info(),
+    footnotes: Iterable[Item] = (),
+    pretty: bool = False,
+    links: bool = False,
+    limit: int = 50,
+) -> str:
+    """The text of a document of these items.
+
+    `pretty` lays it out in indented lines, where that can't be seen. `links` gives each `a` without `href`
+    behind a `start` with a destination the `href` of that destination. Bodies may stand `limit` deep, from
+    1 to 10,000; JSON is read 127 levels deep, which are 63 elements in one another.
+
+    >>> write(["a  b"], info=Info(title="T", lang="de", region="AT"))[:42]
+    '<!DOCTYPE html><html lang="de-AT"><head><m'
+
+    Raises `Refused`, `BadInput` or `OutOfMemory`.
+    """
+    if not 1 <= limit <= 10_000:
+        raise BadInput
+    data = _spelled([info.fields(), _listed(items), _listed(footnotes)])
+    numbers = (int(bool(pretty)), int(bool(links)), limit)
+    return _text(called(LIBRARY.typst_html_document, numbers, data))
+
+
+def write_tree(root: Item, *, pretty: bool = False) -> str:
+    """The text of a tree, given by its root, of which only texts, elements, starts and ends may be part.
+
+    >>> write_tree(element("p", "a < b"))
+    '<!DOCTYPE html><p>a &lt; b</p>'
+
+    Raises `Refused`, `BadInput` or `OutOfMemory`.
+    """
+    return write_json(_spelled(root), kind="tree", pretty=pretty)
+
+
+def write_json(data: bytes | str, *, kind: str = "items", pretty: bool = False) -> str:
+    """The text of what JSON spells: a `tree`, the `items` of a document, or a `document`, which is
+    `[[[field, text], ..], [item, ..], [footnote, ..]]`.
+
+    >>> write_json('["el","br",[],[]]', kind="tree")
+    '<!DOCTYPE html><br>'
+
+    Raises `Refused`, `BadInput` or `OutOfMemory`.
+    """
+    try:
+        data = data.encode() if isinstance(data, str) else bytes(data)
+    except UnicodeEncodeError as error:
+        raise BadInput from error
+    layout = int(bool(pretty))
+    if kind == "document":
+        return _text(called(LIBRARY.typst_html_document, (layout, 0, 50), data))
+    kinds = {"tree": 0, "items": 1}
+    if kind not in kinds:
+        raise BadInput
+    return _text(called(LIBRARY.typst_html_write, (kinds[kind], layout), data))

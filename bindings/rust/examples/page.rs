@@ -1,0 +1,24 @@
+//! page json|typed FILE: a document of the items in a file of JSON, by `write_json`, or of as many
+//! paragraphs as the file has lines, by `write`. It prints how long the text is.
+
+use typst_html_proved::{write, write_json, Document, Element, Kind, Options};
+
+fn main() -> Result<(), Box<dyn std::error::Error>> {
+    let words: Vec<String> = std::env::args().collect();
+    let [_, how, path] = words.as_slice() else {
+        return Err("wanted: page json|typed FILE".into());
+    };
+    let input = std::fs::read_to_string(path)?;
+    let text = match how.as_str() {
+        "json" => write_json(Kind::Items, input.as_bytes(), false)?,
+        _ => {
+            let mut document = Document::new();
+            for line in input.lines() {
+                document = document.item(Element::new("p").attr("class", "long").child(line));
+            }
+            write(&document, Options::default())?
+        }
+    };
+    println!("{}", text.len());
+    Ok(())
+}

@@ -1,0 +1,244 @@
+//! What is written: documents, items and elements, which `serde` spells as the library reads them.
+
+use serde::ser::{Serialize, SerializeSeq, Serializer};
+
+/// Something in a document or in an element.
+#[derive(Clone, Debug, PartialEq, Eq)]
+pub enum Item {
+    /// A text.
+    Text(String),
+    /// A space, as between two words.
+    Space,
+    /// A line break.
+    Break,
+    /// An element.
+    Element(Element),
+    /// What stands in a block of its own.
+    Block(Vec<Item>),
+    /// What stands in a box within a line.
+    Box(Vec<Item>),
+    /// Something has no place in HTML, and is left out.
+    Hole,
+    /// A location begins: what stands up to its [`Item::End`]. Links that lead to it have it as their
+    /// destination.
+    Start {
+        /// The location.
+        location: u64,
+        /// Where what stands here leads to.
+        destination: Option<u64>,
+    },
+    /// The location ends.
+    End(u64),
+}
+
+impl From<&str> for Item {
+    fn from(text: &str) -> Item {
+        Item::Text(text.to_owned())
+    }
+}
+
+impl From<String> for Item {
+    fn from(text: String) -> Item {
+        Item::Text(text)
+    }
+}
+
+impl From<Element> for Item {
+    fn from(element: Element) -> Item {
+        Item::Element(element)
+    }
+}
+
+impl Serialize for Item {
+    fn serialize<S: Serializer>(&self, to: S) -> Result<S::Ok, S::Error> {
+        match self {
+            Item::Text(text) => ("text", text).serialize(to),
+            Item::Space => ("space",).serialize(to),
+            Item::Break => ("break",).serialize(to),
+            Item::Element(element) => element.serialize(to),
+            Item::Block(body) => ("block", body).serialize(to),
+            Item::Box(body) => ("box", body).serialize(to),
+            Item::Hole => ("hole",).serialize(to),
+            Item::Start {
+                location,
+                destination: None,
+            } => ("start", location).serialize(to),
+            Item::Start {
+                location,
+                destination: Some(destination),
+            } => ("start", location, destination).serialize(to),
+            Item::End(location) => ("end", location).serialize(to),
+        }
+    }
+}
+
+/// An element: a tag, attributes, and what stands in it.
+///
+/// ```
+/// use typst_html_proved::{write_tree, Element};
+///
+/// let link = Element::new("a").attr("href", "/").child("Home & garden");
+/// let text = write_tree(&Element::new("p").child(link), false)?;
+/// assert_eq!(text, r#"<!DOCTYPE html><p><a href="/">Home &amp; garden</a></p>"#);
+/// # Ok::<(), typst_html_proved::Refusal>(())
+/// ```
+#[derive(Clone, Debug, PartialEq, Eq)]
+pub struct Element {
+    /// The tag name.
+    pub tag: String,
+    /// Names and values, in order.
+    pub attrs: Vec<(String, String)>,
+    /// What stands in it.
+    pub body: Vec<Item>,
+}
+
+impl Element {
+    /// An element without attributes, in which nothing stands.
+    pub fn new(tag: impl Into<String>) -> Element {
+        Element {
+            tag: tag.into(),
+            attrs: Vec::new(),
+            body: Vec::new(),
+        }
+    }
+
+    /// The element with one attribute more.
+    pub fn attr(mut self, name: impl Into<String>, value: impl Into<String>) -> Element {
+        self.attrs.push((name.into(), value.into()));
+        self
+    }
+
+    /// The element with a text, an element or another item more in it.
+    pub fn child(mut self, item: impl Into<Item>) -> Element {
+        self.body.push(item.into());
+        self
+    }
+}
+
+impl Serialize for Element {
+    fn serialize<S: Serializer>(&self, to: S) -> Result<S::Ok, S::Error> {
+        ("el", &self.tag, &self.attrs, &self.body).serialize(to)
+    }
+}
+
+/// What is known of a document, for its head.
+#[derive(Clone, Debug, Default, PartialEq, Eq)]
+pub struct Info {
+    /// The title.
+    pub title: Option<String>,
+    /// What the document is about.
+    pub description: Option<String>,
+    /// Who wrote it.
+    pub authors: Vec<String>,
+    /// The words by which it is found.
+    pub keywords: Vec<String>,
+    /// The language, as `de`.
+    pub lang: Option<String>,
+    /// The region in which the language is spoken, as `AT`. Without a language it is left out.
+    pub region: Option<String>,
+}
+
+impl Info {
+    fn fields(&self) -> impl Iterator<Item = (&'static str, &String)> {
+        let region = self.region.iter().filter(|_| self.lang.is_some());
+        let named = |name| move |text| (name, text);
+        (self.title.iter().map(named("title")))
+            .chain(self.description.iter().map(named("description")))
+            .chain(self.authors.iter().map(named("author")))
+            .chain(self.keywords.iter().map(named("keyword")))
+            .chain(self.lang.iter().map(named("lang")))
+            .chain(region.map(named("region")))
+    }
+}
+
+impl Serialize for Info {
+    fn serialize<S: Serializer>(&self, to: S) -> Result<S::Ok, S::Error> {
+        let mut fields = to.serialize_seq(None)?;
+        for field in self.fields() {
+            fields.serialize_element(&field)?;
+        }
+        fields.end()
+    }
+}
+
+/// A document: what is known of it, its items and its footnotes.
+///
+/// ```
+/// use typst_html_proved::{write, Document, Element, Options};
+///
+/// let document = Document::new()
+///     .title("Tides")
+///     .author("A. Reed")
+///     .lang("de", "AT")
+///     .item(Element::new("h1").child("Ebbe < Flut"));
+/// let text = write(&document, Options::default())?;
+/// assert!(text.starts_with(r#"<!DOCTYPE html><html lang="de-AT">"#));
+/// assert!(text.contains("<title>Tides</title>"));
+/// assert!(text.ends_with("<body><h1>Ebbe &lt; Flut</h1></body></html>"));
+/// # Ok::<(), typst_html_proved::Refusal>(())
+/// ```
+#[derive(Clone, Debug, Default, PartialEq, Eq)]
+pub struct Document {
+    /// What is known of it.
+    pub info: Info,
+    /// What it holds.
+    pub items: Vec<Item>,
+    /// Its footnotes, which stand at the end of the body.
+    pub footnotes: Vec<Item>,
+}
+
+impl Document {
+    /// A document of which nothing is known and that holds nothing.
+    pub fn new() -> Document {
+        Document::default()
+    }
+
+    /// The document with that title.
+    pub fn title(mut self, title: impl Into<String>) -> Document {
+        self.info.title = Some(title.into());
+        self
+    }
+
+    /// The document with that description.
+    pub fn description(mut self, description: impl Into<String>) -> Document {
+        self.info.description = Some(description.into());
+        self
+    }
+
+    /// The document with one author more.
+    pub fn author(mut self, author: impl Into<String>) -> Document {
+        self.info.authors.push(author.into());
+        self
+    }
+
+    /// The document with one keyword more.
+    pub fn keyword(mut self, keyword: impl Into<String>) -> Document {
+        self.info.keywords.push(keyword.into());
+        self
+    }
+
+    /// The document in that language, as it is spoken in that region; an empty region is none.
+    pub fn lang(mut self, lang: impl Into<String>, region: impl Into<String>) -> Document {
+        self.info.lang = Some(lang.into());
+        self.info.region = Some(region.into()).filter(|region| !region.is_empty());
+        self
+    }
+
+    /// The document with one item more.
+    pub fn item(mut self, item: impl Into<Item>) -> Document {
+        self.items.push(item.into());
+        self
+    }
+
+    /// The document with one footnote more.
+    pub fn footnote(mut self, item: impl Into<Item>) -> Document {
+        self.footnotes.push(item.into());
+        self
+    }
+}
+
+impl Serialize for Document {
+    fn serialize<S: Serializer>(&self, to: S) -> Result<S::Ok, S::Error> {
+        (&self.info, &self.items, &self.footnotes).serialize(to)
+    }
+}

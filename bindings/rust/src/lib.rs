@@ -1,0 +1,114 @@
+//! HTML text of documents, written by a library of proved code: texts arrive escaped, spaces that are
+//! wanted stay, and what HTML cannot hold is refused with a number and a place.
+//!
+//! ```
+//! use typst_html_proved::{write, Document, Element, Options, Refusal};
+//!
+//! let document = Document::new()
+//!     .title("Salt")
+//!     .item(Element::new("p").child("Salt & vinegar"));
+//! let text = write(&document, Options::default())?;
+//! assert!(text.ends_with("<p>Salt &amp; vinegar</p></body></html>"));
+//!
+//! let wrong = Document::new().item(Element::new("br").child("no"));
+//! let refusal = write(&wrong, Options::default()).unwrap_err();
+//! assert_eq!(refusal, Refusal::Refused { number: 12, span: 1 });
+//! assert_eq!(refusal.to_string(), "a void element has a child (refusal 12 at list 1)");
+//! # Ok::<(), Refusal>(())
+//! ```
+//!
+//! Calls share nothing, so any number of threads may make them. Each wants 256 KB of stack.
+
+#![deny(missing_docs)]
+
+mod document;
+mod raw;
+mod refusal;
+
+pub use document::{Document, Element, Info, Item};
+pub use refusal::Refusal;
+
+/// The version of the library's calls that this crate was made for.
+pub const VERSION: u32 = 1;
+
+/// How a document is written.
+#[derive(Clone, Copy, Debug, PartialEq, Eq)]
+pub struct Options {
+    /// Whether the text is laid out in indented lines, where that can't be seen.
+    pub pretty: bool,
+    /// Whether each `a` without `href` behind a [`Item::Start`] with a destination gets the `href` of
+    /// that destination.
+    pub links: bool,
+    /// How deep bodies may stand, from 1 to 10,000. JSON is read 127 levels deep, which are 63 elements
+    /// in one another.
+    pub limit: u32,
+}
+
+impl Default for Options {
+    /// Plain text, links as they are, and bodies 50 deep at most.
+    fn default() -> Options {
+        Options {
+            pretty: false,
+            links: false,
+            limit: 50,
+        }
+    }
+}
+
+/// What JSON spells that is written by [`write_json`].
+#[derive(Clone, Copy, Debug, PartialEq, Eq)]
+pub enum Kind {
+    /// A tree: `["el", tag, [[name, value], ..], [node, ..]]`.
+    Tree,
+    /// The items of a document: `[item, ..]`.
+    Items,
+}
+
+/// The version of the calls of the library that is linked, to be compared with [`VERSION`].
+pub fn version() -> u32 {
+    raw::version()
+}
+
+/// The text of a document.
+pub fn write(document: &Document, options: Options) -> Result<String, Refusal> {
+    raw::document(options, &spelled(document))
+}
+
+/// The text of a tree, of which only texts, elements, starts and ends may be part: another item is bad
+/// input.
+pub fn write_tree(root: &Element, pretty: bool) -> Result<String, Refusal> {
+    raw::write(Kind::Tree, pretty, &spelled(root))
+}
+
+/// The text of a tree or of the document of a list of items, which JSON spells.
+///
+/// ```
+/// use typst_html_proved::{write_json, Kind, Refusal};
+///
+/// let text = write_json(Kind::Tree, br#"["el","p",[],[["text","a < b"]]]"#, false)?;
+/// assert_eq!(text, "<!DOCTYPE html><p>a &lt; b</p>");
+/// assert_eq!(write_json(Kind::Items, b"{}", false), Err(Refusal::BadInput));
+/// # Ok::<(), Refusal>(())
+/// ```
+pub fn write_json(kind: Kind, json: &[u8], pretty: bool) -> Result<String, Refusal> {
+    raw::write(kind, pretty, json)
+}
+
+/// The text of a document with what is known of it and with footnotes, which JSON spells:
+/// `[[[field, text], ..], [item, ..], [footnote, ..]]`.
+///
+/// ```
+/// use typst_html_proved::{write_document_json, Options, Refusal};
+///
+/// let json = br#"[[["title","Tides"],["author","A"],["author","B"]],[["text","Ebbe"]],[]]"#;
+/// assert!(write_document_json(json, Options::default())?.contains("<title>Tides</title>"));
+/// # Ok::<(), Refusal>(())
+/// ```
+pub fn write_document_json(json: &[u8], options: Options) -> Result<String, Refusal> {
+    raw::document(options, json)
+}
+
+/// The JSON by which the library is told.
+fn spelled(value: &impl serde::Serialize) -> Vec<u8> {
+    serde_json::to_vec(value).expect("texts, numbers and lists are JSON")
+}

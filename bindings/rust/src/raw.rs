@@ -1,0 +1,105 @@
+//! The calls of the static library, as typst_html.h has them.
+
+use crate::{Kind, Options, Refusal};
+
+/// How a call ended.
+#[repr(C)]
+struct Reply {
+    length: usize,
+    span: u64,
+    status: u8,
+    number: u8,
+}
+
+extern "C" {
+    fn typst_html_version() -> u32;
+
+    fn typst_html_write(
+        kind: u8,
+        layout: u8,
+        input: *const u8,
+        length: usize,
+        output: *mut u8,
+        room: usize,
+    ) -> Reply;
+
+    fn typst_html_document(
+        layout: u8,
+        links: u8,
+        limit: u32,
+        input: *const u8,
+        length: usize,
+        output: *mut u8,
+        room: usize,
+    ) -> Reply;
+}
+
+/// The version of the library that is linked.
+pub(crate) fn version() -> u32 {
+    // SAFETY: the call takes nothing.
+    unsafe { typst_html_version() }
+}
+
+/// The text of a tree or of items.
+pub(crate) fn write(kind: Kind, pretty: bool, input: &[u8]) -> Result<String, Refusal> {
+    let kind = match kind {
+        Kind::Tree => 0,
+        Kind::Items => 1,
+    };
+    text_by(input.len(), |output| {
+        // SAFETY: the declaration is that of the export, which requires nothing beyond its types; each
+        // pointer and length are those of one slice, that of `output` lent for writing.
+        unsafe {
+            typst_html_write(
+                kind,
+                pretty.into(),
+                input.as_ptr(),
+                input.len(),
+                output.as_mut_ptr(),
+                output.len(),
+            )
+        }
+    })
+}
+
+/// The text of a document.
+pub(crate) fn document(options: Options, input: &[u8]) -> Result<String, Refusal> {
+    text_by(input.len(), |output| {
+        // SAFETY: as in `write`.
+        unsafe {
+            typst_html_document(
+                options.pretty.into(),
+                options.links.into(),
+                options.limit,
+                input.as_ptr(),
+                input.len(),
+                output.as_mut_ptr(),
+                output.len(),
+            )
+        }
+    })
+}
+
+/// The text that a call makes, in a buffer that is mostly long enough: four bytes for each of the input.
+fn text_by(length: usize, call: impl Fn(&mut [u8]) -> Reply) -> Result<String, Refusal> {
+    let mut output = vec![0; 4 * length + 1024];
+    loop {
+        let reply = call(&mut output);
+        match reply.status {
+            0 => {
+                output.truncate(reply.length);
+                output.shrink_to_fit();
+                return Ok(String::from_utf8(output).expect("the library writes UTF-8"));
+            }
+            1 => {
+                return Err(Refusal::Refused {
+                    number: reply.number,
+                    span: reply.span,
+                })
+            }
+            2 => return Err(Refusal::BadInput),
+            3 => return Err(Refusal::OutOfMemory),
+            _ => output.resize(reply.length, 0),
+        }
+    }
+}

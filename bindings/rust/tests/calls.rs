@@ -1,0 +1,253 @@
+//! What a caller in Rust sees of the library.
+
+use serde_json::Value;
+use std::thread;
+use typst_html_proved::*;
+
+/// A worked row of the program, with what is to come of it.
+struct Row {
+    kind: Kind,
+    pretty: bool,
+    input: Vec<u8>,
+    wanted: Result<String, Refusal>,
+}
+
+fn bytes(value: &Value) -> Vec<u8> {
+    let text = value.as_str().unwrap();
+    (0..text.len())
+        .step_by(2)
+        .map(|at| u8::from_str_radix(&text[at..at + 2], 16).unwrap())
+        .collect()
+}
+
+fn row(value: &Value) -> Row {
+    let number = |name: &str| value[name].as_u64().unwrap();
+    Row {
+        kind: [Kind::Tree, Kind::Items][number("kind") as usize],
+        pretty: number("layout") == 1,
+        input: bytes(&value["input"]),
+        wanted: match number("status") {
+            0 => Ok(String::from_utf8(bytes(&value["text"])).unwrap()),
+            1 => Err(Refusal::Refused {
+                number: number("number") as u8,
+                span: number("span"),
+            }),
+            _ => Err(Refusal::BadInput),
+        },
+    }
+}
+
+/// The rows of the program's tests, which bindings/rows.py writes into the file that TYPST_HTML_ROWS
+/// names.
+fn rows() -> Vec<Row> {
+    let path = std::env::var("TYPST_HTML_ROWS")
+        .unwrap_or_else(|_| format!("{}/../out/rows.json", env!("CARGO_MANIFEST_DIR")));
+    let text = std::fs::read(&path).unwrap_or_else(|error| panic!("{path}: {error}"));
+    let found: Vec<Value> = serde_json::from_slice(&text).unwrap();
+    found.iter().map(row).collect()
+}
+
+/// The JSON of a document of which nothing is known, around that of its items.
+fn document_around(items: &[u8]) -> Vec<u8> {
+    [b"[[],".as_slice(), items, b",[]]"].concat()
+}
+
+#[test]
+fn rows_are_as_the_program_writes_them() {
+    for row in rows() {
+        let what = String::from_utf8_lossy(&row.input);
+        assert_eq!(
+            write_json(row.kind, &row.input, row.pretty),
+            row.wanted,
+            "{what}"
+        );
+    }
+}
+
+#[test]
+fn documents_without_information_are_their_items() {
+    for row in rows() {
+        if row.kind == Kind::Items {
+            let options = Options {
+                pretty: row.pretty,
+                ..Options::default()
+            };
+            let input = document_around(&row.input);
+            assert_eq!(write_document_json(&input, options), row.wanted);
+        }
+    }
+}
+
+#[test]
+fn the_version_is_that_of_the_library() {
+    assert_eq!(version(), VERSION);
+}
+
+#[test]
+fn types_go_between_threads() {
+    fn is_sent<T: Send + Sync + 'static>() {}
+    is_sent::<Document>();
+    is_sent::<Element>();
+    is_sent::<Options>();
+    is_sent::<Refusal>();
+    let _error: Box<dyn std::error::Error + Send + Sync> = Refusal::BadInput.into();
+}
+
+#[test]
+fn every_item_is_spelled() {
+    let body = vec!["a".into(), Item::Space, Item::Break, Item::Hole];
+    let document = Document::new()
+        .item(Item::Block(body.clone()))
+        .item(Item::Box(body))
+        .item(Item::Start {
+            location: 1,
+            destination: Some(7),
+        })
+        .item(Element::new("a").child("b"))
+        .item(Item::End(1))
+        .item(Item::Start {
+            location: 7,
+            destination: None,
+        })
+        .item(Element::new("h2").attr("class", "c"))
+        .item(Item::End(7))
+        .footnote(Element::new("p").child("n"));
+    let links = Options {
+        links: true,
+        ..Options::default()
+    };
+    let text = write(&document, links).unwrap();
+    assert!(text.contains(r##"<a href="#loc-1">b</a><h2"##), "{text}");
+    assert!(text.ends_with("<p>n</p></body></html>"), "{text}");
+    let text = write(&document, Options::default()).unwrap();
+    assert!(text.contains("<a>b</a>"), "{text}");
+}
+
+#[test]
+fn what_is_known_stands_in_the_head() {
+    let document = Document::new()
+        .title("T")
+        .description("D")
+        .author("A")
+        .author("B")
+        .keyword("k")
+        .keyword("l")
+        .lang("en", "");
+    let text = write(&document, Options::default()).unwrap();
+    for part in [
+        r#"<html lang="en">"#,
+        "<title>T</title>",
+        r#"name="description" content="D""#,
+        r#"content="A, B""#,
+        r#"content="k, l""#,
+    ] {
+        assert!(text.contains(part), "{part} in {text}");
+    }
+}
+
+#[test]
+fn a_region_without_a_language_is_left_out() {
+    let mut document = Document::new();
+    document.info.region = Some("AT".into());
+    assert!(write(&document, Options::default()).is_ok());
+}
+
+#[test]
+fn limits_out_of_range_are_bad_input() {
+    let of = |limit| {
+        write(
+            &Document::new(),
+            Options {
+                limit,
+                ..Options::default()
+            },
+        )
+        .is_ok()
+    };
+    assert_eq!(
+        [0, 1, 10_000, 10_001, u32::MAX].map(of),
+        [false, true, true, false, false]
+    );
+}
+
+#[test]
+fn refusals_have_numbers_spans_and_words() {
+    let wrong = Document::new()
+        .item("a")
+        .item(Element::new("p").attr("a b", "c"));
+    let refusal = write(&wrong, Options::default()).unwrap_err();
+    assert_eq!((refusal.number(), refusal.span()), (7, 2));
+    assert_eq!(
+        refusal.words(),
+        "a character is not valid in an attribute name"
+    );
+    let message = "a character is not valid in an attribute name (refusal 7 at list 2)";
+    assert_eq!(refusal.to_string(), message);
+    assert_eq!(Refusal::BadInput.to_string(), "bad input");
+}
+
+#[test]
+fn a_tree_with_a_block_is_bad_input() {
+    let tree = Element::new("p").child(Item::Block(vec![]));
+    assert_eq!(write_tree(&tree, true), Err(Refusal::BadInput));
+}
+
+/// Pretty text of elements in one another is far longer than its JSON, so the first buffer is too short.
+#[test]
+fn a_buffer_that_is_too_short_is_made_longer() {
+    let mut element = Element::new("ul");
+    for _ in 0..400 {
+        element = element.child(Element::new("li"));
+    }
+    for _ in 0..55 {
+        element = Element::new("div").child(element);
+    }
+    let text = write_tree(&element, true).unwrap();
+    let json = serde_json::to_vec(&element).unwrap();
+    assert!(
+        text.len() > 4 * json.len() + 1024,
+        "{} of {}",
+        text.len(),
+        json.len()
+    );
+    assert!(text.ends_with("\n</div>\n"));
+}
+
+#[test]
+fn eight_threads_agree() {
+    let rows = rows();
+    thread::scope(|scope| {
+        for _ in 0..8 {
+            scope.spawn(|| {
+                for _ in 0..20 {
+                    for row in &rows {
+                        assert_eq!(write_json(row.kind, &row.input, row.pretty), row.wanted);
+                    }
+                }
+            });
+        }
+    });
+}
+
+#[test]
+fn ten_megabytes_are_written() {
+    let text = "A paragraph of a long document, with a < b and an & in it.";
+    let paragraph = Element::new("p").attr("class", "long").child(text);
+    let mut document = Document::new();
+    document.items = vec![paragraph.into(); 100_000];
+    assert!(serde_json::to_vec(&document).unwrap().len() > 9_000_000);
+    let written = write(
+        &document,
+        Options {
+            pretty: true,
+            ..Options::default()
+        },
+    )
+    .unwrap();
+    assert_eq!(
+        written
+            .matches("with a &lt; b and an &amp; in it.</p>\n")
+            .count(),
+        100_000
+    );
+}

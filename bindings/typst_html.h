@@ -1,0 +1,106 @@
+/*
+ * HTML text of documents and trees that JSON spells, by a library of proved code.
+ *
+ * Ownership: the library keeps nothing. It reads `input` and writes `output` during the call alone, and
+ * frees whatever it allocated before it returns. Both buffers are the caller's and may not overlap. They
+ * may be of length 0, but neither pointer may be NULL.
+ *
+ * Threads: calls share nothing, so any number may run at once, each with an `output` of its own. A call
+ * takes memory by `malloc`, `realloc` and `free`, so it is not for signal handlers, nor for a forked
+ * child of a process with threads. It wants 256 KB of stack.
+ *
+ * Linux on x86-64 (x86-64-v2 and later).
+ */
+#ifndef TYPST_HTML_H
+#define TYPST_HTML_H
+
+#include <stddef.h>
+#include <stdint.h>
+
+#ifdef __cplusplus
+extern "C" {
+#endif
+
+/* The version of these calls: compare it with typst_html_version(). */
+#define TYPST_HTML_VERSION 1
+
+/* How a call ended. In all but TYPST_HTML_DONE `output` is as it was. */
+enum typst_html_status {
+    TYPST_HTML_DONE = 0,          /* the first `length` bytes of `output` are the text, in UTF-8 */
+    TYPST_HTML_REFUSED = 1,       /* the tree or document is refused: `number` says why, `span` where */
+    TYPST_HTML_BAD_INPUT = 2,     /* the JSON spells nothing, or is no UTF-8, or a number is none below */
+    TYPST_HTML_OUT_OF_MEMORY = 3, /* an allocation failed */
+    TYPST_HTML_TOO_SHORT = 4,     /* `output` is too short: the text takes `length` bytes */
+};
+
+struct typst_html_reply {
+    size_t length;  /* statuses 0 and 4: how many bytes the text has; else 0 */
+    uint64_t span;  /* status 1: the number of the list of a node or item in the JSON, counted from 1 by
+                       their opening brackets, where the refusal is; 0 where it has no place */
+    uint8_t status; /* enum typst_html_status */
+    uint8_t number; /* status 1: which refusal, as below; else 0 */
+};
+
+/*
+ * Refusals:
+ *    1  tag name must not be empty
+ *    2  a character is not valid in a tag name
+ *    3  custom element name must start with a lowercase letter
+ *    4  custom element name must not contain uppercase letters
+ *    5  name is reserved and not valid for a custom element
+ *    6  attribute name must not be empty
+ *    7  a character is not valid in an attribute name
+ *    8  a body stands deeper than the limit
+ *    9  an html or body element stands among other nodes
+ *   10  footnotes stand beside an html or body element of the document's own
+ *   11  a character cannot be encoded in HTML
+ *   12  a void element has a child
+ *   13  a raw text element has a child that is no text
+ *   14  a raw text would end its element
+ *   15  a frame is refused
+ */
+
+/* What the input of typst_html_write spells. */
+enum typst_html_kind {
+    TYPST_HTML_TREE = 0,  /* ["el", tag, [[name, value], ..], [node, ..]] */
+    TYPST_HTML_ITEMS = 1, /* [item, ..] */
+};
+
+/* How the text is laid out. */
+enum typst_html_layout {
+    TYPST_HTML_PLAIN = 0,
+    TYPST_HTML_PRETTY = 1, /* indented, where that can't be seen */
+};
+
+/* typst_html_version() of the library that is linked. */
+uint32_t typst_html_version(void);
+
+/*
+ * The text of a tree, or of the document of a list of items, of which nothing else is known: bodies may
+ * stand 50 deep. A node is one of
+ *     ["text", t]   ["el", tag, [[name, value], ..], [node, ..]]
+ *     ["start", n]   ["start", n, dest]   ["end", n]
+ * and an item one of these, with items in the `el`, or one of
+ *     ["space"]   ["break"]   ["hole"]   ["block", [item, ..]]   ["box", [item, ..]]
+ * JSON is read 127 levels deep, which are 63 elements in one another.
+ */
+struct typst_html_reply typst_html_write(uint8_t kind, uint8_t layout, const uint8_t *input,
+                                         size_t length, uint8_t *output, size_t room);
+
+/*
+ * The text of a document with what is known of it and with footnotes. The input spells
+ *     [[[field, text], ..], [item, ..], [footnote, ..]]
+ * with the fields "title", "description", "lang" and, behind it, "region", once at most each, and
+ * "author" and "keyword", as often as there are such. With links = 1 each `a` without `href` behind a
+ * start with a destination gets the `href` of that destination; with links = 0 none does. Bodies may
+ * stand `limit` deep, from 1 to 10,000. The lists of footnotes are numbered after those of the items.
+ */
+struct typst_html_reply typst_html_document(uint8_t layout, uint8_t links, uint32_t limit,
+                                            const uint8_t *input, size_t length, uint8_t *output,
+                                            size_t room);
+
+#ifdef __cplusplus
+}
+#endif
+
+#endif
