@@ -3,4 +3,4 @@ pub mod Fragments
 pub mod RepeatedIds
 pub mod Findings
 pub mod CheckLaws
-pub mod Walks
+pub mod WalkFindings

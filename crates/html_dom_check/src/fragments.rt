@@ -7,7 +7,7 @@ ghost use Rattle.html_dom_link.specs.UsedNames.{used_in};
 ghost use Rattle.html_dom_check.specs.Findings.{dead_fragment_view, dead_view};
 ghost use Rattle.html_dom_check.specs.Fragments.{bytes_lead, dead_fragments, fragments_at, fragments_in, is_top, leads, unless_empty};
 ghost use Rattle.html_dom_check.specs.PlacedTexts.{node_placed, nodes_placed, placed_at};
-ghost use Rattle.html_dom_check.specs.Walks.{FindsDead};
+ghost use Rattle.html_dom_check.specs.WalkFindings.{FindsDead};
 
 use crate::ids::{element_ids, is_known};
 use crate::path::{copy, leave};

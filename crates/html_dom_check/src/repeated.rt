@@ -8,7 +8,7 @@ ghost use Rattle.html_dom_link.specs.NewNames.{anchor_names};
 ghost use Rattle.html_dom_check.specs.Findings.{repeated_id_view, repeated_view};
 ghost use Rattle.html_dom_check.specs.PlacedTexts.{node_placed, nodes_placed, placed_at};
 ghost use Rattle.html_dom_check.specs.RepeatedIds.{ids_at, repeated_ids};
-ghost use Rattle.html_dom_check.specs.Walks.{PassesIds};
+ghost use Rattle.html_dom_check.specs.WalkFindings.{PassesIds};
 
 use crate::ids::{contains, first_id, put};
 use crate::path::{copy, leave};

@@ -1,5 +1,5 @@
 pub mod Answers
-pub mod Documents
+pub mod DocumentAnswers
 pub mod ExportRefusals
 pub mod Fields
 pub mod Json

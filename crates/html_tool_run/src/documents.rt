@@ -8,8 +8,8 @@ ghost use Rattle.html_flow_convert.specs.Views.{items_view};
 ghost use Rattle.typst_html_encode.specs.FrameWriters.{no_frames};
 ghost use Rattle.html_dom_tree.specs.Views.{text_view};
 ghost use Rattle.html_tool_run.specs.Answers.{answer_if};
-ghost use Rattle.html_tool_run.specs.Documents.{document_answer, document_input_answer};
-ghost use Rattle.html_tool_run.specs.Documents.{document_faults, document_refusals, document_text};
+ghost use Rattle.html_tool_run.specs.DocumentAnswers.{document_answer, document_input_answer};
+ghost use Rattle.html_tool_run.specs.DocumentAnswers.{document_faults, document_refusals, document_text};
 ghost use Rattle.typst_html_export.specs.Assembles.{GivesDocument};
 ghost use Rattle.typst_html_export.specs.Exported.{export_linked_faults, export_linked_text};
 ghost use Rattle.html_tool_run.specs.Refusals.{Gives};
@@ -193,7 +193,7 @@ fn spelled_text(alloc: Global, value: Value, settings: &Settings) -> Result<Stri
 /// assert!(rt; text.as_str().contains("<title>Tides</title>"));
 /// assert!(rt; text.as_str().ends_with("<body>Ebbe</body></html>"));
 /// ```
-#[tactic(auto, unfolding(crate::specs::Documents::document_input_answer))]
+#[tactic(auto, unfolding(crate::specs::DocumentAnswers::document_input_answer))]
 pub fn text_of_document(alloc: Global, input: &[u8], settings: &Settings) -> Result<String, Fault>
     requires some_limit { 1 ≤ settings.now.limit }
     requires low_limit { settings.now.limit ≤ 10000 }

@@ -4,7 +4,7 @@ use Rattle.html_tool_run.specs.Answers.{Answer}
 use Rattle.html_tool_run.specs.Replies.{Says}
 use Rattle.html_tool_run.specs.declared.fault.Fault.{Fault}
 use Rattle.html_tool_run.specs.declared.fault.Fault.TheVariants.{OutOfMemory, BadInput, Refused}
-use Rattle.typst_html_c.specs.Replies.{Replies, refused, bad, failed, fault_reply}
+use Rattle.typst_html_c.specs.CallReplies.{Replies, refused, bad, failed, fault_reply}
 use Rattle.typst_html_c.specs.declared.reply.Reply.{Reply}
 
 pub fault_said : (a : Answer) (old : List ℕ) (reply : Reply) (new : List ℕ) (f : Fault) → Says a f

@@ -7,7 +7,7 @@
 
 ghost use Rattle.std.specs.Prelude.{◌≡◌};
 ghost use Rattle.html_tool_run.specs.Replies.{GivesAnswer};
-ghost use Rattle.typst_html_c.specs.Replies.{Replies, document_answer, write_answer};
+ghost use Rattle.typst_html_c.specs.CallReplies.{Replies, document_call_answer, write_answer};
 
 mod numbers;
 mod reply;
@@ -68,7 +68,7 @@ fn text_of_settings(
     limit: u32,
     input: &[u8],
 ) -> Result<String, Fault>
-    ensures { GivesAnswer result (document_answer layout links limit input.now) }
+    ensures { GivesAnswer result (document_call_answer layout links limit input.now) }
 {
     match wanted_settings(layout, links, limit) {
         Some(settings) => text_of_document(alloc, input, &settings),
@@ -95,7 +95,7 @@ pub extern "C" fn typst_html_document(
     input: &[u8],
     output: &mut [u8],
 ) -> Reply
-    ensures answered { Replies (document_answer layout links limit input.now) output.old result output.new }
+    ensures answered { Replies (document_call_answer layout links limit input.now) output.old result output.new }
     ensures kept { ¬ (result.status ≡ 0) → output.new ≡ output.old }
 {
     let text = text_of_settings(alloc, layout, links, limit, input);

@@ -1,8 +1,8 @@
 //! What numbers stand for.
 
 ghost use Rattle.std.specs.Prelude.{◌≡◌};
-ghost use Rattle.typst_html_c.specs.Replies.{limit_of, pretty_of, task_of, yes_or_no};
-ghost use Rattle.typst_html_c.specs.Replies.{wanted_settings, wanted_task};
+ghost use Rattle.typst_html_c.specs.CallReplies.{limit_of, pretty_of, task_of, yes_or_no};
+ghost use Rattle.typst_html_c.specs.CallReplies.{wanted_settings, wanted_task};
 
 use html_tool_run::{Settings, Task};
 

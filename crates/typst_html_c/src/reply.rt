@@ -3,7 +3,7 @@
 ghost use Rattle.std.specs.Prelude.{◌≡◌};
 ghost use Rattle.html_tool_run.specs.Answers.{Answer};
 ghost use Rattle.html_tool_run.specs.Replies.{GivesAnswer};
-ghost use Rattle.typst_html_c.specs.Replies.{Replies, fault_reply, text_reply, with_text, without_text};
+ghost use Rattle.typst_html_c.specs.CallReplies.{Replies, fault_reply, text_reply, buffer_with, without_text};
 
 use html_dom_tree::Span;
 use html_tool_run::Fault;
@@ -48,7 +48,7 @@ fn without_text(status: u8, number: u8, span: u64) -> Reply
 /// Copies a text into the buffer, where it fits.
 fn put(text: &[u8], output: &mut [u8]) -> Reply
     ensures reply { result ≡ text_reply text.now output.old }
-    ensures output { output.new ≡ with_text text.now output.old }
+    ensures output { output.new ≡ buffer_with text.now output.old }
 {
     let length = text.len();
     let fits = length <= output.len();

@@ -1,7 +1,7 @@
 use Rattle.std.proofs.Common.{refl, string_bytes, subst}
 use Rattle.html_tool_run.specs.Replies.{GivesAnswer}
 use Rattle.typst_html_c.proofs.Faults.{fault_said}
-use Rattle.typst_html_c.specs.Replies.{made}
+use Rattle.typst_html_c.specs.CallReplies.{made}
 use Rattle.typst_html_c.proofs.reply.reply_with.Goals as goal
 
 pub returns-in-Ok-clause-answered : goal.returns-in-Ok-clause-answered

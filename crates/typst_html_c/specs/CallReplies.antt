@@ -1,7 +1,7 @@
 -- What a call replies, and what it leaves in the caller's buffer.
 use Rattle.std.specs.Prelude.{◌≡◌, ◌==◌, ◌&&◌, ℕ, Bool, true, false, List, ◌++◌, length, drop, nat_le, Option, Some, None, option_map, option_and_then, if◌then◌else◌}
 use Rattle.html_tool_run.specs.Answers.{Answer, bad_input, refused_answer, answer_if, task_answer}
-use Rattle.html_tool_run.specs.Documents.{document_input_answer}
+use Rattle.html_tool_run.specs.DocumentAnswers.{document_input_answer}
 use Rattle.html_tool_run.specs.declared.documents.Settings.{Settings}
 use Rattle.html_tool_run.specs.declared.fault.Fault.{Fault}
 use Rattle.html_tool_run.specs.declared.fault.Fault.TheVariants.{OutOfMemory, BadInput, Refused}
@@ -42,8 +42,8 @@ wanted_settings layout links limit = option_and_then (λ pretty. option_and_then
     (limit_of limit)) (yes_or_no links)) (pretty_of layout)
 
 -- the answer to an input that spells a document, or bad input where a number is wrong
-abbrev pub document_answer : (layout links limit : ℕ) (input : List ℕ) → Answer
-document_answer layout links limit input =
+abbrev pub document_call_answer : (layout links limit : ℕ) (input : List ℕ) → Answer
+document_call_answer layout links limit input =
     answer_if (λ settings. document_input_answer settings input) (wanted_settings layout links limit)
 
 abbrev pub without_text : (status number span : ℕ) → Reply
@@ -66,15 +66,15 @@ text_reply bytes old = record {
 }
 
 -- the text and then what was there, or what was there where the text does not fit
-abbrev pub with_text : (bytes old : List ℕ) → List ℕ
-with_text bytes old =
+abbrev pub buffer_with : (bytes old : List ℕ) → List ℕ
+buffer_with bytes old =
     if nat_le (length bytes) (length old) then bytes ++ drop (length bytes) old else old
 
 -- the call replies what the answer says, and leaves its text; or an allocation failed, and nothing is
 -- left
 pub data Replies (a : Answer) (old : List ℕ) (reply : Reply) (new : List ℕ) : Type 0 where
   made : (bytes : List ℕ) → a ≡ record { status = Done; line = bytes } → reply ≡ text_reply bytes old
-      → new ≡ with_text bytes old → Replies a old reply new
+      → new ≡ buffer_with bytes old → Replies a old reply new
   refused : (number span : ℕ) → a ≡ refused_answer (number, span)
       → reply ≡ without_text 1 number span → new ≡ old → Replies a old reply new
   bad : a ≡ bad_input → reply ≡ without_text 2 0 0 → new ≡ old → Replies a old reply new
