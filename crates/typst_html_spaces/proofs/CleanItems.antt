@@ -22,7 +22,7 @@ use Rattle.typst_html_spaces.proofs.DeepNodes.{HoldsOnTheWay, of_list, of_block}
 use Rattle.typst_html_spaces.proofs.Each.{Each, Each-append, Each-map}
 use Rattle.typst_html_spaces.proofs.MadeHeads.{stands_for_block}
 use Rattle.typst_html_spaces.proofs.MadeNodes.{break_made, wrap_made, block_made}
-use Rattle.typst_html_spaces.proofs.PlainParts.{made_head as plain_parts, element_made}
+use Rattle.typst_html_spaces.proofs.PlainParts.{plain_head as plain_parts, element_made}
 use Rattle.typst_html_spaces.proofs.ReadyRuns.{one_char}
 
 -- what conversion makes on the way

@@ -18,7 +18,7 @@ use Rattle.typst_html_spaces.specs.PlainFlow.{is_plain_name, is_plain_head, is_o
 use Rattle.typst_html_spaces.proofs.DeepNodes.{HoldsOf, HoldsOfAll, HoldsOnTheWay, of_list, of_block}
 use Rattle.typst_html_spaces.proofs.Each.{Each, Each-append, Each-map}
 use Rattle.typst_html_spaces.proofs.MadeHeads.{plain, wrap, MadeHead, stands_for_block}
-use Rattle.typst_html_spaces.proofs.PlainParts.{made_head as plain_parts, element_made}
+use Rattle.typst_html_spaces.proofs.PlainParts.{plain_head as plain_parts, element_made}
 
 -- no frame, and each element is made as conversion makes it
 abbrev pub IsMade : (pre_span : Bool) → NodeView → Type 0
