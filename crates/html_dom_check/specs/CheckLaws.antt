@@ -11,6 +11,7 @@ use Rattle.html_dom_link.specs.GivenLinks.{AnchorsAreTexts, KnownAnchorsAreShown
 use Rattle.html_dom_link.specs.Links.{Anchors, document_with_links, root_with_links}
 use Rattle.html_dom_link.specs.NewNames.{Name, element_names}
 use Rattle.html_dom_check.specs.Fragments.{dead_fragments, tree_ids}
+use Rattle.html_dom_check.specs.Hyperlinks.{ElementHasNoHyperlink}
 use Rattle.html_dom_check.specs.PlacedTexts.{Placed}
 use Rattle.html_dom_check.specs.RepeatedIds.{placed_ids, repeated_ids}
 
@@ -32,6 +33,10 @@ pub record AnchorsStand (anchor : Anchors) (e : ElementView) : Type 0 where
   pub texts : AnchorsAreTexts anchor
   pub shown : (location : ℕ) (name : Name) → anchor location ≡ Some name →
       stands_in (shown_names e.1) name ≡ true
+
+-- a tree without hyperlinks has no dead fragment
+abbrev pub NoHyperlinkNoDeadFragment : Type 0
+NoHyperlinkNoDeadFragment = (e : ElementView) → ElementHasNoHyperlink e → dead_fragments e ≡ []
 
 -- links that are given an `href` add no dead fragment: those of the new tree are those that it had
 abbrev pub LinksAddNoDeadFragment : Type 0

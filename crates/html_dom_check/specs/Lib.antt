@@ -1,5 +1,6 @@
 pub mod PlacedTexts
 pub mod Fragments
+pub mod Hyperlinks
 pub mod RepeatedIds
 pub mod Findings
 pub mod CheckLaws

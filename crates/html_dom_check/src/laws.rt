@@ -1,6 +1,6 @@
 //! Laws of dead fragments and repeated ids. Each function has laws as its contract, and does nothing.
 
-ghost use Rattle.html_dom_check.specs.CheckLaws.{DistinctAreNotRepeated, LinksAddNoDeadFragment, LinksRepeatNoId, LinksStaySound, NormalFormsTell, PlacedIdsAreIds, ResolvedStaySound};
+ghost use Rattle.html_dom_check.specs.CheckLaws.{DistinctAreNotRepeated, LinksAddNoDeadFragment, LinksRepeatNoId, LinksStaySound, NoHyperlinkNoDeadFragment, NormalFormsTell, PlacedIdsAreIds, ResolvedStaySound};
 ghost use Rattle.html_dom_document.specs.Views.{document_view};
 
 use html_dom_document::HtmlDocument;
@@ -11,6 +11,12 @@ use html_dom_document::HtmlDocument;
 pub fn repeated()
     ensures ids { PlacedIdsAreIds }
     ensures distinct { DistinctAreNotRepeated }
+{}
+
+/// A tree in which no `a` has an `href` has no dead fragment.
+#[tactic(auto, using(crate::proofs::Hyperlinks::no_hyperlink_no_dead_fragment))]
+pub fn no_hyperlink_is_dead()
+    ensures { NoHyperlinkNoDeadFragment }
 {}
 
 /// Where each anchor stands in the tree, links that are given an `href`, as `resolve_links` gives
