@@ -1,0 +1,4 @@
+pub mod KeptHeads
+pub mod MadeDocuments
+pub mod MadeNodes
+pub mod SoundLinks

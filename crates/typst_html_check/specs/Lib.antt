@@ -1,0 +1,2 @@
+pub mod Hyperlinks
+pub mod SoundLinks

@@ -1,0 +1,7 @@
+//! Links of documents that are made of items: where no item is a link with an `href` of its own, none
+//! is dead once links are resolved.
+//!
+//! There is no code here: the functions of [`laws`] have laws as their contracts and do nothing.
+#![tactic(auto)]
+
+pub mod laws;
