@@ -33,5 +33,6 @@ pub use Rattle.html_dom_link.specs.Undone
 pub use Rattle.html_dom_check.specs.CheckLaws
 pub use Rattle.html_dom_check.specs.Findings
 pub use Rattle.html_dom_check.specs.Fragments
+pub use Rattle.html_dom_check.specs.Hyperlinks
 pub use Rattle.html_dom_check.specs.PlacedTexts
 pub use Rattle.html_dom_check.specs.RepeatedIds
