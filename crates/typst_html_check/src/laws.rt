@@ -15,7 +15,7 @@ pub fn no_hyperlink_is_made()
 
 /// So, once links are resolved, as `export_linked` writes it, their document has no dead fragment:
 /// each link in it was given its `href`, and leads. Where all names of the tree differ, as `distinct`
-/// of `export_linked` says, no id is repeated. The anchors have to be texts.
+/// of `export_linked` says, no id is repeated. The anchors have to be texts, as its `texts` says.
 pub fn exported_links_are_sound()
     ensures { ExportedLinksAreSound }
 {}

@@ -14,7 +14,7 @@ ghost use Rattle.typst_html_encode.specs.Text.{document_text};
 ghost use Rattle.typst_html_encode.specs.Endings.{Gives};
 ghost use Rattle.html_dom_document.specs.Documents.{document_root};
 ghost use Rattle.html_dom_link.specs.Distinct.{GivenLinksLeadToOne, IdsAreDistinct};
-ghost use Rattle.html_dom_link.specs.GivenLinks.{GivenLinksLead, links_without};
+ghost use Rattle.html_dom_link.specs.GivenLinks.{AnchorsAreTexts, GivenLinksLead, links_without};
 ghost use Rattle.html_dom_link.specs.Links.{document_dead_links};
 ghost use Rattle.html_flow_convert.specs.Views.{items_view};
 ghost use Rattle.typst_html_spaces.specs.CleanItems.{are_clean_items};
@@ -188,8 +188,8 @@ pub fn export_linked<F: FrameWriter>(
     ensures spaces { IfOk result (λ text. SpacesAreSeen (text_view text)
         (items_view items.now) (items_view footnotes.now)) }
 
-    // Each link that got an `href` leads, in the tree and in the text as it is read; those that did
-    // not are dead.
+    // Each link that got an `href` leads, in the tree and in the text as it is read, and the names
+    // that they may lead to are texts; those that did not are dead.
     ensures leads { let info = info_view info.now in
         let items = items_view items.now in let notes = items_view footnotes.now in
         OnOk result (GivenLinksLead (linked_document info items notes)
@@ -199,6 +199,9 @@ pub fn export_linked<F: FrameWriter>(
         DocumentIsReadable options.now (resolved_document info items notes) →
         IfOk result (λ text. GivenLinksLeadWhenRead (linked_document info items notes)
         (resolved_document info items notes) (text_view text)) }
+    ensures texts { let info = info_view info.now in
+        let items = items_view items.now in let notes = items_view footnotes.now in
+        OnOk result (AnchorsAreTexts (linked_document info items notes).introspector.anchor) }
     ensures left { let info = info_view info.now in
         let items = items_view items.now in let notes = items_view footnotes.now in
         OnOk result (links_without (resolved_root info items notes).1

@@ -2,9 +2,10 @@ use Rattle.std.proofs.Common.{ap, ◌∙◌}
 use Rattle.html_dom_document.specs.Documents.{DocumentView, document_root}
 use Rattle.html_dom_document.specs.Views.{document_view, info_view}
 use Rattle.html_dom_link.specs.Distinct.{GivenLinksLeadToOne, IdsAreDistinct}
-use Rattle.html_dom_link.specs.GivenLinks.{GivenLinksLead}
+use Rattle.html_dom_link.specs.GivenLinks.{AnchorsAreTexts, GivenLinksLead}
 use Rattle.html_dom_link.specs.Links.{document_with_links}
 use Rattle.html_dom_link.proofs.ChangedRoots.{root_has_links}
+use Rattle.html_dom_link.proofs.GivenLinks.{texts_in}
 use Rattle.html_flow_convert.specs.Views.{items_view}
 use Rattle.typst_html_export.specs.Assembled.{items_document_faults}
 use Rattle.typst_html_export.specs.Exported.{resolved_root, root_faults}
@@ -78,6 +79,12 @@ returns-clause-read g c =
     _ c.in_ok-made.ensures.made.made c.in_ok-document.ensures.ok
     (c.in_ok-document.ensures.leads c.in_ok-made.ensures.shown) c.html_of_made.ensures.makes
     c.html_of_made.ensures.reads_back c.html_of_made.ensures.reads_indented
+
+pub returns-clause-texts : goal.returns-clause-texts
+returns-clause-texts g c =
+    holds_as (λ d e. AnchorsAreTexts d.introspector.anchor) c.html_of_made.result
+    (document_view c.in_ok-made.made) _ _ c.in_ok-made.ensures.made.made
+    c.in_ok-document.ensures.ok (texts_in c.in_ok-made.made.introspector.anchors)
 
 pub returns-clause-distinct : goal.returns-clause-distinct
 returns-clause-distinct g c = λ distinct.
