@@ -32,7 +32,7 @@ pub use Rattle.typst_html_export.specs.DocumentHead
 pub use Rattle.typst_html_export.specs.Exported
 pub use Rattle.typst_html_export.specs.Linked
 pub use Rattle.typst_html_export.specs.SpacesInDocuments
-pub use Rattle.typst_html_check.specs.Hyperlinks
+pub use Rattle.typst_html_check.specs.ItemHyperlinks
 pub use Rattle.typst_html_check.specs.SoundLinks
 pub use Rattle.html_names.specs.Characters
 pub use Rattle.html_names.specs.Displays

@@ -19,7 +19,7 @@ use Rattle.html_flow_convert.specs.declared.convert.Whitespace.TheVariants.{Norm
 use Rattle.typst_html_spaces.proofs.Each.{Each-append}
 use Rattle.typst_html_export.specs.Assembled.{Outline, own_html, own_body, nothing_own, own_among_others, document_outline, document_nodes, assembled_document, assembled_output, both_nodes, body_node, html_output, output_by}
 use Rattle.typst_html_export.specs.DocumentHead.{title_nodes, description_nodes, list_meta_nodes, entry_nodes, head_node}
-use Rattle.typst_html_check.specs.Hyperlinks.{ItemsHaveNoHyperlink}
+use Rattle.typst_html_check.specs.ItemHyperlinks.{ItemsHaveNoHyperlink}
 use Rattle.typst_html_check.specs.SoundLinks.{NoHyperlinkIsMade}
 use Rattle.typst_html_check.proofs.KeptHeads.{styled_head}
 use Rattle.typst_html_check.proofs.MadeNodes.{NoneHasHyperlink, of_list, as_list, list_made, items_made}

@@ -18,7 +18,7 @@ use Rattle.html_flow_convert.specs.declared.convert.ConversionLevel.TheVariants.
 use Rattle.html_flow_convert.specs.declared.convert.Whitespace.{Whitespace}
 use Rattle.html_flow_convert.specs.declared.convert.Whitespace.TheVariants.{Normal, Pre}
 use Rattle.typst_html_spaces.proofs.Each.{Each, Each-append, Each-map}
-use Rattle.typst_html_check.specs.Hyperlinks.{ItemHasNoHyperlink, ItemsHaveNoHyperlink, BodyHasNoHyperlink}
+use Rattle.typst_html_check.specs.ItemHyperlinks.{ItemHasNoHyperlink, ItemsHaveNoHyperlink, BodyHasNoHyperlink}
 use Rattle.typst_html_check.proofs.KeptHeads.{head_with_role}
 
 abbrev pub NoneHasHyperlink : List NodeView → Type 0

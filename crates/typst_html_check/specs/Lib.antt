@@ -1,2 +1,2 @@
-pub mod Hyperlinks
+pub mod ItemHyperlinks
 pub mod SoundLinks

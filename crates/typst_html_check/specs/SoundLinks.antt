@@ -9,7 +9,7 @@ use Rattle.html_dom_check.specs.RepeatedIds.{repeated_ids}
 use Rattle.html_flow_convert.specs.Items.{ItemsView}
 use Rattle.typst_html_export.specs.Exported.{linked_root, resolved_document, resolved_root}
 use Rattle.typst_html_export.specs.Linked.{linked_document}
-use Rattle.typst_html_check.specs.Hyperlinks.{ItemsHaveNoHyperlink}
+use Rattle.typst_html_check.specs.ItemHyperlinks.{ItemsHaveNoHyperlink}
 
 -- items without hyperlinks make a tree without, with anchors too
 abbrev pub NoHyperlinkIsMade : Type 0
