@@ -1,5 +1,6 @@
 /*
- * HTML text of documents and trees that JSON spells, by a library of proved code.
+ * HTML text of documents and trees that JSON spells, and what is wrong with the links of a page, by a
+ * library of proved code.
  *
  * Ownership: the library keeps nothing. It reads `input` and writes `output` during the call alone, and
  * frees whatever it allocated before it returns. Both buffers are the caller's and may not overlap. They
@@ -22,13 +23,14 @@ extern "C" {
 #endif
 
 /* The version of these calls: compare it with typst_html_version(). */
-#define TYPST_HTML_VERSION 1
+#define TYPST_HTML_VERSION 2
 
 /* How a call ended. In all but TYPST_HTML_DONE `output` is as it was. */
 enum typst_html_status {
     TYPST_HTML_DONE = 0,          /* the first `length` bytes of `output` are the text, in UTF-8 */
-    TYPST_HTML_REFUSED = 1,       /* the tree or document is refused: `number` says why, `span` where */
-    TYPST_HTML_BAD_INPUT = 2,     /* the JSON spells nothing, or is no UTF-8, or a number is none below */
+    TYPST_HTML_REFUSED = 1,       /* the input is refused: `number` says why, `span` where */
+    TYPST_HTML_BAD_INPUT = 2,     /* the JSON spells nothing, the page is none that is read, either is no
+                                     UTF-8, or a number is none below */
     TYPST_HTML_OUT_OF_MEMORY = 3, /* an allocation failed */
     TYPST_HTML_TOO_SHORT = 4,     /* `output` is too short: the text takes `length` bytes */
 };
@@ -36,7 +38,8 @@ enum typst_html_status {
 struct typst_html_reply {
     size_t length;  /* statuses 0 and 4: how many bytes the text has; else 0 */
     uint64_t span;  /* status 1: the number of the list of a node or item in the JSON, counted from 1 by
-                       their opening brackets, where the refusal is; 0 where it has no place */
+                       their opening brackets, where the refusal is; 0 where it has no place. Of a
+                       page: how many characters stand before what is refused */
     uint8_t status; /* enum typst_html_status */
     uint8_t number; /* status 1: which refusal, as below; else 0 */
 };
@@ -50,7 +53,7 @@ struct typst_html_reply {
  *    5  name is reserved and not valid for a custom element
  *    6  attribute name must not be empty
  *    7  a character is not valid in an attribute name
- *    8  a body stands deeper than the limit
+ *    8  a body, or an element of a page, stands deeper than the limit
  *    9  an html or body element stands among other nodes
  *   10  footnotes stand beside an html or body element of the document's own
  *   11  a character cannot be encoded in HTML
@@ -88,16 +91,28 @@ struct typst_html_reply typst_html_write(uint8_t kind, uint8_t layout, const uin
                                          size_t length, uint8_t *output, size_t room);
 
 /*
- * The text of a document with what is known of it and with footnotes. The input spells
- *     [[[field, text], ..], [item, ..], [footnote, ..]]
- * with the fields "title", "description", "lang" and, behind it, "region", once at most each, and
- * "author" and "keyword", as often as there are such. With links = 1 each `a` without `href` behind a
- * start with a destination gets the `href` of that destination; with links = 0 none does. Bodies may
- * stand `limit` deep, from 1 to 10,000. The lists of footnotes are numbered after those of the items.
+ * The text of a document with what is known of it and with footnotes. The input spells an object:
+ *     {"title": t, "description": t, "authors": [t, ..], "keywords": [t, ..], "lang": t, "region": t,
+ *      "items": [item, ..], "footnotes": [item, ..]}
+ * Each member may be left out, but for the "lang" of a "region"; another is bad input. With links = 1
+ * each `a` without `href` behind a start with a destination gets the `href` of that destination; with
+ * links = 0 none does. Bodies may stand `limit` deep, from 1 to 10,000. The lists of footnotes are
+ * numbered after those of the items.
  */
 struct typst_html_reply typst_html_document(uint8_t layout, uint8_t links, uint32_t limit,
                                             const uint8_t *input, size_t length, uint8_t *output,
                                             size_t room);
+
+/*
+ * What is wrong with the links of a page, as JSON: the links to fragments of the page itself that lead
+ * nowhere, and the ids that stand in it before.
+ *     {"dead_fragments":[{"fragment":t,"path":[n,..]},..],"repeated_ids":[{"id":t,"path":[n,..]},..]}
+ * A path is the index of each child on the way from the root, texts counted. Pages are read that are
+ * written as by these calls; one with another syntax is bad input. Elements may stand `limit` deep,
+ * from 1 to 10,000.
+ */
+struct typst_html_reply typst_html_check(uint32_t limit, const uint8_t *page, size_t length,
+                                         uint8_t *output, size_t room);
 
 #ifdef __cplusplus
 }

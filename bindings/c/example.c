@@ -1,6 +1,7 @@
 /*
  * example tree|items|document [--pretty] [--links]: JSON from standard input becomes HTML on standard
- * output. It ends with the status of the call, and tells of a refusal on standard error.
+ * output. example check: a page from standard input is checked, and what is wrong with its links is
+ * told in JSON. It ends with the status of the call, and tells of a refusal on standard error.
  */
 #include "typst_html.h"
 
@@ -14,10 +15,14 @@ struct bytes {
     size_t length;
 };
 
-enum task { TREE, ITEMS, DOCUMENT };
+enum task { TREE, ITEMS, DOCUMENT, CHECK };
+
+static const char *const names[] = {"tree", "items", "document", "check"};
 
 static struct typst_html_reply call(enum task task, bool pretty, bool links, struct bytes input,
                                     struct bytes output) {
+    if (task == CHECK)
+        return typst_html_check(1000, input.at, input.length, output.at, output.length);
     if (task == DOCUMENT)
         return typst_html_document(pretty, links, 50, input.at, input.length, output.at, output.length);
     return typst_html_write(task == TREE ? TYPST_HTML_TREE : TYPST_HTML_ITEMS, pretty, input.at,
@@ -56,9 +61,13 @@ static struct bytes all_of(FILE *file) {
 
 int main(int count, char **words) {
     bool pretty = false, links = false;
-    enum task task = count > 1 && !strcmp(words[1], "tree")    ? TREE
-                     : count > 1 && !strcmp(words[1], "items") ? ITEMS
-                                                               : DOCUMENT;
+    enum task task = TREE;
+    while (task <= CHECK && (count < 2 || strcmp(words[1], names[task])))
+        task++;
+    if (task > CHECK) {
+        fputs("wanted: example tree|items|document|check\n", stderr);
+        return TYPST_HTML_BAD_INPUT;
+    }
     for (int i = 2; i < count; i++) {
         pretty |= !strcmp(words[i], "--pretty");
         links |= !strcmp(words[i], "--links");

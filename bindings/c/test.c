@@ -72,7 +72,7 @@ static uint8_t document_status(uint8_t layout, uint8_t links, uint32_t limit, co
 }
 
 static void wrong_numbers_are_bad_input(void) {
-    const char *tree = "[\"el\",\"p\",[],[]]", *document = "[[],[],[]]";
+    const char *tree = "[\"el\",\"p\",[],[]]", *document = "{}";
     uint8_t output[64];
     bool all = true;
     for (unsigned kind = 0; kind < 256; kind++)
@@ -91,6 +91,30 @@ static void wrong_numbers_are_bad_input(void) {
     expect("links 2", document_status(0, 2, 50, document) == TYPST_HTML_BAD_INPUT);
     expect("layout 2", document_status(2, 0, 50, document) == TYPST_HTML_BAD_INPUT);
     expect("no input", document_status(0, 0, 50, "") == TYPST_HTML_BAD_INPUT);
+}
+
+static void pages_are_checked(void) {
+    const char *page = "<!DOCTYPE html><p id=\"a\"><a href=\"#b\">x</a><b id=\"a\"></b></p>";
+    const char *found = "{\"dead_fragments\":[{\"fragment\":\"b\",\"path\":[0]}],"
+                        "\"repeated_ids\":[{\"id\":\"a\",\"path\":[1]}]}";
+    uint8_t output[256];
+    size_t length = strlen(page), room = strlen(found);
+    memset(output, '.', sizeof output);
+    struct typst_html_reply reply = typst_html_check(50, (const uint8_t *)page, length, output, room - 1);
+    expect("findings in a short buffer", reply.status == TYPST_HTML_TOO_SHORT &&
+                                             reply.length == room && output[0] == '.');
+    reply = typst_html_check(50, (const uint8_t *)page, length, output, room);
+    expect("findings", reply.status == TYPST_HTML_DONE && reply.length == room &&
+                           !memcmp(output, found, room) && output[room] == '.');
+    reply = typst_html_check(1, (const uint8_t *)page, length, output, room);
+    expect("a page that is too deep",
+           reply.status == TYPST_HTML_REFUSED && reply.number == 8 && reply.span == 25);
+    reply = typst_html_check(0, (const uint8_t *)page, length, output, room);
+    expect("a page with limit 0", reply.status == TYPST_HTML_BAD_INPUT);
+    for (size_t part = 0; part < length; part++) {
+        reply = typst_html_check(50, (const uint8_t *)page, part, output, sizeof output);
+        expect("a beginning of a page", reply.status == TYPST_HTML_BAD_INPUT);
+    }
 }
 
 static void *all_rows_many_times(void *bad) {
@@ -145,6 +169,7 @@ int main(int count, char **words) {
     rows_are_as_the_program_writes_them();
     a_short_buffer_stays_and_its_length_is_told();
     wrong_numbers_are_bad_input();
+    pages_are_checked();
     if (!is_short) {
         eight_threads_agree();
         ten_megabytes_are_written();

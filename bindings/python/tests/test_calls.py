@@ -49,7 +49,7 @@ class Calls(unittest.TestCase):
         for row in ROWS:
             if row.kind == 1:
                 with self.subTest(row.input):
-                    data = b"[[]," + row.input + b",[]]"
+                    data = b'{"items":' + row.input + b"}"
                     found = outcome(html.write_json, data, kind="document", pretty=bool(row.layout))
                     self.assertEqual(found, wanted(row))
 
@@ -88,7 +88,7 @@ class Calls(unittest.TestCase):
         with self.assertRaises(Refused) as caught:
             html.write(["a", element("p", attrs=[("a b", "c")])], footnotes=["n"])
         self.assertEqual((caught.exception.number, caught.exception.span), (7, 2))
-        self.assertEqual(str(caught.exception), "a character is not valid in an attribute name (refusal 7 at list 2)")
+        self.assertEqual(str(caught.exception), "a character is not valid in an attribute name (refusal 7 at 2)")
         self.assertEqual(outcome(html.write, ["a"], footnotes=[element("P Q")]), (2, 2))
         self.assertEqual(outcome(html.write, ["\0"]), (11, 1))
 
@@ -104,6 +104,36 @@ class Calls(unittest.TestCase):
         for _ in range(100_000):
             deep = [deep]
         self.assertIs(outcome(html.write, deep), html.BadInput)
+
+    def test_one_text_is_no_list_of_texts(self):
+        self.assertIs(outcome(html.write, [], info=Info(authors="Reed")), html.BadInput)
+
+    def test_findings(self):
+        page = '<!DOCTYPE html><p id="a"><a href="#b%20c&quot;">x</a><b id="a"></b><b id="a">y</b></p>'
+        found = html.check(page)
+        self.assertEqual(found.dead_fragments, (html.DeadFragment((0,), 'b%20c"'),))
+        self.assertEqual(found.repeated_ids, (html.RepeatedId((1,), "a"), html.RepeatedId((2,), "a")))
+        self.assertTrue(found)
+
+    def test_links_that_are_given_lead(self):
+        items = [html.start(1, 7), element("a", "b"), html.end(1), html.start(7), element("h2"), html.end(7)]
+        page = html.write(items, links=True)
+        self.assertEqual(html.check(page), html.Findings((), ()))
+        self.assertFalse(html.check(page.encode()))
+
+    def test_pages_that_are_not_read(self):
+        page = "<!DOCTYPE html><p><b></b></p>"
+        self.assertEqual(outcome(html.check, page, limit=1), (8, 18))
+        self.assertFalse(html.check(page, limit=2))
+        for bad, limit in ((page, 0), (page, 10_001), (page, -1), ("<p>", 50), (b"\xff", 50), ("\ud800", 50)):
+            with self.subTest(bad, limit=limit):
+                self.assertIs(outcome(html.check, bad, limit=limit), html.BadInput)
+
+    def test_findings_far_longer_than_their_page(self):
+        page = "<!DOCTYPE html>" + "<b>" * 400 + '<a href="#x"></a>' * 1000 + "</b>" * 400
+        found = html.check(page, limit=1000)
+        self.assertEqual(len(found.dead_fragments), 1000)
+        self.assertEqual(found.dead_fragments[999].path[-1], 999)
 
     def test_eight_threads_agree(self):
         with ThreadPoolExecutor(8) as threads:

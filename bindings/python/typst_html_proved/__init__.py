@@ -6,11 +6,14 @@
 ...     write([element("br", "no")])
 ... except Refused as refused:
 ...     print(refused, refused.number, refused.span)
-a void element has a child (refusal 12 at list 1) 12 1
+a void element has a child (refusal 12 at 1) 12 1
 
 A document is a list of items. They are made by the functions `text`, `element`, `block`, `box`, `start` and
 `end` and the constants `SPACE`, `BREAK` and `HOLE`; a `str` where an item may stand is a text. Items are lists
 that JSON can hold, so others may make them.
+
+A page that is written can be checked: `check` tells of links within it that lead nowhere, and of ids that come
+twice.
 
 Calls may be made from any number of threads, and run at once.
 """
@@ -24,8 +27,9 @@ from typing import Any, Iterable, Sequence, Union
 from ._library import LIBRARY, VERSION, Reply, called
 
 __all__ = [
-    "BREAK", "HOLE", "SPACE", "VERSION", "BadInput", "Failure", "Info", "Item", "OutOfMemory", "Refused",
-    "block", "box", "element", "end", "start", "text", "write", "write_json", "write_tree",
+    "BREAK", "HOLE", "SPACE", "VERSION", "BadInput", "DeadFragment", "Failure", "Findings", "Info", "Item",
+    "OutOfMemory", "Refused", "RepeatedId", "block", "box", "check", "element", "end", "start", "text", "write",
+    "write_json", "write_tree",
 ]  # fmt: skip
 
 Item = Union[str, Sequence[Any]]
@@ -48,7 +52,7 @@ WORDS = {
     5: "name is reserved and not valid for a custom element",
     6: "attribute name must not be empty",
     7: "a character is not valid in an attribute name",
-    8: "a body stands deeper than the limit",
+    8: "a body, or an element of a page, stands deeper than the limit",
     9: "an html or body element stands among other nodes",
     10: "footnotes stand beside an html or body element of the document's own",
     11: "a character cannot be encoded in HTML",
@@ -65,14 +69,16 @@ class Failure(Exception):
 
 
 class Refused(Failure):
-    """What is to be written breaks a rule of HTML, or stands where it may not."""
+    """What is to be written breaks a rule of HTML, or stands where it may not; or an element of a page that is
+    checked stands too deep."""
 
     number: int
     """Which rule: a key of `WORDS`."""
 
     span: int
     """Where: the number of the list of an item, counted from 1 by their opening brackets as they stand in
-    JSON, those of footnotes after those of items; 0 where it has no place."""
+    JSON, those of footnotes after those of items; 0 where it has no place. Of a page that is checked: how many
+    characters stand before."""
 
     def __init__(self, number: int, span: int) -> None:
         super().__init__(number, span)
@@ -84,11 +90,12 @@ class Refused(Failure):
         return WORDS.get(self.number, "refused")
 
     def __str__(self) -> str:
-        return f"{self.words} (refusal {self.number} at list {self.span})"
+        return f"{self.words} (refusal {self.number} at {self.span})"
 
 
 class BadInput(Failure, ValueError):
-    """The input spells nothing that can be written, or nests more than 127 lists."""
+    """The input spells nothing that can be written, or nests more than 127 lists; or a page that is checked has
+    another syntax than those that are written."""
 
     def __str__(self) -> str:
         return "bad input"
@@ -114,13 +121,55 @@ class Info:
     region: str | None = None
     """The region in which the language is spoken, as `AT`. Without a language it is left out."""
 
-    def fields(self) -> list[list[str]]:
+    def members(self) -> dict[str, Any]:
         """What is known as the library reads it."""
-        given = [["title", self.title], ["description", self.description]]
-        given += [["author", author] for author in self.authors]
-        given += [["keyword", keyword] for keyword in self.keywords]
-        given += [["lang", self.lang], ["region", self.region if self.lang is not None else None]]
-        return [[name, value] for name, value in given if value is not None]
+        given = {
+            "title": self.title,
+            "description": self.description,
+            "authors": _texts(self.authors),
+            "keywords": _texts(self.keywords),
+            "lang": self.lang,
+            "region": self.region if self.lang is not None else None,
+        }
+        return {name: value for name, value in given.items() if value is not None}
+
+
+@dataclass(frozen=True)
+class DeadFragment:
+    """A link to a fragment of its own page that leads nowhere."""
+
+    path: tuple[int, ...]
+    """The index of each child on the way to the link, from the root on, texts counted."""
+    fragment: str
+    """What stands behind `#`, as it is written."""
+
+
+@dataclass(frozen=True)
+class RepeatedId:
+    """An id that stands before in its page."""
+
+    path: tuple[int, ...]
+    """The index of each child on the way to the element, from the root on, texts counted."""
+    id: str
+    """The id."""
+
+
+@dataclass(frozen=True)
+class Findings:
+    """What is wrong with the links of a page, in order. It is false where nothing is."""
+
+    dead_fragments: Sequence[DeadFragment] = ()
+    repeated_ids: Sequence[RepeatedId] = ()
+
+    def __bool__(self) -> bool:
+        return bool(self.dead_fragments or self.repeated_ids)
+
+
+def _texts(texts: Sequence[str]) -> list[str]:
+    """A list of texts; one text alone is none, though its characters are texts."""
+    if isinstance(texts, str):
+        raise BadInput
+    return list(texts)
 
 
 def _listed(items: Iterable[Item]) -> list[Any]:
@@ -169,6 +218,13 @@ def _spelled(value: Any) -> bytes:
         raise BadInput from error
 
 
+def _bytes(data: bytes | str) -> bytes:
+    try:
+        return data.encode() if isinstance(data, str) else bytes(data)
+    except UnicodeEncodeError as error:
+        raise BadInput from error
+
+
 def _text(made: tuple[Reply, bytes]) -> str:
     reply, output = made
     if reply.status == 0:
@@ -200,9 +256,9 @@ def write(
     """
     if not 1 <= limit <= 10_000:
         raise BadInput
-    data = _spelled([info.fields(), _listed(items), _listed(footnotes)])
+    document = {**info.members(), "items": _listed(items), "footnotes": _listed(footnotes)}
     numbers = (int(bool(pretty)), int(bool(links)), limit)
-    return _text(called(LIBRARY.typst_html_document, numbers, data))
+    return _text(called(LIBRARY.typst_html_document, numbers, _spelled(document)))
 
 
 def write_tree(root: Item, *, pretty: bool = False) -> str:
@@ -217,18 +273,16 @@ def write_tree(root: Item, *, pretty: bool = False) -> str:
 
 
 def write_json(data: bytes | str, *, kind: str = "items", pretty: bool = False) -> str:
-    """The text of what JSON spells: a `tree`, the `items` of a document, or a `document`, which is
-    `[[[field, text], ..], [item, ..], [footnote, ..]]`.
+    """The text of what JSON spells: a `tree`, the `items` of a document, or a `document`, which is an object
+    with the members `title`, `description`, `authors`, `keywords`, `lang`, `region`, `items` and `footnotes`, of
+    which each may be left out, but for the `lang` of a `region`.
 
     >>> write_json('["el","br",[],[]]', kind="tree")
     '<!DOCTYPE html><br>'
 
     Raises `Refused`, `BadInput` or `OutOfMemory`.
     """
-    try:
-        data = data.encode() if isinstance(data, str) else bytes(data)
-    except UnicodeEncodeError as error:
-        raise BadInput from error
+    data = _bytes(data)
     layout = int(bool(pretty))
     if kind == "document":
         return _text(called(LIBRARY.typst_html_document, (layout, 0, 50), data))
@@ -236,3 +290,23 @@ def write_json(data: bytes | str, *, kind: str = "items", pretty: bool = False) 
     if kind not in kinds:
         raise BadInput
     return _text(called(LIBRARY.typst_html_write, (kinds[kind], layout), data))
+
+
+def check(page: bytes | str, *, limit: int = 50) -> Findings:
+    """What is wrong with the links of a page: links to fragments of the page itself that lead nowhere, and ids
+    that stand in it before.
+
+    A page is read that is written as by this package, with elements `limit` deep at most, from 1 to 10,000.
+
+    >>> check(write([element("a", "b", attrs=[("href", "#b")])])).dead_fragments
+    (DeadFragment(path=(1, 0), fragment='b'),)
+
+    Raises `Refused`, `BadInput` or `OutOfMemory`.
+    """
+    if not 1 <= limit <= 10_000:
+        raise BadInput
+    found = json.loads(_text(called(LIBRARY.typst_html_check, (limit,), _bytes(page))))
+    return Findings(
+        tuple(DeadFragment(tuple(it["path"]), it["fragment"]) for it in found["dead_fragments"]),
+        tuple(RepeatedId(tuple(it["path"]), it["id"]) for it in found["repeated_ids"]),
+    )

@@ -9,7 +9,7 @@ from typing import Any, Callable
 
 NAME = "libtypst_html.so"
 
-VERSION = 1
+VERSION = 2
 """The version of the library's calls that this package was made for."""
 
 
@@ -42,6 +42,16 @@ DECLARED: dict[str, tuple[Any, list[Any]]] = {
         [
             ctypes.c_uint8,
             ctypes.c_uint8,
+            ctypes.c_uint32,
+            ctypes.c_char_p,
+            ctypes.c_size_t,
+            ctypes.c_void_p,
+            ctypes.c_size_t,
+        ],
+    ),
+    "typst_html_check": (
+        Reply,
+        [
             ctypes.c_uint32,
             ctypes.c_char_p,
             ctypes.c_size_t,

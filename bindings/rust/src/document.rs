@@ -1,6 +1,6 @@
 //! What is written: documents, items and elements, which `serde` spells as the library reads them.
 
-use serde::ser::{Serialize, SerializeSeq, Serializer};
+use serde::ser::{Serialize, SerializeMap, Serializer};
 
 /// Something in a document or in an element.
 #[derive(Clone, Debug, PartialEq, Eq)]
@@ -138,26 +138,26 @@ pub struct Info {
     pub region: Option<String>,
 }
 
-impl Info {
-    fn fields(&self) -> impl Iterator<Item = (&'static str, &String)> {
-        let region = self.region.iter().filter(|_| self.lang.is_some());
-        let named = |name| move |text| (name, text);
-        (self.title.iter().map(named("title")))
-            .chain(self.description.iter().map(named("description")))
-            .chain(self.authors.iter().map(named("author")))
-            .chain(self.keywords.iter().map(named("keyword")))
-            .chain(self.lang.iter().map(named("lang")))
-            .chain(region.map(named("region")))
+/// The texts that are there, each under its name.
+fn told<S: SerializeMap>(to: &mut S, texts: &[(&str, &Option<String>)]) -> Result<(), S::Error> {
+    for (name, text) in texts {
+        if let Some(text) = text {
+            to.serialize_entry(name, text)?;
+        }
     }
+    Ok(())
 }
 
-impl Serialize for Info {
-    fn serialize<S: Serializer>(&self, to: S) -> Result<S::Ok, S::Error> {
-        let mut fields = to.serialize_seq(None)?;
-        for field in self.fields() {
-            fields.serialize_element(&field)?;
+impl Info {
+    /// The members of what is known.
+    fn tell<S: SerializeMap>(&self, to: &mut S) -> Result<(), S::Error> {
+        told(to, &[("title", &self.title), ("description", &self.description)])?;
+        to.serialize_entry("authors", &self.authors)?;
+        to.serialize_entry("keywords", &self.keywords)?;
+        match self.lang {
+            None => Ok(()),
+            Some(_) => told(to, &[("lang", &self.lang), ("region", &self.region)]),
         }
-        fields.end()
     }
 }
 
@@ -239,6 +239,10 @@ impl Document {
 
 impl Serialize for Document {
     fn serialize<S: Serializer>(&self, to: S) -> Result<S::Ok, S::Error> {
-        (&self.info, &self.items, &self.footnotes).serialize(to)
+        let mut document = to.serialize_map(None)?;
+        self.info.tell(&mut document)?;
+        document.serialize_entry("items", &self.items)?;
+        document.serialize_entry("footnotes", &self.footnotes)?;
+        document.end()
     }
 }

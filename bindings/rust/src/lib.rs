@@ -13,23 +13,27 @@
 //! let wrong = Document::new().item(Element::new("br").child("no"));
 //! let refusal = write(&wrong, Options::default()).unwrap_err();
 //! assert_eq!(refusal, Refusal::Refused { number: 12, span: 1 });
-//! assert_eq!(refusal.to_string(), "a void element has a child (refusal 12 at list 1)");
+//! assert_eq!(refusal.to_string(), "a void element has a child (refusal 12 at 1)");
 //! # Ok::<(), Refusal>(())
 //! ```
+//!
+//! A page that is written can be checked: links within it that lead nowhere, and ids that come twice.
 //!
 //! Calls share nothing, so any number of threads may make them. Each wants 256 KB of stack.
 
 #![deny(missing_docs)]
 
 mod document;
+mod findings;
 mod raw;
 mod refusal;
 
 pub use document::{Document, Element, Info, Item};
+pub use findings::{DeadFragment, Findings, RepeatedId};
 pub use refusal::Refusal;
 
 /// The version of the library's calls that this crate was made for.
-pub const VERSION: u32 = 1;
+pub const VERSION: u32 = 2;
 
 /// How a document is written.
 #[derive(Clone, Copy, Debug, PartialEq, Eq)]
@@ -94,13 +98,14 @@ pub fn write_json(kind: Kind, json: &[u8], pretty: bool) -> Result<String, Refus
     raw::write(kind, pretty, json)
 }
 
-/// The text of a document with what is known of it and with footnotes, which JSON spells:
-/// `[[[field, text], ..], [item, ..], [footnote, ..]]`.
+/// The text of a document with what is known of it and with footnotes, which a JSON object spells.
+/// Its members are `title`, `description`, `authors`, `keywords`, `lang`, `region`, `items` and
+/// `footnotes`, and each may be left out, but for the `lang` of a `region`.
 ///
 /// ```
 /// use typst_html_proved::{write_document_json, Options, Refusal};
 ///
-/// let json = br#"[[["title","Tides"],["author","A"],["author","B"]],[["text","Ebbe"]],[]]"#;
+/// let json = br#"{"title":"Tides","authors":["A","B"],"items":[["text","Ebbe"]]}"#;
 /// assert!(write_document_json(json, Options::default())?.contains("<title>Tides</title>"));
 /// # Ok::<(), Refusal>(())
 /// ```
@@ -108,7 +113,30 @@ pub fn write_document_json(json: &[u8], options: Options) -> Result<String, Refu
     raw::document(options, json)
 }
 
+/// What is wrong with the links of a page: links to fragments of the page itself that lead nowhere, and
+/// ids that stand in it before.
+///
+/// A page is read that is written as by this crate, with elements `limit` deep at most, from 1 to
+/// 10,000. One with another syntax is bad input; one with an element that stands deeper is refused as
+/// number 8, and the span is how many characters stand before that element.
+///
+/// ```
+/// use typst_html_proved::{check, write, Document, Element, Options, Refusal};
+///
+/// let link = Element::new("a").attr("href", "#b").child("b");
+/// let page = write(&Document::new().item(Element::new("p").child(link)), Options::default())?;
+/// let findings = check(&page, 50)?;
+/// assert_eq!(findings.dead_fragments[0].fragment, "b");
+/// assert_eq!(findings.dead_fragments[0].path, [1, 0, 0]);
+/// assert!(findings.repeated_ids.is_empty());
+/// # Ok::<(), Refusal>(())
+/// ```
+pub fn check(page: &str, limit: u32) -> Result<Findings, Refusal> {
+    let json = raw::check(limit, page.as_bytes())?;
+    Ok(serde_json::from_str(&json).expect("the library writes JSON of that form"))
+}
+
 /// The JSON by which the library is told.
 fn spelled(value: &impl serde::Serialize) -> Vec<u8> {
-    serde_json::to_vec(value).expect("texts, numbers and lists are JSON")
+    serde_json::to_vec(value).expect("texts, numbers, lists and maps of texts are JSON")
 }

@@ -32,6 +32,14 @@ extern "C" {
         output: *mut u8,
         room: usize,
     ) -> Reply;
+
+    fn typst_html_check(
+        limit: u32,
+        page: *const u8,
+        length: usize,
+        output: *mut u8,
+        room: usize,
+    ) -> Reply;
 }
 
 /// The version of the library that is linked.
@@ -73,6 +81,22 @@ pub(crate) fn document(options: Options, input: &[u8]) -> Result<String, Refusal
                 options.limit,
                 input.as_ptr(),
                 input.len(),
+                output.as_mut_ptr(),
+                output.len(),
+            )
+        }
+    })
+}
+
+/// What is wrong with the links of a page, in JSON.
+pub(crate) fn check(limit: u32, page: &[u8]) -> Result<String, Refusal> {
+    text_by(page.len(), |output| {
+        // SAFETY: as in `write`.
+        unsafe {
+            typst_html_check(
+                limit,
+                page.as_ptr(),
+                page.len(),
                 output.as_mut_ptr(),
                 output.len(),
             )

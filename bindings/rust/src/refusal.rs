@@ -5,16 +5,19 @@ use thiserror::Error;
 /// Why there is no text.
 #[derive(Clone, Copy, Debug, PartialEq, Eq, Error)]
 pub enum Refusal {
-    /// What is to be written breaks a rule of HTML, or stands where it may not.
-    #[error("{} (refusal {number} at list {span})", words(.number))]
+    /// What is to be written breaks a rule of HTML, or stands where it may not; or an element of a page
+    /// that is checked stands too deep.
+    #[error("{} (refusal {number} at {span})", words(.number))]
     Refused {
         /// Which rule: 1 to 15, as in [`Refusal::words`].
         number: u8,
         /// Where: the number of the list of a node or item in the JSON, counted from 1 by their opening
-        /// brackets, those of footnotes after those of items; 0 where it has no place.
+        /// brackets, those of footnotes after those of items; 0 where it has no place. Of a page that is
+        /// checked: how many characters stand before.
         span: u64,
     },
-    /// The input spells nothing that can be written, or nests more than 127 levels of JSON.
+    /// The input spells nothing that can be written, or nests more than 127 levels of JSON; or a page
+    /// that is checked has another syntax than those that are written.
     #[error("bad input")]
     BadInput,
     /// An allocation failed.
@@ -58,7 +61,7 @@ fn words(number: &u8) -> &'static str {
         5 => "name is reserved and not valid for a custom element",
         6 => "attribute name must not be empty",
         7 => "a character is not valid in an attribute name",
-        8 => "a body stands deeper than the limit",
+        8 => "a body, or an element of a page, stands deeper than the limit",
         9 => "an html or body element stands among other nodes",
         10 => "footnotes stand beside an html or body element of the document's own",
         11 => "a character cannot be encoded in HTML",

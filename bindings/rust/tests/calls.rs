@@ -49,7 +49,7 @@ fn rows() -> Vec<Row> {
 
 /// The JSON of a document of which nothing is known, around that of its items.
 fn document_around(items: &[u8]) -> Vec<u8> {
-    [b"[[],".as_slice(), items, b",[]]"].concat()
+    [br#"{"items":"#.as_slice(), items, b"}"].concat()
 }
 
 #[test]
@@ -181,7 +181,7 @@ fn refusals_have_numbers_spans_and_words() {
         refusal.words(),
         "a character is not valid in an attribute name"
     );
-    let message = "a character is not valid in an attribute name (refusal 7 at list 2)";
+    let message = "a character is not valid in an attribute name (refusal 7 at 2)";
     assert_eq!(refusal.to_string(), message);
     assert_eq!(Refusal::BadInput.to_string(), "bad input");
 }
@@ -190,6 +190,71 @@ fn refusals_have_numbers_spans_and_words() {
 fn a_tree_with_a_block_is_bad_input() {
     let tree = Element::new("p").child(Item::Block(vec![]));
     assert_eq!(write_tree(&tree, true), Err(Refusal::BadInput));
+}
+
+#[test]
+fn findings_have_paths_and_names() {
+    let page = r##"<!DOCTYPE html><p id="a"><a href="#b%20c&quot;">x</a><b id="a"></b><b id="a">y</b></p>"##;
+    let findings = check(page, 50).unwrap();
+    let dead = DeadFragment {
+        path: vec![0],
+        fragment: "b%20c\"".into(),
+    };
+    assert_eq!(findings.dead_fragments, [dead]);
+    let repeated = |index| RepeatedId {
+        path: vec![index],
+        id: "a".into(),
+    };
+    assert_eq!(findings.repeated_ids, [repeated(1), repeated(2)]);
+    assert!(!findings.is_empty());
+}
+
+#[test]
+fn links_that_are_given_lead() {
+    let start = |location, destination| Item::Start {
+        location,
+        destination,
+    };
+    let document = Document::new()
+        .item(start(1, Some(7)))
+        .item(Element::new("a").child("b"))
+        .item(Item::End(1))
+        .item(start(7, None))
+        .item(Element::new("h2"))
+        .item(Item::End(7));
+    let links = Options {
+        links: true,
+        ..Options::default()
+    };
+    let page = write(&document, links).unwrap();
+    assert_eq!(check(&page, 50), Ok(Findings::default()));
+}
+
+#[test]
+fn pages_that_are_not_read_are_told() {
+    let page = "<!DOCTYPE html><p><b></b></p>";
+    let deep = Refusal::Refused {
+        number: 8,
+        span: 18,
+    };
+    assert_eq!(check(page, 1), Err(deep));
+    for limit in [0, 10_001] {
+        assert_eq!(check(page, limit), Err(Refusal::BadInput));
+    }
+    assert_eq!(check("<p>", 50), Err(Refusal::BadInput));
+}
+
+/// Each dead link has a path as long as it is deep, so the first buffer is too short.
+#[test]
+fn findings_far_longer_than_their_page() {
+    let mut page = String::from("<!DOCTYPE html>");
+    let deep = 400;
+    page.push_str(&"<b>".repeat(deep));
+    page.push_str(&"<a href=\"#x\"></a>".repeat(1000));
+    page.push_str(&"</b>".repeat(deep));
+    let findings = check(&page, 1000).unwrap();
+    assert_eq!(findings.dead_fragments.len(), 1000);
+    assert_eq!(findings.dead_fragments[999].path[deep - 1], 999);
 }
 
 /// Pretty text of elements in one another is far longer than its JSON, so the first buffer is too short.

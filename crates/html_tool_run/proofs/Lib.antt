@@ -1,6 +1,5 @@
 pub mod Answering
 pub mod Bytes
-pub mod DocumentForms
 pub mod FirstFaults
 pub mod Forms
 pub mod Inputs
@@ -11,3 +10,4 @@ pub mod NodeRows
 pub mod PairRows
 pub mod Readings
 pub mod Rows
+pub mod ToldBodies

@@ -1,6 +1,7 @@
 -- How calls end that make something of what a JSON value spells.
 use Rattle.std.specs.Prelude.{◌≡◌, List, [], Option, Some, None, IsSomeAnd, Result, MatchResult, Vec}
 use Rattle.std.specs.declared.alloc.Global.{Global}
+use Rattle.serde_json.specs.View.{view}
 use Rattle.html_dom_tree.specs.Tree.{ElementView}
 use Rattle.html_dom_tree.specs.Views.{element_view}
 use Rattle.html_dom_tree.specs.declared.node.HtmlElement.{HtmlElement}
@@ -10,8 +11,9 @@ use Rattle.html_flow_convert.specs.Views.{items_view}
 use Rattle.html_flow_convert.specs.declared.item.Pair.{Pair}
 use Rattle.html_tool_run.specs.NameRefusals.{Refusal, element_refusals, items_refusals}
 use Rattle.html_tool_run.specs.Refusals.{IsFirst}
-use Rattle.html_tool_run.specs.SpelledDocuments.{Spelling, names_refusals}
+use Rattle.html_tool_run.specs.SpelledDocuments.{Spelling, ToldView, names_refusals}
 use Rattle.html_tool_run.specs.declared.documents.SpelledDocument.{SpelledDocument}
+use Rattle.html_tool_run.specs.declared.documents.Told.{Told}
 use Rattle.html_tool_run.specs.declared.fault.Fault.{Fault}
 use Rattle.html_tool_run.specs.declared.fault.Fault.TheVariants.{OutOfMemory, BadInput, Refused}
 
@@ -34,6 +36,13 @@ GivesElement = GivesSpelled element_view element_refusals
 
 abbrev pub GivesItems : Result (Vec Pair Global) Fault → Option ItemsView → Type 0
 GivesItems = GivesSpelled (λ pairs. items_view pairs.items) items_refusals
+
+abbrev pub told_view : Told → ToldView
+told_view told = record {
+  info = info_view told.info;
+  items = view told.items;
+  footnotes = view told.footnotes;
+}
 
 abbrev pub spelling_view : SpelledDocument → Spelling
 spelling_view d = (info_view d.info, (items_view d.items.items, items_view d.footnotes.items))

@@ -1,7 +1,6 @@
 //! Documents with what is known of them and with footnotes, as a JSON value spells them.
 
 ghost use Rattle.std.specs.Prelude.{◌≡◌, ◌≤◌};
-ghost use Rattle.serde_json.specs.View as json;
 ghost use Rattle.serde_json.specs.View.{view};
 ghost use Rattle.html_dom_document.specs.Views.{info_view};
 ghost use Rattle.html_flow_convert.specs.Views.{items_view};
@@ -14,12 +13,13 @@ ghost use Rattle.typst_html_export.specs.Assembles.{GivesDocument};
 ghost use Rattle.typst_html_export.specs.Exported.{export_linked_faults, export_linked_text};
 ghost use Rattle.html_tool_run.specs.Refusals.{Gives};
 ghost use Rattle.html_tool_run.specs.Replies.{GivesAnswer};
-ghost use Rattle.html_tool_run.specs.SpelledDocuments.{document_form, spelled_document, spelling_from};
-ghost use Rattle.html_tool_run.specs.Spelling.{GivesSpelledDocument, spelling_view};
+ghost use Rattle.html_tool_run.specs.Reading.{ReadsField};
+ghost use Rattle.html_tool_run.specs.SpelledDocuments.{nothing_told, spelled_document, spelling_from};
+ghost use Rattle.html_tool_run.specs.SpelledDocuments.{told_at, with_known, with_member};
+ghost use Rattle.html_tool_run.specs.Spelling.{GivesSpelledDocument, spelling_view, told_view};
 
 use crate::fault::Fault;
-use crate::field::info_in;
-use crate::fields::parts_of;
+use crate::field::{named_field, with_field};
 use crate::items::list_of;
 use crate::json::parse;
 use crate::program::fault_of;
@@ -42,6 +42,70 @@ pub struct Settings {
     pub limit: usize,
 }
 
+/// What an object tells of a document.
+#[derive(Drop)]
+pub(crate) struct Told {
+    /// What is known.
+    info: DocumentInfo,
+    /// The items, as they stand there.
+    items: Value,
+    /// The footnotes, as they stand there.
+    footnotes: Value,
+}
+
+impl Told {
+    /// Nothing is known, and there are no items and no footnotes.
+    fn new(alloc: Global) -> Told
+        ensures { told_view result ≡ nothing_told }
+    {
+        Told {
+            info: DocumentInfo::new(alloc),
+            items: Value::Array(Vec::new(alloc)),
+            footnotes: Value::Array(Vec::new(alloc)),
+        }
+    }
+}
+
+/// What a value tells of a document.
+fn told_at(alloc: Global, value: Value) -> Result<Told, Fault>
+    ensures { ReadsField told_view result (told_at (view value)) }
+{
+    let Value::Object(members) = value else {
+        return Err(Fault::BadInput);
+    };
+    let mut told = Told::new(alloc);
+    for (name, value) in members {
+        told = with_member(alloc, told, &name, value)?;
+    }
+    Ok(told)
+}
+
+/// What is told, and one member more.
+fn with_member(alloc: Global, told: Told, name: &str, value: Value) -> Result<Told, Fault>
+    ensures { ReadsField told_view result (with_member (told_view told) name.now (view value)) }
+{
+    match name {
+        "items" => Ok(Told {
+            items: value,
+            ..told
+        }),
+        "footnotes" => Ok(Told {
+            footnotes: value,
+            ..told
+        }),
+        _ => with_known(alloc, told, name, value),
+    }
+}
+
+/// What is told, and one field more.
+fn with_known(alloc: Global, told: Told, name: &str, value: Value) -> Result<Told, Fault>
+    ensures { ReadsField told_view result (with_known (told_view told) name.now (view value)) }
+{
+    let field = named_field(name).ok_or(Fault::BadInput)?;
+    let info = with_field(alloc, told.info, field, value)?;
+    Ok(Told { info, ..told })
+}
+
 /// What a value spells as a document.
 #[derive(Drop)]
 pub(crate) struct SpelledDocument {
@@ -54,32 +118,19 @@ pub(crate) struct SpelledDocument {
 fn document_in(alloc: Global, value: Value) -> Result<SpelledDocument, Fault>
     ensures { GivesSpelledDocument result (spelled_document (view value)) }
 {
-    match value {
-        Value::Array(parts) => document_of(alloc, parts),
-        _ => Err(Fault::BadInput),
-    }
+    let told = told_at(alloc, value)?;
+    document_by(alloc, told)
 }
 
-/// The document that a list spells.
-#[tactic(auto, using(crate::proofs::DocumentForms::document_forms))]
-fn document_of(alloc: Global, parts: Vec<Value>) -> Result<SpelledDocument, Fault>
-    ensures { GivesSpelledDocument result (document_form (json.items_view parts.items)) }
+/// The document of what is told.
+fn document_by(alloc: Global, told: Told) -> Result<SpelledDocument, Fault>
+    ensures { GivesSpelledDocument result (spelling_from (told_view told)) }
 {
-    let [info, items, footnotes] = parts_of::<3>(parts)?;
-    document_by(alloc, info, items, footnotes)
-}
-
-/// The document of what is known, the items and the footnotes that three values spell.
-fn document_by(
-    alloc: Global,
-    info: Value,
-    items: Value,
-    footnotes: Value,
-) -> Result<SpelledDocument, Fault>
-    ensures { GivesSpelledDocument result
-        (spelling_from (view info) (view items) (view footnotes)) }
-{
-    let info = info_in(alloc, info)?;
+    let Told {
+        info,
+        items,
+        footnotes,
+    } = told;
     let mut reader = Reader::new(alloc);
     let items = list_of(&mut reader, items)?;
     let footnotes = list_of(&mut reader, footnotes)?;
@@ -170,13 +221,13 @@ fn spelled_text(alloc: Global, value: Value, settings: &Settings) -> Result<Stri
     document_text(alloc, document, settings)
 }
 
-/// The HTML text of the document that an input spells, which is one JSON list of three: what is known
-/// of the document, its items, and its footnotes.
+/// The HTML text of the document that an input spells, which is one JSON object.
 ///
-/// What is known is a list of fields, each a list of a name and a text: `title`, `description`, `lang`
-/// and, behind it, `region` stand once at most, `author` and `keyword` as often as there are such. An
-/// input that spells something else, another field too, is bad. Items and footnotes are those of a
-/// run, whose lists are numbered from 1 on, those of the footnotes after those of the items.
+/// Its members are the texts `title`, `description`, `lang` and `region`, the lists of texts `authors`
+/// and `keywords`, and the lists `items` and `footnotes`, which are those of a run. Each may be left
+/// out, but for the `lang` of a `region`. An input that spells something else, another member too, is
+/// bad. The lists of items are numbered from 1 on, those of the footnotes after those of the items,
+/// wherever these members stand. Of two members of one name the last counts.
 ///
 /// The text is that of [`export`](typst_html_export::export), or of
 /// [`export_linked`](typst_html_export::export_linked) where links are wanted; names are refused
@@ -186,7 +237,7 @@ fn spelled_text(alloc: Global, value: Value, settings: &Settings) -> Result<Stri
 /// use html_tool_run::{Settings, text_of_document};
 ///
 /// let alloc = rt.alloc();
-/// let input = br#"[[["title","Tides"],["lang","de"],["region","AT"]],[["text","Ebbe"]],[]]"#;
+/// let input = br#"{"title":"Tides","lang":"de","region":"AT","items":[["text","Ebbe"]]}"#;
 /// let settings = Settings { pretty: false, links: false, limit: 50 };
 /// let text = text_of_document(alloc, input, &settings)?;
 /// assert!(rt; text.as_str().contains(r#"<html lang="de-AT">"#));

@@ -1,1 +1,2 @@
 pub mod CallReplies
+pub mod PageFindings

@@ -8,23 +8,26 @@
 ghost use Rattle.std.specs.Prelude.{◌≡◌};
 ghost use Rattle.html_tool_run.specs.Replies.{GivesAnswer};
 ghost use Rattle.typst_html_c.specs.CallReplies.{Replies, document_call_answer, write_answer};
+ghost use Rattle.typst_html_c.specs.PageFindings.{check_answer};
 
+mod findings;
 mod numbers;
 mod reply;
 
+use findings::page_findings;
 use html_tool_run::{Fault, text_of_document, text_of_input};
-use numbers::{wanted_settings, wanted_task};
+use numbers::{limit_of, wanted_settings, wanted_task};
 pub use reply::Reply;
 use reply::reply_with;
 use std::alloc::Global;
 
 /// The version of these calls. It grows by one where a call or a status changes its meaning.
-const VERSION: u32 = 1;
+const VERSION: u32 = 2;
 
 /// The version of these calls, to be compared with the one of the header that a caller was made by.
 #[unsafe(no_mangle)]
 pub extern "C" fn typst_html_version() -> u32
-    ensures { result ≡ 1 }
+    ensures { result ≡ 2 }
 {
     VERSION
 }
@@ -76,16 +79,14 @@ fn text_of_settings(
     }
 }
 
-/// Makes the HTML text of the document that the input spells in JSON, a list of three: what is known
-/// of the document, its items and its footnotes. It is plain (layout 0) or pretty (layout 1), its
-/// links stay as they are (links 0) or get the `href` of their destination (links 1), and bodies may
-/// stand as deep as the limit says, from 1 to 10,000. The text is copied into the buffer, where it
-/// fits.
+/// Makes the HTML text of the document that the input spells in JSON, an object: what is known of the
+/// document, its items and its footnotes. It is plain (layout 0) or pretty (layout 1), its links stay
+/// as they are (links 0) or get the `href` of their destination (links 1), and bodies may stand as
+/// deep as the limit says, from 1 to 10,000. The text is copied into the buffer, where it fits.
 ///
-/// What is known is a list of fields, each a list of a name and a text: `title`, `description`, `lang`
-/// and, behind it, `region` stand once at most, `author` and `keyword` as often as there are such.
-/// Another field, layout, number for links or limit is bad input. Buffers and replies are those of
-/// [`typst_html_write`].
+/// The members are those of [`text_of_document`]: `title`, `description`, `authors`, `keywords`,
+/// `lang`, `region`, `items` and `footnotes`. Another member, layout, number for links or limit is bad
+/// input. Buffers and replies are those of [`typst_html_write`].
 #[unsafe(no_mangle)]
 pub extern "C" fn typst_html_document(
     alloc: Global,
@@ -100,6 +101,42 @@ pub extern "C" fn typst_html_document(
 {
     let text = text_of_settings(alloc, layout, links, limit, input);
     reply_with(text, output)
+}
+
+/// What is wrong with the links of a page, where the limit is right.
+fn text_of_findings(alloc: Global, limit: u32, page: &[u8]) -> Result<String, Fault>
+    ensures { GivesAnswer result (check_answer limit page.now) }
+{
+    match limit_of(limit) {
+        Some(limit) => page_findings(alloc, page, limit),
+        None => Err(Fault::BadInput),
+    }
+}
+
+/// Reads a page, and tells in JSON which links to fragments of the page lead nowhere, and which ids
+/// stand in it before. The text is copied into the buffer, where it fits:
+///
+/// ```json
+/// {"dead_fragments":[{"fragment":"mint","path":[1,3]}],"repeated_ids":[{"id":"dill","path":[1,4]}]}
+/// ```
+///
+/// So many of each there are as the list is long. A path is the index of each child on the way from
+/// the root, texts counted. The page is read as
+/// [`read_html`](typst_html_read::read_html) reads it: one that is not read is bad input, and so is a
+/// limit that is not from 1 to 10,000. Where an element would stand deeper than the limit, that is
+/// refused as number 8, and the span is the place of its start tag: how many characters stand before.
+/// Buffers and replies are those of [`typst_html_write`].
+#[unsafe(no_mangle)]
+pub extern "C" fn typst_html_check(
+    alloc: Global,
+    limit: u32,
+    page: &[u8],
+    output: &mut [u8],
+) -> Reply
+    ensures answered { Replies (check_answer limit page.now) output.old result output.new }
+    ensures kept { ¬ (result.status ≡ 0) → output.new ≡ output.old }
+{
+    reply_with(text_of_findings(alloc, limit, page), output)
 }
 
 #[cfg(test)]

@@ -54,7 +54,7 @@ fn yes_or_no(number: u8) -> Option<bool>
 }
 
 /// How deep the bodies of items may stand.
-fn limit_of(limit: u32) -> Option<usize>
+pub(crate) fn limit_of(limit: u32) -> Option<usize>
     ensures { result ≡ limit_of limit }
 {
     match limit {

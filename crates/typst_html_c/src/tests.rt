@@ -1,4 +1,4 @@
-use super::{typst_html_document, typst_html_version, typst_html_write};
+use super::{typst_html_check, typst_html_document, typst_html_version, typst_html_write};
 use crate::Reply;
 
 const PARAGRAPH: &[u8] = br#"["el","p",[],[["text","a < b"]]]"#;
@@ -64,15 +64,15 @@ fn bad_input_is_told(rt: HostRuntime) {
 }
 
 #[test]
-fn the_version_is_1(rt: HostRuntime) {
-    assert_eq!(rt; typst_html_version(), 1);
+fn the_version_is_2(rt: HostRuntime) {
+    assert_eq!(rt; typst_html_version(), 2);
 }
 
-const TIDES: &[u8] = br#"[
-    [["title","Tides"],["author","A"],["author","B"],["lang","de"],["region","AT"]],
-    [["start",1,7],["el","a",[],[["text","Ebbe"]]],["end",1],["start",7],["el","h2",[],[]],["end",7]],
-    [["el","p",[],[["text","1"]]]]
-]"#;
+const TIDES: &[u8] = br#"{
+    "title": "Tides", "authors": ["A", "B"], "lang": "de", "region": "AT",
+    "footnotes": [["el","p",[],[["text","1"]]]],
+    "items": [["start",1,7],["el","a",[],[["text","Ebbe"]]],["end",1],["start",7],["el","h2",[],[]],["end",7]]
+}"#;
 
 #[test]
 fn a_document_has_what_is_known_footnotes_and_links(rt: HostRuntime) {
@@ -87,40 +87,94 @@ fn a_document_has_what_is_known_footnotes_and_links(rt: HostRuntime) {
 
 #[test]
 fn spans_go_on_through_footnotes(rt: HostRuntime) {
-    let input = br#"[[],[["text","a"],["space"]],[["el","P Q",[],[]]]]"#;
+    let input = br#"{"footnotes":[["el","P Q",[],[]]],"items":[["text","a"],["space"]]}"#;
     let reply = typst_html_document(rt.alloc(), 0, 0, 50, input, &mut [0; 4]);
     assert_eq!(rt; (reply.status, reply.number, reply.span), (1, 2, 3));
 }
 
 #[test]
-fn a_wrong_number_or_field_is_bad_input(rt: HostRuntime) {
-    let alloc = rt.alloc();
-    let empty = b"[[],[],[]]".as_slice();
-    for (layout, links, limit, input, status) in [
-        (0, 0, 1, empty, 4),
-        (1, 1, 10_000, empty, 4),
-        (2, 0, 50, empty, 2),
-        (0, 2, 50, empty, 2),
-        (0, 0, 0, empty, 2),
-        (0, 0, 10_001, empty, 2),
-        (0, 0, 50, b"[[],[]]".as_slice(), 2),
-        (0, 0, 50, br#"[[["color","red"]],[],[]]"#.as_slice(), 2),
-        (
-            0,
-            0,
-            50,
-            br#"[[["title","a"],["title","b"]],[],[]]"#.as_slice(),
-            2,
-        ),
-        (
-            0,
-            0,
-            50,
-            br#"[[["region","AT"],["lang","de"]],[],[]]"#.as_slice(),
-            2,
-        ),
+fn what_is_known_may_be_left_out(rt: HostRuntime) {
+    for (input, status) in [
+        (b"{}".as_slice(), 4),
+        (br#"{"title":""}"#.as_slice(), 4),
+        (br#"{"description":"d","keywords":[]}"#.as_slice(), 4),
+        (br#"{"region":"AT","lang":"de"}"#.as_slice(), 4),
+        (br#"{"items":[],"footnotes":[]}"#.as_slice(), 4),
+        (br#"{"region":"AT"}"#.as_slice(), 2),
+        (br#"{"color":"red"}"#.as_slice(), 2),
+        (br#"{"title":null}"#.as_slice(), 2),
+        (br#"{"title":["a"]}"#.as_slice(), 2),
+        (br#"{"authors":"A"}"#.as_slice(), 2),
+        (br#"{"keywords":["a",1]}"#.as_slice(), 2),
+        (br#"{"items":{}}"#.as_slice(), 2),
+        (br#"{"footnotes":[["text"]]}"#.as_slice(), 2),
+        (b"[]".as_slice(), 2),
+        (b"".as_slice(), 2),
     ] {
-        let reply = typst_html_document(alloc, layout, links, limit, input, &mut [0; 4]);
+        let reply = typst_html_document(rt.alloc(), 0, 0, 50, input, &mut [0; 4]);
         assert_eq!(rt; reply.status, status);
+    }
+}
+
+#[test]
+fn wrong_numbers_are_bad_input(rt: HostRuntime) {
+    for (layout, links, limit, status) in [
+        (0, 0, 1, 4),
+        (1, 1, 10_000, 4),
+        (2, 0, 50, 2),
+        (0, 2, 50, 2),
+        (0, 0, 0, 2),
+        (0, 0, 10_001, 2),
+    ] {
+        let reply = typst_html_document(rt.alloc(), layout, links, limit, b"{}", &mut [0; 4]);
+        assert_eq!(rt; reply.status, status);
+    }
+}
+
+const NO_FINDINGS: &[u8] = br#"{"dead_fragments":[],"repeated_ids":[]}"#;
+
+const FINDINGS: &[u8] =
+    br##"{"dead_fragments":[{"fragment":"b\"c","path":[1]},{"fragment":"d","path":[2,0]}],"##;
+
+#[test]
+fn a_page_is_checked(rt: HostRuntime) {
+    let mut output = [b'.'; 300];
+    let page =
+        br##"<!DOCTYPE html><p id="a">x<a href="#b&quot;c"></a><b><a href="#d" id="a"></a></b></p>"##;
+    let reply = typst_html_check(rt.alloc(), 3, page, &mut output);
+    assert_eq!(rt; reply.status, 0);
+    let text = &output[..reply.length];
+    assert!(rt; text.starts_with(FINDINGS));
+    assert!(rt; text.ends_with(br#","repeated_ids":[{"id":"a","path":[2,0]}]}"#));
+}
+
+#[test]
+fn a_page_of_links_that_lead_has_no_findings(rt: HostRuntime) {
+    let mut output = [b'.'; 39];
+    let page =
+        br##"<!DOCTYPE html><p id="a"><a href="#a"></a><a href="#"></a><a href="b.html#c"></a></p>"##;
+    let reply = typst_html_check(rt.alloc(), 2, page, &mut output);
+    assert_eq!(rt; (reply.status, reply.length), (0, 39));
+    assert!(rt; &output[..] == NO_FINDINGS);
+}
+
+#[test]
+fn a_page_that_is_not_read_is_told(rt: HostRuntime) {
+    let page = b"<!DOCTYPE html><p><b></b></p>".as_slice();
+    for (limit, page, status, number, span) in [
+        (1, page, 1, 8, 18),
+        (2, page, 4, 0, 0),
+        (10_000, page, 4, 0, 0),
+        (0, page, 2, 0, 0),
+        (10_001, page, 2, 0, 0),
+        (50, b"<p></p>".as_slice(), 2, 0, 0),
+        (50, b"\xff".as_slice(), 2, 0, 0),
+        (50, b"".as_slice(), 2, 0, 0),
+    ] {
+        let reply = typst_html_check(rt.alloc(), limit, page, &mut [0; 4]);
+        assert_eq!(rt;
+            (reply.status, reply.number, reply.span),
+            (status, number, span)
+        );
     }
 }

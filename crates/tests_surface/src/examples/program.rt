@@ -39,7 +39,7 @@ fn a_document_is_made_of_an_input(rt: HostRuntime) -> Result<(), Fail> {
     use html_tool_run::{Settings, text_of_document};
 
     let alloc = rt.alloc();
-    let input = br#"[[["title","Tides"],["lang","de"],["region","AT"]],[["text","Ebbe"]],[]]"#;
+    let input = br#"{"title":"Tides","lang":"de","region":"AT","items":[["text","Ebbe"]]}"#;
     let settings = Settings {
         pretty: false,
         links: false,
