@@ -4,12 +4,13 @@
 use typst_html_proved::{write, write_json, Document, Element, Kind, Options};
 
 fn main() -> Result<(), Box<dyn std::error::Error>> {
-    let words: Vec<String> = std::env::args().collect();
-    let [_, how, path] = words.as_slice() else {
-        return Err("wanted: page json|typed FILE".into());
+    let words: Vec<String> = std::env::args().skip(1).collect();
+    let (how, path) = match words.as_slice() {
+        [how, path] => (how.as_str(), path),
+        _ => return Err("wanted: page json|typed FILE".into()),
     };
     let input = std::fs::read_to_string(path)?;
-    let text = match how.as_str() {
+    let text = match how {
         "json" => write_json(Kind::Items, input.as_bytes(), false)?,
         _ => {
             let mut document = Document::new();
