@@ -20,8 +20,8 @@ use typst_html::{
 
 /// Writes the same text for each frame.
 #[derive(Drop)]
-pub(crate) struct OneText {
-    pub(crate) text: String,
+struct OneText {
+    text: String,
 }
 
 impl FrameWriter for OneText {

@@ -120,7 +120,7 @@ fn text_of_findings(alloc: Global, limit: u32, page: &[u8]) -> Result<String, Fa
 /// {"dead_fragments":[{"fragment":"mint","path":[1,3]}],"repeated_ids":[{"id":"dill","path":[1,4]}]}
 /// ```
 ///
-/// So many of each there are as the list is long. A path is the index of each child on the way from
+/// How many there are is how long each list is. A path is the index of each child on the way from
 /// the root, texts counted. The page is read as
 /// [`read_html`](typst_html_read::read_html) reads it: one that is not read is bad input, and so is a
 /// limit that is not from 1 to 10,000. Where an element would stand deeper than the limit, that is

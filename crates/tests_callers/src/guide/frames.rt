@@ -48,6 +48,14 @@ fn drawing(alloc: Global) -> Result<String, ExportFault> {
     )
 }
 
+/// What the picture's writer makes of a frame.
+pub(crate) fn drawn(alloc: Global, frame: &HtmlFrame) -> Result<String, FrameFault> {
+    let writer = Picture {
+        svg: String::from_str(alloc, "<svg/>")?,
+    };
+    writer.write(alloc, frame, false)
+}
+
 #[test]
 fn a_drawing(rt: HostRuntime) {
     let html = drawing(rt.alloc()).expect(&rt, "a page");

@@ -1,98 +1,97 @@
-//! Functions that answer `Fail`, as tests do.
+//! Functions that answer `anyhow::Error`.
 
-use crate::export::OneText;
+use crate::guide::drawn;
 use std::alloc::Global;
-use std::test::Fail;
 use typst_html::civil::date;
 use typst_html::{
     Abs, Args, AttrType, ConversionLevel, CssWriter, Datetime, DocumentInfo, ElementInfo, FlatTree,
-    Frame, FrameWriter, HtmlAttr, HtmlAttrs, HtmlDocument, HtmlElem, HtmlElement, HtmlFrame,
-    HtmlIntrospector, HtmlNode, HtmlOptions, HtmlOutput, HtmlTag, IntoAttr, Item, ListType,
-    Location, Moment, NameTable, NativeType, Pair, Properties, Separator, Span, Str, ToCss, Value,
-    Warning, Whitespace, attr, bare_spaces, construct, convert_to_nodes, create_link_anchors,
+    Frame, HtmlAttr, HtmlAttrs, HtmlDocument, HtmlElem, HtmlElement, HtmlFrame, HtmlIntrospector,
+    HtmlNode, HtmlOptions, HtmlOutput, HtmlTag, IntoAttr, Item, ListType, Location, Moment,
+    NameTable, NativeType, Pair, Properties, Separator, Span, Str, ToCss, Value, Warning,
+    Whitespace, attr, bare_spaces, construct, convert_to_nodes, create_link_anchors,
     dead_fragments, dead_links, export, export_linked, href_to, html, html_block_fragment,
     html_document, html_document_for_bundle, html_in_bundle, ids_are_distinct, push_located,
     repeated_ids, resolve_inline_styles, resolve_links, tag, with_resolved_links,
 };
 
-fn names_are_made(alloc: Global) -> Result<(), Fail> {
+fn names_are_made(alloc: Global) -> anyhow::Result<()> {
     names_are_made!(alloc)
 }
 
-fn names_are_numbered(alloc: Global) -> Result<(), Fail> {
+fn names_are_numbered(alloc: Global) -> anyhow::Result<()> {
     names_are_numbered!(alloc)
 }
 
-fn properties_are_made(alloc: Global) -> Result<(), Fail> {
+fn properties_are_made(alloc: Global) -> anyhow::Result<()> {
     properties_are_made!(alloc)
 }
 
-fn css_is_written(alloc: Global) -> Result<(), Fail> {
+fn css_is_written(alloc: Global) -> anyhow::Result<()> {
     css_is_written!(alloc)
 }
 
-fn values_are_cast(alloc: Global) -> Result<(), Fail> {
+fn values_are_cast(alloc: Global) -> anyhow::Result<()> {
     values_are_cast!(alloc)
 }
 
-fn attributes_are_listed(alloc: Global) -> Result<(), Fail> {
+fn attributes_are_listed(alloc: Global) -> anyhow::Result<()> {
     attributes_are_listed!(alloc)
 }
 
-fn elements_are_built(alloc: Global) -> Result<(), Fail> {
+fn elements_are_built(alloc: Global) -> anyhow::Result<()> {
     elements_are_built!(alloc)
 }
 
-fn elements_are_changed(alloc: Global) -> Result<(), Fail> {
+fn elements_are_changed(alloc: Global) -> anyhow::Result<()> {
     elements_are_changed!(alloc)
 }
 
-fn trees_are_flat(alloc: Global) -> Result<(), Fail> {
+fn trees_are_flat(alloc: Global) -> anyhow::Result<()> {
     trees_are_flat!(alloc)
 }
 
-fn targets_are_found(alloc: Global) -> Result<(), Fail> {
+fn targets_are_found(alloc: Global) -> anyhow::Result<()> {
     targets_are_found!(alloc)
 }
 
-fn documents_are_made(alloc: Global) -> Result<(), Fail> {
+fn documents_are_made(alloc: Global) -> anyhow::Result<()> {
     documents_are_made!(alloc)
 }
 
-fn documents_get_anchors(alloc: Global) -> Result<(), Fail> {
+fn documents_get_anchors(alloc: Global) -> anyhow::Result<()> {
     documents_get_anchors!(alloc)
 }
 
-fn items_are_listed(alloc: Global) -> Result<(), Fail> {
+fn items_are_listed(alloc: Global) -> anyhow::Result<()> {
     items_are_listed!(alloc)
 }
 
-fn items_are_elements(alloc: Global) -> Result<(), Fail> {
+fn items_are_elements(alloc: Global) -> anyhow::Result<()> {
     items_are_elements!(alloc)
 }
 
-fn items_are_converted(alloc: Global) -> Result<(), Fail> {
+fn items_are_converted(alloc: Global) -> anyhow::Result<()> {
     items_are_converted!(alloc)
 }
 
-fn elements_are_constructed(alloc: Global) -> Result<(), Fail> {
+fn elements_are_constructed(alloc: Global) -> anyhow::Result<()> {
     elements_are_constructed!(alloc)
 }
 
-fn documents_are_written(alloc: Global) -> Result<(), Fail> {
+fn documents_are_written(alloc: Global) -> anyhow::Result<()> {
     documents_are_written!(alloc)
 }
 
-fn items_are_exported(alloc: Global) -> Result<(), Fail> {
+fn items_are_exported(alloc: Global) -> anyhow::Result<()> {
     items_are_exported!(alloc)
 }
 
-fn frames_are_written(alloc: Global) -> Result<(), Fail> {
+fn frames_are_written(alloc: Global) -> anyhow::Result<()> {
     frames_are_written!(alloc)
 }
 
 #[test]
-fn names_and_values(rt: HostRuntime) -> Result<(), Fail> {
+fn names_and_values(rt: HostRuntime) -> anyhow::Result<()> {
     names_are_made(rt.alloc())?;
     names_are_numbered(rt.alloc())?;
     properties_are_made(rt.alloc())?;
@@ -102,7 +101,7 @@ fn names_and_values(rt: HostRuntime) -> Result<(), Fail> {
 }
 
 #[test]
-fn trees(rt: HostRuntime) -> Result<(), Fail> {
+fn trees(rt: HostRuntime) -> anyhow::Result<()> {
     attributes_are_listed(rt.alloc())?;
     elements_are_built(rt.alloc())?;
     elements_are_changed(rt.alloc())?;
@@ -112,7 +111,7 @@ fn trees(rt: HostRuntime) -> Result<(), Fail> {
 }
 
 #[test]
-fn documents_and_items(rt: HostRuntime) -> Result<(), Fail> {
+fn documents_and_items(rt: HostRuntime) -> anyhow::Result<()> {
     documents_are_made(rt.alloc())?;
     documents_get_anchors(rt.alloc())?;
     items_are_listed(rt.alloc())?;
@@ -122,7 +121,7 @@ fn documents_and_items(rt: HostRuntime) -> Result<(), Fail> {
 }
 
 #[test]
-fn texts(rt: HostRuntime) -> Result<(), Fail> {
+fn texts(rt: HostRuntime) -> anyhow::Result<()> {
     elements_are_constructed(rt.alloc())?;
     documents_are_written(rt.alloc())?;
     items_are_exported(rt.alloc())?;

@@ -207,10 +207,7 @@ macro_rules! frames_are_written {
         let items = Vec::new($alloc);
         let drawing = Frame { picture: 1, items };
         let frame = HtmlFrame::new($alloc, drawing, Abs::from_millionths(1), Span(1));
-        let writer = OneText {
-            text: String::from_str($alloc, "<svg/>")?,
-        };
-        let _ = writer.write($alloc, &frame, false)?;
+        let _ = drawn($alloc, &frame)?;
         let _ = frame.try_clone()?;
         Ok(())
     }};

@@ -6,3 +6,5 @@ mod frames;
 mod links;
 mod refusals;
 mod trees;
+
+pub(crate) use frames::drawn;

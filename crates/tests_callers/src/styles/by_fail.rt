@@ -1,97 +1,98 @@
-//! Functions that answer `anyhow::Error`.
+//! Functions that answer `Fail`, as tests do.
 
-use crate::export::OneText;
+use crate::guide::drawn;
 use std::alloc::Global;
+use std::test::Fail;
 use typst_html::civil::date;
 use typst_html::{
     Abs, Args, AttrType, ConversionLevel, CssWriter, Datetime, DocumentInfo, ElementInfo, FlatTree,
-    Frame, FrameWriter, HtmlAttr, HtmlAttrs, HtmlDocument, HtmlElem, HtmlElement, HtmlFrame,
-    HtmlIntrospector, HtmlNode, HtmlOptions, HtmlOutput, HtmlTag, IntoAttr, Item, ListType,
-    Location, Moment, NameTable, NativeType, Pair, Properties, Separator, Span, Str, ToCss, Value,
-    Warning, Whitespace, attr, bare_spaces, construct, convert_to_nodes, create_link_anchors,
+    Frame, HtmlAttr, HtmlAttrs, HtmlDocument, HtmlElem, HtmlElement, HtmlFrame, HtmlIntrospector,
+    HtmlNode, HtmlOptions, HtmlOutput, HtmlTag, IntoAttr, Item, ListType, Location, Moment,
+    NameTable, NativeType, Pair, Properties, Separator, Span, Str, ToCss, Value, Warning,
+    Whitespace, attr, bare_spaces, construct, convert_to_nodes, create_link_anchors,
     dead_fragments, dead_links, export, export_linked, href_to, html, html_block_fragment,
     html_document, html_document_for_bundle, html_in_bundle, ids_are_distinct, push_located,
     repeated_ids, resolve_inline_styles, resolve_links, tag, with_resolved_links,
 };
 
-fn names_are_made(alloc: Global) -> anyhow::Result<()> {
+fn names_are_made(alloc: Global) -> Result<(), Fail> {
     names_are_made!(alloc)
 }
 
-fn names_are_numbered(alloc: Global) -> anyhow::Result<()> {
+fn names_are_numbered(alloc: Global) -> Result<(), Fail> {
     names_are_numbered!(alloc)
 }
 
-fn properties_are_made(alloc: Global) -> anyhow::Result<()> {
+fn properties_are_made(alloc: Global) -> Result<(), Fail> {
     properties_are_made!(alloc)
 }
 
-fn css_is_written(alloc: Global) -> anyhow::Result<()> {
+fn css_is_written(alloc: Global) -> Result<(), Fail> {
     css_is_written!(alloc)
 }
 
-fn values_are_cast(alloc: Global) -> anyhow::Result<()> {
+fn values_are_cast(alloc: Global) -> Result<(), Fail> {
     values_are_cast!(alloc)
 }
 
-fn attributes_are_listed(alloc: Global) -> anyhow::Result<()> {
+fn attributes_are_listed(alloc: Global) -> Result<(), Fail> {
     attributes_are_listed!(alloc)
 }
 
-fn elements_are_built(alloc: Global) -> anyhow::Result<()> {
+fn elements_are_built(alloc: Global) -> Result<(), Fail> {
     elements_are_built!(alloc)
 }
 
-fn elements_are_changed(alloc: Global) -> anyhow::Result<()> {
+fn elements_are_changed(alloc: Global) -> Result<(), Fail> {
     elements_are_changed!(alloc)
 }
 
-fn trees_are_flat(alloc: Global) -> anyhow::Result<()> {
+fn trees_are_flat(alloc: Global) -> Result<(), Fail> {
     trees_are_flat!(alloc)
 }
 
-fn targets_are_found(alloc: Global) -> anyhow::Result<()> {
+fn targets_are_found(alloc: Global) -> Result<(), Fail> {
     targets_are_found!(alloc)
 }
 
-fn documents_are_made(alloc: Global) -> anyhow::Result<()> {
+fn documents_are_made(alloc: Global) -> Result<(), Fail> {
     documents_are_made!(alloc)
 }
 
-fn documents_get_anchors(alloc: Global) -> anyhow::Result<()> {
+fn documents_get_anchors(alloc: Global) -> Result<(), Fail> {
     documents_get_anchors!(alloc)
 }
 
-fn items_are_listed(alloc: Global) -> anyhow::Result<()> {
+fn items_are_listed(alloc: Global) -> Result<(), Fail> {
     items_are_listed!(alloc)
 }
 
-fn items_are_elements(alloc: Global) -> anyhow::Result<()> {
+fn items_are_elements(alloc: Global) -> Result<(), Fail> {
     items_are_elements!(alloc)
 }
 
-fn items_are_converted(alloc: Global) -> anyhow::Result<()> {
+fn items_are_converted(alloc: Global) -> Result<(), Fail> {
     items_are_converted!(alloc)
 }
 
-fn elements_are_constructed(alloc: Global) -> anyhow::Result<()> {
+fn elements_are_constructed(alloc: Global) -> Result<(), Fail> {
     elements_are_constructed!(alloc)
 }
 
-fn documents_are_written(alloc: Global) -> anyhow::Result<()> {
+fn documents_are_written(alloc: Global) -> Result<(), Fail> {
     documents_are_written!(alloc)
 }
 
-fn items_are_exported(alloc: Global) -> anyhow::Result<()> {
+fn items_are_exported(alloc: Global) -> Result<(), Fail> {
     items_are_exported!(alloc)
 }
 
-fn frames_are_written(alloc: Global) -> anyhow::Result<()> {
+fn frames_are_written(alloc: Global) -> Result<(), Fail> {
     frames_are_written!(alloc)
 }
 
 #[test]
-fn names_and_values(rt: HostRuntime) -> anyhow::Result<()> {
+fn names_and_values(rt: HostRuntime) -> Result<(), Fail> {
     names_are_made(rt.alloc())?;
     names_are_numbered(rt.alloc())?;
     properties_are_made(rt.alloc())?;
@@ -101,7 +102,7 @@ fn names_and_values(rt: HostRuntime) -> anyhow::Result<()> {
 }
 
 #[test]
-fn trees(rt: HostRuntime) -> anyhow::Result<()> {
+fn trees(rt: HostRuntime) -> Result<(), Fail> {
     attributes_are_listed(rt.alloc())?;
     elements_are_built(rt.alloc())?;
     elements_are_changed(rt.alloc())?;
@@ -111,7 +112,7 @@ fn trees(rt: HostRuntime) -> anyhow::Result<()> {
 }
 
 #[test]
-fn documents_and_items(rt: HostRuntime) -> anyhow::Result<()> {
+fn documents_and_items(rt: HostRuntime) -> Result<(), Fail> {
     documents_are_made(rt.alloc())?;
     documents_get_anchors(rt.alloc())?;
     items_are_listed(rt.alloc())?;
@@ -121,7 +122,7 @@ fn documents_and_items(rt: HostRuntime) -> anyhow::Result<()> {
 }
 
 #[test]
-fn texts(rt: HostRuntime) -> anyhow::Result<()> {
+fn texts(rt: HostRuntime) -> Result<(), Fail> {
     elements_are_constructed(rt.alloc())?;
     documents_are_written(rt.alloc())?;
     items_are_exported(rt.alloc())?;

@@ -1,14 +1,14 @@
 //! Functions that answer `ExportFault`.
 
-use crate::export::OneText;
+use crate::guide::drawn;
 use std::alloc::Global;
 use typst_html::civil::date;
 use typst_html::{
     Abs, Args, AttrType, ConversionLevel, CssWriter, Datetime, DocumentInfo, ElementInfo,
-    ExportFault, FlatTree, Frame, FrameWriter, HtmlAttr, HtmlAttrs, HtmlDocument, HtmlElem,
-    HtmlElement, HtmlFrame, HtmlIntrospector, HtmlNode, HtmlOptions, HtmlOutput, HtmlTag, IntoAttr,
-    Item, ListType, Location, Moment, NameTable, NativeType, Pair, Properties, Separator, Span,
-    Str, ToCss, Value, Warning, Whitespace, attr, bare_spaces, construct, convert_to_nodes,
+    ExportFault, FlatTree, Frame, HtmlAttr, HtmlAttrs, HtmlDocument, HtmlElem, HtmlElement,
+    HtmlFrame, HtmlIntrospector, HtmlNode, HtmlOptions, HtmlOutput, HtmlTag, IntoAttr, Item,
+    ListType, Location, Moment, NameTable, NativeType, Pair, Properties, Separator, Span, Str,
+    ToCss, Value, Warning, Whitespace, attr, bare_spaces, construct, convert_to_nodes,
     create_link_anchors, dead_fragments, dead_links, export, export_linked, href_to, html,
     html_block_fragment, html_document, html_document_for_bundle, html_in_bundle, ids_are_distinct,
     push_located, repeated_ids, resolve_inline_styles, resolve_links, tag, with_resolved_links,

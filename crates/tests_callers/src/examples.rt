@@ -1,5 +1,5 @@
 //! The examples in the doc comments of the libraries, word for word: a file for each layer, and in
-//! it a test for each example. Those that implement a trait stand in the module `own`.
+//! it a test for each example. Those that implement a trait stand in tests_surface.
 
 mod dom;
 mod export;
