@@ -1,5 +1,5 @@
 -- Stretches of a text that are written as they are.
-use Rattle.std.proofs.Common.{◌≡◌, ℕ, ◌+◌, ◌<◌, ◌≤◌, ◌-◌, length, take, get_or, subst, Bool, true, false, not, ◌&&◌, List, [], ◌∷◌, ◌++◌, arith, refl, ap, ◌∙◌, sym, chars, append-nil, append_assoc}
+use Rattle.std.proofs.Common.{◌≡◌, ℕ, zero, suc, ◌+◌, ◌<◌, ◌≤◌, ◌-◌, length, take, drop, get_or, subst, Bool, true, false, not, ◌&&◌, List, [], ◌∷◌, ◌++◌, arith, refl, ap, ◌∙◌, sym, chars, append-nil, append_assoc}
 use Rattle.std.proofs.lemmas.Bool.{agree_below_at, and_from, and_parts, not-true}
 use Rattle.std.proofs.lemmas.Bool.Decides.{nat_tests}
 use Rattle.std.proofs.lemmas.List.{length-append, take_more}
@@ -9,7 +9,7 @@ use Rattle.std.proofs.lemmas.Str.Ascii.{IsAscii-nil, IsAscii-cons}
 use Rattle.std.specs.Str.{IsUtf8, IsAscii, IsCharBoundary}
 use Rattle.html_names.specs.Characters.{all}
 use Rattle.typst_html_encode.specs.ExportFaults.{is_bad, is_reference, text_faults}
-use Rattle.typst_html_encode.specs.PlainStretches.{is_common, is_plain, PassesCommon, PassesPlain}
+use Rattle.typst_html_encode.specs.PlainStretches.{begins_common, is_common, is_plain, PassesCommon, PassesPlain}
 use Rattle.typst_html_encode.specs.Text.{stands_as_is, escaped_text}
 use Rattle.typst_html_encode.specs.declared.escape.Escaping.{Escaping}
 use Rattle.typst_html_encode.specs.declared.escape.Escaping.TheVariants as escaping
@@ -175,3 +175,18 @@ passed_four text at u within h passed =
     (passed_one text (at + 2) u (omega (arith, within)) last.0 two) in
     subst (Passed text) {x = at + 3 + 1} {y = at + 4} (omega arith)
     (passed_one text (at + 3) u (omega (arith, within)) last.1 three)
+
+-- a stretch ends before a byte that is no common character, and at the end of the text
+pub begins_at : (text : List ℕ) (at : ℕ) → is_common (get_or text at 0) ≡ false
+    → begins_common (drop at text) ≡ false
+begins_at [] zero h = refl
+begins_at [] (suc n) h = refl
+begins_at (c ∷ cs) zero h = h
+begins_at (c ∷ cs) (suc n) h = begins_at cs n h
+
+pub begins_past : (text : List ℕ) (at : ℕ) → length text ≤ at
+    → begins_common (drop at text) ≡ false
+begins_past [] zero h = refl
+begins_past [] (suc n) h = refl
+begins_past (c ∷ cs) zero h = absurd (omega arith)
+begins_past (c ∷ cs) (suc n) h = begins_past cs n (omega arith)

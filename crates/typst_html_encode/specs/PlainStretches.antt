@@ -1,5 +1,5 @@
 -- Stretches of a text that are written as they are, in one piece.
-use Rattle.std.specs.Prelude.{◌≡◌, ℕ, Bool, true, not, ◌||◌, ◌&&◌, nat_le, List, ◌++◌, chars, length, ◌≤◌}
+use Rattle.std.specs.Prelude.{◌≡◌, ℕ, Bool, true, false, not, ◌||◌, ◌&&◌, nat_le, List, [], ◌∷◌, ◌++◌, chars, length, ◌≤◌}
 use Rattle.std.specs.Str.{IsUtf8}
 use Rattle.html_names.specs.Characters.{all}
 use Rattle.typst_html_encode.specs.ExportFaults.{is_bad, text_faults}
@@ -15,11 +15,17 @@ is_common c = (nat_le 61 c && nat_le c 126) || (nat_le 39 c && nat_le c 59)
 abbrev pub is_plain : Escaping → ℕ → Bool
 is_plain e c = stands_as_is e c && not (is_bad e c)
 
--- the text is common characters, and then the rest
+-- the first byte is such a character
+abbrev pub begins_common : List ℕ → Bool
+begins_common [] = false
+begins_common (c ∷ cs) = is_common c
+
+-- the text is common characters, as many as stand at its beginning, and then the rest
 pub record PassesCommon (text rest : List ℕ) : Type 0 where
   pub front : List ℕ
   pub split : text ≡ front ++ rest
   pub common : all is_common front ≡ true
+  pub stops : begins_common rest ≡ false
 
 -- the text is characters that are written as they are, and then the rest
 pub record PassesPlain (e : Escaping) (text rest : List ℕ) : Type 0 where

@@ -2,8 +2,9 @@ use Rattle.std.proofs.Common.{◌≡◌, ◌+◌, ◌<◌, ◌≤◌, ◌++◌, 
 use Rattle.std.proofs.lemmas.List.{take-append-drop}
 use Rattle.std.proofs.lemmas.Str.{IsCharBoundary-start}
 use Rattle.typst_html_encode.specs.PlainStretches.{is_common}
-use Rattle.typst_html_encode.proofs.Stretches.{passed_four, passed_one}
+use Rattle.typst_html_encode.proofs.Stretches.{begins_at, begins_past, passed_four, passed_one}
 use Rattle.typst_html_encode.proofs.common.past_common.Goals as goal
+use Rattle.typst_html_encode.proofs.common.past_common.Goals.{then-loop-at-2-test+else-is_common, else-loop-at-2-test}
 
 pub loop-at-init : goal.loop-at-init
 loop-at-init c = record {
@@ -40,9 +41,18 @@ pub returns : goal.returns
 returns c =
     let text = c.args.text.now in
     let at = c.loop-at-2.at in
+    let same : c.as_bytes-bytes.result.now ≡ text = c.as_bytes-bytes.ensures.value in
     record {
       front = take at text;
       split = sym (take-append-drop at text)
           ∙ ap (λ l. take at text ++ l) (sym c.range_from.ensures.value);
       common = c.loop-at-2.invariant.common;
+      stops =
+          rw c.range_from.ensures.value
+          (elim c.loop-at-2-test.branch [
+            | then-loop-at-2-test+else-is_common w ↦
+                begins_at text at (rw same at (sym w.is_common.ensures ∙ w.if-is_common.false))
+            | else-loop-at-2-test w ↦ begins_past text at
+                (omega (arith, ap length same, w.loop-at-2-test.false))
+          ]);
     }
