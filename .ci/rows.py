@@ -1,0 +1,134 @@
+"""The rows of crates/tests_rows: what goes into a run or a call, and what comes of it.
+
+A row is a line of three fields, `words | input | output`, cut at the first two ` | `. Lines that begin with
+`#` are comments. The input stands as it is, unless `escaped` is the last of the words: then it is read as
+the output is, and `\\xff` is a byte. In the output `\\n`, `\\r`, `\\t`, `\\\\` and `\\u{20}` stand for
+characters. In both, `⟨500*<p>⟩` stands for so many copies, in which each `%` is the number of the copy, from
+1, and `⟨100..fdcf⟩` for each character from U+0100 to U+FDCF.
+"""
+
+import re
+from hashlib import sha256
+from pathlib import Path
+from typing import Iterator, NamedTuple
+
+DATA = Path(__file__).resolve().parent.parent / "crates" / "tests_rows" / "data"
+
+# The first words of rows that call the library. Any other row is a run of the program.
+CALLS = frozenset(
+    "nodes block-fragment inline-fragment math-fragment spans bare document links anchors positions dead-links "
+    "distinct-ids read page-text items-text dead-fragments repeated-ids".split()
+)
+
+HEAD = '<meta charset="utf-8">', '<meta name="viewport" content="width=device-width, initial-scale=1">'
+
+# What stands around the outputs of texts, by the words of a run.
+FRAMES = {
+    ("tree",): ("<!DOCTYPE html>", ""),
+    ("tree", "--pretty"): ("<!DOCTYPE html>\n", "\n"),
+    ("doc",): (f'<!DOCTYPE html><html lang="en"><head>{"".join(HEAD)}</head><body>', "</body></html>"),
+    ("doc", "--pretty"): (
+        f'<!DOCTYPE html>\n<html lang="en">\n  <head>\n    {HEAD[0]}\n    {HEAD[1]}\n  </head>\n  <body>',
+        "\n  </body>\n</html>\n",
+    ),
+}
+
+ESCAPE = re.compile(r"\\(?:([nrt\\])|u\{([0-9a-f]+)\}|x([89a-f][0-9a-f])|x([0-7][0-9a-f])|)")
+FORM = re.compile("⟨([^⟩]*)⟩")
+
+
+class Row(NamedTuple):
+    """A row with its fields expanded, and where it stands."""
+
+    file: str
+    line: int
+    words: tuple[str, ...]
+    input: bytes
+    output: str
+
+    @property
+    def place(self) -> str:
+        """The file and the line."""
+        return f"{self.file}:{self.line}"
+
+    @property
+    def is_run(self) -> bool:
+        """Whether the row is a run of the program, and not a call of the library."""
+        return not self.words or self.words[0] not in CALLS
+
+
+class Answer(NamedTuple):
+    """The exit status of a run, what it writes, and the number and the span of a refusal."""
+
+    status: int
+    text: str
+    number: int = 0
+    span: int = 0
+
+
+def answer(row: Row) -> Answer:
+    """How the run of a row ends."""
+    if refusal := re.fullmatch(r"refused (\d+) at (\d+)", row.output):
+        number, span = map(int, refusal.groups())
+        return Answer(1, f"refused: {number} at {span}\n", number, span)
+    if row.output in ("bad input", "wrong words"):
+        return Answer(2, "bad input\n")
+    if row.output.startswith("<!DOCTYPE html>"):
+        return Answer(0, row.output)
+    before, behind = FRAMES[row.words]
+    return Answer(0, before + row.output + behind)
+
+
+def character(escape: re.Match[str]) -> str:
+    """What an escape stands for. A byte above 127 is a lone surrogate, as Python decodes it."""
+    letter, code, high, low = escape.groups()
+    if letter:
+        return {"n": "\n", "r": "\r", "t": "\t", "\\": "\\"}[letter]
+    if high:
+        return chr(0xDC00 + int(high, 16))
+    if not (code or low):
+        raise ValueError(f"no escape: {escape.string[escape.start():][:20]}")
+    return chr(int(code or low, 16))
+
+
+def copies(form: str) -> str:
+    """What copies or a range of characters stand for."""
+    times, star, text = form.partition("*")
+    if not star:
+        first, last = (int(code, 16) for code in form.split(".."))
+        return "".join(map(chr, range(first, last + 1)))
+    if "%" not in text:
+        return text * int(times)
+    return "".join(text.replace("%", str(number)) for number in range(1, int(times) + 1))
+
+
+def expanded(field: str, escaped: bool) -> bytes:
+    """The bytes of a field."""
+    text = ESCAPE.sub(character, field) if escaped else field
+    return FORM.sub(lambda form: copies(form[1]), text).encode(errors="surrogateescape")
+
+
+def read(file: str, number: int, line: str) -> Row:
+    """The row that a line spells."""
+    first, *rest = line.split(" | ", 2)
+    if len(rest) == 1 and rest[0].endswith(" |"):
+        rest = [rest[0][:-2], ""]
+    if len(rest) != 2:
+        raise ValueError(f"{file}:{number}: no row of three fields")
+    words = first.split()
+    escaped = words[-1:] == ["escaped"]
+    words = tuple(words[:-1] if escaped else words)
+    return Row(file, number, words, expanded(rest[0], escaped), expanded(rest[1], True).decode())
+
+
+def rows() -> Iterator[Row]:
+    """All rows, one at a time, since some are large. None stands twice."""
+    places: dict[tuple[tuple[str, ...], bytes], str] = {}
+    for path in sorted(DATA.glob("*.rows")):
+        for number, line in enumerate(path.read_text(encoding="utf-8").split("\n"), 1):
+            if line and not line.startswith("#"):
+                row = read(path.name, number, line)
+                place = places.setdefault((row.words, sha256(row.input).digest()), row.place)
+                if place != row.place:
+                    raise ValueError(f"{row.place}: the row stands at {place}")
+                yield row
