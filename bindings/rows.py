@@ -1,19 +1,24 @@
 #!/usr/bin/env python3
-"""rows.py json|c: the worked rows of the program, as the tests of the bindings read them.
+"""rows.py json|c: the rows of crates/tests_rows, as the tests of the bindings read them.
 
-The rows stand in .ci/programs alone. Those that are about the program's words are left out, since the
-library has none.
+Runs of the program on trees and items are calls of typst_html_write, and rows of whole documents calls of
+typst_html_document, where its JSON has all that is in them. Rows about the program's words are left out,
+since the library has none; so are, of JSON and C, rows whose input or text is longer than MOST bytes.
 """
 
 import json
 import sys
-from importlib.machinery import SourceFileLoader
-from importlib.util import module_from_spec, spec_from_loader
+from importlib.util import module_from_spec, spec_from_file_location
 from pathlib import Path
-from typing import NamedTuple
+from typing import Any, NamedTuple
 
-PROGRAMS = Path(__file__).resolve().parent.parent / ".ci" / "programs"
-KINDS = {"tree": 0, "doc": 1}
+READER = Path(__file__).resolve().parent.parent / ".ci" / "rows.py"
+KINDS = {"tree": 0, "doc": 1, "document": 2, "links": 2}
+MOST = 1 << 16
+
+# How long the lists of the library's items are. It has no roles, css, frames and labels.
+LENGTHS = {"text": {2}, "space": {1}, "break": {1}, "hole": {1}, "start": {2, 3}, "end": {2}, "block": {2}, "box": {2}, "el": {4}}
+BODIES = ("block", "box", "el")
 
 
 class Row(NamedTuple):
@@ -21,6 +26,8 @@ class Row(NamedTuple):
 
     kind: int
     layout: int
+    links: int
+    limit: int
     input: bytes
     status: int
     number: int
@@ -28,36 +35,54 @@ class Row(NamedTuple):
     text: bytes
 
 
-def programs():
-    """The module of the program's tests, which has no suffix."""
-    loader = SourceFileLoader("programs", str(PROGRAMS))
-    module = module_from_spec(spec_from_loader("programs", loader))
+def reader() -> Any:
+    """The module that reads the files."""
     sys.dont_write_bytecode = True
-    loader.exec_module(module)
+    spec = spec_from_file_location("reader", READER)
+    module = module_from_spec(spec)
+    spec.loader.exec_module(module)
     return module
 
 
-def rows() -> list[Row]:
-    """All rows that are about an input."""
+def is_own(items: list | None) -> bool:
+    """Whether the library has all these items. It has no body that is absent."""
+    return items is not None and all(
+        len(item) in LENGTHS.get(item[0], ()) and (item[0] not in BODIES or is_own(item[-1])) for item in items
+    )
+
+
+def document(given: bytes) -> bytes | None:
+    """The object of a document that a row is about, if the library has all its items."""
+    spelled = json.loads(given)
+    if isinstance(spelled, list):
+        spelled, given = {"items": spelled}, b'{"items":' + given + b"}"
+    return given if is_own(spelled.get("items", []) + spelled.get("footnotes", [])) else None
+
+
+def rows(most: int | None = None) -> list[Row]:
+    """All rows that are about an input; those whose input and text are at most so long, if that is given."""
     found = []
-    for words, given, output, status in programs().ROWS:
-        words = words.split() if isinstance(words, str) else []
-        if not words or words[0] not in KINDS or words[1:] not in ([], ["--pretty"]):
+    files = reader()
+    for row in files.rows():
+        word, *more = row.words or [""]
+        if row.words in files.FRAMES:
+            layout, links, limit, given, answer = len(more), 0, 50, row.input, files.answer(row)
+        elif word in ("document", "links") and not row.output.startswith("refused"):
+            # The spans of refusals are counted otherwise.
+            layout, links, limit = 0, int(word == "links"), int("".join(more).removeprefix("limit=") or 50)
+            given, answer = document(row.input), files.answer(row._replace(words=("doc",)))
+        else:
             continue
-        given = given if isinstance(given, bytes) else given.encode()
-        number, span, text = 0, 0, b""
-        if status == 0:
-            text = output.encode()
-        elif status == 1:
-            _, number, _, span = output.split()
-        found.append(Row(KINDS[words[0]], len(words) - 1, given, status, int(number), int(span), text))
+        text = answer.text.encode() if answer.status == 0 else b""
+        if given is not None and (most is None or max(len(given), len(text)) <= most):
+            found.append(Row(KINDS[word], layout, links, limit, given, answer.status, answer.number, answer.span, text))
     return found
 
 
-def as_json() -> str:
+def as_json(found: list[Row]) -> str:
     """The rows, their bytes in hexadecimal."""
     plain = lambda value: value.hex() if isinstance(value, bytes) else value
-    return json.dumps([{k: plain(v) for k, v in row._asdict().items()} for row in rows()], indent=1)
+    return json.dumps([{k: plain(v) for k, v in row._asdict().items()} for row in found], indent=1)
 
 
 def quoted(data: bytes) -> str:
@@ -65,16 +90,23 @@ def quoted(data: bytes) -> str:
     return '"' + "".join(chr(b) if 32 <= b < 127 and b not in b'"\\?' else f"\\{b:03o}" for b in data) + '"'
 
 
-def as_c() -> str:
+def as_c(found: list[Row]) -> str:
     """The rows as an array of C."""
     lines = [
-        f"    {{{r.kind}, {r.layout}, {r.status}, {r.number}, {r.span}, "
+        f"    {{{r.kind}, {r.layout}, {r.links}, {r.limit}, {r.status}, {r.number}, {r.span}, "
         f"{len(r.input)}, {len(r.text)}, {quoted(r.input)}, {quoted(r.text)}}},"
-        for r in rows()
+        for r in found
     ]
-    fields = "uint8_t kind, layout, status, number; uint64_t span; size_t length, text_length; const char *input, *text;"
-    return "\n".join([f"static const struct row {{ {fields} }} rows[] = {{", *lines, "};", ""])
+    fields = (
+        "uint8_t kind, layout, links; uint32_t limit; uint8_t status, number; uint64_t span; size_t length, text_length; "
+        "const char *input, *text;"
+    )
+    return "\n".join(
+        [f"enum {{ DOCUMENT = {KINDS['document']}, MOST = {MOST} }};", f"static const struct row {{ {fields} }} rows[] = {{", *lines, "};", ""]
+    )
 
 
 if __name__ == "__main__":
-    print({"json": as_json, "c": as_c}[sys.argv[1]](), end="")
+    short = rows(MOST)
+    print({"json": as_json, "c": as_c}[sys.argv[1]](short), end="")
+    print(f"{len(short)} rows; left out are those whose input or text is longer than {MOST} bytes", file=sys.stderr)

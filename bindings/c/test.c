@@ -1,4 +1,4 @@
-/* What a caller in C sees of the library. The worked rows are those of the program (rows.h is made). */
+/* What a caller in C sees of the library. The worked rows are those of crates/tests_rows (rows.h is made). */
 #include "typst_html.h"
 
 #include <pthread.h>
@@ -20,19 +20,24 @@ static void expect(const char *what, bool holds) {
     }
 }
 
+/* How many bytes behind a text are looked at. */
+enum { BEHIND = 64 };
+
 static struct typst_html_reply of_row(const struct row *row, uint8_t *output, size_t room) {
-    return typst_html_write(row->kind, row->layout, (const uint8_t *)row->input, row->length, output,
-                            room);
+    const uint8_t *input = (const uint8_t *)row->input;
+    if (row->kind == DOCUMENT)
+        return typst_html_document(row->layout, row->links, row->limit, input, row->length, output, room);
+    return typst_html_write(row->kind, row->layout, input, row->length, output, room);
 }
 
 static bool is_as_wanted(const struct row *row) {
-    uint8_t output[4096];
-    memset(output, '.', sizeof output);
-    struct typst_html_reply reply = of_row(row, output, sizeof output);
+    uint8_t output[MOST + BEHIND];
+    size_t length = row->text_length, room = length + BEHIND;
+    memset(output, '.', room);
+    struct typst_html_reply reply = of_row(row, output, room);
     if (reply.status != row->status || reply.number != row->number || reply.span != row->span)
         return false;
-    size_t length = row->status == TYPST_HTML_DONE ? row->text_length : 0;
-    for (size_t i = length; i < sizeof output; i++)
+    for (size_t i = length; i < room; i++)
         if (output[i] != '.')
             return false;
     return reply.length == length && !memcmp(output, row->text, length);
@@ -48,11 +53,19 @@ static void rows_are_as_the_program_writes_them(void) {
     expect("rows", all);
 }
 
+/* The first row that gives a text. */
+static const struct row *first_text(void) {
+    const struct row *row = rows;
+    while (row->status != TYPST_HTML_DONE)
+        row++;
+    return row;
+}
+
 static void a_short_buffer_stays_and_its_length_is_told(void) {
-    const struct row *row = &rows[1];
+    const struct row *row = first_text();
     uint8_t output[4096];
-    bool all = true;
-    for (size_t room = 0; room < row->text_length; room++) {
+    bool all = row->text_length <= sizeof output;
+    for (size_t room = 0; all && room < row->text_length; room++) {
         memset(output, '.', sizeof output);
         struct typst_html_reply reply = of_row(row, output, room);
         all &= reply.status == TYPST_HTML_TOO_SHORT && reply.length == row->text_length;
@@ -117,11 +130,10 @@ static void pages_are_checked(void) {
     }
 }
 
-static void *all_rows_many_times(void *bad) {
-    for (int turn = 0; turn < 50; turn++)
-        for (size_t i = 0; i < sizeof rows / sizeof *rows; i++)
-            if (!is_as_wanted(&rows[i]))
-                *(bool *)bad = true;
+static void *all_rows(void *bad) {
+    for (size_t i = 0; i < sizeof rows / sizeof *rows; i++)
+        if (!is_as_wanted(&rows[i]))
+            *(bool *)bad = true;
     return NULL;
 }
 
@@ -129,7 +141,7 @@ static void eight_threads_agree(void) {
     pthread_t threads[8];
     bool bad[8] = {false}, all = true;
     for (int i = 0; i < 8; i++)
-        pthread_create(&threads[i], NULL, all_rows_many_times, &bad[i]);
+        pthread_create(&threads[i], NULL, all_rows, &bad[i]);
     for (int i = 0; i < 8; i++) {
         pthread_join(threads[i], NULL);
         all &= !bad[i];

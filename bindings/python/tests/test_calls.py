@@ -19,6 +19,9 @@ from typst_html_proved._library import LIBRARY  # noqa: E402
 ROWS = rows.rows()
 KINDS = ("tree", "items")
 
+# How rows end whose JSON is as deep as it is read, so that it can't stand in an object.
+DEEPEST = b"]" * 127
+
 
 def outcome(call, *words, **more):
     """The text, or the number and the span of a refusal, or what else was raised."""
@@ -35,19 +38,25 @@ def wanted(row):
 
 
 def of_row(row):
-    return outcome(html.write_json, row.input, kind=KINDS[row.kind], pretty=bool(row.layout))
+    pretty = bool(row.layout)
+    if row.kind < 2:
+        return outcome(html.write_json, row.input, kind=KINDS[row.kind], pretty=pretty)
+    known = json.loads(row.input)
+    items, footnotes = known.pop("items", []), known.pop("footnotes", [])
+    settings = {"pretty": pretty, "links": bool(row.links), "limit": row.limit}
+    return outcome(html.write, items, info=Info(**known), footnotes=footnotes, **settings)
 
 
 class Calls(unittest.TestCase):
     def test_rows_are_as_the_program_writes_them(self):
-        self.assertGreater(len(ROWS), 40)
+        self.assertGreater(len(ROWS), 3000)
         for row in ROWS:
             with self.subTest(row.input):
                 self.assertEqual(of_row(row), wanted(row))
 
     def test_documents_without_information_are_their_items(self):
         for row in ROWS:
-            if row.kind == 1:
+            if row.kind == 1 and not row.input.endswith(DEEPEST):
                 with self.subTest(row.input):
                     data = b'{"items":' + row.input + b"}"
                     found = outcome(html.write_json, data, kind="document", pretty=bool(row.layout))
@@ -137,7 +146,7 @@ class Calls(unittest.TestCase):
 
     def test_eight_threads_agree(self):
         with ThreadPoolExecutor(8) as threads:
-            for row, found in zip(ROWS * 50, threads.map(of_row, ROWS * 50)):
+            for row, found in zip(ROWS, threads.map(of_row, ROWS)):
                 self.assertEqual(found, wanted(row))
 
     def test_ten_megabytes(self):

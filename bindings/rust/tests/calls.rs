@@ -4,12 +4,21 @@ use serde_json::Value;
 use std::thread;
 use typst_html_proved::*;
 
-/// A worked row of the program, with what is to come of it.
+/// A worked row, with what is to come of it. One without a kind is a document.
 struct Row {
-    kind: Kind,
-    pretty: bool,
+    kind: Option<Kind>,
+    options: Options,
     input: Vec<u8>,
     wanted: Result<String, Refusal>,
+}
+
+impl Row {
+    fn written(&self) -> Result<String, Refusal> {
+        match self.kind {
+            Some(kind) => write_json(kind, &self.input, self.options.pretty),
+            None => write_document_json(&self.input, self.options),
+        }
+    }
 }
 
 fn bytes(value: &Value) -> Vec<u8> {
@@ -23,8 +32,12 @@ fn bytes(value: &Value) -> Vec<u8> {
 fn row(value: &Value) -> Row {
     let number = |name: &str| value[name].as_u64().unwrap();
     Row {
-        kind: [Kind::Tree, Kind::Items][number("kind") as usize],
-        pretty: number("layout") == 1,
+        kind: [Some(Kind::Tree), Some(Kind::Items), None][number("kind") as usize],
+        options: Options {
+            pretty: number("layout") == 1,
+            links: number("links") == 1,
+            limit: number("limit") as u32,
+        },
         input: bytes(&value["input"]),
         wanted: match number("status") {
             0 => Ok(String::from_utf8(bytes(&value["text"])).unwrap()),
@@ -37,7 +50,7 @@ fn row(value: &Value) -> Row {
     }
 }
 
-/// The rows of the program's tests, which bindings/rows.py writes into the file that TYPST_HTML_ROWS
+/// The rows of crates/tests_rows, which bindings/rows.py writes into the file that TYPST_HTML_ROWS
 /// names.
 fn rows() -> Vec<Row> {
     let path = std::env::var("TYPST_HTML_ROWS")
@@ -46,6 +59,9 @@ fn rows() -> Vec<Row> {
     let found: Vec<Value> = serde_json::from_slice(&text).unwrap();
     found.iter().map(row).collect()
 }
+
+/// How rows end whose JSON is as deep as it is read, so that it can't stand in an object.
+const DEEPEST: [u8; 127] = [b']'; 127];
 
 /// The JSON of a document of which nothing is known, around that of its items.
 fn document_around(items: &[u8]) -> Vec<u8> {
@@ -56,24 +72,16 @@ fn document_around(items: &[u8]) -> Vec<u8> {
 fn rows_are_as_the_program_writes_them() {
     for row in rows() {
         let what = String::from_utf8_lossy(&row.input);
-        assert_eq!(
-            write_json(row.kind, &row.input, row.pretty),
-            row.wanted,
-            "{what}"
-        );
+        assert_eq!(row.written(), row.wanted, "{what}");
     }
 }
 
 #[test]
 fn documents_without_information_are_their_items() {
     for row in rows() {
-        if row.kind == Kind::Items {
-            let options = Options {
-                pretty: row.pretty,
-                ..Options::default()
-            };
+        if row.kind == Some(Kind::Items) && !row.input.ends_with(&DEEPEST) {
             let input = document_around(&row.input);
-            assert_eq!(write_document_json(&input, options), row.wanted);
+            assert_eq!(write_document_json(&input, row.options), row.wanted);
         }
     }
 }
@@ -284,10 +292,8 @@ fn eight_threads_agree() {
     thread::scope(|scope| {
         for _ in 0..8 {
             scope.spawn(|| {
-                for _ in 0..20 {
-                    for row in &rows {
-                        assert_eq!(write_json(row.kind, &row.input, row.pretty), row.wanted);
-                    }
+                for row in &rows {
+                    assert_eq!(row.written(), row.wanted);
                 }
             });
         }
