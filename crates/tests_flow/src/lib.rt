@@ -1,38 +1,16 @@
-//! Tests over public calls: of items that arguments make, and that become nodes and documents, and of
-//! calls whose growths of memory are refused.
+//! Tests over public calls: of items that arguments make, of frames, and of calls whose growths of memory
+//! are refused. What items become is told by the rows of `tests_rows`.
 #![tactic(auto)]
 
 #[cfg(test)]
-mod anchors;
-#[cfg(test)]
 mod asserts;
-#[cfg(test)]
-mod bare;
-#[cfg(test)]
-mod blanks;
-#[cfg(test)]
-mod boxes;
-#[cfg(test)]
-mod checks;
 #[cfg(test)]
 mod construction;
 #[cfg(test)]
-mod depth;
-#[cfg(test)]
 mod documents;
 #[cfg(test)]
-mod given;
+mod faults;
+#[cfg(test)]
+mod frames;
 #[cfg(test)]
 mod growths;
-#[cfg(test)]
-mod judged;
-#[cfg(test)]
-mod links;
-#[cfg(test)]
-mod pages;
-#[cfg(test)]
-mod roles;
-#[cfg(test)]
-mod shown;
-#[cfg(test)]
-mod spans;

@@ -1,33 +1,14 @@
-//! Tests of a run of the program, over its public calls.
+//! Tests of a run of the program over readers and writers of their own, and of reading texts that are
+//! changed. Inputs and what is written for them are the rows of `tests_rows`.
 #![tactic(auto)]
 
 #[cfg(test)]
-mod anchors;
-#[cfg(test)]
-mod bytes;
-#[cfg(test)]
-mod characters;
-#[cfg(test)]
 mod devices;
-#[cfg(test)]
-mod documents;
-#[cfg(test)]
-mod examples;
-#[cfg(test)]
-mod large;
-#[cfg(test)]
-mod no_items;
 #[cfg(test)]
 mod no_memory;
 #[cfg(test)]
-mod pretty;
-#[cfg(test)]
-mod refused;
-#[cfg(test)]
-mod rows;
+mod reading;
 #[cfg(test)]
 mod runs;
 #[cfg(test)]
 mod spelled;
-#[cfg(test)]
-mod wrong;

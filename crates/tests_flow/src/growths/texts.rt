@@ -1,9 +1,9 @@
 //! Documents of items, and texts of trees and documents, plain and pretty.
 
+use crate::frames::frame_writer;
 use crate::growths::given::documents::{content_of, document_of, info_of};
 use crate::growths::given::element_of;
 use crate::growths::given::items::line_of;
-use crate::shown::frame_writer;
 use html_dom_document::DocumentInfo;
 use html_flow::Pair;
 use std::alloc::Global;

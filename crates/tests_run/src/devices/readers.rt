@@ -1,5 +1,5 @@
-use super::{INPUT, OUTPUT, cases};
-use crate::runs::{Group, PLAIN, answer, assert_run};
+use super::{CASES, Case, INPUT, OUTPUT};
+use crate::runs::{answer, assert_run};
 use html_tool_run::Status;
 use std::alloc::Global;
 use std::io;
@@ -82,40 +82,34 @@ fn long_input(rt: &impl Abort, alloc: Global, letters: usize) -> String {
 }
 
 /// Asserts that a read that fails ends the run: nothing is written, and nothing is read after that.
-fn assert_failed(
-    rt: &impl Abort,
-    alloc: Global,
-    group: &Group,
-    input: &str,
-    fails_at: usize,
-    kind: ErrorKind,
-) {
+fn assert_failed(rt: &impl Abort, alloc: Global, case: &Case, fails_at: usize, kind: ErrorKind) {
+    let Case { words, input, .. } = case;
     let mut reader = Drip::new(input.as_bytes(), fails_at, kind);
-    let (status, out) = answer(rt, alloc, group.words, &mut reader);
+    let (status, out) = answer(rt, alloc, words, &mut reader);
     assert!(rt; status == Status::Failed, "{input}");
     assert!(rt; out.is_empty(), "{input}");
     assert!(rt; reader.reads == fails_at.saturating_add(1), "{input}");
 }
 
 /// Asserts the same of each read.
-fn assert_each_failed(rt: &impl Abort, alloc: Global, group: &Group, input: &str) {
-    for fails_at in 0..=input.len() {
-        assert_failed(rt, alloc, group, input, fails_at, ErrorKind::Other);
+fn assert_each_failed(rt: &impl Abort, alloc: Global, case: &Case) {
+    for fails_at in 0..=case.input.len() {
+        assert_failed(rt, alloc, case, fails_at, ErrorKind::Other);
     }
 }
 
 /// What the input spells, and whether it spells anything, makes no difference.
 #[test]
 fn each_read_fails(rt: HostRuntime) {
-    for (group, input, _) in &cases() {
-        assert_each_failed(&rt, rt.alloc(), group, input);
+    for case in &CASES {
+        assert_each_failed(&rt, rt.alloc(), case);
     }
 }
 
 /// A read that was interrupted is not tried again.
 #[test]
 fn interrupted_read(rt: HostRuntime) {
-    assert_failed(&rt, rt.alloc(), &PLAIN, INPUT, 5, ErrorKind::Interrupted);
+    assert_failed(&rt, rt.alloc(), &CASES[0], 5, ErrorKind::Interrupted);
 }
 
 #[test]

@@ -1,5 +1,5 @@
-use super::cases;
-use crate::runs::{Group, whole, words};
+use super::{CASES, Case};
+use crate::runs::words;
 use html_tool_run::{Recorded, Status, run, run_recorded};
 use std::alloc::Global;
 use std::io;
@@ -57,142 +57,122 @@ impl Write for Slow {
     }
 }
 
-/// How a run on the input ends. Asserts what the writer has taken.
+/// How the run ends. Asserts that the writer has taken that much of what is written.
 fn status_of(
     rt: &impl Abort,
     alloc: Global,
-    list: &[&str],
-    input: &str,
+    case: &Case,
     writer: &mut Slow,
-    taken: &[u8],
+    length: usize,
 ) -> Status {
-    let words = words(rt, alloc, list);
-    let mut bytes = input.as_bytes();
+    let words = words(rt, alloc, case.words);
+    let mut bytes = case.input.as_bytes();
     let status = run(alloc, &mut bytes, &mut *writer, &words);
-    assert!(rt; writer.taken.as_slice() == taken, "{input}");
+    assert_taken(rt, case, writer, length);
     status
 }
 
+/// Asserts that the writer has taken that much of what is written.
+fn assert_taken(rt: &impl Abort, case: &Case, writer: &Slow, length: usize) {
+    let taken = case.text.as_bytes().get(..length);
+    assert!(rt; taken == Some(writer.taken.as_slice()), "{}", case.input);
+}
+
 /// Asserts that a run that remembers how its last call ended answers as one that does not.
-fn assert_recorded(rt: &impl Abort, alloc: Global, group: &Group, input: &str, text: &str) {
-    let words = words(rt, alloc, group.words);
-    let whole = whole(rt, alloc, group, text);
-    for fails_at in 0..=whole.len() {
+fn assert_recorded(rt: &impl Abort, alloc: Global, case: &Case) {
+    let words = words(rt, alloc, case.words);
+    for fails_at in 0..=case.text.len() {
         let mut writer = Slow::new(alloc, 1);
         writer.fails_at = fails_at;
-        let mut bytes = input.as_bytes();
+        let mut bytes = case.input.as_bytes();
         let status = run_recorded(alloc, &mut bytes, &mut Recorded::new(&mut writer), &words);
-        let taken = whole.as_bytes().get(..fails_at).expect(rt, "a beginning");
-        assert!(rt; writer.taken.as_slice() == taken, "{input}");
-        assert!(rt;
-            (status == group.status) == (fails_at == whole.len()),
-            "{input}"
-        );
+        assert_taken(rt, case, &writer, fails_at);
+        assert!(rt; (status == case.status) == (fails_at == case.text.len()));
     }
 }
 
 #[test]
 fn recorded_writes(rt: HostRuntime) {
-    for (group, input, text) in &cases() {
-        assert_recorded(&rt, rt.alloc(), group, input, text);
+    for case in &CASES {
+        assert_recorded(&rt, rt.alloc(), case);
     }
 }
 
 /// Asserts that a write that fails ends the run: a beginning was written, nothing is tried again,
 /// nothing is flushed.
-fn assert_failed(
-    rt: &impl Abort,
-    alloc: Global,
-    group: &Group,
-    input: &str,
-    text: &str,
-    fails_at: usize,
-) {
+fn assert_failed(rt: &impl Abort, alloc: Global, case: &Case, fails_at: usize) {
     let mut writer = Slow::new(alloc, 1);
     writer.fails_at = fails_at;
-    let whole = whole(rt, alloc, group, text);
-    let taken = whole.as_bytes().get(..fails_at).expect(rt, "a beginning");
-    let status = status_of(rt, alloc, group.words, input, &mut writer, taken);
-    assert!(rt; status == Status::Failed, "{input}");
-    assert!(rt; writer.flushes == 0, "{input}");
+    let status = status_of(rt, alloc, case, &mut writer, fails_at);
+    assert!(rt; status == Status::Failed, "{}", case.input);
+    assert!(rt; writer.flushes == 0, "{}", case.input);
 }
 
 /// Asserts the same of each write.
-fn assert_each_failed(rt: &impl Abort, alloc: Global, group: &Group, input: &str, text: &str) {
-    for fails_at in 0..whole(rt, alloc, group, text).len() {
-        assert_failed(rt, alloc, group, input, text, fails_at);
+fn assert_each_failed(rt: &impl Abort, alloc: Global, case: &Case) {
+    for fails_at in 0..case.text.len() {
+        assert_failed(rt, alloc, case, fails_at);
     }
 }
 
 #[test]
 fn each_write_fails(rt: HostRuntime) {
-    for (group, input, text) in &cases() {
-        assert_each_failed(&rt, rt.alloc(), group, input, text);
+    for case in &CASES {
+        assert_each_failed(&rt, rt.alloc(), case);
     }
 }
 
 /// Asserts that a write that takes no byte ends the run.
-fn assert_none_taken(rt: &impl Abort, alloc: Global, group: &Group, input: &str) {
+fn assert_none_taken(rt: &impl Abort, alloc: Global, case: &Case) {
     let mut writer = Slow::new(alloc, 0);
-    let status = status_of(rt, alloc, group.words, input, &mut writer, b"");
-    assert!(rt; status == Status::Failed, "{input}");
-    assert!(rt; writer.writes == 1, "{input}");
+    let status = status_of(rt, alloc, case, &mut writer, 0);
+    assert!(rt; status == Status::Failed, "{}", case.input);
+    assert!(rt; writer.writes == 1, "{}", case.input);
 }
 
 #[test]
 fn no_byte_a_write(rt: HostRuntime) {
-    for (group, input, _) in &cases() {
-        assert_none_taken(&rt, rt.alloc(), group, input);
+    for case in &CASES {
+        assert_none_taken(&rt, rt.alloc(), case);
     }
 }
 
 /// Asserts that all is written, so many bytes a write, and that the flush comes once, after the last
 /// write.
-fn assert_whole(
-    rt: &impl Abort,
-    alloc: Global,
-    group: &Group,
-    input: &str,
-    whole: &str,
-    most: usize,
-) {
+fn assert_whole(rt: &impl Abort, alloc: Global, case: &Case, most: usize) {
     let mut writer = Slow::new(alloc, most);
-    let taken = whole.as_bytes();
-    let status = status_of(rt, alloc, group.words, input, &mut writer, taken);
-    assert!(rt; status == group.status, "{input}");
-    assert!(rt; writer.is_flushed, "{input}");
-    assert!(rt; writer.flushes == 1, "{input}");
+    let status = status_of(rt, alloc, case, &mut writer, case.text.len());
+    assert!(rt; status == case.status, "{}", case.input);
+    assert!(rt; writer.is_flushed, "{}", case.input);
+    assert!(rt; writer.flushes == 1, "{}", case.input);
 }
 
 /// Asserts the same for each number of bytes.
-fn assert_each_whole(rt: &impl Abort, alloc: Global, group: &Group, input: &str, text: &str) {
-    let whole = whole(rt, alloc, group, text);
-    for most in 1usize..=whole.len() {
-        assert_whole(rt, alloc, group, input, &whole, most);
+fn assert_each_whole(rt: &impl Abort, alloc: Global, case: &Case) {
+    for most in 1usize..=case.text.len() {
+        assert_whole(rt, alloc, case, most);
     }
 }
 
 #[test]
 fn few_bytes_a_write(rt: HostRuntime) {
-    for (group, input, text) in &cases() {
-        assert_each_whole(&rt, rt.alloc(), group, input, text);
+    for case in &CASES {
+        assert_each_whole(&rt, rt.alloc(), case);
     }
 }
 
 /// Asserts that a flush that fails is a failed write, and is not tried again.
-fn assert_not_flushed(rt: &impl Abort, alloc: Global, group: &Group, input: &str, text: &str) {
+fn assert_not_flushed(rt: &impl Abort, alloc: Global, case: &Case) {
     let mut writer = Slow::new(alloc, 7);
     writer.flush_fails = true;
-    let whole = whole(rt, alloc, group, text);
-    let taken = whole.as_bytes();
-    let status = status_of(rt, alloc, group.words, input, &mut writer, taken);
-    assert!(rt; status == Status::Failed, "{input}");
-    assert!(rt; writer.flushes == 1, "{input}");
+    let status = status_of(rt, alloc, case, &mut writer, case.text.len());
+    assert!(rt; status == Status::Failed, "{}", case.input);
+    assert!(rt; writer.flushes == 1, "{}", case.input);
 }
 
 #[test]
 fn flush_fails(rt: HostRuntime) {
-    for (group, input, text) in &cases() {
-        assert_not_flushed(&rt, rt.alloc(), group, input, text);
+    for case in &CASES {
+        assert_not_flushed(&rt, rt.alloc(), case);
     }
 }

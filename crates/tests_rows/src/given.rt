@@ -1,0 +1,161 @@
+//! Items that a JSON value spells: a list of `["text",t]`, `["space"]`, `["break"]`, `["hole"]`,
+//! `["start",n]`, `["start",n,destination]`, `["start",n,destination,label]`, `["end",n]`,
+//! `["frame"]`, `["box",items]`, `["block",items]` and `["el",tag,[[name,value],..],items]`, with
+//! `null` for a body that is absent. An item may stand in `["role",text,item]`, in `["norole",item]`,
+//! or an element in `["css",name,value,item]`. The spans are the numbers of the items in the order of
+//! writing, from 1.
+
+use anyhow::{Context, Result, bail};
+use serde_json::Value;
+use std::alloc::Global;
+use typst_html::{
+    Abs, Frame, FrameElem, HtmlAttr, HtmlElem, HtmlTag, Item, Location, Pair, Role, Span, Tag,
+};
+
+/// The items of a JSON text.
+pub(crate) fn items_in(alloc: Global, json: &[u8]) -> Result<Vec<Pair>> {
+    items_of(alloc, &Value::from_slice(alloc, json)?, 0)
+}
+
+/// The items that a value spells, where the first has the number after that one.
+pub(crate) fn items_of(alloc: Global, value: &Value, last: u64) -> Result<Vec<Pair>> {
+    let mut number = last;
+    body_of(alloc, value, &mut number)?.context("items are wanted")
+}
+
+fn text_of(value: &Value) -> Result<&str> {
+    value.as_str().context("a text is wanted")
+}
+
+fn string_of(alloc: Global, value: &Value) -> Result<String> {
+    Ok(String::from_str(alloc, text_of(value)?)?)
+}
+
+fn location_of(value: &Value) -> Result<Location> {
+    Ok(Location(value.as_u64().context("a number is wanted")?))
+}
+
+fn list_of(value: &Value) -> Result<&[Value]> {
+    Ok(value.as_array().context("a list is wanted")?.as_slice())
+}
+
+#[cycle(items)]
+fn body_of(alloc: Global, value: &Value, number: &mut u64) -> Result<Option<Vec<Pair>>> {
+    let Value::Array(values) = value else {
+        return Ok(None);
+    };
+    let mut pairs = Vec::new(alloc);
+    for value in values {
+        pairs.push(pair_of(alloc, value, number)?)?;
+    }
+    Ok(Some(pairs))
+}
+
+#[cycle(items)]
+fn pair_of(alloc: Global, value: &Value, number: &mut u64) -> Result<Pair> {
+    let (role, value) = match list_of(value)? {
+        [kind, role, inner] if kind.as_str() == Some("role") => {
+            (Role::Set(string_of(alloc, role)?), inner)
+        }
+        [kind, inner] if kind.as_str() == Some("norole") => (Role::Unset, inner),
+        _ => (Role::Inherit, value),
+    };
+    let item = item_of(alloc, value, number)?;
+    Ok(Pair { item, role })
+}
+
+#[cycle(items)]
+fn item_of(alloc: Global, value: &Value, number: &mut u64) -> Result<Item> {
+    let (kind, fields) = list_of(value)?.split_first().context("a kind is wanted")?;
+    match (text_of(kind)?, fields) {
+        ("css", [name, text, inner]) => {
+            let item = item_of(alloc, inner, number)?;
+            styled(alloc, item, text_of(name)?, text)
+        }
+        ("el", [tag, attrs, inner]) => {
+            let span = next_span(number);
+            let body = body_of(alloc, inner, number)?;
+            let element = element_of(alloc, tag, attrs)?.spanned(span);
+            Ok(Item::Element(HtmlElem { body, ..element }))
+        }
+        ("box", [inner]) => {
+            let span = next_span(number);
+            Ok(Item::Box(body_of(alloc, inner, number)?, span))
+        }
+        ("block", [inner]) => {
+            let span = next_span(number);
+            Ok(Item::Block(body_of(alloc, inner, number)?, span))
+        }
+        (kind, fields) => leaf(alloc, kind, fields, next_span(number)),
+    }
+}
+
+fn next_span(number: &mut u64) -> Span {
+    *number = number.saturating_add(1);
+    Span(*number)
+}
+
+/// An item without a body.
+fn leaf(alloc: Global, kind: &str, fields: &[Value], span: Span) -> Result<Item> {
+    let item = match (kind, fields) {
+        ("text", [text]) => Item::Text(string_of(alloc, text)?, span),
+        ("space", []) => Item::Space(span),
+        ("break", []) => Item::LineBreak(span),
+        ("hole", []) => Item::Hole,
+        ("frame", []) => Item::Frame(drawing(alloc, span)),
+        ("start", [location, known @ ..]) => Item::Tag(start(alloc, location, known)?),
+        ("end", [location]) => Item::Tag(Tag::End {
+            location: location_of(location)?,
+        }),
+        _ => bail!("no item: {kind}"),
+    };
+    Ok(item)
+}
+
+/// A start tag with what is known of it: a destination, or a destination and a label.
+fn start(alloc: Global, location: &Value, known: &[Value]) -> Result<Tag> {
+    let (dest, label) = match known {
+        [] => (None, None),
+        [dest] => (Some(location_of(dest)?), None),
+        [dest, label, ..] => (Some(location_of(dest)?), Some(string_of(alloc, label)?)),
+    };
+    let location = location_of(location)?;
+    Ok(Tag::Start {
+        location,
+        label,
+        dest,
+    })
+}
+
+fn drawing(alloc: Global, span: Span) -> FrameElem {
+    FrameElem {
+        frame: Frame {
+            picture: 1,
+            items: Vec::new(alloc),
+        },
+        text_size: Abs::from_millionths(0),
+        span,
+    }
+}
+
+/// The element of that tag and those attributes.
+fn element_of(alloc: Global, tag: &Value, attrs: &Value) -> Result<HtmlElem> {
+    let mut element = HtmlElem::new(alloc, HtmlTag::intern(alloc, text_of(tag)?)?);
+    for attr in list_of(attrs)? {
+        let [name, value] = list_of(attr)? else {
+            bail!("a name and a value are wanted");
+        };
+        let name = HtmlAttr::intern(alloc, text_of(name)?)?;
+        element = element.with_attr(name, string_of(alloc, value)?)?;
+    }
+    Ok(element)
+}
+
+/// An element with one more property.
+fn styled(alloc: Global, item: Item, name: &str, value: &Value) -> Result<Item> {
+    let Item::Element(mut element) = item else {
+        bail!("an element is wanted");
+    };
+    element.css.push(name, string_of(alloc, value)?)?;
+    Ok(Item::Element(element))
+}

@@ -1,0 +1,117 @@
+//! What items become as nodes.
+
+use crate::frames::OneText;
+use crate::given::items_in;
+use crate::row::Row;
+use crate::runs::told;
+use anyhow::{Result, bail, ensure};
+use std::alloc::{AllocError, Global};
+use tests_reading::reads_back;
+use typst_html::{
+    ConversionLevel, FlatTree, FlowFault, HtmlElement, HtmlNode, HtmlOptions, Span, Whitespace,
+    bare_spaces, convert_to_nodes, html_block_fragment, html_in_bundle, html_inline_fragment,
+    html_math_fragment, is_depth_limit, resolve_inline_styles, tag,
+};
+
+/// How deep the bodies of items may stand where that is not said.
+const DEPTH_LIMIT: usize = 50;
+
+/// The nodes of the row's items, or why there are none.
+fn nodes_of(
+    alloc: Global,
+    row: &Row<'_>,
+    level: ConversionLevel,
+    space: Whitespace,
+) -> Result<Result<Vec<HtmlNode>, FlowFault>> {
+    let items = items_in(alloc, &row.input)?;
+    let limit = row.number("limit", DEPTH_LIMIT)?;
+    let depth = row.number("depth", 0)?;
+    ensure!(is_depth_limit(limit) && depth <= limit, "no depth");
+    let role = row.value("role");
+    Ok(convert_to_nodes(alloc, &items, level, space, role, depth, limit))
+}
+
+/// What stands in a `body` of the nodes of the row's items.
+pub(crate) fn converted(alloc: Global, row: &Row<'_>) -> Result<String> {
+    let (level, space) = match row.words.as_slice() {
+        [_, "block", "normal", ..] => (ConversionLevel::Block, Whitespace::Normal),
+        [_, "block", "pre", ..] => (ConversionLevel::Block, Whitespace::Pre),
+        [_, "inline", "normal", ..] => (ConversionLevel::Inline, Whitespace::Normal),
+        [_, "inline", "pre", ..] => (ConversionLevel::Inline, Whitespace::Pre),
+        _ => bail!("a level and white space are wanted"),
+    };
+    html_or_refusal(alloc, nodes_of(alloc, row, level, space)?)
+}
+
+/// The same of a fragment.
+pub(crate) fn fragment(alloc: Global, row: &Row<'_>, call: &str) -> Result<String> {
+    let items = items_in(alloc, &row.input)?;
+    let limit = row.number("limit", DEPTH_LIMIT)?;
+    let depth = row.number("depth", 0)?;
+    ensure!(is_depth_limit(limit), "no limit");
+    let (span, space) = (FRAGMENT, Whitespace::Normal);
+    let nodes = match call {
+        "block-fragment" => html_block_fragment(alloc, &items, span, space, None, depth, limit),
+        "inline-fragment" => html_inline_fragment(alloc, &items, span, space, None, depth, limit),
+        _ => html_math_fragment(alloc, &items, span, space, None, depth, limit),
+    };
+    html_or_refusal(alloc, nodes)
+}
+
+/// The span of a fragment.
+const FRAGMENT: Span = Span(9);
+
+/// What stands in a `body` of these nodes, or the refusal.
+fn html_or_refusal(alloc: Global, nodes: Result<Vec<HtmlNode>, FlowFault>) -> Result<String> {
+    match nodes {
+        Ok(nodes) => html_of(alloc, nodes),
+        Err(FlowFault::TooDeep { span }) => Ok(format!(in alloc; "refused 8 at {}", span.0)?),
+        Err(fault) => Err(fault.into()),
+    }
+}
+
+/// What stands in a `body` of these nodes. The text is read back.
+fn html_of(alloc: Global, nodes: Vec<HtmlNode>) -> Result<String> {
+    let mut body = HtmlElement::new(alloc, tag::body).with_children(nodes);
+    resolve_inline_styles(alloc, &mut body)?;
+    let options = HtmlOptions::default();
+    let text = html_in_bundle(alloc, &body, &options, &OneText::new(alloc)?)?;
+    ensure!(
+        reads_back(alloc, &body, &options, &text),
+        "not read back: {text}"
+    );
+    told(alloc, &text, ("<!DOCTYPE html><body>", "</body>"))
+}
+
+/// The spans of the nodes of the row's items, those of an element's children in brackets.
+pub(crate) fn spans(alloc: Global, row: &Row<'_>) -> Result<String> {
+    let nodes = nodes_of(alloc, row, ConversionLevel::Block, Whitespace::Normal)??;
+    let mut spans = String::new(alloc);
+    add_spans(&mut spans, &nodes)?;
+    Ok(String::from_str(alloc, spans.trim_start())?)
+}
+
+fn add_spans(spans: &mut String, nodes: &[HtmlNode]) -> Result<(), AllocError> {
+    for node in nodes {
+        write!(spans, " {}", node.span().0)?;
+        if let HtmlNode::Element(element) = node {
+            spans.push_str(" (")?;
+            add_spans(spans, &element.children)?;
+            spans.push_str(" )")?;
+        }
+    }
+    Ok(())
+}
+
+/// For each lone space of the row's items 1 if it is bare and else 0, and how many nodes were looked
+/// at. The items become nodes where white space stays, so that each text is one.
+pub(crate) fn bare(alloc: Global, row: &Row<'_>) -> Result<String> {
+    let nodes = nodes_of(alloc, row, ConversionLevel::Inline, Whitespace::Pre)??;
+    let found = bare_spaces(alloc, &FlatTree::from_nodes(alloc, &nodes)?)?;
+    let mut bare = String::new(alloc);
+    for is_bare in &found.bare {
+        bare.push(if *is_bare { '1' } else { '0' })?;
+    }
+    write!(bare, " in {}", found.turns)?;
+    Ok(bare)
+}

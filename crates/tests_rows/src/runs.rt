@@ -1,0 +1,107 @@
+//! Runs of the program, and their outputs.
+//!
+//! The output of a run is
+//!
+//! - `refused 12 at 4` where the number and the span of a refusal are written,
+//! - `bad input`, or `wrong words` where the words are wrong and nothing is read,
+//! - else the text. Of a tree all behind the document type is told; of items what stands in the body, if
+//!   all around it is as it is where nothing is known of a document. What `--pretty` writes at the
+//!   beginning and at the end is left away too.
+//!
+//! A text has to be read back as the tree that it was written of.
+
+use crate::row::Row;
+use anyhow::{Context, Result, ensure};
+use html_tool_run::{Status, element_in, items_in, run, wanted_task};
+use serde_json::Value;
+use std::alloc::Global;
+use tests_reading::reads_back;
+use typst_html::{DocumentInfo, HtmlOptions, html_document};
+
+/// How deep the bodies of items may stand.
+const DEPTH_LIMIT: usize = 50;
+
+/// What stands before and behind the body of a document of which nothing is known.
+pub(crate) const PLAIN: (&str, &str) = (
+    concat!(
+        r#"<!DOCTYPE html><html lang="en"><head><meta charset="utf-8">"#,
+        r#"<meta name="viewport" content="width=device-width, initial-scale=1"></head><body>"#,
+    ),
+    "</body></html>",
+);
+
+/// The same in pretty text.
+const PRETTY: (&str, &str) = (
+    concat!(
+        "<!DOCTYPE html>\n<html lang=\"en\">\n  <head>\n    <meta charset=\"utf-8\">\n",
+        "    <meta name=\"viewport\" content=\"width=device-width, initial-scale=1\">\n",
+        "  </head>\n  <body>",
+    ),
+    "\n  </body>\n</html>\n",
+);
+
+/// What a run of the program on the input writes, and how it ends.
+pub(crate) fn output(alloc: Global, row: &Row<'_>) -> Result<String> {
+    let mut words = Vec::new(alloc);
+    for word in &row.words {
+        words.push(String::from_str(alloc, word)?)?;
+    }
+    let mut reader = row.input.as_slice();
+    let mut written = Vec::new(alloc);
+    let status = run(alloc, &mut reader, &mut written, &words);
+    let text = String::from_utf8(written)?;
+    match status {
+        Status::Done => {
+            ensure!(is_read_back(alloc, row, &text)?, "not read back: {text}");
+            told(alloc, &text, frame_of(&row.words))
+        }
+        Status::Refused => {
+            let refusal = text.strip_prefix("refused: ").context("no refusal")?;
+            Ok(format!(in alloc; "refused {}", line(refusal)?)?)
+        }
+        Status::BadInput if wanted_task(&words).is_none() => {
+            ensure!(line(&text)? == "bad input", "{text}");
+            ensure!(reader == row.input.as_slice(), "something was read");
+            Ok(String::from_str(alloc, "wrong words")?)
+        }
+        Status::BadInput => Ok(String::from_str(alloc, line(&text)?)?),
+        Status::Failed => Ok(String::from_str(alloc, "failed")?),
+    }
+}
+
+/// The line that a text is.
+fn line(text: &str) -> Result<&str> {
+    text.strip_suffix('\n').context("no line")
+}
+
+/// What stands around the part of a text that is told.
+fn frame_of(words: &[&str]) -> (&'static str, &'static str) {
+    match words {
+        ["tree"] => ("<!DOCTYPE html>", ""),
+        ["tree", ..] => ("<!DOCTYPE html>\n", "\n"),
+        ["doc"] => PLAIN,
+        _ => PRETTY,
+    }
+}
+
+/// The part of a text that is told: what stands between these two, or else the whole text.
+pub(crate) fn told(alloc: Global, text: &str, (before, behind): (&str, &str)) -> Result<String> {
+    let rest = text.strip_prefix(before);
+    let part = rest.and_then(|rest| rest.strip_suffix(behind));
+    Ok(String::from_str(alloc, part.unwrap_or(text))?)
+}
+
+/// Whether the text that was written for a row is read back.
+fn is_read_back(alloc: Global, row: &Row<'_>, text: &str) -> Result<bool> {
+    let pretty = row.words.len() == 2;
+    let options = HtmlOptions { pretty };
+    let value = Value::from_slice(alloc, &row.input)?;
+    if row.words.first() == Some(&"tree") {
+        let root = element_in(alloc, value).ok().context("no tree")?;
+        return Ok(reads_back(alloc, &root, &options, text));
+    }
+    let items = items_in(alloc, value).ok().context("no items")?;
+    let info = DocumentInfo::new(alloc);
+    let document = html_document(alloc, &items, &info, &[], DEPTH_LIMIT)?;
+    Ok(reads_back(alloc, document.root(), &options, text))
+}
