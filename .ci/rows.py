@@ -10,7 +10,7 @@ characters. In both, `⟨500*<p>⟩` stands for so many copies, in which each `%
 import re
 from hashlib import sha256
 from pathlib import Path
-from typing import Iterator, NamedTuple
+from typing import Callable, Iterator, NamedTuple
 
 DATA = Path(__file__).resolve().parent.parent / "crates" / "tests_rows" / "data"
 
@@ -91,21 +91,29 @@ def character(escape: re.Match[str]) -> str:
     return chr(int(code or low, 16))
 
 
-def copies(form: str) -> str:
+def unescaped(text: str) -> str:
+    """The text with what its escapes stand for."""
+    return ESCAPE.sub(character, text)
+
+
+def copies(form: str, plain: Callable[[str], str]) -> str:
     """What copies or a range of characters stand for."""
     times, star, text = form.partition("*")
     if not star:
         first, last = (int(code, 16) for code in form.split(".."))
         return "".join(map(chr, range(first, last + 1)))
+    text = plain(text)
     if "%" not in text:
         return text * int(times)
     return "".join(text.replace("%", str(number)) for number in range(1, int(times) + 1))
 
 
-def expanded(field: str, escaped: bool) -> bytes:
-    """The bytes of a field."""
-    text = ESCAPE.sub(character, field) if escaped else field
-    return FORM.sub(lambda form: copies(form[1]), text).encode(errors="surrogateescape")
+def expanded(field: str, plain: Callable[[str], str]) -> bytes:
+    """The bytes of a field, whose texts are read by that function."""
+    parts = FORM.split(field)
+    parts[::2] = map(plain, parts[::2])
+    parts[1::2] = (copies(form, plain) for form in parts[1::2])
+    return "".join(parts).encode(errors="surrogateescape")
 
 
 def read(file: str, number: int, line: str) -> Row:
@@ -118,7 +126,8 @@ def read(file: str, number: int, line: str) -> Row:
     words = first.split()
     escaped = words[-1:] == ["escaped"]
     words = tuple(words[:-1] if escaped else words)
-    return Row(file, number, words, expanded(rest[0], escaped), expanded(rest[1], True).decode())
+    given = expanded(rest[0], unescaped if escaped else str)
+    return Row(file, number, words, given, expanded(rest[1], unescaped).decode())
 
 
 def rows() -> Iterator[Row]:
