@@ -6,8 +6,6 @@ mod page;
 mod seen;
 mod shown;
 mod style;
-#[cfg(test)]
-mod tests;
 mod walk;
 
 pub use shown::{PageText, Shown};

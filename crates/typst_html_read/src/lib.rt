@@ -13,8 +13,6 @@ mod reader;
 mod reference;
 mod stack;
 mod tags;
-#[cfg(test)]
-mod tests;
 mod text;
 
 pub use fault::ReadFault;
