@@ -5,7 +5,7 @@ ghost use Rattle.std.specs.Prelude.{◌≤◌};
 use crate::frames::OneText;
 use crate::given::items_of;
 use crate::row::Row;
-use crate::runs::{PLAIN, told};
+use crate::runs::{PLAIN, inner_text};
 use anyhow::{Context, Result, ensure};
 use serde_json::{Map, Value};
 use std::alloc::Global;
@@ -98,15 +98,15 @@ impl Given {
     }
 
     /// What stands in the body, or the whole text, or the refusal.
-    fn told(&self, text: Result<String, ExportFault>) -> Result<String> {
+    fn text_or_refusal(&self, text: Result<String, ExportFault>) -> Result<String> {
         match text {
-            Ok(text) => told(self.alloc, &text, PLAIN),
+            Ok(text) => inner_text(self.alloc, &text, PLAIN),
             Err(fault) => refusal(self.alloc, &fault),
         }
     }
 
     /// The same of a document. The text is read back.
-    fn told_of(&self, document: Result<HtmlDocument, ExportFault>) -> Result<String> {
+    fn document_text(&self, document: Result<HtmlDocument, ExportFault>) -> Result<String> {
         let document = match document {
             Ok(document) => document,
             Err(fault) => return refusal(self.alloc, &fault),
@@ -117,7 +117,7 @@ impl Given {
             let is_read = reads_back(self.alloc, document.root(), &options, text);
             ensure!(is_read, "not read back: {text}");
         }
-        self.told(text)
+        self.text_or_refusal(text)
     }
 }
 
@@ -186,7 +186,7 @@ pub(crate) fn refusal(alloc: Global, fault: &ExportFault) -> Result<String> {
 /// The text of the document that the row's input spells: by all ways the same.
 pub(crate) fn text(alloc: Global, row: &Row<'_>) -> Result<String> {
     let given = Given::new(alloc, row)?;
-    let text = given.told_of(given.document())?;
+    let text = given.document_text(given.document())?;
     let Given {
         items,
         footnotes,
@@ -197,11 +197,11 @@ pub(crate) fn text(alloc: Global, row: &Row<'_>) -> Result<String> {
     let (options, frames) = (HtmlOptions::default(), OneText::new(alloc)?);
     let exported = export(alloc, items, info, footnotes, *limit, &options, &frames);
     ensure!(
-        given.told(exported)? == text,
+        given.text_or_refusal(exported)? == text,
         "another text is exported: {text}"
     );
     ensure!(
-        given.told_of(given.anchored())? == text,
+        given.document_text(given.anchored())? == text,
         "other anchors: {text}"
     );
     Ok(text)
@@ -210,7 +210,7 @@ pub(crate) fn text(alloc: Global, row: &Row<'_>) -> Result<String> {
 /// The same with links.
 pub(crate) fn linked_text(alloc: Global, row: &Row<'_>) -> Result<String> {
     let given = Given::new(alloc, row)?;
-    let text = given.told_of(given.linked())?;
+    let text = given.document_text(given.linked())?;
     let Given {
         items,
         footnotes,
@@ -221,7 +221,7 @@ pub(crate) fn linked_text(alloc: Global, row: &Row<'_>) -> Result<String> {
     let (options, frames) = (HtmlOptions::default(), OneText::new(alloc)?);
     let exported = export_linked(alloc, items, info, footnotes, *limit, &options, &frames);
     ensure!(
-        given.told(exported)? == text,
+        given.text_or_refusal(exported)? == text,
         "another text is exported: {text}"
     );
     Ok(text)

@@ -3,7 +3,7 @@
 use crate::frames::OneText;
 use crate::given::items_in;
 use crate::row::Row;
-use crate::runs::told;
+use crate::runs::inner_text;
 use anyhow::{Result, bail, ensure};
 use std::alloc::{AllocError, Global};
 use tests_reading::reads_back;
@@ -80,7 +80,7 @@ fn html_of(alloc: Global, nodes: Vec<HtmlNode>) -> Result<String> {
         reads_back(alloc, &body, &options, &text),
         "not read back: {text}"
     );
-    told(alloc, &text, ("<!DOCTYPE html><body>", "</body>"))
+    inner_text(alloc, &text, ("<!DOCTYPE html><body>", "</body>"))
 }
 
 /// The spans of the nodes of the row's items, those of an element's children in brackets.

@@ -2,7 +2,7 @@
 
 use crate::given::items_in;
 use crate::row::Row;
-use crate::runs::told;
+use crate::runs::inner_text;
 use anyhow::{Context, Result, ensure};
 use std::alloc::Global;
 use typst_html::{
@@ -43,7 +43,7 @@ pub(crate) fn read(alloc: Global, row: &Row<'_>) -> Result<String> {
     if text == page {
         return Ok(String::from_str(alloc, "same")?);
     }
-    told(alloc, &text, (DOCUMENT_TYPE, ""))
+    inner_text(alloc, &text, (DOCUMENT_TYPE, ""))
 }
 
 /// What is visible of the row's page.

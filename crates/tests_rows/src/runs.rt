@@ -4,9 +4,9 @@
 //!
 //! - `refused 12 at 4` where the number and the span of a refusal are written,
 //! - `bad input`, or `wrong words` where the words are wrong and nothing is read,
-//! - else the text. Of a tree all behind the document type is told; of items what stands in the body, if
-//!   all around it is as it is where nothing is known of a document. What `--pretty` writes at the
-//!   beginning and at the end is left away too.
+//! - else the text: of a tree all behind the document type; of items what stands in the body, if all
+//!   around it is as it is where nothing is known of a document, else the whole text. The line feeds
+//!   that `--pretty` writes at the beginning and at the end are left away too.
 //!
 //! A text has to be read back as the tree that it was written of.
 
@@ -53,7 +53,7 @@ pub(crate) fn output(alloc: Global, row: &Row<'_>) -> Result<String> {
     match status {
         Status::Done => {
             ensure!(is_read_back(alloc, row, &text)?, "not read back: {text}");
-            told(alloc, &text, frame_of(&row.words))
+            inner_text(alloc, &text, frame_of(&row.words))
         }
         Status::Refused => {
             let refusal = text.strip_prefix("refused: ").context("no refusal")?;
@@ -74,7 +74,7 @@ fn line(text: &str) -> Result<&str> {
     text.strip_suffix('\n').context("no line")
 }
 
-/// What stands around the part of a text that is told.
+/// What stands around the part of a text that is compared.
 fn frame_of(words: &[&str]) -> (&'static str, &'static str) {
     match words {
         ["tree"] => ("<!DOCTYPE html>", ""),
@@ -84,8 +84,12 @@ fn frame_of(words: &[&str]) -> (&'static str, &'static str) {
     }
 }
 
-/// The part of a text that is told: what stands between these two, or else the whole text.
-pub(crate) fn told(alloc: Global, text: &str, (before, behind): (&str, &str)) -> Result<String> {
+/// What stands between these two in a text, or else the whole text.
+pub(crate) fn inner_text(
+    alloc: Global,
+    text: &str,
+    (before, behind): (&str, &str),
+) -> Result<String> {
     let rest = text.strip_prefix(before);
     let part = rest.and_then(|rest| rest.strip_suffix(behind));
     Ok(String::from_str(alloc, part.unwrap_or(text))?)
