@@ -1,5 +1,5 @@
 -- What stands in a table of texts, and that an ascending one holds no text twice.
-use Rattle.std.proofs.Common.{◌≡◌, ℕ, zero, suc, ◌<◌, Bool, true, false, List, [], ◌∷◌, refl, sym, ap, ◌∙◌, length, get_or, arith, bytes_eq, ◌||◌}
+use Rattle.std.proofs.Common.{◌≡◌, ℕ, zero, suc, ◌<◌, true, false, List, [], ◌∷◌, refl, sym, ap, ◌∙◌, length, get_or, arith, bytes_eq}
 use Rattle.std.specs.Ordering.{nat_cmp, is_lt, is_eq}
 use Rattle.std.specs.declared.cmp.Ordering.{Ordering}
 use Rattle.std.specs.declared.cmp.Ordering.TheVariants.{Less, Equal, Greater}
@@ -8,18 +8,15 @@ use Rattle.std.proofs.lemmas.Cmp.{nat_list_cmp_total}
 use Rattle.std.proofs.lemmas.Map.Text.{is_eq-slice_cmp}
 use Rattle.std.proofs.lemmas.Bool.{and_parts}
 use Rattle.std.proofs.lemmas.Slice.Eq.{bytes_eq-Decides}
+use Rattle.std.proofs.Math.Bool.{or-true}
 use Rattle.html_names.specs.Names.{stands_in, rises, is_below_first, is_ascii, are_ascii}
-
-pub or_true : (b : Bool) → (b || true) ≡ true
-or_true true = refl
-or_true false = refl
 
 pub stands : (names : List (List ℕ)) (n : ℕ) → n < length names →
     stands_in names (get_or names n []) ≡ true
 unfolding stands_in
 stands [] n h = absurd (omega arith)
 stands (m ∷ ms) zero h = rw ((bytes_eq-Decides m m).1 refl) refl
-stands (m ∷ ms) (suc n) h = rw (stands ms n (omega arith)) (or_true (bytes_eq m (get_or ms n [])))
+stands (m ∷ ms) (suc n) h = rw (stands ms n (omega arith)) (or-true (bytes_eq m (get_or ms n [])))
 
 pub ascii_at : (names : List (List ℕ)) (n : ℕ) → n < length names → are_ascii names ≡ true →
     is_ascii (get_or names n []) ≡ true

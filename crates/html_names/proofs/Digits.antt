@@ -14,7 +14,7 @@ use Rattle.html_names.proofs.Texts.{chars_add}
 digit_ascii : (c : ℕ) → digit_value c < 16 → c < 128
 digit_ascii c h = grind (arith, nat_tests)
 
-digits_ascii : (ds : List ℕ) → AllDigits 16 ds → IsAscii ds
+pub digits_ascii : (ds : List ℕ) → AllDigits 16 ds → IsAscii ds
 digits_ascii [] h = IsAscii-nil
 digits_ascii (c ∷ cs) h = IsAscii-cons c cs (digit_ascii c h.0) (digits_ascii cs h.1)
 

@@ -88,7 +88,7 @@ all_tag_ascii (c ∷ cs) h =
     let both = and_parts (is_tag_char c) (all is_tag_char cs) h in
     and_from (nat_lt c 128) (is_ascii cs) (tag_char_ascii c both.0) (all_tag_ascii cs both.1)
 
-tag_ascii : (t : List ℕ) → IsOf is_tag_char t → is_ascii t ≡ true
+pub tag_ascii : (t : List ℕ) → IsOf is_tag_char t → is_ascii t ≡ true
 tag_ascii [] h = absurd h
 tag_ascii (c ∷ cs) h =
     and_from (nat_lt c 128) (is_ascii cs) (tag_char_ascii c h.0) (all_tag_ascii cs h.1)

@@ -1,7 +1,7 @@
 -- Nothing is wrong with a known name, but for the one that is reserved.
 use Rattle.std.proofs.Common.{◌≡◌, ℕ, zero, suc, ◌+◌, ◌<◌, ◌==◌, Bool, true, false, not, ◌||◌, ◌&&◌, List, [], ◌∷◌, refl, sym, ◌∙◌, length, get_or, arith, find, None}
 use Rattle.std.specs.List.{list_any}
-use Rattle.std.proofs.lemmas.Bool.{and_parts, eqb-true}
+use Rattle.std.proofs.lemmas.Bool.{and_parts, eqb-true, not-true}
 use Rattle.html_names.specs.Characters.{all, IsOf, is_tag_char, is_attr_char, is_hyphen}
 use Rattle.html_names.specs.Names.{IsPlace, tag_fault, attr_fault}
 use Rattle.html_names.specs.Tables.{known_tags, known_attrs}
@@ -36,10 +36,6 @@ are_plain one place [] = true
 are_plain one place (n ∷ ns) =
     (place == one || not (list_any is_hyphen n)) && are_plain one (suc place) ns
 
-no : (b : Bool) → not b ≡ true → b ≡ false
-no true h = cc
-no false h = refl
-
 here : (one place : ℕ) (b c : Bool) → (place == one) ≡ b → (place ≡ one → ⊥) → (b || c) ≡ true →
     c ≡ true
 here one place true c e other h = absurd (other (eqb-true place one e))
@@ -50,7 +46,7 @@ plain_at : (one place n k : ℕ) (names : List (List ℕ)) → k < length names 
 plain_at one place n k [] l e other h = absurd (omega arith)
 plain_at one place n zero (t ∷ ts) l e other h =
     let is : place ≡ n = omega arith in
-    no _ (here one place _ _ refl (λ p. other (sym is ∙ p)) (and_parts _ _ h).0)
+    not-true _ (here one place _ _ refl (λ p. other (sym is ∙ p)) (and_parts _ _ h).0)
 plain_at one place n (suc k) (t ∷ ts) l e other h =
     plain_at one (suc place) n k ts (omega arith) (omega arith) other (and_parts _ _ h).1
 

@@ -1,19 +1,13 @@
 -- Texts in bytes and in characters.
-use Rattle.std.proofs.Common.{◌≡◌, ℕ, true, List, [], ◌∷◌, refl, sym, ap, ◌∙◌, bytes_eq, chars, ltb-true}
+use Rattle.std.proofs.Common.{◌≡◌, ℕ, true, List, [], ◌∷◌, refl, sym, ap, ◌∙◌, bytes_eq, chars}
 use Rattle.std.specs.Bool.{one_answer}
-use Rattle.std.specs.Str.{IsUtf8, IsAscii}
+use Rattle.std.specs.Str.{IsUtf8}
 use Rattle.std.proofs.lemmas.Bool.{and_parts}
 use Rattle.std.proofs.lemmas.Slice.Eq.{bytes_eq-Decides}
 use Rattle.std.proofs.lemmas.Str.{chars-IsAscii, encodes-chars, IsUtf8-from_ascii}
-use Rattle.std.proofs.lemmas.Str.Ascii.{IsAscii-nil, IsAscii-cons}
 use lib.Utf8.{encodes}
 use Rattle.html_names.specs.Names.{stands_in, is_ascii, are_ascii}
-
--- ASCII is its own characters
-is_ascii_is : (s : List ℕ) → is_ascii s ≡ true → IsAscii s
-is_ascii_is [] h = IsAscii-nil
-is_ascii_is (c ∷ cs) h = IsAscii-cons c cs (ltb-true c 128 (and_parts _ _ h).0)
-    (is_ascii_is cs (and_parts _ _ h).1)
+use Rattle.html_names.proofs.Basics.{is_ascii_is}
 
 pub chars_ascii : (s : List ℕ) → is_ascii s ≡ true → chars s ≡ s
 chars_ascii s h = chars-IsAscii s (is_ascii_is s h)

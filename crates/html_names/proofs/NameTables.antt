@@ -2,10 +2,10 @@
 use Rattle.std.proofs.Common.{◌≡◌, ℕ, zero, suc, ◌+◌, ◌<◌, ◌≤◌, Bool, true, false, ◌||◌, if◌then◌else◌, List, [], ◌∷◌, ◌++◌, refl, sym, ap, ◌∙◌, length, arith, bytes_eq, add-one, append-nil, length-append, Some, None, Ok, unwrap_or}
 use Rattle.std.proofs.lemmas.Bool.{eq-eqb}
 use Rattle.std.proofs.lemmas.Slice.Eq.{bytes_eq-Decides}
+use Rattle.std.proofs.Math.Bool.{or-true}
 use Rattle.html_names.specs.Names.{stands_in}
 use Rattle.html_names.specs.NameTables.{NamesView, Numbers, number_in, with_name, name_at}
 use Rattle.html_names.specs.NumberMaps.{number_where}
-use Rattle.html_names.proofs.Ascending.{or_true}
 
 same : (name : List ℕ) → bytes_eq name name ≡ true
 same name = (bytes_eq-Decides name name).1 refl
@@ -96,7 +96,7 @@ pub stands_in-last : (names : List (List ℕ)) (name : List ℕ) →
     stands_in (names ++ name ∷ []) name ≡ true
 unfolding stands_in
 stands_in-last [] name = rw (same name) refl
-stands_in-last (n ∷ ns) name = rw (stands_in-last ns name) (or_true (bytes_eq n name))
+stands_in-last (n ∷ ns) name = rw (stands_in-last ns name) (or-true (bytes_eq n name))
 
 pub number_in-last : (names : List (List ℕ)) (name : List ℕ) →
     number_in (names ++ name ∷ []) name ≡ number_in names name

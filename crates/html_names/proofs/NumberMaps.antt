@@ -1,5 +1,5 @@
 -- The numbers of names as they are held, against the list of their texts.
-use Rattle.std.proofs.Common.{◌≡◌, ℕ, ◌+◌, ◌<◌, ◌≤◌, ltb, ltb-true, ltb-false, Bool, true, false, ◌||◌, if◌then◌else◌, List, [], ◌∷◌, ◌++◌, refl, sym, ap, ◌∙◌, length, get_or, arith, bytes_eq, length-append, Some, None, string_bytes, String, Global}
+use Rattle.std.proofs.Common.{◌≡◌, ℕ, ◌+◌, ◌<◌, ◌≤◌, ltb, ltb-true, ltb-false, Bool, true, false, if◌then◌else◌, List, [], ◌∷◌, ◌++◌, refl, sym, ap, ◌∙◌, length, get_or, arith, bytes_eq, length-append, Some, None, string_bytes, String, Global}
 use Rattle.std.specs.BTreeMap.{UpdatesBy}
 use Rattle.std.specs.String.{string_cmp}
 use Rattle.std.specs.Cmp.Lexicographic.{slice_cmp}
@@ -44,10 +44,6 @@ pub numbered : (names : List (List ℕ)) (name : List ℕ) → IsNumbered names 
 numbered names name all new number h =
     numbered_at names name number (ltb number (length names)) all new
     (omega (arith, length-append names (name ∷ []))) refl
-
-or_false : (b : Bool) → (b || false) ≡ b
-or_false true = refl
-or_false false = refl
 
 -- a text that is not the last stands among the names as before
 others_stand : (names : List (List ℕ)) (name other : List ℕ) → bytes_eq name other ≡ false →

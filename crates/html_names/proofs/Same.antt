@@ -1,6 +1,5 @@
 -- Names are equal where they are held alike.
 use Rattle.std.proofs.Common.{◌≡◌, ℕ, ◌<◌, ◌≤◌, ◌==◌, ltb, ltb-true, ltb-false, Bool, true, false, List, [], refl, sym, ◌∙◌, chars, length, get_or, arith, bytes_eq, string_bytes}
-use Rattle.std.specs.Bool.{one_answer}
 use Rattle.std.proofs.lemmas.Bool.{eqb-true, eqb-false}
 use Rattle.std.proofs.lemmas.Slice.Eq.{bytes_eq-Decides}
 use Rattle.std.proofs.lemmas.Str.{IsUtf8-string_bytes}
@@ -12,13 +11,7 @@ use Rattle.html_names.specs.declared.name.Name.{Name}
 use Rattle.html_names.specs.declared.name.Name.TheVariants.{Known, Own}
 use Rattle.html_names.proofs.Lists.{bytes_eq-chars}
 use Rattle.html_names.proofs.Ascending.{places_differ, stands}
-
-flip : (a b : List ℕ) → bytes_eq a b ≡ false → bytes_eq b a ≡ false
-flip a b h =
-    sym
-    (one_answer (bytes_eq a b) (bytes_eq b a) (bytes_eq-Decides a b)
-    (λ e. sym ((bytes_eq-Decides b a).0 e), λ e. (bytes_eq-Decides b a).1 (sym e)))
-    ∙ h
+use Rattle.html_names.proofs.Basics.{bytes_eq-sym}
 
 -- a text outside the table is no text of it
 foreign : (table : List (List ℕ)) (n : ℕ) (t : List ℕ) (r : Bool) → n < length table →
@@ -36,8 +29,8 @@ module _ (count : ℕ) (table : List (List ℕ)) (p : ℕ → Bool) (up : rises 
   differ : (m n : ℕ) (b : Bool) → m < count → n < count → (m ≡ n → ⊥) → ltb m n ≡ b →
       bytes_eq (get_or table m []) (get_or table n []) ≡ false
   differ m n true h l ne e = places_differ table up m n (ltb-true m n e) (omega (arith, long, l))
-  differ m n false h l ne e = flip (get_or table n []) (get_or table m [])
-      (places_differ table up n m (below_from n m (ltb-false m n e) ne) (omega (arith, long, h)))
+  differ m n false h l ne e = bytes_eq-sym (get_or table m []) (get_or table n [])
+      ∙ (places_differ table up n m (below_from n m (ltb-false m n e) ne) (omega (arith, long, h)))
 
   places : (m n : ℕ) (b : Bool) → m < count → n < count → (m == n) ≡ b →
       b ≡ bytes_eq (get_or table m []) (get_or table n [])
@@ -59,7 +52,7 @@ module _ (count : ℕ) (table : List (List ℕ)) (p : ℕ → Bool) (up : rises 
   same_by (Own s) (Known n) h l =
       let text = chars (string_bytes s) in
       let differ = foreign table n text _ (omega (arith, long, l)) h.1 refl in
-      sym (flip (get_or table n []) text differ)
+      sym (bytes_eq-sym text (get_or table n []) ∙ differ)
 
 pub tag_same : (x y : Name) → IsHeld tag_count known_tags is_tag_char x →
     IsHeld tag_count known_tags is_tag_char y →

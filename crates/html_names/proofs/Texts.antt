@@ -1,19 +1,14 @@
 -- The characters of a text, and of one that grows.
-use Rattle.std.proofs.Common.{◌≡◌, ℕ, true, String, Global, string_bytes, List, [], ◌∷◌, ◌++◌, refl, sym, ap, ◌∙◌, chars, IsUtf8}
-use Rattle.std.proofs.lemmas.Bool.{and_from}
-use Rattle.std.proofs.lemmas.Str.{chars-append, chars-encodes, encodes-chars, IsUtf8-string_bytes}
-use Rattle.std.proofs.lemmas.List.{append-nil}
+use Rattle.std.proofs.Common.{◌≡◌, ℕ, true, String, Global, string_bytes, List, [], ◌∷◌, ◌++◌, sym, ap, ◌∙◌, chars, IsUtf8}
+use Rattle.std.proofs.lemmas.Str.{chars-append, encodes-chars, IsUtf8-string_bytes}
 use lib.Utf8.{scalar, encode, encodes}
 use Rattle.html_names.specs.Texts.{text_view}
+use Rattle.html_names.proofs.Basics.{chars-encode}
 
 -- texts with the same characters are equal
 pub text_views : (a b : String Global) → text_view a ≡ text_view b → string_bytes a ≡ string_bytes b
 text_views a b e = sym (encodes-chars (string_bytes a) (IsUtf8-string_bytes a))
     ∙ (ap encodes e ∙ encodes-chars (string_bytes b) (IsUtf8-string_bytes b))
-
-chars-encode : (c : ℕ) → scalar c ≡ true → chars (encode c) ≡ c ∷ []
-chars-encode c h = ap chars (sym (append-nil (encode c)))
-    ∙ chars-encodes (c ∷ []) (and_from (scalar c) true h refl)
 
 pub chars_push : (old new : List ℕ) (c : ℕ) → IsUtf8 old → scalar c ≡ true → new ≡ old ++ encode c →
     chars new ≡ chars old ++ c ∷ []

@@ -1,0 +1,69 @@
+-- General facts about tests, lists, texts and values that may be there.
+use Rattle.std.proofs.Common.{◌≡◌, ℕ, ◌<◌, Bool, true, false, ◌||◌, List, [], ◌∷◌, refl, sym, ap, ◌∙◌, bytes_eq, chars, ltb-true, ◌+◌, ◌-◌, ◌++◌, not, length, take, drop, get_or, arith, Option, Some, None}
+use Rattle.std.specs.Bool.{one_answer}
+use Rattle.std.specs.Str.{IsAscii}
+use Rattle.std.proofs.lemmas.Bool.{and_from, and_parts, false≢true}
+use Rattle.std.proofs.lemmas.List.{append-nil, take_at, drop_at, drop_more, length-append}
+use Rattle.std.proofs.lemmas.Slice.Eq.{bytes_eq-Decides}
+use Rattle.std.proofs.lemmas.Str.{chars-encodes}
+use Rattle.std.proofs.lemmas.Str.Ascii.{IsAscii-nil, IsAscii-cons}
+use Rattle.std.specs.Prelude.{is_some, is_none}
+use lib.Utf8.{scalar, encode}
+use Rattle.html_names.specs.Names.{is_ascii}
+use Rattle.html_names.specs.Characters.{all}
+
+-- the test of texts
+pub bytes_eq-same : (a b : List ℕ) → bytes_eq a b ≡ true → a ≡ b
+bytes_eq-same a b equal = (bytes_eq-Decides a b).0 equal
+
+pub bytes_eq-sym : (a b : List ℕ) → bytes_eq a b ≡ bytes_eq b a
+bytes_eq-sym a b =
+    one_answer (bytes_eq a b) (bytes_eq b a) (bytes_eq-Decides a b)
+    (λ e. sym (bytes_eq-same b a e), λ e. (bytes_eq-Decides b a).1 (sym e))
+
+-- ASCII is its own characters
+pub is_ascii_is : (s : List ℕ) → is_ascii s ≡ true → IsAscii s
+is_ascii_is [] h = IsAscii-nil
+is_ascii_is (c ∷ cs) h = IsAscii-cons c cs (ltb-true c 128 (and_parts _ _ h).0)
+    (is_ascii_is cs (and_parts _ _ h).1)
+
+-- a character alone
+pub chars-encode : (c : ℕ) → scalar c ≡ true → chars (encode c) ≡ c ∷ []
+chars-encode c h = ap chars (sym (append-nil (encode c)))
+    ∙ chars-encodes (c ∷ []) (and_from (scalar c) true h refl)
+
+-- the last of a list, taken off and alone
+pub last_taken : {A : Type 0} (front back : List A) (n : ℕ) → length back ≡ n →
+    take (length (front ++ back) - n) (front ++ back) ≡ front
+last_taken front back n is = take_at front back (length (front ++ back) - n)
+    (omega (arith, length-append front back, is))
+
+pub last_dropped : {A : Type 0} (front back : List A) (n : ℕ) → length back ≡ n →
+    drop (length (front ++ back) - n) (front ++ back) ≡ back
+last_dropped front back n is = drop_at front back (length (front ++ back) - n)
+    (omega (arith, length-append front back, is))
+
+-- what stands from a place on, with what stands there
+pub from_place : {A : Type 0} (xs : List A) (k : ℕ) (x : A) → k < length xs → x ≡ get_or xs k x →
+    drop k xs ≡ x ∷ drop (k + 1) xs
+from_place xs k x below is = drop_more xs k x below ∙ ap (λ y. y ∷ drop (k + 1) xs) (sym is)
+
+pub all_append : (p : ℕ → Bool) (xs ys : List ℕ) → all p xs ≡ true → all p ys ≡ true →
+    all p (xs ++ ys) ≡ true
+all_append p [] ys h k = k
+all_append p (x ∷ xs) ys h k =
+    let both = and_parts (p x) (all p xs) h in
+    and_from (p x) (all p (xs ++ ys)) both.0 (all_append p xs ys both.1 k)
+
+pub implied : (a b : Bool) → (not a || b) ≡ true → a ≡ true → b ≡ true
+implied true b holds is = holds
+implied false b holds is = absurd (false≢true is)
+
+-- no value is there
+pub none_from_not_some : {A : Type 0} (o : Option A) → is_some o ≡ false → o ≡ None
+none_from_not_some None absent = refl
+none_from_not_some (Some x) absent = absurd (false≢true (sym absent))
+
+pub none_from_is_none : {A : Type 0} (o : Option A) → is_none o ≡ true → o ≡ None
+none_from_is_none None absent = refl
+none_from_is_none (Some x) absent = absurd (false≢true absent)
