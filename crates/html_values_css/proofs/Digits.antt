@@ -1,5 +1,5 @@
 -- The digits of a fraction.
-use Rattle.std.proofs.Common.{◌≡◌, ℕ, zero, suc, ◌<◌, ◌≤◌, ◌^◌, ◌/◌, ◌%◌, ◌-◌, ◌+◌, ◌*◌, List, [], ◌∷◌, ◌++◌, refl, sub-one, append_assoc, append-nil, arith}
+use Rattle.std.proofs.Common.{◌≡◌, ℕ, zero, suc, ◌<◌, ◌≤◌, ◌^◌, ◌/◌, ◌%◌, ◌-◌, ◌+◌, ◌*◌, List, [], ◌∷◌, ◌++◌, sub-one, append_assoc, append-nil, arith}
 use Rattle.std.proofs.Math.Nat.{one-le-pow, div-lt_iff_lt-mul, div-le_self}
 use native.Mathlib.Numerals.{unary_clauses}
 use Rattle.std.proofs.Common.{ℤ, pos, negsuc, chars}
@@ -20,10 +20,6 @@ power_bound (suc (suc (suc (suc (suc k))))) h = absurd (omega arith)
 pub power_above : (k : ℕ) → 0 < 10 ^ k
 power_above k = omega (arith, one-le-pow k 10 (omega arith))
 
-pub fraction_digits-none : (k : ℕ) → fraction_digits k 0 ≡ []
-fraction_digits-none zero = refl
-fraction_digits-none (suc k) = refl
-
 pred_is : (k : ℕ) → suc k - 1 ≡ k
 pred_is k = omega arith
 
@@ -34,23 +30,17 @@ fraction_digits-step zero n h p = absurd (omega arith)
 fraction_digits-step (suc k) zero h p = absurd (omega arith)
 fraction_digits-step (suc k) (suc n) h p = rw (pred_is k)
 
--- a first digit is one digit
+-- the first digit of a fraction of one more decimal is one digit
+pub leading_digit : (k n : ℕ) → n < 10 ^ suc k → n / 10 ^ k < 10
+leading_digit k n p =
+    let tenfold : 10 ^ suc k ≡ 10 * 10 ^ k = simp unary_clauses (omega arith) in
+    (div-lt_iff_lt-mul {k = 10 ^ k} {x = n} {y = 10} (power_above k)).1 (rw tenfold at p)
+
 pub first_digit : (k n : ℕ) → 0 < k → n < 10 ^ k → n / 10 ^ (k - 1) < 10
 first_digit zero n h p = absurd (omega arith)
-first_digit (suc k) n h p =
-    let tenfold : 10 ^ suc k ≡ 10 * 10 ^ k = simp unary_clauses (omega arith) in
-    rw (pred_is k) ((div-lt_iff_lt-mul {k = 10 ^ k} {x = n} {y = 10} (power_above k)).1
-    (rw tenfold at p))
+first_digit (suc k) n h p = rw (pred_is k) (leading_digit k n p)
 
 pub ruleset append_steps = (append_assoc, append-nil)
-
-tenfold : (k : ℕ) → 10 ^ suc k ≡ 10 * 10 ^ k
-tenfold k = simp unary_clauses (omega arith)
-
--- the first digit of a fraction of one more decimal
-pub leading_digit : (k n : ℕ) → n < 10 ^ suc k → n / 10 ^ k < 10
-leading_digit k n p = (div-lt_iff_lt-mul {k = 10 ^ k} {x = n} {y = 10} (power_above k)).1
-    (rw (tenfold k) at p)
 
 fraction_ascii : (k n : ℕ) → n < 10 ^ k → IsAscii (fraction_digits k n)
 fraction_ascii zero n p = IsAscii-nil

@@ -1,5 +1,5 @@
 -- Properties are equal where their views are.
-use Rattle.std.proofs.Common.{◌≡◌, List, [], ◌∷◌, map, Bool, ◌++◌, String, Global, length, get_or, drop, refl, sym, ap, ◌∙◌, true≢false, string_bytes, chars, arith}
+use Rattle.std.proofs.Common.{◌≡◌, List, [], ◌∷◌, map, Bool, ◌++◌, String, Global, refl, sym, ap, ◌∙◌, true≢false, string_bytes, chars, ◌&&◌, Option, None, Some, option_map}
 use Rattle.std.specs.Hash as fed
 use Rattle.std.proofs.lemmas.Str.{encodes-chars, IsUtf8-string_bytes}
 use lib.Utf8.{encodes}
@@ -7,8 +7,10 @@ use Rattle.html_names.specs.Hashes.{pair_writes, pairs_writes}
 use Rattle.html_names.proofs.Equals.{hashed}
 use Rattle.std.specs.Bool.{Decides}
 use Rattle.std.specs.String.{string_eq}
-use Rattle.std.proofs.lemmas.Bool.{and_parts, and_from}
 use Rattle.std.proofs.lemmas.Slice.Eq.{bytes_eq-Decides}
+use Rattle.std.specs.Option.{option_eq}
+use Rattle.std.proofs.lemmas.Bool.Decides.{Decides-and}
+use Rattle.std.proofs.lemmas.Option.{none-some, same_Some}
 use lib.Pointwise.{pointwise}
 use Rattle.html_names.specs.Texts.{text_view}
 use Rattle.html_names.proofs.Texts.{text_views}
@@ -17,45 +19,48 @@ use Rattle.html_values_css.specs.declared.property.Property.{Property}
 use Rattle.html_values_css.specs.contracts.property.PropertyPartialEq.TheImpl as block
 use Rattle.html_values_css.specs.contracts.property.PropertyHash.TheImpl as hashing
 
--- where a test of two values decides that they have one view, so does the test of two lists
-pub lists_decide : {A B : Type 0} (E : A → A → Bool) (v : A → B)
-    → ((a b : A) → Decides (E a b) (v a ≡ v b)) → (xs ys : List A)
-    → Decides (pointwise E xs ys) (map v xs ≡ map v ys)
-lists_decide E v d [] [] = (λ _. refl, λ _. refl)
-lists_decide E v d [] (y ∷ ys) = (
-  λ h. absurd (true≢false (sym h)),
-  λ e. absurd
-      (omega (arith, ap length e)),
-)
-lists_decide E v d (x ∷ xs) [] = (
-  λ h. absurd (true≢false (sym h)),
-  λ e. absurd
-      (omega (arith, ap length e)),
-)
-lists_decide E v d (x ∷ xs) (y ∷ ys) =
-    let rest = lists_decide E v d xs ys in (
-      λ h. let both = and_parts (E x y) (pointwise E xs ys) h in
-          ap (λ a. a ∷ map v xs) ((d x y).0 both.0) ∙ ap (λ l. v y ∷ l) (rest.0 both.1),
-      λ e. and_from (E x y) (pointwise E xs ys) ((d x y).1 (ap (λ l. get_or l 0 (v x)) e))
-          (rest.1 (ap (drop 1) e)),
+-- two tests that decide the parts of pairs decide the pairs
+pub pairs_decide : {A B : Type 0} {a b : A} {c d : B} (first second : Bool) →
+    Decides first (a ≡ b) → Decides second (c ≡ d) →
+    Decides (first && second) (◌≡◌ {A = A × B} (a, c) (b, d))
+pairs_decide {A} {B} {a} {b} {c} {d} first second firsts seconds =
+    let both = Decides-and first second firsts seconds in (
+      λ h. let e = both.0 h in ap (λ x. (x, c)) e.0 ∙ ap (λ y. (b, y)) e.1,
+      λ e. both.1 (ap (λ p. p.0) e, ap (λ p. p.1) e),
     )
 
-text_decides : (a b : String Global) → Decides (string_eq a b) (text_view a ≡ text_view b)
+-- where a test decides what a view is, so it does for optional values and for lists
+module _ {A B : Type 0} (equal : A → A → Bool) (view : A → B)
+    (decides : (x y : A) → Decides (equal x y) (view x ≡ view y)) where
+  pub options_decide : (a b : Option A) →
+      Decides (option_eq equal a b) (option_map view a ≡ option_map view b)
+  options_decide None None = (λ h. refl, λ e. refl)
+  options_decide None (Some y) =
+      (λ h. absurd (true≢false (sym h)), λ e. absurd (none-some (view y) e))
+  options_decide (Some x) None =
+      (λ h. absurd (true≢false (sym h)), λ e. absurd (none-some (view x) (sym e)))
+  options_decide (Some x) (Some y) =
+      let one = decides x y in
+      (λ h. ap Some (one.0 h), λ e. one.1 (same_Some (view x) (view y) e))
+
+  pub lists_decide : (xs ys : List A) → Decides (pointwise equal xs ys) (map view xs ≡ map view ys)
+  lists_decide [] [] = (λ h. refl, λ e. refl)
+  lists_decide [] (y ∷ ys) = (λ h. absurd (true≢false (sym h)), λ e. cc)
+  lists_decide (x ∷ xs) [] = (λ h. absurd (true≢false (sym h)), λ e. cc)
+  lists_decide (x ∷ xs) (y ∷ ys) =
+      let rest = lists_decide xs ys in
+      let both = Decides-and (equal x y) (pointwise equal xs ys) (decides x y) rest in
+      (λ h. let e = both.0 h in cc, λ e. both.1 (cc, cc))
+
+pub text_decides : (a b : String Global) → Decides (string_eq a b) (text_view a ≡ text_view b)
 text_decides a b =
     let bytes = bytes_eq-Decides (string_bytes a) (string_bytes b) in
     (λ h. ap chars (bytes.0 h), λ e. bytes.1 (text_views a b e))
 
 pub one_decides : (a b : Property) → Decides (block.ghosts.eq a b)
     (property_view a ≡ property_view b)
-one_decides a b =
-    let name = text_decides a.name b.name in
-    let value = text_decides a.value b.value in (
-      λ h. let both = and_parts (string_eq a.name b.name) (string_eq a.value b.value) h in
-          ap (λ n. (n, text_view a.value)) (name.0 both.0)
-          ∙ ap (λ x. (text_view b.name, x)) (value.0 both.1),
-      λ e. and_from (string_eq a.name b.name) (string_eq a.value b.value) (name.1 (ap (λ p. p.0) e))
-          (value.1 (ap (λ p. p.1) e)),
-    )
+one_decides a b = pairs_decide (string_eq a.name b.name) (string_eq a.value b.value)
+    (text_decides a.name b.name) (text_decides a.value b.value)
 
 pub list_decides : (xs ys : List Property) → Decides (pointwise block.ghosts.eq xs ys)
     (list_view xs ≡ list_view ys)

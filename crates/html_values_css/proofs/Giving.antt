@@ -1,5 +1,5 @@
 -- Warnings that a sink is handed, one list after another.
-use Rattle.std.proofs.Common.{◌≡◌, List, [], ◌∷◌, ◌++◌, Result, Ok, Err, inl, inr, refl, sym, ap, subst, ◌∙◌, append_assoc, append-nil, Vec, Global, Option}
+use Rattle.std.proofs.Common.{◌≡◌, List, [], ◌∷◌, ◌++◌, Result, Ok, Err, inl, inr, sym, ap, subst, ◌∙◌, append_assoc, append-nil, Vec, Global, Option}
 use base.Fml.{GName}
 use Rattle.std.specs.declared.alloc.AllocError.{AllocError}
 use Rattle.html_values_css.specs.Sink.{SinkAnswers, TakesWarning, Given, Interrupted, Hands, KeepsWarning, AddsAtMost, StartsWith, GivenVector, HandsBegin}
@@ -7,12 +7,6 @@ use Rattle.html_values_css.proofs.Beginnings.{StartsWith-same, StartsWith-append
 use Rattle.html_values_css.specs.declared.sink.Warning.{Warning}
 
 module _ {S : Type 0} (takes : SinkAnswers S) where
-  -- handed none, a sink is as before
-  pub unchanged : {A E : Type 0} (r : Result A E) (old new : S) → new ≡ old
-      → Hands takes r old [] new
-  unchanged (Ok a) old new same = same
-  unchanged (Err e) old new same = same
-
   pub handed_none : {A E : Type 0} (r : Result A E) (old new : S) (ws : List Warning)
       → ws ≡ [] → Hands takes r old ws new → new ≡ old
   handed_none (Ok a) old new [] none same = same
@@ -55,12 +49,6 @@ module _ {S : Type 0} (takes : SinkAnswers S) where
       → Hands takes r old (first ++ second) new
   hands_then (Ok a) = given_then
   hands_then (Err e) = interrupted_then
-
-  -- one warning
-  pub hands_one : (r : Result (Unit {0}) AllocError) (old new : S) (w : Warning)
-      → takes old w r new → Hands takes r old (w ∷ []) new
-  hands_one (Ok u) old new w took = (new, took, refl)
-  hands_one (Err e) old new w took = inr (inl (e, took))
 
   -- what was handed to another list first is handed on
   pub given_on : (old new : S) (handed ws : List Warning) → handed ≡ ws

@@ -1,10 +1,11 @@
 -- What stands before a place of a text that grows, and what stands after it.
-use Rattle.std.proofs.Common.{◌≡◌, ℕ, ◌≤◌, List, [], ◌++◌, length, take, drop, Bool, true, false, ◌||◌, Result, Ok, Err, refl, sym, ap, subst, ◌∙◌, append_assoc, append-nil, codes, chars, IsUtf8, arith}
+use Rattle.std.proofs.Common.{◌≡◌, ℕ, ◌≤◌, List, [], ◌++◌, length, take, drop, Bool, false, ◌||◌, Result, Ok, Err, refl, sym, ap, subst, ◌∙◌, append_assoc, append-nil, codes, chars, IsUtf8, arith}
 use Rattle.std.proofs.lemmas.List.{take-append-drop, take-append-le, drop_all, append_cancel_left, length-append, length-take-le}
 use Rattle.std.proofs.Math.Seq.{drop-append_seam}
 use Rattle.std.proofs.lemmas.Str.{chars-nil, chars-append, encodes-chars, encodes-append}
 use Rattle.std.specs.Result.{OnOk, OnErr}
 use Rattle.std.specs.declared.alloc.AllocError.{AllocError}
+use Rattle.std.proofs.Math.Bool.{or-false}
 use lib.Utf8.{encodes}
 use Rattle.html_names.proofs.Lists.{chars_ascii}
 use Rattle.html_values_css.specs.Calc.{next_part_text, with_opening}
@@ -85,13 +86,9 @@ after_opening at b d within opened_is =
     ap chars rest ∙ chars-append t (drop at b) is_text
     ∙ ap (λ l. l ++ chars (drop at b)) (chars_ascii t refl)
 
-either_false : (f : Bool) → f ≡ (f || false)
-either_false true = refl
-either_false false = refl
-
 then_failed : (r : Result (Unit {0}) AllocError) (a b d f : Bool) → b ≡ (a || f)
     → OnOk r (d ≡ (b || false)) → OnOk r (d ≡ (a || f))
-then_failed (Ok x) a b d f p q = q ∙ sym (either_false b) ∙ p
+then_failed (Ok x) a b d f p q = q ∙ or-false b ∙ p
 then_failed (Err x) a b d f p q = tt
 
 then_kept : (r : Result (Unit {0}) AllocError) (a m d : List ℕ) → StartsWith m a
@@ -121,18 +118,6 @@ with_appended Zero own p = refl
 with_appended One own p = refl
 with_appended More own p = refl
 
--- a refusal while the part is appended
-pub Adds-refused : {S : Type 0} {takes : SinkAnswers S} (e e' : AllocError) (a b : WriterState S)
-    (t s : List ℕ) (ws : List Warning)
-    → Emits takes (Err e) a b t ws → SumsUp takes (Err e') a b s ws
-Adds-refused e e' a b t s ws emitted = record {
-  written = tt;
-  kept = emitted.kept;
-  failed = tt;
-  steady = emitted.steady;
-  given = emitted.given;
-}
-
 -- the opening, at the second part
 pub opens : {S : Type 0} {takes : SinkAnswers S} (parts : Parts) (a b : WriterState S) → parts ≡ One
     → b.text ≡ codes "calc(" ++ a.text → b.failed ≡ a.failed → b.sink ≡ a.sink
@@ -140,7 +125,7 @@ pub opens : {S : Type 0} {takes : SinkAnswers S} (parts : Parts) (a b : WriterSt
 opens parts a b second text f same = record {
   written = rw second text;
   kept = tt;
-  failed = f ∙ either_false a.failed;
+  failed = f ∙ sym (or-false a.failed);
   steady = λ _. f;
   given = same;
 }

@@ -58,7 +58,7 @@ inline_is (p ∷ ps) = rw (
 colon_chars : chars (codes ": ") ≡ codes ": "
 colon_chars = chars_ascii (codes ": ") refl
 
-semicolon_chars : chars (codes "; ") ≡ codes "; "
+pub semicolon_chars : chars (codes "; ") ≡ codes "; "
 semicolon_chars = chars_ascii (codes "; ") refl
 
 colon_text : IsUtf8 (codes ": ")

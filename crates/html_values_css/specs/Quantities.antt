@@ -40,15 +40,12 @@ abbrev pub fixed_text : ℕ → ℤ → List ℕ
 fixed_text k z = sign_text z (nearest_hundreds z) ++ decimal (nearest_hundreds z / 10 ^ k)
     ++ point_text k (nearest_hundreds z % 10 ^ k)
 
--- millionths of a point, of an em, of a degree, and of one
+-- millionths of a point, of an em, and of one
 abbrev pub abs_text : ℤ → List ℕ
 abs_text z = fixed_text 4 z ++ codes "pt"
 
 abbrev pub em_text : ℤ → List ℕ
 em_text z = fixed_text 4 z ++ codes "em"
-
-abbrev pub angle_text : ℤ → List ℕ
-angle_text z = fixed_text 4 z ++ codes "deg"
 
 -- a percent is 10^4 millionths of one
 abbrev pub ratio_text : ℤ → List ℕ
