@@ -43,6 +43,17 @@ pub last_dropped : {A : Type 0} (front back : List A) (n : ℕ) → length back 
 last_dropped front back n is = drop_at front back (length (front ++ back) - n)
     (omega (arith, length-append front back, is))
 
+-- how many stand before the rest, and what does
+pub front_length : {A : Type 0} (whole front rest : List A) → whole ≡ front ++ rest →
+    length front ≡ length whole - length rest
+front_length whole front rest e = omega (arith, ap length e, length-append front rest)
+
+pub front_taken : {A : Type 0} (whole front rest : List A) → whole ≡ front ++ rest →
+    take (length whole - length rest) whole ≡ front
+front_taken whole front rest e =
+    ap (λ n. take n whole) (sym (front_length whole front rest e))
+    ∙ (ap (take (length front)) e ∙ take_at front rest (length front) refl)
+
 -- what stands from a place on, with what stands there
 pub from_place : {A : Type 0} (xs : List A) (k : ℕ) (x : A) → k < length xs → x ≡ get_or xs k x →
     drop k xs ≡ x ∷ drop (k + 1) xs
