@@ -1,19 +1,11 @@
 -- The laws of folding attribute lists.
 use Rattle.std.proofs.Common.{◌≡◌, ℕ, Bool, true, false, not, List, [], ◌∷◌, ◌++◌, bytes_eq, Option, Some, None, refl, sym, ap, ◌∙◌}
 use Rattle.std.specs.Prelude.{if◌then◌else◌, is_some}
-use Rattle.std.proofs.lemmas.Bool.{and_parts, and_from, false_from_ne_true, false≢true}
-use Rattle.std.proofs.lemmas.Slice.Eq.{bytes_eq-Decides}
+use Rattle.std.proofs.lemmas.Bool.{and_parts, and_from, false≢true, not-true}
 use Rattle.html_dom_tree.specs.Tree.{TextPair}
 use Rattle.html_dom_tree.specs.Attributes.{first, has_name, with_new, union, names_differ, or_else, FindsInnerFirst, IsAssociative, KeepsOnNothing, DropsRepeats}
-
-or_else-assoc : {A : Type 0} (a b c : Option A) →
-    or_else (or_else a b) c ≡ or_else a (or_else b c)
-or_else-assoc None b c = refl
-or_else-assoc (Some x) b c = refl
-
-or_else-none : {A : Type 0} (a : Option A) → or_else a None ≡ a
-or_else-none None = refl
-or_else-none (Some x) = refl
+use Rattle.html_dom_tree.proofs.Basics.{or_else-assoc, or_else-none}
+use Rattle.html_names.proofs.Basics.{bytes_eq-same, bytes_eq-sym, none_from_not_some}
 
 one_by : (is_name : Bool) (value : List ℕ) (rest other : Option (List ℕ)) →
     (if is_name then Some value else or_else rest other)
@@ -28,9 +20,6 @@ first-append (x ∷ xs) ys name =
     ap (λ rest. if bytes_eq x.0 name then Some x.1 else rest) (first-append xs ys name)
     ∙ one_by (bytes_eq x.0 name) x.1 (first xs name) (first ys name)
 
-same_name : (a b : List ℕ) → bytes_eq a b ≡ true → a ≡ b
-same_name a b equal = (bytes_eq-Decides a b).0 equal
-
 some_by : (value : List ℕ) (found : Option (List ℕ)) → is_some found ≡ true →
     found ≡ or_else found (Some value)
 some_by value None there = absurd (false≢true there)
@@ -43,7 +32,7 @@ kept_by : (is_name : Bool) (name : List ℕ) (p : TextPair) (ps : List TextPair)
 kept_by false name p ps is there = sym (or_else-none (first ps name))
 kept_by true name p ps is there =
     some_by p.1 (first ps name)
-    (ap (λ n. is_some (first ps n)) (sym (same_name p.0 name is)) ∙ there)
+    (ap (λ n. is_some (first ps n)) (sym (bytes_eq-same p.0 name is)) ∙ there)
 
 first-with_new : (is_there : Bool) (ps : List TextPair) (p : TextPair) (name : List ℕ) →
     has_name ps p.0 ≡ is_there →
@@ -88,11 +77,6 @@ is_associative as' bs (p ∷ cs) =
 pub keeps_on_nothing : KeepsOnNothing
 keeps_on_nothing inner = refl
 
-other_way : (a b : List ℕ) → bytes_eq a b ≡ false → bytes_eq b a ≡ false
-other_way a b differ =
-    false_from_ne_true _
-    (λ e. false≢true (sym differ ∙ (bytes_eq-Decides a b).1 (sym (same_name b a e))))
-
 -- a name that is not in a list is neither its first nor in the rest
 differ_by : (is_name : Bool) (q p : TextPair) (qs : List TextPair) →
     bytes_eq q.0 p.0 ≡ is_name → has_name (q ∷ qs) p.0 ≡ false →
@@ -100,19 +84,15 @@ differ_by : (is_name : Bool) (q p : TextPair) (qs : List TextPair) →
 differ_by true q p qs is absent = absurd (false≢true (sym (rw is at absent)))
 differ_by false q p qs is absent = (is, rw is at absent)
 
-none_of : (found : Option (List ℕ)) → not (is_some found) ≡ true → found ≡ None
-none_of None absent = refl
-none_of (Some x) absent = absurd (false≢true absent)
-
 differ-push : (qs : List TextPair) (p : TextPair) → names_differ qs ≡ true → has_name qs p.0 ≡ false →
     names_differ (qs ++ p ∷ []) ≡ true
 differ-push [] p differ absent = refl
 differ-push (q ∷ qs) p differ absent =
     let parts = and_parts (not (has_name qs q.0)) (names_differ qs) differ in
     let both = differ_by (bytes_eq q.0 p.0) q p qs refl absent in
-    let other = other_way q.0 p.0 both.0 in
+    let other = bytes_eq-sym p.0 q.0 ∙ both.0 in
     let fresh : first (qs ++ p ∷ []) q.0 ≡ None =
-    first-append qs (p ∷ []) q.0 ∙ rw (none_of (first qs q.0) parts.0, other) refl in
+    first-append qs (p ∷ []) q.0 ∙ rw (none_from_not_some (first qs q.0) (not-true _ parts.0), other) refl in
     and_from (not (has_name (qs ++ p ∷ []) q.0)) (names_differ (qs ++ p ∷ []))
     (ap (λ o. not (is_some o)) fresh) (differ-push qs p parts.1 both.1)
 

@@ -1,4 +1,5 @@
 pub mod Attributes
+pub mod Basics
 pub mod Equals
 pub mod Folds
 pub mod Frames

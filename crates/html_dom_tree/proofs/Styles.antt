@@ -2,7 +2,6 @@
 use Rattle.std.proofs.Common.{◌≡◌, ℕ, ◌<◌, List, [], ◌∷◌, ◌++◌, length, map, codes, chars, IsUtf8, refl, sym, ap, ◌∙◌, arith}
 use Rattle.std.proofs.lemmas.Str.{chars-nil, encodes-chars}
 use lib.Utf8.{encodes}
-use Rattle.html_names.proofs.Lists.{chars_ascii}
 use Rattle.html_dom_tree.specs.Tree.{NodeView, node}
 use Rattle.html_dom_tree.specs.Views.{nodes_of}
 use Rattle.html_dom_tree.specs.Styled.{styled_node, styled_nodes, before_value}
@@ -28,6 +27,3 @@ before_some text bytes utf8 some = by (chars bytes) refl
     by [] none =
         absurd (omega (arith, some, ap length (sym (encodes-chars bytes utf8) ∙ ap encodes none)))
     by (c ∷ cs) is = refl
-
-pub semicolon : chars (codes "; ") ≡ codes "; "
-semicolon = chars_ascii (codes "; ") refl

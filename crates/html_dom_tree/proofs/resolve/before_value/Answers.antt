@@ -2,7 +2,8 @@ use Rattle.std.proofs.Common.{◌≡◌, ◌<◌, length, ap, sym, ◌∙◌, �
 use Rattle.std.proofs.lemmas.Str.{IsUtf8-string_bytes}
 use Rattle.html_names.proofs.Texts.{chars_add}
 use Rattle.html_dom_tree.specs.Views.{text_view}
-use Rattle.html_dom_tree.proofs.Styles.{before_nothing, before_some, semicolon}
+use Rattle.html_dom_tree.proofs.Styles.{before_nothing, before_some}
+use Rattle.html_values_css.proofs.Styles.{semicolon_chars}
 use Rattle.html_dom_tree.proofs.resolve.before_value.Goals as goal
 
 pub returns-then-is_empty : goal.returns-then-is_empty
@@ -20,7 +21,7 @@ returns c =
     let some : 0 < length (string_bytes value) = search rules in
     let one : text_view joined ≡ text ++ codes "; " =
     chars_add _ _ (codes "; ") (IsUtf8-string_bytes c.args.text) c.in_ok-push_str.ensures.bytes
-    ∙ ap (λ t. text ++ t) semicolon in
+    ∙ ap (λ t. text ++ t) semicolon_chars in
     chars_add _ _ pushed (IsUtf8-string_bytes joined) c.in_ok-push_str-2.ensures.bytes
     ∙ ap (λ t. t ++ chars pushed) one
     ∙ ap (λ b. text ++ codes "; " ++ chars b) c.as_str.ensures.value
