@@ -88,11 +88,9 @@ mutual
   unfolding node_flat node_count
 
   pub length_one : (place : ℕ) (n : NodeView) → length (node_flat place n) ≡ node_count n
-  length_one place (tag_node t) = refl
-  length_one place (text_node s span) = refl
   length_one place (element_node h ns) =
       let inside = length_all (place + 1) ns in omega (arith, inside)
-  length_one place (frame_node f) = refl
+  length_one place x = refl
 
   pub length_all : (place : ℕ) (ns : NodesView) → length (nodes_flat place ns) ≡ nodes_count ns
   length_all place none = refl

@@ -115,11 +115,9 @@ head_stays old new e grows given =
 
 node_stays : (old new : NamesView) (n : FlatNode) → Grows old new → is_node_given old n ≡ true →
     (flat_node_view new n ≡ flat_node_view old n) × (is_node_given new n ≡ true)
-node_stays old new (Tag t) grows given = (refl, refl)
-node_stays old new (Text s span) grows given = (refl, refl)
-node_stays old new (Frame f) grows given = (refl, refl)
 node_stays old new (Element e) grows given =
     let same = head_stays old new e grows given in rw same.0 (refl, same.1)
+node_stays old new x grows given = (refl, refl)
 
 pub views_stay : (old new : NamesView) (nodes : List FlatNode) → Grows old new →
     are_given old nodes ≡ true → flat_nodes_view new nodes ≡ flat_nodes_view old nodes

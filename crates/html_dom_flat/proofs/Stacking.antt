@@ -1,5 +1,5 @@
 -- The stack at the start of a list holds the nodes that the list spells.
-use Rattle.std.proofs.Common.{◌≡◌, ℕ, zero, suc, ◌+◌, ◌-◌, ◌<◌, Bool, true, false, if◌then◌else◌, nat_lt, List, [], ◌∷◌, ◌++◌, refl, ap, subst, sym, ◌∙◌, arith, map, length, drop, get_or, Some, None}
+use Rattle.std.proofs.Common.{◌≡◌, ℕ, zero, suc, ◌+◌, ◌-◌, ◌<◌, Bool, true, false, if◌then◌else◌, nat_lt, List, [], ◌∷◌, ◌++◌, refl, ap, subst, sym, ◌∙◌, arith, length, drop, get_or, None}
 use Rattle.std.proofs.lemmas.Bool.{ltb-true, lt-ltb}
 use Rattle.std.proofs.lemmas.List.{map-append, reverse-append}
 use Rattle.html_names.specs.NameTables.{NamesView}
@@ -8,7 +8,7 @@ use Rattle.html_dom_tree.specs.Views.{nodes_of}
 use Rattle.html_dom_tree.specs.declared.node.HtmlNode.{HtmlNode}
 use Rattle.html_dom_flat.specs.Flat.{FlatNodeView, flat_tag, flat_text, flat_frame, flat_element, node_count, nodes_count, front, back, spelled_nodes}
 use Rattle.html_dom_flat.specs.FlatViews.{flat_node_view, flat_nodes_view}
-use Rattle.html_dom_flat.specs.Stacks.{PlacedView, placed_view, placed_node, stack_view, stack_nodes, is_top_before, stacked_before, IsPopped, rest_after, made_of, list_stack}
+use Rattle.html_dom_flat.specs.Stacks.{PlacedView, placed_view, stack_view, stack_nodes, is_top_before, stacked_before, IsPopped, rest_after, made_of, list_stack}
 use Rattle.html_dom_flat.specs.declared.flat_node.FlatNode.{FlatNode}
 
 -- the nodes stand one after another, the first at that place
@@ -152,35 +152,6 @@ pub none_popped : (past : ℕ) (xs : List PlacedView) → is_top_before past xs 
 unfolding stacked_before rest_after
 none_popped past [] test = (refl, refl, refl)
 none_popped past (x ∷ xs) test = (rw test refl, rw test refl, refl)
-
-pub one_popped : (past : ℕ) (old new : List (ℕ × HtmlNode)) (x : ℕ × HtmlNode) →
-    old ≡ new ++ x ∷ [] → is_top_before past (stack_view old) ≡ true →
-    IsPopped past (stack_view old) (stack_view new) (Some (placed_node (placed_view x)))
-one_popped past old new x is test =
-    let top : stack_view old ≡ placed_view x ∷ stack_view new = rw is (stack_push new x) in
-    (x.0, sym (ap (is_top_before past) top) ∙ test, top)
-
-top_at : (stack : List (ℕ × HtmlNode)) (d : ℕ × HtmlNode) → 0 < length stack →
-    (rest : List PlacedView)
-    × (stack_view stack ≡ placed_view (get_or stack (length stack - 1) d) ∷ rest)
-top_at [] d some = absurd (omega arith)
-top_at (x ∷ []) d some = ([], refl)
-top_at (x ∷ y ∷ ys) d some =
-    let later = top_at (y ∷ ys) d (omega arith) in
-    let at : length (x ∷ y ∷ ys) - 1 ≡ suc (length (y ∷ ys) - 1) = omega arith in (
-      later.0 ++ placed_view x ∷ [],
-      rw at (reverse-append (placed_view x ∷ []) (map placed_view (y ∷ ys))
-          ∙ ap (λ s. s ++ placed_view x ∷ []) later.1),
-    )
-
-pub top_before : (past : ℕ) (stack : List (ℕ × HtmlNode)) (d : ℕ × HtmlNode) → 0 < length stack →
-    is_top_before past (stack_view stack) ≡ nat_lt (get_or stack (length stack - 1) d).0 past
-top_before past stack d some = ap (is_top_before past) (top_at stack d some).1
-
-pub top_none : (past : ℕ) (stack : List (ℕ × HtmlNode)) → length stack ≡ 0 →
-    is_top_before past (stack_view stack) ≡ false
-top_none past [] empty = refl
-top_none past (x ∷ xs) empty = absurd (omega (arith, empty))
 
 drop_all : (names : NamesView) (nodes : List FlatNode) →
     drop (length nodes) (flat_nodes_view names nodes) ≡ []
