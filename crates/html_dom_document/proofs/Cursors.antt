@@ -140,9 +140,7 @@ pub moved_is : (before : NodesView) (n : NodeView) →
     cursor_after (reached before) n ≡ reached (before then node n none)
 moved_is before (tag_node t) = past_small before (tag_node t) (in_run false before) refl refl refl
 moved_is before (text_node s span) = past_small before (text_node s span) true refl refl refl
-moved_is before (element_node h children) =
-    past_large before (element_node h children) refl refl refl
-moved_is before (frame_node f) = past_large before (frame_node f) refl refl refl
+moved_is before x = past_large before x refl refl refl
 
 pub numbered_is : (ns : List HtmlNode) (before : NodesView) →
     nodes_with_indices (reached before) ns ≡ zip ns (dom_indices_after before (nodes_view ns))

@@ -1,7 +1,8 @@
 -- Paths lead to the elements that hold the tags.
-use Rattle.std.proofs.Common.{◌≡◌, ℕ, suc, ◌+◌, List, [], ◌∷◌, ◌++◌, true, false, if◌then◌else◌, Option, Some, None, option_and_then, refl, ap, sym, ◌∙◌, append_assoc, append-nil, arith}
-use Rattle.html_dom_tree.specs.PlainTree.{Plain, words, branch, Plains, no_plains, plain, put_words, nodes_normal, element_normal}
+use Rattle.std.proofs.Common.{◌≡◌, ℕ, suc, ◌+◌, List, [], ◌∷◌, ◌++◌, true, false, if◌then◌else◌, Option, Some, None, option_and_then, refl, ap, sym, ◌∙◌, arith}
+use Rattle.html_dom_tree.specs.PlainTree.{Plain, branch, plain, put_words, nodes_normal, element_normal}
 use Rattle.html_dom_tree.specs.Tree.{starts, ends, Head, tag_node, text_node, element_node, frame_node, NodesView, none, node, ElementView}
+use Rattle.html_dom_tree.proofs.Basics.{put_twice}
 use Rattle.html_dom_document.specs.DomIndices.{◌then◌, element_count, run_count, dom_index}
 use Rattle.html_dom_document.specs.Places.{PlaceView, children_path, nodes_places}
 use Rattle.html_dom_document.specs.Paths.{nth, child, follow, ArePlain, holders, Lead, PathsLead}
@@ -16,23 +17,9 @@ then_plain (node (text_node (x ∷ xs) span) ns) ms a b = then_plain ns ms a b
 then_plain (node (element_node h children) ns) ms a b = (a.0, a.1, then_plain ns ms a.2 b)
 then_plain (node (frame_node f) ns) ms a b = a
 
-then_assoc : (a b c : NodesView) → ((a then b) then c) ≡ (a then (b then c))
+pub then_assoc : (a b c : NodesView) → ((a then b) then c) ≡ (a then (b then c))
 then_assoc none b c = refl
 then_assoc (node n ns) b c = ap (node n) (then_assoc ns b c)
-
--- two texts, one after the other, are joined
-put_twice : (t u : List ℕ) (ps : Plains) → put_words t (put_words u ps) ≡ put_words (t ++ u) ps
-put_twice [] u ps = refl
-put_twice (c ∷ cs) [] no_plains =
-    ap (λ l. plain (words (c ∷ l)) no_plains) (sym (append-nil cs))
-put_twice (c ∷ cs) [] (plain (words t) ps) =
-    ap (λ l. plain (words (c ∷ l ++ t)) ps) (sym (append-nil cs))
-put_twice (c ∷ cs) [] (plain (branch name attrs children) ps) =
-    ap (λ l. plain (words (c ∷ l)) (plain (branch name attrs children) ps)) (sym (append-nil cs))
-put_twice (c ∷ cs) (d ∷ ds) no_plains = refl
-put_twice (c ∷ cs) (d ∷ ds) (plain (words t) ps) =
-    ap (λ l. plain (words (c ∷ l)) ps) (sym (append_assoc cs (d ∷ ds) t))
-put_twice (c ∷ cs) (d ∷ ds) (plain (branch name attrs children) ps) = refl
 
 -- the index of an element is its number among the children, also after a text
 index_is : (before : NodesView) (g : Head) (children ns : NodesView) → ArePlain before →

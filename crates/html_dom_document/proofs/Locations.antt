@@ -42,10 +42,6 @@ set_or true false = refl
 set_or false true = refl
 set_or false false = refl
 
-pub or_false : (b : Bool) → (b || false) ≡ b
-or_false true = refl
-or_false false = refl
-
 -- maps whose entries look alike answer alike
 pub same_looked_up : {X V : Type 0} (view : X → V)
     (IsCopy : Location → Location → Type 0) (IsCopyOf : X → X → Type 0) →

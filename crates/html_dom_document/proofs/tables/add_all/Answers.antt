@@ -1,17 +1,18 @@
 use Rattle.std.proofs.Common.{◌||◌, sym, ap, ◌∙◌}
 use Rattle.std.proofs.lemmas.Map.Iter.{rest_all}
 use Rattle.std.specs.Map.Iter.{deref}
+use Rattle.std.proofs.Math.Bool.{or-false}
 use Rattle.html_dom_document.specs.Introspectors.{has_location}
 use Rattle.html_dom_document.specs.Places.{is_among}
 use Rattle.html_dom_document.specs.Records.{locations_view}
-use Rattle.html_dom_document.proofs.Locations.{among_keys, or_false}
+use Rattle.html_dom_document.proofs.Locations.{among_keys}
 use Rattle.html_dom_document.proofs.tables.add_all.Goals as goal
 
 pub returns : goal.returns
 returns c = λ k.
     let now = has_location c.loop-location.locations k in
     let keys = c.args.others.now.keys in
-    sym (or_false now)
+    sym (or-false now)
     ∙ (ap (λ ks. now || is_among (locations_view ks) k)
     (sym (rest_all deref _ _ _ c.in-None.is c.next.ensures.steps))
     ∙ (c.loop-location.invariant k
