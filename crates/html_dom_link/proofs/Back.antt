@@ -1,18 +1,20 @@
 -- What was added, taken off again, gives the old tree.
-use Rattle.std.proofs.Common.{◌≡◌, ℕ, ◌-◌, Bool, true, false, List, [], ◌∷◌, ◌++◌, length, take, drop, Option, Some, None, refl, ap, ◌∙◌, append_assoc, length-append, arith, subst}
+use Rattle.std.proofs.Common.{◌≡◌, ℕ, ◌-◌, Bool, true, false, List, [], ◌∷◌, ◌++◌, length, take, drop, Option, Some, None, refl, ap, ◌∙◌, append_assoc, subst}
 use Rattle.std.specs.Prelude.{if◌then◌else◌, is_some}
-use Rattle.std.proofs.lemmas.List.{append-nil}
+use Rattle.std.proofs.lemmas.List.{append-nil, drop_at}
 use Rattle.html_dom_tree.specs.Attributes.{or_else}
-use Rattle.html_dom_tree.specs.Frames.{PointView, HtmlFrameView}
+use Rattle.html_dom_tree.specs.Frames.{HtmlFrameView}
 use Rattle.html_dom_tree.specs.Tree.{Head, starts, ends, tag_node, text_node, element_node, frame_node, NodesView, none, node}
+use Rattle.html_dom_tree.proofs.Basics.{or_else-none}
 use Rattle.html_names.specs.Names.{stands_in}
+use Rattle.html_names.proofs.Basics.{last_taken}
 use Rattle.html_dom_link.specs.NewNames.{Name, first_id, element_names}
 use Rattle.html_dom_link.specs.Events.{Start, Event, end_tag, element, text, html_frame, Targets, start_event, frame_starts, events}
 use Rattle.html_dom_link.specs.Groups.{is_in_group, first_label, label_of}
 use Rattle.html_dom_link.specs.Namings.{Naming, made_for}
 use Rattle.html_dom_link.specs.Anchors.{with_id, text_in_span, span_before, named_frame, nodes_size, nodes_with_anchors, element_with_anchors}
 use Rattle.html_dom_link.specs.Undone.{without_id, old_id, unnamed_frame, nodes_undone, ComesBack}
-use Rattle.html_dom_link.proofs.States.{Groups, naming_at, step, finished, makes, makes_is, makes-append, drop-events, drop-sized, length-events, or_else-none}
+use Rattle.html_dom_link.proofs.States.{Groups, naming_at, step, finished, makes, makes_is, makes-append, drop-events, length-events}
 
 end_back : (made : Option Name) (es : List Event) (cs : List Naming) (rest : NodesView) →
     nodes_undone (is_some made) es cs (span_before made rest) ≡ nodes_undone false es cs rest
@@ -33,17 +35,6 @@ head_back : (made : Option Name) (h : Head) → without_id made (with_id made h)
 head_back None h = refl
 head_back (Some n) h = refl
 
-take-all : (as' bs : List (PointView × Name)) → take (length as') (as' ++ bs) ≡ as'
-take-all [] bs = refl
-take-all (a ∷ as') bs = ap (λ l. a ∷ l) (take-all as' bs)
-
-pairs_back : (as' bs : List (PointView × Name)) →
-    take (length (as' ++ bs) - length bs) (as' ++ bs) ≡ as'
-pairs_back as' bs =
-    let l = length-append as' bs in
-    let k : length (as' ++ bs) - length bs ≡ length as' = omega (arith, l) in
-    ap (λ i. take i (as' ++ bs)) k ∙ take-all as' bs
-
 id_back : (own label : Option Name) (used : Name → Bool) (q : List Start) →
     let made = made_for own label used q in old_id made (or_else own made) ≡ own
 id_back own label used [] = or_else-none own
@@ -58,7 +49,7 @@ frame_back f c e =
       id = i;
       anchors = take (length anchors - length c.pairs) anchors;
     }) e
-    ∙ ap (λ a. record f { anchors = a }) (pairs_back f.anchors c.pairs)
+    ∙ ap (λ a. record f { anchors = a }) (last_taken f.anchors c.pairs (length c.pairs) refl)
 
 start_back : (is_target : Bool) (l : ℕ) (label : Option Name) (dest : Option ℕ) (g : Groups)
     (es : List Event) (cs : List Naming) (rest : NodesView) →
@@ -115,7 +106,7 @@ all_back x (node (element_node h kids) ns) g es cs =
     )
     (ap joined (all_back x kids t (en ++ es) (after ++ cs))
     ∙ (rw (
-      drop-sized (nodes_size kids) ek (en ++ es) (length-events x kids),
+      drop_at ek (en ++ es) (nodes_size kids) (length-events x kids),
       drop-events x kids t (after ++ cs),
       head_back made h,
     )

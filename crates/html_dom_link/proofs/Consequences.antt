@@ -4,6 +4,7 @@ use Rattle.std.proofs.lemmas.List.{append-nil}
 use Rattle.html_dom_tree.specs.FrameFree.{NodeIsFrameFree, NodesAreFrameFree}
 use Rattle.html_dom_tree.specs.Frames.{PointView, FrameView, frame, FrameItemsView, no_items, item, tag_item, group_item, link_item, other_item}
 use Rattle.html_dom_tree.specs.Tree.{starts, ends, tag_node, text_node, element_node, frame_node, NodesView, none, node}
+use Rattle.html_dom_tree.proofs.Basics.{or_else-none}
 use Rattle.html_names.specs.Names.{stands_in}
 use Rattle.html_dom_link.specs.NewNames.{Name, element_names}
 use Rattle.html_dom_link.specs.Events.{Targets, with_frame_start, items_starts, frame_starts}
@@ -12,7 +13,6 @@ use Rattle.html_dom_link.specs.Anchors.{text_in_span, span_before, nodes_size, n
 use Rattle.html_dom_link.specs.Answered.{shown_names, first_ids, AnswersAreFirstIds, StaysFrameFree, NoTargetNoChange}
 use Rattle.html_dom_link.specs.AnchorWalk.{walk, at_first}
 use Rattle.html_dom_link.proofs.Showing.{answers_are_shown}
-use Rattle.html_dom_link.proofs.States.{or_else-none}
 use Rattle.html_dom_link.proofs.Walks.{one_walk_serves}
 
 free-anchored : (ns : NodesView) (cs : List Naming) → NodesAreFrameFree ns →

@@ -1,17 +1,17 @@
 -- Lists of names in which none comes twice, by how often each comes, and by what is in use already.
 use Rattle.std.proofs.Common.{◌≡◌, ℕ, suc, ◌+◌, ◌≤◌, ◌<◌, Bool, true, false, not, ◌||◌, ◌&&◌, List, [], ◌∷◌, ◌++◌, length, get_or, drop, cond, bytes_eq, refl, ap, sym, ◌∙◌, add-one, drop-cons, arith, Bor, String, Global}
-use Rattle.std.proofs.lemmas.Bool.{and_parts}
+use Rattle.std.proofs.lemmas.Bool.{and_parts, not-true}
 use Rattle.std.proofs.lemmas.List.{drop_all}
 use Rattle.std.proofs.lemmas.List.Sums.{sum_by-append, sum_by-cons}
 use Rattle.std.proofs.lemmas.Slice.Eq.{bytes_eq-Decides}
 use Rattle.html_names.specs.Names.{stands_in}
 use Rattle.html_names.specs.Texts.{text_view}
+use Rattle.html_names.proofs.Basics.{bytes_eq-same, bytes_eq-sym}
 use Rattle.html_dom_link.specs.Distinct.{are_distinct, names_view, occurrences}
 use Rattle.html_dom_link.specs.Fresh.{AreNew}
 use Rattle.html_dom_link.specs.NewNames.{Name, with_used_name}
 use Rattle.html_dom_link.specs.UsedNames.{with_names}
 use Rattle.html_dom_link.proofs.Gathering.{with-more, with-none}
-use Rattle.html_dom_link.proofs.UsedNames.{bytes_eq-sym}
 
 abbrev one_if : Bool → ℕ
 one_if b = cond b 1 0
@@ -29,9 +29,6 @@ pub occurrences-append : (as' bs : List Name) (n : Name) →
     occurrences (as' ++ bs) n ≡ occurrences as' n + occurrences bs n
 unfolding occurrences
 occurrences-append as' bs n = sum_by-append _ as' bs
-
-same_name : (m n : Name) → bytes_eq m n ≡ true → m ≡ n
-same_name m n e = (bytes_eq-Decides m n).0 e
 
 pub at_most_one : (b : Bool) → cond b 1 0 ≤ 1
 at_most_one true = omega arith
@@ -57,16 +54,12 @@ distinct_once (m ∷ ms) n d =
     let parts = and_parts (not (stands_in ms m)) (are_distinct ms) d in
     by (bytes_eq m n) refl parts.0 (distinct_once ms n parts.1)
   where
-    absent : (b : Bool) → not b ≡ true → b ≡ false
-    absent true e = cc
-    absent false e = refl
-
     by : (b : Bool) → bytes_eq m n ≡ b → not (stands_in ms m) ≡ true →
         occurrences ms n ≤ cond (stands_in ms n) 1 0 →
         occurrences (m ∷ ms) n ≤ cond (b || stands_in ms n) 1 0
     by true is new so =
         let gone : stands_in ms n ≡ false =
-        ap (stands_in ms) (sym (same_name m n is)) ∙ absent (stands_in ms m) new in
+        ap (stands_in ms) (sym (bytes_eq-same m n is)) ∙ not-true (stands_in ms m) new in
         omega (
           arith,
           occurrences-cons m ms n,
@@ -102,7 +95,7 @@ new_once (m ∷ ms) used n new = by (bytes_eq m n) refl (new_once ms (with_used_
         occurrences ms n + cond (b || used n) 1 0 ≤ 1 →
         occurrences (m ∷ ms) n + cond (used n) 1 0 ≤ 1
     by true is so =
-        let free : used n ≡ false = ap used (sym (same_name m n is)) ∙ new.0 in
+        let free : used n ≡ false = ap used (sym (bytes_eq-same m n is)) ∙ new.0 in
         omega (
           arith,
           occurrences-cons m ms n,

@@ -1,6 +1,7 @@
 -- All names that are made are new.
 use Rattle.std.proofs.Common.{◌≡◌, Bool, ◌||◌, List, [], ◌∷◌, ◌++◌, Option, Some, None, refl, ap, sym, ◌∙◌, subst}
 use Rattle.std.specs.Prelude.{option_to_list}
+use Rattle.std.proofs.Math.Bool.{or-true}
 use Rattle.html_dom_tree.specs.Tree.{ElementView}
 use Rattle.html_names.specs.Names.{stands_in}
 use Rattle.html_dom_link.specs.NewNames.{Name, with_used_name, new_name, anchor_names, element_names}
@@ -13,7 +14,6 @@ use Rattle.html_dom_link.specs.AnchorWalk.{element_walk}
 use Rattle.html_dom_link.proofs.Gathering.{with-none, with-one, with-append, with-more}
 use Rattle.html_dom_link.proofs.Numbers.{new_is_new}
 use Rattle.html_dom_link.proofs.States.{Groups, step, finished}
-use Rattle.html_dom_link.proofs.UsedNames.{or_right}
 use Rattle.html_dom_link.proofs.Walks.{walk_is}
 
 -- before more were put in use there were no more
@@ -22,7 +22,7 @@ bounded_before : (names : List Name) (used : Name → Bool) → IsBounded (with_
 bounded_before names used b = record {
   names = b.names;
   few = b.few;
-  holds = λ n e. b.holds n (ap (λ a. stands_in names n || a) e ∙ or_right (stands_in names n));
+  holds = λ n e. b.holds n (ap (λ a. stands_in names n || a) e ∙ or-true (stands_in names n));
 }
 
 new-append : (as' bs : List Name) (used : Name → Bool) → AreNew used as' →

@@ -1,23 +1,20 @@
 -- The names of a tree, listed one after the other, and then put in use.
-use Rattle.std.proofs.Common.{◌≡◌, ℕ, suc, ◌+◌, ◌<◌, ◌≤◌, Bool, true, false, ◌||◌, List, [], ◌∷◌, ◌++◌, length, get_or, drop, refl, ap, sym, ◌∙◌, bytes_eq, append_assoc, add-one, drop-cons, String, Global, rules}
+use Rattle.std.proofs.Common.{◌≡◌, ℕ, suc, ◌+◌, ◌<◌, ◌≤◌, Bool, true, false, ◌||◌, List, [], ◌∷◌, ◌++◌, length, get_or, drop, refl, ap, sym, ◌∙◌, bytes_eq, append_assoc, add-one, drop-cons, String, Global}
 use Rattle.std.specs.Prelude.{if◌then◌else◌, codes, option_to_list}
 use Rattle.std.proofs.Math.Path.{fun_ext}
 use Rattle.std.proofs.lemmas.List.{append-nil, drop_all}
+use Rattle.std.proofs.Math.Bool.{or-false, or_assoc}
 use Rattle.html_names.specs.Names.{stands_in}
 use Rattle.html_dom_tree.specs.Frames.{HtmlFrameView}
 use Rattle.html_dom_tree.specs.Tree.{TextPair, TagView, Head, NodeView, tag_node, text_node, element_node, frame_node, NodesView, none, node}
-use Rattle.html_dom_tree.specs.declared.node.HtmlNode.{HtmlNode, the_lemmas}
 use Rattle.html_dom_tree.specs.FrameViews.{tag_view}
 use Rattle.html_dom_tree.specs.Views.{text_view, node_view}
 use Rattle.html_dom_tree.specs.declared.introspection.Tag.{Tag}
 use Rattle.html_dom_tree.specs.declared.node.HtmlNode.{HtmlNode}
 use Rattle.html_dom_tree.specs.declared.span.Span.{Span}
+use Rattle.html_dom_tree.proofs.Basics.{node_view-Tag, node_view-Text}
 use Rattle.html_dom_link.specs.NewNames.{Name, with_used_name, all_ids, anchor_names, frame_names, nodes_names}
 use Rattle.html_dom_link.specs.UsedNames.{with_names}
-
-or-assoc : (a b c : Bool) → ((a || b) || c) ≡ (a || (b || c))
-or-assoc true b c = refl
-or-assoc false b c = refl
 
 or-swap : (a b c : Bool) → ((a || b) || c) ≡ (b || (a || c))
 or-swap true true c = refl
@@ -31,7 +28,7 @@ with-none used = refl
 
 pub with-one : (n : Name) (used : Name → Bool) → with_names (n ∷ []) used ≡ with_used_name n used
 unfolding stands_in
-with-one n used = fun_ext (λ m. or-assoc (bytes_eq n m) false (used m))
+with-one n used = fun_ext (λ m. or_assoc (bytes_eq n m) false (used m))
 
 stands-append : (as' bs : List Name) (n : Name) →
     stands_in (as' ++ bs) n ≡ (stands_in as' n || stands_in bs n)
@@ -39,7 +36,7 @@ unfolding stands_in
 stands-append [] bs n = refl
 stands-append (a ∷ as') bs n =
     ap (λ b. bytes_eq a n || b) (stands-append as' bs n)
-    ∙ sym (or-assoc (bytes_eq a n) (stands_in as' n) (stands_in bs n))
+    ∙ sym (or_assoc (bytes_eq a n) (stands_in as' n) (stands_in bs n))
 
 pub with-append : (as' bs : List Name) (used : Name → Bool) →
     with_names (as' ++ bs) used ≡ with_names bs (with_names as' used)
@@ -50,11 +47,7 @@ with-append as' bs used = fun_ext (λ n.
 -- nothing else is in use
 pub with-all : (names : List Name) → with_names names (stands_in []) ≡ stands_in names
 unfolding stands_in
-with-all names = fun_ext (λ n. or_false (stands_in names n))
-  where
-    or_false : (b : Bool) → (b || false) ≡ b
-    or_false true = refl
-    or_false false = refl
+with-all names = fun_ext (λ n. or-false (stands_in names n))
 
 -- a name more
 pub with-more : (n : Name) (ns : List Name) (used : Name → Bool) →
@@ -134,14 +127,6 @@ text_listed : (s : List ℕ) (span : ℕ) (old : List Name) →
     old ≡ old ++ nodes_names (node (text_node s span) none)
 unfolding nodes_names
 text_listed s span old = sym (append-nil old)
-
--- the views of nodes, case by case
-node_view-Tag : (t : Tag) → node_view (HtmlNode.Tag t) ≡ tag_node (tag_view t)
-node_view-Tag t = search (rules, the_lemmas)
-
-node_view-Text : (s : String Global) (span : Span) →
-    node_view (HtmlNode.Text s span) ≡ text_node (text_view s) span.0
-node_view-Text s span = search (rules, the_lemmas)
 
 pub tag_passed : (n : HtmlNode) (t : Tag) (old : List Name) → n ≡ HtmlNode.Tag t →
     old ≡ old ++ nodes_names (node (node_view n) none)

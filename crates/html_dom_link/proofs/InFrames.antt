@@ -1,13 +1,13 @@
 -- Start tags of a frame, one item after the other.
 use Rattle.std.proofs.Common.{◌≡◌, ℕ, suc, ◌+◌, ◌<◌, ◌≤◌, Bool, true, false, List, [], ◌∷◌, ◌++◌, length, get_or, drop, refl, ap, sym, ◌∙◌, append_assoc, add-one, drop-cons, Option, Some, None}
 use Rattle.std.proofs.lemmas.List.{append-nil, drop_all}
-use Rattle.html_dom_tree.specs.Frames.{PointView, FrameView, frame, FrameItemsView, no_items, item, FrameItemView, tag_item, group_item, link_item, other_item}
+use Rattle.html_dom_tree.specs.Frames.{PointView, frame, FrameItemsView, no_items, item, FrameItemView, tag_item, group_item, link_item, other_item}
 use Rattle.html_dom_tree.specs.Tags.{starts, ends}
 use Rattle.html_dom_tree.specs.FrameViews.{point_view, frame_item_view, frame_items_view}
 use Rattle.html_dom_tree.specs.declared.frame.Point.{Point}
 use Rattle.html_dom_tree.specs.declared.frame.FrameItem.{FrameItem}
 use Rattle.html_dom_link.specs.NewNames.{Name, new_name}
-use Rattle.html_dom_link.specs.Events.{Targets, FrameStart, with_frame_start, items_starts, frame_starts}
+use Rattle.html_dom_link.specs.Events.{Targets, FrameStart, with_frame_start, items_starts}
 use Rattle.html_dom_link.specs.Namings.{start_pairs, used_after_starts}
 use Rattle.html_dom_link.specs.AnchorWalk.{WalkState, after_start, after_starts}
 use Rattle.html_dom_link.specs.Joined.{named_at, InFrame, with_starts}
@@ -109,18 +109,3 @@ pub end_passes : (x : Targets) (p : PointView) (l : ℕ) (old : InFrame) →
     old ≡ with_starts (alone x p (tag_item (ends l))) old
 unfolding items_starts
 end_passes x p l old = sym (with_starts-none old)
-
-pub link_passes : (x : Targets) (p : PointView) (dest : Option ℕ) (old : InFrame) →
-    old ≡ with_starts (alone x p (link_item dest)) old
-unfolding items_starts
-link_passes x p dest old = sym (with_starts-none old)
-
-pub other_passes : (x : Targets) (p : PointView) (old : InFrame) →
-    old ≡ with_starts (alone x p other_item) old
-unfolding items_starts
-other_passes x p old = sym (with_starts-none old)
-
-pub group_named : (x : Targets) (p : PointView) (f : FrameView) →
-    alone x p (group_item f) ≡ frame_starts x f
-unfolding items_starts
-group_named x p (frame picture items) = append-nil (items_starts x items)

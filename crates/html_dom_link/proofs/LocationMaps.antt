@@ -1,28 +1,22 @@
 -- Labels and names by location.
-use Rattle.std.proofs.Common.{◌≡◌, ◌==◌, ℕ, Bool, true, false, cond, Option, Some, None, refl, ap, sym, ◌∙◌, subst, nat_cmp, is_eq, String, Global, rules}
+use Rattle.std.proofs.Common.{◌≡◌, ◌==◌, ℕ, Bool, true, false, cond, Option, Some, None, refl, ap, sym, ◌∙◌, subst, String, Global}
 use Rattle.std.specs.Prelude.{if◌then◌else◌, option_map, is_some}
 use Rattle.std.specs.BTreeMap.{BTreeMap, Updates, get}
 use Rattle.std.proofs.Math.Path.{fun_ext}
 use Rattle.std.proofs.lemmas.Bool.{eqb-true}
-use Rattle.std.proofs.lemmas.Grind.{common_steps}
 use Rattle.html_dom_tree.specs.Attributes.{or_else}
 use Rattle.html_dom_tree.specs.FrameViews.{optional_text_view}
 use Rattle.html_dom_tree.specs.declared.introspection.Location.{Location}
+use Rattle.html_dom_tree.proofs.Basics.{or_else-none}
 use Rattle.html_names.specs.Texts.{text_view}
 use Rattle.html_dom_link.specs.NewNames.{Name}
 use Rattle.html_dom_document.specs.Introspectors.{location_cmp}
+use Rattle.html_dom_document.proofs.Locations.{is_eq-nat_cmp}
 use Rattle.html_dom_link.specs.LocationMaps.{labels_in, names_in}
 use Rattle.html_dom_link.specs.AnchorWalk.{with_entry}
-use Rattle.html_dom_link.proofs.States.{or_else-none}
-
-is_eq-nat_cmp : (m n : ℕ) → is_eq (nat_cmp m n) ≡ (m == n)
-is_eq-nat_cmp m n = search (rules, common_steps)
 
 -- a value more, by what is shown of it
 module _ {X Y : Type 0} (view : X → Y) where
-  shown : BTreeMap Location X → ℕ → Option Y
-  shown m l = option_map view (get location_cmp m (record { 0 = l }))
-
   by_location : (b : Bool) (value : X) (y : Y) (old : Option X) → view value ≡ y →
       option_map view (cond b (Some value) old) ≡ (if b then Some y else option_map view old)
   by_location true value y old e = ap Some e
@@ -57,22 +51,6 @@ label_put old new l value label e updates absent k =
         let none : labels_in old k ≡ None =
         subst (λ i. labels_in old i ≡ None) (eqb-true l.0 k t) absent in
         rw none refl
-    by_test false t = sym (or_else-none (labels_in old k))
-
-pub label_there : (old : BTreeMap Location (Option (String Global))) (l : Location)
-    (label : Option Name) → is_some (labels_in old l.0) ≡ true → (k : ℕ) →
-    labels_in old k ≡ or_else (labels_in old k) (if l.0 == k then Some label else None)
-label_there old l label there k = by_test (l.0 == k) refl
-  where
-    kept : (o : Option (Option Name)) → is_some o ≡ true → o ≡ or_else o (Some label)
-    kept None e = cc
-    kept (Some x) e = refl
-
-    by_test : (b : Bool) → (l.0 == k) ≡ b →
-        labels_in old k ≡ or_else (labels_in old k) (if b then Some label else None)
-    by_test true t =
-        kept (labels_in old k)
-        (subst (λ i. is_some (labels_in old i) ≡ true) (eqb-true l.0 k t) there)
     by_test false t = sym (or_else-none (labels_in old k))
 
 pub no_label : (labels : BTreeMap Location (Option (String Global))) (l : Location) →

@@ -3,20 +3,17 @@ use Rattle.std.proofs.Common.{◌≡◌, ℕ, zero, suc, ◌+◌, ◌-◌, ◌<�
 use Rattle.std.specs.Prelude.{if◌then◌else◌, decimal}
 use Rattle.std.proofs.lemmas.Bool.{cases_eq, cases_lt}
 use Rattle.std.proofs.lemmas.List.{append_cancel_left}
-use Rattle.std.proofs.lemmas.Slice.Eq.{bytes_eq-Decides}
 use Rattle.std.proofs.lemmas.Fmt.{decimal_injective}
 use Rattle.html_names.specs.Names.{stands_in}
-use Rattle.html_dom_link.specs.NewNames.{Name, name_for, name_with_number, stem_of, first_number, first_free, free_name, new_name}
+use Rattle.html_names.proofs.Basics.{bytes_eq-same}
+use Rattle.html_dom_link.specs.NewNames.{Name, name_with_number, stem_of, first_number, first_free, free_name, new_name}
 use Rattle.html_dom_link.specs.Fresh.{IsFirstFree}
-use Rattle.html_dom_link.specs.UsedNames.{is_nothing, AreUsedBelow, IsBounded}
+use Rattle.html_dom_link.specs.UsedNames.{AreUsedBelow, IsBounded}
 
 -- the names without the first that is this one
 abbrev without : Name → List Name → List Name
 without x [] = []
 without x (n ∷ ns) = if bytes_eq n x then ns else n ∷ without x ns
-
-same_name : (x y : Name) → bytes_eq x y ≡ true → x ≡ y
-same_name x y e = (bytes_eq-Decides x y).0 e
 
 length-without : (x : Name) (ns : List Name) → stands_in ns x ≡ true →
     length ns ≡ suc (length (without x ns))
@@ -47,7 +44,7 @@ still_among x y (n ∷ ns) other e =
         (b || stands_in ns y) ≡ true →
         (stands_in ns y ≡ true → stands_in (without x ns) y ≡ true) →
         stands_in (if a then ns else n ∷ without x ns) y ≡ true
-    by_first true s true t e so = absurd (other (sym (same_name n x s) ∙ same_name n y t))
+    by_first true s true t e so = absurd (other (sym (bytes_eq-same n x s) ∙ bytes_eq-same n y t))
     by_first true s false t e so = e
     by_first false s b t e so = rw t (by_second b e so)
 
@@ -287,14 +284,3 @@ used_below_more label used more number grows so = record {
   within = so.within;
   below = λ m l k. grows (name_with_number (stem_of label) m) (so.below m l k);
 }
-
--- which name is made for a label
-pub numbered_name : (label : Name) (used : Name → Bool) → (is_nothing label || used label) ≡ true →
-    name_for label used ≡ free_name label used
-numbered_name [] used e = refl
-numbered_name (c ∷ cs) used e = rw e refl
-
-pub own_name : (label : Name) (used : Name → Bool) → (is_nothing label || used label) ≡ false →
-    name_for label used ≡ label
-own_name [] used e = cc
-own_name (c ∷ cs) used e = rw e refl

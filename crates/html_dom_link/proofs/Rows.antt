@@ -1,9 +1,9 @@
 -- Small trees and what becomes of them, computed.
-use Rattle.std.proofs.Common.{◌≡◌, ℕ, Bool, false, ◌||◌, ◌==◌, if◌then◌else◌, List, [], ◌∷◌, Option, Some, None, codes, refl}
+use Rattle.std.proofs.Common.{◌≡◌, ℕ, Bool, false, ◌||◌, ◌==◌, if◌then◌else◌, List, [], ◌∷◌, Option, Some, None, codes, refl, map}
 use Rattle.std.specs.Fmt.{digits}
 use Rattle.std.proofs.Math.IntN.{pos}
 use Rattle.html_dom_tree.specs.Frames.{PointView, frame, no_items, item, tag_item, new_html_frame}
-use Rattle.html_dom_tree.specs.Tree.{TextPair, Head, starts, ends, tag_node, text_node, element_node, frame_node, NodesView, none, node, new_element}
+use Rattle.html_dom_tree.specs.Tree.{TextPair, Head, starts, ends, tag_node, text_node, element_node, frame_node, NodesView, none, node, new_element, ElementView}
 use Rattle.html_names.specs.Names.{stands_in}
 use Rattle.html_dom_link.specs.NewNames.{Name, nodes_names, first_free, new_name}
 use Rattle.html_dom_link.specs.Events.{Targets, items_starts, events}
@@ -56,13 +56,18 @@ root = record (new_element (codes "html")).0 { attrs = (codes "lang", codes "en"
 abbrev Row : Type 0
 Row = List ℕ × NodesView × NodesView × List (ℕ × Option Name)
 
-abbrev AllNamed : List ℕ → NodesView → List (ℕ × Option Name) → Type 0
-AllNamed ls ns [] = Unit {0}
-AllNamed ls ns (a ∷ as') =
-    (anchor_of (these ls) (root, ns) a.0 ≡ a.1) × AllNamed ls ns as'
+-- what becomes of a row, and what is to become of it
+abbrev Outcome : Type 0
+Outcome = ElementView × List (Option Name)
 
-abbrev Passes : Row → Type 0
-Passes r = (element_with_anchors (these r.0) (root, r.1) ≡ (root, r.2)) × AllNamed r.0 r.1 r.3
+abbrev made : Row → Outcome
+made r = (
+  element_with_anchors (these r.0) (root, r.1),
+  map (λ (a : ℕ × Option Name). anchor_of (these r.0) (root, r.1) a.0) r.3,
+)
+
+abbrev wanted : Row → Outcome
+wanted r = ((root, r.2), map (λ (a : ℕ × Option Name). a.1) r.3)
 
 abbrev nested : Row
 nested = (
@@ -186,50 +191,10 @@ empty = (
   (1, Some (codes "loc-1")) ∷ (2, Some []) ∷ [],
 )
 
-abbrev AllPass : List Row → Type 0
-AllPass [] = Unit {0}
-AllPass (r ∷ rs) = Passes r × AllPass rs
-
 abbrev rows : List Row
 rows = nested ∷ ended_first ∷ own_id ∷ no_target ∷ labelled ∷ end_alone ∷ in_pre_wrap ∷ taken
     ∷ ends_of_nothing ∷ started_twice ∷ second_ids ∷ in_frame ∷ empty ∷ []
 
-all_pass : AllPass rows
+all_pass : map made rows ≡ map wanted rows
 unfolding element_with_anchors nodes_with_anchors anchor_of nodes_size events items_starts nodes_names new_name first_free stands_in digits
-all_pass = (
-  (refl, (refl, (refl, tt))),
-  (
-    (refl, (refl, (refl, tt))),
-    (
-      (refl, (refl, tt)),
-      (
-        (refl, (refl, (refl, tt))),
-        (
-          (refl, (refl, tt)),
-          (
-            (refl, (refl, tt)),
-            (
-              (refl, (refl, tt)),
-              (
-                (refl, (refl, tt)),
-                (
-                  (refl, (refl, tt)),
-                  (
-                    (refl, (refl, tt)),
-                    (
-                      (refl, (refl, tt)),
-                      (
-                        (refl, (refl, (refl, (refl, tt)))),
-                        ((refl, (refl, (refl, tt))), tt),
-                      ),
-                    ),
-                  ),
-                ),
-              ),
-            ),
-          ),
-        ),
-      ),
-    ),
-  ),
-)
+all_pass = refl

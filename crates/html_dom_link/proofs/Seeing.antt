@@ -1,6 +1,7 @@
 -- Anchors keep what is seen.
-use Rattle.std.proofs.Common.{◌≡◌, ℕ, Bool, true, false, ◌||◌, List, [], ◌∷◌, ◌++◌, codes, Option, Some, None, drop, refl, ap, sym, ◌∙◌, append_assoc}
+use Rattle.std.proofs.Common.{◌≡◌, ℕ, Bool, ◌||◌, List, [], ◌∷◌, ◌++◌, codes, Option, Some, None, drop, refl, ap, sym, ◌∙◌, append_assoc}
 use Rattle.std.proofs.lemmas.List.{append-nil}
+use Rattle.std.proofs.Math.Bool.{or-false}
 use Rattle.html_dom_tree.specs.PlainTree.{words, branch, Plains, no_plains, plain, put_words, nodes_normal}
 use Rattle.html_dom_tree.specs.Tree.{Head, tag_node, text_node, element_node, frame_node, NodesView, none, node}
 use Rattle.html_dom_link.specs.NewNames.{Name}
@@ -57,10 +58,6 @@ module _ {A : Type 0} (s : Sight A) where
         ∙ ap (λ l. l ++ nodes_seen k rest)
         (blind.id_seen n h.name h.attrs (inside (s.preserves h.name h.attrs)))
 
-    or_false : (k : Bool) → (k || false) ≡ k
-    or_false true = refl
-    or_false false = refl
-
     -- a new element adds nothing
     span_seen : (k : Bool) (n : Name) (span : ℕ) (kids rest : NodesView) →
         nodes_seen k (node (element_node (span_head n span) kids) rest)
@@ -70,7 +67,7 @@ module _ {A : Type 0} (s : Sight A) where
         let attrs = (codes "id", n) ∷ [] in
         let flag = blind.id_preserves n name [] ∙ blind.span_preserves in
         ap (λ b. s.branch_seen name attrs (nodes_seen (k || b) kids) ++ nodes_seen k rest) flag
-        ∙ (ap (λ b. s.branch_seen name attrs (nodes_seen b kids) ++ nodes_seen k rest) (or_false k)
+        ∙ (ap (λ b. s.branch_seen name attrs (nodes_seen b kids) ++ nodes_seen k rest) (or-false k)
         ∙ ap (λ l. l ++ nodes_seen k rest)
         (blind.id_seen n name [] (nodes_seen k kids) ∙ blind.span_seen (nodes_seen k kids)))
 

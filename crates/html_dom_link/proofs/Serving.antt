@@ -1,11 +1,12 @@
 -- The names that locations get are those of what serves them in the new tree.
-use Rattle.std.proofs.Common.{◌≡◌, ◌-◌, ℕ, suc, Bool, true, false, List, [], ◌∷◌, ◌++◌, drop, length, Option, Some, None, refl, ap, sym, subst, ◌∙◌, append_assoc, arith, length-append}
+use Rattle.std.proofs.Common.{◌≡◌, ℕ, suc, Bool, true, false, List, [], ◌∷◌, ◌++◌, length, Option, Some, None, refl, ap, sym, subst, ◌∙◌, append_assoc}
 use Rattle.std.specs.Prelude.{if◌then◌else◌}
 use Rattle.std.proofs.lemmas.List.{append-nil}
 use Rattle.html_dom_tree.specs.Attributes.{or_else}
 use Rattle.html_dom_tree.specs.Frames.{PointView}
 use Rattle.html_dom_tree.specs.Tree.{Head, NodeView, starts, ends, tag_node, text_node, element_node, frame_node, NodesView, none, node, ElementView}
 use Rattle.html_names.specs.Names.{stands_in}
+use Rattle.html_names.proofs.Basics.{last_dropped}
 use Rattle.html_dom_document.specs.Documents.{DocumentView, document_root}
 use Rattle.html_dom_link.specs.Anchors.{with_id, text_in_span, span_before, nodes_with_anchors, element_namings, element_with_anchors, anchor_of}
 use Rattle.html_dom_link.specs.Events.{Start, FrameStart, end_tag, element, text, html_frame, Targets, start_event, frame_starts, events}
@@ -18,7 +19,7 @@ use Rattle.html_dom_link.specs.Serving.{AnchorsServe, KnownAnchorsServe, Mark, s
 use Rattle.html_dom_link.proofs.ChangedRoots.{root_has_links}
 use Rattle.html_dom_link.proofs.LeadingLinks.{id_stays}
 use Rattle.html_dom_link.proofs.Showing.{answers-append}
-use Rattle.html_dom_link.proofs.States.{Groups, naming_at, step, finished, finished-append, makes, makes_is, makes-append, drop-events, drop-sized}
+use Rattle.html_dom_link.proofs.States.{Groups, naming_at, step, finished, finished-append, makes, makes_is, makes-append, drop-events}
 
 -- the start tags that wait get the next name
 abbrev waiting_names : List Start → Option Name → List (ℕ × Name)
@@ -117,13 +118,6 @@ head_answers h own label used [] is =
 head_answers h None label used (s ∷ ss) is = refl
 head_answers h (Some n) label used (s ∷ ss) is = ap (λ name. group_answers name (s ∷ ss)) is
 
--- the last anchors of a frame are those of its start tags
-drop_front : (front back : List (PointView × Name)) (n : ℕ) → n ≡ length back →
-    drop (length (front ++ back) - n) (front ++ back) ≡ back
-drop_front front back n is =
-    drop-sized (length (front ++ back) - n) front back
-    (omega (arith, length-append front back, is))
-
 length-pairs : (ss : List FrameStart) (used : Name → Bool) →
     length ss ≡ length (start_pairs used ss)
 length-pairs [] used = refl
@@ -144,7 +138,7 @@ inner_served : (ss : List FrameStart) (used : Name → Bool) (old : List (PointV
 inner_served ss used old ms =
     let pairs = start_pairs used ss in
     ap (λ as'. served_names (paired_marks ss as' ++ ms))
-    (drop_front old pairs (length ss) (length-pairs ss used))
+    (last_dropped old pairs (length ss) (sym (length-pairs ss used)))
     ∙ starts_served ss used ms
 
 all_served : (x : Targets) (ns : NodesView) (g : Groups) (more : List Naming)

@@ -3,10 +3,12 @@ use Rattle.std.proofs.Common.{◌≡◌, ℕ, Bool, true, false, ◌||◌, ◌==
 use Rattle.std.specs.Prelude.{if◌then◌else◌, option_to_list}
 use Rattle.std.proofs.lemmas.List.{append-nil}
 use Rattle.std.proofs.lemmas.Slice.Eq.{bytes_eq-Decides}
+use Rattle.std.proofs.Math.Bool.{or-true}
 use Rattle.html_dom_tree.specs.Attributes.{or_else}
 use Rattle.html_dom_tree.specs.Frames.{PointView}
 use Rattle.html_dom_tree.specs.Tree.{Head, starts, ends, tag_node, text_node, element_node, frame_node, NodesView, none, node}
 use Rattle.html_names.specs.Names.{stands_in}
+use Rattle.html_names.proofs.NameTables.{stands_in-append}
 use Rattle.html_dom_link.specs.NewNames.{Name, with_used_name, new_name, anchor_names, first_id, element_names}
 use Rattle.html_dom_link.specs.Events.{Start, FrameStart, end_tag, element, text, html_frame, Targets, start_event, frame_starts, events}
 use Rattle.html_dom_link.specs.Groups.{is_in_group, first_label, label_of}
@@ -20,32 +22,16 @@ abbrev AreAmong : List (ℕ × Name) → List Name → Type 0
 AreAmong [] names = Unit {0}
 AreAmong (a ∷ as') names = (stands_in names a.1 ≡ true) × AreAmong as' names
 
-or_right : (b : Bool) → (b || true) ≡ true
-or_right true = refl
-or_right false = refl
-
-pub among-left : (as' bs : List Name) (n : Name) → stands_in as' n ≡ true →
-    stands_in (as' ++ bs) n ≡ true
-unfolding stands_in
-among-left [] bs n e = cc
-among-left (a ∷ as') bs n e = by_test (bytes_eq a n) e (among-left as' bs n)
-  where
-    by_test : (b : Bool) → (b || stands_in as' n) ≡ true →
-        (stands_in as' n ≡ true → stands_in (as' ++ bs) n ≡ true) →
-        (b || stands_in (as' ++ bs) n) ≡ true
-    by_test true e so = refl
-    by_test false e so = so e
-
 pub among-right : (as' bs : List Name) (n : Name) → stands_in bs n ≡ true →
     stands_in (as' ++ bs) n ≡ true
 unfolding stands_in
 among-right [] bs n e = e
 among-right (a ∷ as') bs n e =
-    ap (λ b. bytes_eq a n || b) (among-right as' bs n e) ∙ or_right (bytes_eq a n)
+    ap (λ b. bytes_eq a n || b) (among-right as' bs n e) ∙ or-true (bytes_eq a n)
 
 all-left : (xs : List (ℕ × Name)) (as' bs : List Name) → AreAmong xs as' → AreAmong xs (as' ++ bs)
 all-left [] as' bs h = tt
-all-left (x ∷ xs) as' bs h = (among-left as' bs x.1 h.0, all-left xs as' bs h.1)
+all-left (x ∷ xs) as' bs h = (stands_in-append as' bs x.1 h.0, all-left xs as' bs h.1)
 
 all-right : (xs : List (ℕ × Name)) (as' bs : List Name) → AreAmong xs bs → AreAmong xs (as' ++ bs)
 all-right [] as' bs h = tt

@@ -1,8 +1,10 @@
 -- The cuts and namings of events, with the state of groups between two events.
-use Rattle.std.proofs.Common.{◌≡◌, ℕ, suc, Bool, true, false, ◌||◌, ◌==◌, List, [], ◌∷◌, ◌++◌, length, drop, Option, Some, None, refl, ap, sym, ◌∙◌, subst, length-append}
+use Rattle.std.proofs.Common.{◌≡◌, ℕ, suc, Bool, true, false, ◌||◌, ◌==◌, List, [], ◌∷◌, ◌++◌, length, drop, Option, Some, None, refl, ap, sym, ◌∙◌, length-append}
 use Rattle.std.specs.Prelude.{if◌then◌else◌}
+use Rattle.std.proofs.lemmas.List.{drop_at}
 use Rattle.html_dom_tree.specs.Attributes.{or_else}
 use Rattle.html_dom_tree.specs.Tree.{starts, ends, tag_node, text_node, element_node, frame_node, NodesView, none, node}
+use Rattle.html_dom_tree.proofs.Basics.{or_else-assoc, or_else-none}
 use Rattle.html_dom_link.specs.NewNames.{Name}
 use Rattle.html_dom_link.specs.Events.{Start, Event, Targets, events}
 use Rattle.html_dom_link.specs.Groups.{is_in_group, waiting_after, cut_at, cuts}
@@ -63,35 +65,19 @@ length-events x (node (element_node h kids) ns) =
     ∙ (rw (length-events x kids, length-events x ns) refl))
 length-events x (node (frame_node f) ns) = ap suc (length-events x ns)
 
-drop-all : {A : Type 0} (xs ys : List A) → drop (length xs) (xs ++ ys) ≡ ys
-drop-all [] ys = refl
-drop-all (a ∷ xs) ys = drop-all xs ys
-
-pub drop-sized : {A : Type 0} (n : ℕ) (xs ys : List A) → length xs ≡ n → drop n (xs ++ ys) ≡ ys
-drop-sized n xs ys e = subst (λ k. drop k (xs ++ ys) ≡ ys) e (drop-all xs ys)
-
 -- the namings of an element's children, dropped
 pub drop-events : (x : Targets) (ns : NodesView) (g : Groups) (more : List Naming) →
     drop (nodes_size ns) (makes g (events x ns) ++ more) ≡ more
 drop-events x ns g more =
     let es = events x ns in
-    drop-sized (nodes_size ns) (makes g es) more (length-makes es g ∙ length-events x ns)
-
-pub or_else-assoc : {A : Type 0} (a b c : Option A) →
-    or_else a (or_else b c) ≡ or_else (or_else a b) c
-or_else-assoc (Some n) b c = refl
-or_else-assoc None b c = refl
-
-pub or_else-none : {A : Type 0} (a : Option A) → or_else a None ≡ a
-or_else-none (Some n) = refl
-or_else-none None = refl
+    drop_at (makes g es) more (nodes_size ns) (length-makes es g ∙ length-events x ns)
 
 pub last_name-append : (as' bs : List (ℕ × Name)) (l : ℕ) →
     last_name (as' ++ bs) l ≡ or_else (last_name bs l) (last_name as' l)
 last_name-append [] bs l = sym (or_else-none (last_name bs l))
 last_name-append (a ∷ as') bs l =
     rw (last_name-append as' bs l)
-    (sym (or_else-assoc (last_name bs l) (last_name as' l) (if a.0 == l then Some a.1 else None)))
+    (or_else-assoc (last_name bs l) (last_name as' l) (if a.0 == l then Some a.1 else None))
 
 pub finished_answers : (es : List Event) (g : Groups) (l : ℕ) →
     (finished g es).answers l ≡ or_else (last_name (all_answers (makes g es)) l) (g.answers l)
@@ -100,7 +86,7 @@ finished_answers (e ∷ es) g l =
     let later = all_answers (makes (step g e) es) in
     let now = (naming_at g e).answers in
     finished_answers es (step g e) l
-    ∙ (or_else-assoc (last_name later l) (last_name now l) (g.answers l)
+    ∙ (sym (or_else-assoc (last_name later l) (last_name now l) (g.answers l))
     ∙ ap (λ a. or_else a (g.answers l)) (sym (last_name-append now later l)))
 
 abbrev pub named_if : Bool → Name → Option Name → Option Name
@@ -112,7 +98,7 @@ pub answered_is : (n : Name) (ss : List Start) (old : Option Name) (l : ℕ) →
 answered_is n [] old l = refl
 answered_is n (s ∷ ss) old l =
     let here = if s.location == l then Some n else None in
-    sym (or_else-assoc (last_name (group_answers (Some n) ss) l) here old)
+    or_else-assoc (last_name (group_answers (Some n) ss) l) here old
     ∙ (answered_is n ss (or_else here old) l ∙ by_first (is_in_group l ss) (s.location == l))
   where
     by_first : (a b : Bool) →

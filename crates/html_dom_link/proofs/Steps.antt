@@ -1,32 +1,25 @@
 -- The walk goes on where it stopped, as a loop over nodes does.
-use Rattle.std.proofs.Common.{◌≡◌, ℕ, Bool, List, [], ◌∷◌, ◌++◌, Option, Some, None, String, Global, Bor, refl, ap, ◌∙◌, rules}
+use Rattle.std.proofs.Common.{◌≡◌, ℕ, Bool, List, [], ◌∷◌, ◌++◌, Option, Some, None, String, Global, Bor, refl, ap, ◌∙◌}
 use Rattle.std.specs.Option.{option_copied}
 use Rattle.std.specs.Prelude.{option_map}
 use Rattle.html_dom_tree.specs.Attributes.{or_else}
 use Rattle.html_dom_tree.specs.Frames.{PointView, HtmlFrameView}
-use Rattle.html_dom_tree.specs.FrameViews.{optional_text_view, tag_view, html_frame_view}
+use Rattle.html_dom_tree.specs.FrameViews.{optional_text_view}
 use Rattle.html_dom_tree.specs.Tree.{starts, ends, tag_node, text_node, element_node, frame_node, NodeView, NodesView, none, node}
-use Rattle.html_dom_tree.specs.Views.{text_view, node_view, nodes_view, element_view}
-use Rattle.html_dom_tree.specs.declared.frame.HtmlFrame.{HtmlFrame}
-use Rattle.html_dom_tree.specs.declared.introspection.Tag.{Tag}
-use Rattle.html_dom_tree.specs.declared.node.HtmlElement.{HtmlElement}
-use Rattle.html_dom_tree.specs.declared.node.HtmlNode.{HtmlNode, the_lemmas}
-use Rattle.html_dom_tree.specs.declared.node.HtmlNode as HtmlNode
+use Rattle.html_dom_tree.specs.Views.{text_view, node_view, nodes_view}
+use Rattle.html_dom_tree.specs.declared.node.HtmlNode.{HtmlNode}
 use Rattle.html_dom_link.specs.NewNames.{Name, with_used_name, new_name}
 use Rattle.html_dom_link.specs.Events.{Targets, FrameStart, frame_starts}
 use Rattle.html_dom_link.specs.Namings.{start_pairs, used_after_starts}
 use Rattle.html_dom_link.specs.Anchors.{span_before, text_in_span}
-use Rattle.html_dom_link.specs.AnchorWalk.{WalkState, after_tag_start, first_waiting, Serves, made_now, after_server, after_start, after_starts, Walked, walk}
+use Rattle.html_dom_link.specs.AnchorWalk.{WalkState, after_tag_start, first_waiting, Serves, made_now, after_server, after_start, after_starts, walk}
 use Rattle.html_dom_document.specs.DomIndices.{◌then◌}
+use Rattle.html_dom_document.proofs.Leading.{then_assoc}
 use Rattle.html_dom_link.specs.Joined.{walked_behind, with_starts}
 
 pub then-none : (ns : NodesView) → (ns then none) ≡ ns
 then-none none = refl
 then-none (node n ns) = ap (node n) (then-none ns)
-
-pub then-assoc : (as' bs cs : NodesView) → ((as' then bs) then cs) ≡ (as' then (bs then cs))
-then-assoc none bs cs = refl
-then-assoc (node n ns) bs cs = ap (node n) (then-assoc ns bs cs)
 
 span_before-then : (made : Option Name) (as' bs : NodesView) →
     span_before made (as' then bs) ≡ (span_before made as' then bs)
@@ -74,7 +67,7 @@ pub span_placed : (ns : List HtmlNode) (n : HtmlNode) (more : NodesView) →
     (nodes_view (ns ++ n ∷ []) then more) ≡ (nodes_view ns then node (node_view n) more)
 span_placed ns n more =
     ap (λ l. l then more) (nodes_view-push ns n)
-    ∙ then-assoc (nodes_view ns) (node (node_view n) none) more
+    ∙ then_assoc (nodes_view ns) (node (node_view n) none) more
 
 -- a text, which serves all that wait
 pub text_served : (x : Targets) (s : List ℕ) (span : ℕ) (n : NodeView) (st after : WalkState)
@@ -82,18 +75,6 @@ pub text_served : (x : Targets) (s : List ℕ) (span : ℕ) (n : NodeView) (st a
     (node n none, after) ≡ walk x (node (text_node s span) none) st
 unfolding walk
 text_served x s span n st after made serves is = rw (is, serves.name, serves.state) refl
-
--- the views of nodes, case by case
-pub node_view-Tag : (t : Tag) → node_view (HtmlNode.Tag t) ≡ tag_node (tag_view t)
-node_view-Tag t = search (rules, the_lemmas)
-
-pub node_view-Element : (e : HtmlElement) →
-    node_view (HtmlNode.Element e) ≡ element_node (element_view e).0 (element_view e).1
-node_view-Element e = search (rules, the_lemmas)
-
-pub node_view-Frame : (f : HtmlFrame) →
-    node_view (HtmlNode.Frame f) ≡ frame_node (html_frame_view f)
-node_view-Frame f = search (rules, the_lemmas)
 
 -- a start tag, which waits where its location is a target
 pub tag_started : (x : Targets) (l : ℕ) (label : Option Name) (dest : Option ℕ)

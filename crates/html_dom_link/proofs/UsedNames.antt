@@ -1,7 +1,6 @@
 -- The names in use as a set of texts.
 use Rattle.std.proofs.Common.{◌≡◌, ◌==◌, cond, length, Some, subst, ℕ, ◌<◌, ◌^◌, Bool, true, false, ◌||◌, List, [], ◌∷◌, ◌++◌, map, chars, codes, bytes_eq, refl, ap, sym, ◌∙◌, string_bytes, String, Global, IsUtf8, is_eq, arith}
 use Rattle.std.specs.Prelude.{decimal}
-use Rattle.std.specs.Bool.{one_answer}
 use Rattle.std.specs.BTreeMap.{BTreeMap, is_at, get_by_text, Updates}
 use Rattle.std.specs.BTreeSet.{insert_key}
 use Rattle.std.specs.Cmp.Lexicographic.{slice_cmp}
@@ -17,18 +16,15 @@ use Rattle.std.proofs.lemmas.Map.Text.{is_eq-slice_cmp, btree_map_updates_text}
 use Rattle.std.proofs.lemmas.Slice.Eq.{bytes_eq-Decides}
 use Rattle.std.proofs.lemmas.Str.{encodes-chars, chars-append, chars-IsAscii, IsUtf8-string_bytes, IsUtf8-from_ascii}
 use Rattle.std.proofs.lemmas.Str.Ascii.{IsAscii-nil, IsAscii-cons}
+use Rattle.std.proofs.Math.Bool.{or-true}
 use Rattle.html_names.specs.Names.{stands_in}
 use Rattle.html_names.specs.Texts.{text_view}
 use Rattle.html_names.proofs.Lists.{bytes_eq-chars}
 use lib.Utf8.{encodes}
 use Rattle.html_names.proofs.Lists.{chars_ascii}
+use Rattle.html_names.proofs.Basics.{bytes_eq-sym}
 use Rattle.html_dom_link.specs.NewNames.{Name, name_with_number, stem_of}
 use Rattle.html_dom_link.specs.UsedNames.{is_nothing, AreUsedBelow, IsCounted}
-
-pub bytes_eq-sym : (a b : List ℕ) → bytes_eq a b ≡ bytes_eq b a
-bytes_eq-sym a b =
-    one_answer (bytes_eq a b) (bytes_eq b a) (bytes_eq-Decides a b)
-    (λ h. sym ((bytes_eq-Decides b a).0 h), λ e. (bytes_eq-Decides b a).1 (sym e))
 
 -- a text is among the keys where its characters are among theirs
 pub contains_is : (keys : List (String Global)) (bs : List ℕ) → IsUtf8 bs →
@@ -113,17 +109,13 @@ pub stem_of_nothing : (label : Name) → is_nothing label ≡ true → chars (co
 stem_of_nothing [] e = chars_ascii (codes "loc") refl
 stem_of_nothing (c ∷ cs) e = cc
 
-pub or_right : (b : Bool) → (b || true) ≡ true
-or_right true = refl
-or_right false = refl
-
 -- what is in use stays in use
 pub still_used : (keys : List (String Global)) (k : String Global) (n : Name) →
     stands_in (map text_view keys) n ≡ true →
     stands_in (map text_view (insert_key string_cmp keys k)) n ≡ true
 still_used keys k n e =
     insert_is keys k n ∙ (ap (λ b. bytes_eq (text_view k) n || b) e
-    ∙ or_right (bytes_eq (text_view k) n))
+    ∙ or-true (bytes_eq (text_view k) n))
 
 -- a number more for a label
 pub counted_more : (used : Name → Bool) (old new : BTreeMap (String Global) ℕ)

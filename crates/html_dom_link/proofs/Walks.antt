@@ -6,6 +6,7 @@ use Rattle.std.proofs.lemmas.Bool.{eq-eqb}
 use Rattle.std.proofs.lemmas.List.{append-nil}
 use Rattle.html_dom_tree.specs.Attributes.{or_else}
 use Rattle.html_dom_tree.specs.Tree.{starts, ends, NodeView, tag_node, text_node, element_node, frame_node, NodesView, none, node}
+use Rattle.html_dom_tree.proofs.Basics.{or_else-assoc, or_else-none}
 use Rattle.html_names.specs.Names.{stands_in}
 use Rattle.html_dom_link.specs.NewNames.{Name, new_name, with_used_name, first_id, element_names}
 use Rattle.html_dom_link.specs.Events.{Start, FrameStart, end_tag, element, text, html_frame, Targets, start_event, frame_starts, events}
@@ -13,7 +14,7 @@ use Rattle.html_dom_link.specs.Groups.{is_in_group, Cut, first_label, label_of}
 use Rattle.html_dom_link.specs.Namings.{made_for, group_answers, start_pairs, start_answers, used_after_starts, with_made, Naming, naming, used_after, all_answers, last_name}
 use Rattle.html_dom_link.specs.Anchors.{with_id, text_in_span, span_before, named_frame, nodes_with_anchors, element_with_anchors, anchor_of}
 use Rattle.html_dom_link.specs.AnchorWalk.{WalkState, after_tag_start, first_waiting, put_each, with_answers, made_now, after_server, after_starts, Walked, node_before, walk, OneWalkServes}
-use Rattle.html_dom_link.proofs.States.{Groups, named_if, naming_at, step, finished, makes, makes_is, makes-append, finished-append, drop-events, or_else-assoc, or_else-none, last_name-append, finished_answers, answered_is}
+use Rattle.html_dom_link.proofs.States.{Groups, named_if, naming_at, step, finished, makes, makes_is, makes-append, finished-append, drop-events, last_name-append, finished_answers, answered_is}
 
 -- the group that waits, as the walk carries it
 abbrev pub locations_of : List Start → List ℕ
@@ -199,7 +200,7 @@ frame_is own ss g =
       labels = λ l. None;
       used = used_after_starts used ss;
       answers = f;
-    }) (fun_ext (λ l. or_else-assoc (last_name inside l) (last_name (group ++ []) l) (g.answers l)
+    }) (fun_ext (λ l. sym (or_else-assoc (last_name inside l) (last_name (group ++ []) l) (g.answers l))
     ∙ ap (λ a. or_else a (g.answers l)) (sym (last_name-append (group ++ []) inside l)
     ∙ ap (λ as'. last_name (as' ++ inside) l) (append-nil group)))))
 

@@ -15,8 +15,9 @@ use Rattle.html_dom_link.specs.Anchors.{with_id}
 use Rattle.html_dom_link.specs.LinkAnchors.{targets_in, document_targets, document_with_new_anchors, document_anchor}
 use Rattle.html_dom_link.specs.AnchorWalk.{WalkState, first_waiting, Serves, after_server, at_first, Walked, walk, element_walk}
 use Rattle.html_dom_document.specs.DomIndices.{◌then◌}
+use Rattle.html_dom_document.proofs.Leading.{then_assoc}
 use Rattle.html_dom_link.specs.Joined.{walked_behind, is_end}
-use Rattle.html_dom_link.proofs.Steps.{then-none, then-assoc, walks_on, nodes_view-push}
+use Rattle.html_dom_link.proofs.Steps.{then-none, walks_on, nodes_view-push}
 use Rattle.html_dom_link.proofs.Walks.{one_walk_serves}
 
 -- an element, which serves all that wait, and what stands in it
@@ -50,7 +51,7 @@ node_walked x ns others n old new st after all first_is so_far more =
     let first = walk x (node (node_view n) none) st in
     let last = walk x rest first.1 in
     ap (λ (w : Walked). walked_behind w.0 (walk x rest w.1)) more
-    ∙ (ap (λ (ms : NodesView). (ms, last.1)) (then-assoc old first.0 last.0)
+    ∙ (ap (λ (ms : NodesView). (ms, last.1)) (then_assoc old first.0 last.0)
     ∙ (ap (walked_behind old) (sym (walks_on x (node (node_view n) none) rest st))
     ∙ (ap (λ ms. walked_behind old (walk x (nodes_view ms) st)) (sym first_is)
     ∙ so_far)))

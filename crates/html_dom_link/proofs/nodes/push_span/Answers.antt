@@ -1,9 +1,10 @@
 use Rattle.std.proofs.Common.{ap, sym, ◌∙◌}
 use Rattle.html_dom_tree.specs.Tree.{element_node, node, none}
 use Rattle.html_dom_tree.specs.Views.{text_view, nodes_view}
+use Rattle.html_dom_tree.proofs.Basics.{node_view-Element}
 use Rattle.html_dom_link.specs.Anchors.{span_head}
 use Rattle.html_dom_document.specs.DomIndices.{◌then◌}
-use Rattle.html_dom_link.proofs.Steps.{then-none, nodes_view-push, node_view-Element}
+use Rattle.html_dom_link.proofs.Steps.{then-none, nodes_view-push}
 use Rattle.html_dom_link.proofs.nodes.push_span.Goals as goal
 
 pub returns-in_ok-push : goal.returns-in_ok-push
