@@ -4,9 +4,11 @@ use Rattle.std.specs.Prelude.{if◌then◌else◌, option_to_list}
 use Rattle.std.proofs.lemmas.Bool.{and_parts}
 use Rattle.std.proofs.lemmas.List.{append-nil}
 use Rattle.std.proofs.lemmas.Str.{chars-encodes, is_utf8-from_IsUtf8}
+use Rattle.std.proofs.Math.Bool.{or-true}
 use lib.Utf8.{encodes, scalars}
 use Rattle.percent_encoding.specs.Percent.{percent_decode}
 use Rattle.html_names.specs.Names.{stands_in}
+use Rattle.html_names.proofs.NameTables.{stands_in-append}
 use Rattle.html_dom_tree.specs.Attributes.{first}
 use Rattle.html_dom_tree.specs.Tree.{Head, NodeView, tag_node, text_node, element_node, frame_node, NodesView, none, node, ElementView}
 use Rattle.html_dom_document.specs.Documents.{document_root}
@@ -22,8 +24,7 @@ use Rattle.html_dom_link.proofs.Counting.{shown_count}
 use Rattle.html_dom_link.proofs.Differing.{are_new, at_most_one, distinct_once, new_distinct, once_distinct}
 use Rattle.html_dom_link.proofs.GivenLinks.{href_spelled, known_name, no_href, texts_in}
 use Rattle.html_dom_link.proofs.LeadingLinks.{id_stays, names_stay}
-use Rattle.html_dom_link.proofs.Showing.{among-left, among-right}
-use Rattle.html_dom_link.proofs.UsedNames.{or_right}
+use Rattle.html_dom_link.proofs.Showing.{among-right}
 use Rattle.html_dom_check.specs.CheckLaws.{DistinctAreNotRepeated, LinksAddNoDeadFragment, LinksRepeatNoId, LinksStaySound, PlacedIdsAreIds, ResolvedStaySound, texts_of}
 use Rattle.html_dom_check.specs.Fragments.{bytes_lead, dead_among, dead_fragments, fragment_links, fragments_at, fragments_in, fragments_of, is_top, leads, tree_ids, unless_empty}
 use Rattle.html_dom_check.specs.PlacedTexts.{Placed, placed_at, node_placed, nodes_placed}
@@ -152,7 +153,7 @@ module _ (anchor : Anchors) (is_id : Name → Bool) (texts : AnchorsAreTexts anc
       ∙ (ap (λ b. is_top (encodes name) || b)
       (ap (λ b. b && is_id (chars (encodes name))) utf8
       ∙ (ap is_id (chars-encodes name text) ∙ there))
-      ∙ or_right (is_top (encodes name)))
+      ∙ or-true (is_top (encodes name)))
 
   -- so a link to it is not dead
   not_dead : (path fragment : List ℕ) → leads is_id fragment ≡ true →
@@ -265,7 +266,7 @@ below_stands : (e : ElementView) (name : Name) → stands_in (shown_names e.1) n
 unfolding shown_names
 below_stands e name there =
     among-right (option_to_list (first_id e.0)) (shown_names e.1 ++ []) name
-    (among-left (shown_names e.1) [] name there)
+    (stands_in-append (shown_names e.1) [] name there)
 
 pub links_add_no_dead_fragment : LinksAddNoDeadFragment
 links_add_no_dead_fragment anchor e stand =

@@ -31,9 +31,6 @@ still_used used n passed = fun_ext (λ m. by m (bytes_eq n m) refl)
     by m false is = refl
 
 module _ (found : List Placed) (used : Name → Bool) where
-  pub none_passed : LeavesToFind found used [] found used
-  none_passed rest = refl
-
   -- an id that is passed already is found
   pub found_again : (p : Placed) → used p.1 ≡ true → LeavesToFind found used (p ∷ []) (found ++ p ∷ []) used
   unfolding repeated

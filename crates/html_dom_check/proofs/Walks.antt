@@ -1,7 +1,6 @@
 -- Walks over a tree: what stands at the places of nodes, one node after the other.
-use Rattle.std.proofs.Common.{◌≡◌, ℕ, ◌+◌, ◌-◌, ◌≤◌, ◌<◌, arith, take, List, [], ◌∷◌, ◌++◌, length, get_or, drop, refl, ap, sym, ◌∙◌, add-one}
-use Rattle.std.proofs.lemmas.List.{drop_all, length-append}
-use Rattle.std.proofs.Math.Seq.{take-append_seam}
+use Rattle.std.proofs.Common.{◌≡◌, ℕ, ◌+◌, ◌≤◌, ◌<◌, List, [], ◌∷◌, ◌++◌, length, get_or, drop, refl, ap, sym, ◌∙◌, add-one}
+use Rattle.std.proofs.lemmas.List.{drop_all}
 use Rattle.html_dom_tree.specs.Tree.{NodeView}
 use Rattle.html_dom_tree.specs.Views.{node_view, nodes_view}
 use Rattle.html_dom_tree.specs.declared.node.HtmlNode.{HtmlNode}
@@ -26,14 +25,6 @@ pub none_placed : (texts : NodeView → List (List ℕ)) (path : List ℕ) (ns :
 unfolding nodes_placed
 none_placed texts path ns i past =
     ap (λ xs. nodes_placed texts path i (nodes_view xs)) (drop_all i ns past)
-
--- a path without its last index
-pub without_index : (parent : List ℕ) (index : ℕ) →
-    take (length (parent ++ index ∷ []) - 1) (parent ++ index ∷ []) ≡ parent
-without_index parent index =
-    let short : length (parent ++ index ∷ []) - 1 ≡ length parent =
-    omega (arith, length-append parent (index ∷ [])) in
-    ap (λ n. take n (parent ++ index ∷ [])) short ∙ take-append_seam parent (index ∷ [])
 
 pub placed-append : (path : List ℕ) (as' bs : List (List ℕ)) →
     placed_at path (as' ++ bs) ≡ placed_at path as' ++ placed_at path bs

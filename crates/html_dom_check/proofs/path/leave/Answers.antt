@@ -1,5 +1,5 @@
-use Rattle.std.proofs.Common.{◌-◌, ap, ◌∙◌, length, take}
-use Rattle.html_dom_check.proofs.Walks.{without_index}
+use Rattle.std.proofs.Common.{◌-◌, ap, ◌∙◌, length, take, ◌∷◌, []}
+use Rattle.html_names.proofs.Basics.{last_taken}
 use Rattle.html_dom_check.proofs.path.leave.Goals as goal
 
 pub returns : goal.returns
@@ -7,4 +7,4 @@ returns c = λ parent index is.
     let path = c.args.path.now in
     c.pop.ensures.rest
     ∙ (ap (λ n. take (n - 1) path.items) path.ok.0
-    ∙ (ap (λ items. take (length items - 1) items) is ∙ without_index parent index))
+    ∙ (ap (λ items. take (length items - 1) items) is ∙ last_taken parent (index ∷ []) 1 refl))
