@@ -1,6 +1,5 @@
 -- Runs of blanks, as they are found.
-use Rattle.std.proofs.Common.{◌≡◌, ℕ, ◌-◌, Bool, true, false, ◌||◌, List, [], ◌∷◌, ◌++◌, inl, inr, refl, ap, append_assoc, append-nil, take, drop, length, arith}
-use Rattle.std.proofs.lemmas.List.{take_all, length-drop}
+use Rattle.std.proofs.Common.{◌≡◌, Bool, true, false, ◌||◌, List, [], ◌∷◌, ◌++◌, inl, inr, refl, ap, append_assoc, append-nil}
 use Rattle.std.proofs.lemmas.Bool.{cases_Bool, false≢true, true≢false, or_from}
 use Rattle.html_dom_tree.specs.Tree.{NodeView, tag_node, text_node, element_node, frame_node}
 use Rattle.std.specs.List.{filter}
@@ -8,11 +7,6 @@ use Rattle.html_dom_tree.specs.Views.{nodes_of}
 use Rattle.html_flow_convert.specs.Nodes.{is_one, is_tag, pre_wrap_head}
 use Rattle.html_flow_convert.specs.OpenRuns.{goes_on, has_kept_run}
 use Rattle.html_flow_convert.specs.Runs.{is_blank_node, are_kept, first_span, run_nodes, front_nodes, blank_front, after_front, nodes_with_runs}
-
--- what stands from a place on, as a slice
-pub from_there : {A : Type 0} (start : ℕ) (xs : List A) →
-    take (length xs - start) (drop start xs) ≡ drop start xs
-from_there start xs = take_all (length xs - start) (drop start xs) (omega (arith, length-drop start xs))
 
 -- whether blanks are kept, after a space or at the start
 abbrev pub kept_after : (space : Bool) (blanks : List NodeView) → Bool
@@ -48,9 +42,7 @@ goes_on_node (m ∷ run) n h = h
 
 blank_is_no_tag : (n : NodeView) → is_blank_node n ≡ true → is_tag n ≡ false
 blank_is_no_tag (tag_node t) h = absurd (false≢true h)
-blank_is_no_tag (text_node s span) h = refl
-blank_is_no_tag (element_node e ns) h = refl
-blank_is_no_tag (frame_node f) h = refl
+blank_is_no_tag x h = refl
 
 pub begins_on : (run : List NodeView) (n : NodeView) → begins_with_tag run ≡ false →
     goes_on run n ≡ true → begins_with_tag (run ++ n ∷ []) ≡ false

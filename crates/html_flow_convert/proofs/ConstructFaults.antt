@@ -1,10 +1,9 @@
 -- Refusals of constructing are equal where their views are.
-use Rattle.std.proofs.Common.{◌≡◌, ◌∙◌, ◌==◌, ◌&&◌, ℕ, List, [], Bool, false, true≢false, refl, sym, ap}
+use Rattle.std.proofs.Common.{◌≡◌, ◌==◌, ◌&&◌, ℕ, List, [], Bool, false, true≢false, refl, sym, ap}
 use denote.Enum.Bare.{same_true, true_same}
 use Rattle.std.specs.Bool.{Decides}
-use Rattle.std.proofs.lemmas.Bool.{and_parts, and_from}
 use Rattle.std.proofs.lemmas.Bool.Decides.{Decides-eqb}
-use Rattle.html_values_css.proofs.Equals.{lists_decide}
+use Rattle.html_values_css.proofs.Equals.{lists_decide, pairs_decide}
 use Rattle.html_dom_tree.specs.declared.span.Span.{Span}
 use Rattle.html_values_css.specs.declared.cast_fault.CastFault.{CastFault}
 use Rattle.html_values_css.specs.contracts.cast_fault.CastFault.{the_type}
@@ -27,13 +26,7 @@ abbrev one_view : CastFault × Span → CastFault × ℕ
 one_view a = (a.0, a.1.0)
 
 one_decides : (a b : CastFault × Span) → Decides (same_one a b) (one_view a ≡ one_view b)
-one_decides a b =
-    let faults = fault_decides a.0 b.0 in
-    let spans = Decides-eqb a.1.0 b.1.0 in (
-      λ h. let both = and_parts _ _ h in
-          ap (λ f. (f, a.1.0)) (faults.0 both.0) ∙ ap (λ s. (b.0, s)) (spans.0 both.1),
-      λ e. and_from _ _ (faults.1 (ap (λ p. p.0) e)) (spans.1 (ap (λ p. p.1) e)),
-    )
+one_decides a b = pairs_decide _ _ (fault_decides a.0 b.0) (Decides-eqb a.1.0 b.1.0)
 
 abbrev faults_of : ConstructFaultView → List (CastFault × ℕ)
 faults_of (cast_faults fs) = fs

@@ -6,7 +6,6 @@ pub mod Items
 pub mod Lines
 pub mod LoneNodes
 pub mod Looks
-pub mod NodeViews
 pub mod OneProperty
 pub mod Protecting
 pub mod SingleChars

@@ -43,20 +43,9 @@ pub answers_step : (l : Last) (next : Look) (ts : List Thing) →
     answer_before l next ++ answers_left (last_after l next) ts ≡ answers_left l (seen next ts)
 unfolding bare_after
 answers_step last.Border look.Border ts = after_border ts
-answers_step last.Border look.Visible ts = refl
-answers_step last.Border look.Space ts = refl
-answers_step last.Border look.Nothing ts = refl
-answers_step last.Border look.Inside ts = refl
 answers_step last.Visible look.Border ts = after_border ts
-answers_step last.Visible look.Visible ts = refl
-answers_step last.Visible look.Space ts = refl
-answers_step last.Visible look.Nothing ts = refl
-answers_step last.Visible look.Inside ts = refl
 answers_step (last.Space in_line) look.Border ts = ap (λ bs. (in_line && false) ∷ bs) (after_border ts)
-answers_step (last.Space in_line) look.Visible ts = refl
-answers_step (last.Space in_line) look.Space ts = refl
-answers_step (last.Space in_line) look.Nothing ts = refl
-answers_step (last.Space in_line) look.Inside ts = refl
+answers_step l next ts = refl
 
 -- nothing stands after the end, as before a border
 pub answers_end : (l : Last) → answer_before l look.Border ≡ answers_left l []
@@ -100,11 +89,8 @@ left_after false kids others = others
 things_left : (l : Look) (kids others : NodesView) →
     look_things l (nodes_things kids) ++ nodes_things others
     ≡ seen l (nodes_things (left_after (is_inside l) kids others))
-things_left look.Border kids others = refl
-things_left look.Visible kids others = refl
-things_left look.Space kids others = refl
-things_left look.Nothing kids others = refl
 things_left look.Inside kids others = sym (things_joined kids others)
+things_left x kids others = refl
 
 turns_left : (b : Bool) (kids others : NodesView) →
     (if b then nodes_turns kids else 0) + nodes_turns others ≡ nodes_turns (left_after b kids others)
@@ -255,10 +241,8 @@ nothing_stands place (node n ns) e = absurd (no_list place n ns e)
 next_is : (names : NamesView) (place : ℕ) (n : FlatNode) (l : Look) →
     l ≡ flat_look (flat_node_view names n) →
     next_place place l n ≡ place_next place (flat_node_view names n)
-next_is names place (Tag t) l is = ap (λ (x : Look). if is_inside x then place + 1 else place + 1) is
-next_is names place (Text s span) l is = ap (λ (x : Look). if is_inside x then place + 1 else place + 1) is
-next_is names place (Frame b) l is = ap (λ (x : Look). if is_inside x then place + 1 else place + 1) is
 next_is names place (Element e) l is = ap (λ (x : Look). if is_inside x then place + 1 else e.past) is
+next_is names place n l is = ap (λ (x : Look). if is_inside x then place + 1 else place + 1) is
 
 module _ (names : NamesView) (nodes : List FlatNode) (whole : NodesView) where
   abbrev left : ℕ → List FlatNodeView

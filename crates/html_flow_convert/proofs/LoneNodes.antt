@@ -1,12 +1,12 @@
 -- The lone node of a list by its place, texts in bytes, and lists of css.
-use Rattle.std.proofs.Common.{◌≡◌, ℕ, suc, ◌+◌, ◌-◌, ◌<◌, ◌≤◌, List, [], ◌∷◌, length, get_or, take, drop, map, Bool, true, false, ◌&&◌, if◌then◌else◌, Option, Some, None, Bor, codes, chars, bytes_eq, IsUtf8, refl, sym, ap, ◌∙◌, add-one, drop-cons, length-drop}
-use Rattle.std.proofs.Math.Seq.{take-length}
+use Rattle.std.proofs.Common.{◌≡◌, ℕ, ◌+◌, ◌-◌, ◌<◌, ◌≤◌, List, [], ◌∷◌, length, get_or, take, drop, map, Bool, true, false, ◌&&◌, if◌then◌else◌, Option, Some, None, Bor, codes, chars, bytes_eq, IsUtf8, refl, sym, ap, ◌∙◌}
 use Rattle.std.specs.List.{list_all}
 use Rattle.std.proofs.lemmas.List.Folds.{list_all-map}
-use Rattle.std.proofs.lemmas.List.{at_drop_all}
+use Rattle.std.proofs.lemmas.List.{at_drop_all, take_rest}
 use Rattle.html_names.specs.Names.{is_ascii}
 use Rattle.html_names.specs.Texts.{TextPair}
 use Rattle.html_names.proofs.Lists.{chars_ascii, bytes_eq-chars}
+use Rattle.html_names.proofs.Basics.{from_place}
 use Rattle.html_values_css.specs.Properties.{with_value, without}
 use Rattle.html_dom_tree.specs.Tree.{Head, NodeView, element_node, node}
 use Rattle.html_dom_tree.specs.Views.{node_view, nodes_of, nodes_view}
@@ -25,17 +25,9 @@ are_tags_of : (ns : List NodeView) → are_tags (nodes_of ns) ≡ list_all is_ta
 are_tags_of [] = refl
 are_tags_of (n ∷ ns) = ap (λ b. is_tag n && b) (are_tags_of ns)
 
-drop_whole : {A : Type 0} (k : ℕ) (xs : List A) → take (length xs - k) (drop k xs) ≡ drop k xs
-drop_whole k xs = ap (λ m. take m (drop k xs)) (sym (length-drop k xs)) ∙ take-length (drop k xs)
-
 -- the nodes from a place on, with the node at it
 module _ (nodes : List HtmlNode) (k : ℕ) (n : HtmlNode) (below : k < length nodes)
     (is : n ≡ get_or nodes k n) where
-  from_place : drop k nodes ≡ n ∷ drop (k + 1) nodes
-  from_place =
-      drop-cons nodes k n below ∙ (ap (λ m. m ∷ drop (suc k) nodes) (sym is)
-      ∙ ap (λ j. n ∷ drop j nodes) (sym (add-one k)))
-
   -- a tag is passed
   pub tag_passed : is_tag (node_view n) ≡ true
       → lone_node (nodes_view (drop k nodes)) ≡ lone_node (nodes_view nodes)
@@ -44,7 +36,7 @@ module _ (nodes : List HtmlNode) (k : ℕ) (n : HtmlNode) (below : k < length no
   tag_passed tag same =
       let on : lone_node (node (node_view n) (nodes_view (drop (k + 1) nodes)))
       ≡ lone_node (nodes_view (drop (k + 1) nodes)) = rw tag refl in
-      sym on ∙ (ap (λ ns. lone_node (nodes_view ns)) (sym from_place) ∙ same)
+      sym on ∙ (ap (λ ns. lone_node (nodes_view ns)) (sym (from_place nodes k n below is)) ∙ same)
 
   -- the first other node decides, with what stands behind it
   pub decided : (tags : Bool) → is_tag (node_view n) ≡ false
@@ -57,10 +49,10 @@ module _ (nodes : List HtmlNode) (k : ℕ) (n : HtmlNode) (below : k < length no
       let rest = drop (k + 1) nodes in
       let all : are_tags (nodes_view rest) ≡ tags =
       are_tags_of (map node_view rest) ∙ (list_all-map is_tag node_view rest
-      ∙ (ap (list_all (λ m. is_tag (node_view m))) (sym (drop_whole (k + 1) nodes)) ∙ behind)) in
+      ∙ (ap (list_all (λ m. is_tag (node_view m))) (sym (take_rest nodes (k + 1))) ∙ behind)) in
       let here : lone_node (node (node_view n) (nodes_view rest))
       ≡ (if tags then lone_alone (node_view n) else None) = rw (other, all) refl in
-      sym same ∙ (ap (λ ns. lone_node (nodes_view ns)) from_place ∙ here)
+      sym same ∙ (ap (λ ns. lone_node (nodes_view ns)) (from_place nodes k n below is) ∙ here)
 
 -- tags alone are passed to the end
 pub none_left : (nodes : List HtmlNode) (k : ℕ) → length nodes ≤ k

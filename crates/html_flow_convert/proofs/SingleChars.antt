@@ -1,23 +1,16 @@
 -- Texts of one character.
-use Rattle.std.proofs.Common.{◌≡◌, ℕ, ◌<◌, ◌==◌, Bool, true, false, ◌&&◌, List, [], ◌∷◌, bytes_eq, chars, refl, sym, ap, ◌∙◌}
+use Rattle.std.proofs.Common.{◌≡◌, ℕ, ◌<◌, ◌==◌, List, [], ◌∷◌, bytes_eq, chars, refl, sym, ap, ◌∙◌}
 use Rattle.std.specs.Str.{IsAscii, IsUtf8}
 use Rattle.std.proofs.lemmas.Str.{chars-IsAscii, IsUtf8-from_ascii}
 use Rattle.std.proofs.lemmas.Str.Ascii.{IsAscii-cons, IsAscii-nil}
+use Rattle.std.proofs.Math.Bool.{and-true, and-false}
 use Rattle.html_names.proofs.Lists.{bytes_eq-chars}
 use Rattle.html_flow_convert.specs.Nodes.{is_one}
 
-and_true : (b : Bool) → b ≡ (b && true)
-and_true true = refl
-and_true false = refl
-
-and_false : (b : Bool) → false ≡ (b && false)
-and_false true = refl
-and_false false = refl
-
 one_of : (d : ℕ) (cs : List ℕ) → is_one d cs ≡ bytes_eq cs (d ∷ [])
 one_of d [] = refl
-one_of d (c ∷ []) = and_true (c == d)
-one_of d (c ∷ e ∷ cs) = and_false (c == d)
+one_of d (c ∷ []) = sym (and-true (c == d))
+one_of d (c ∷ e ∷ cs) = sym (and-false (c == d))
 
 -- the bytes are that one where the characters are
 pub one_byte : (d : ℕ) (text : List ℕ) → d < 128 → IsUtf8 text → is_one d (chars text) ≡ is_one d text

@@ -2,12 +2,12 @@
 use Rattle.std.proofs.Common.{◌≡◌, ℕ, ◌-◌, ◌<◌, Bool, true, false, ◌&&◌, ◌||◌, ◌==◌, List, [], ◌∷◌, ◌++◌, IsTrue, Option, None, Some, chars, length, map, take, refl, sym, ap, ◌∙◌, arith, append-nil, append_assoc}
 use Rattle.std.proofs.lemmas.Bool.{agree_below_at, false≢true, true≢false}
 use Rattle.std.proofs.lemmas.Bool.Decides.{nat_tests}
-use Rattle.std.proofs.lemmas.List.{length-append, map-append, nil_from_length}
+use Rattle.std.proofs.lemmas.List.{map-append, nil_from_length}
 use Rattle.std.proofs.lemmas.Str.{IsUtf8-nil, IsUtf8-append, IsUtf8-encode, chars-append, chars-nil, chars_past_char, scalars-chars, encodes-chars}
 use Rattle.std.proofs.lemmas.Bool.{and_parts, and_from}
-use Rattle.std.proofs.Math.Seq.{take-append_seam}
 use Rattle.std.specs.Str.{IsUtf8}
 use Rattle.html_names.specs.Characters.{is_ignorable}
+use Rattle.html_names.proofs.Basics.{chars-encode, front_taken}
 use Rattle.html_dom_tree.specs.Tree.{NodeView}
 use Rattle.html_flow_convert.specs.Pieces.{PieceView, stretch, alone, line_break, first_char, is_normal, is_normal_there, is_in_stretch, in_stretch, is_carriage_return, outside_stretch, pieces_after, pieces, piece_node, text_nodes}
 use Rattle.html_flow_convert.specs.TextStretches.{with_stretch}
@@ -153,26 +153,10 @@ return_apart before c after h e =
     false≢true (rw is at h)
 
 -- the first character of a text
-first_scalar : (bs rest : List ℕ) (c : ℕ) → IsUtf8 bs → bs ≡ encode c ++ rest → scalar c ≡ true
+pub first_scalar : (bs rest : List ℕ) (c : ℕ) → IsUtf8 bs → bs ≡ encode c ++ rest → scalar c ≡ true
 first_scalar bs rest c u e =
     (and_parts (scalar c) (scalars (chars rest))
     (ap scalars (sym (chars_past_char bs rest c u e)) ∙ scalars-chars bs u)).0
-
-chars_of_one : (c : ℕ) → scalar c ≡ true → chars (encode c) ≡ c ∷ []
-chars_of_one c valid =
-    chars_past_char (encode c) [] c (IsUtf8-encode c valid) (sym (append-nil (encode c)))
-    ∙ ap (λ cs. c ∷ cs) chars-nil
-
--- how many bytes stand before the rest
-pub front_length : (text front rest : List ℕ) → text ≡ front ++ rest →
-    length front ≡ length text - length rest
-front_length text front rest e = omega (arith, ap length e, length-append front rest)
-
-front_taken : (text front rest : List ℕ) → text ≡ front ++ rest →
-    take (length text - length rest) text ≡ front
-front_taken text front rest e =
-    ap (λ n. take n text) (sym (front_length text front rest e))
-    ∙ (ap (take (length front)) e ∙ take-append_seam front rest)
 
 -- the nodes that are made, and a text of which a stretch stands before the rest
 pub record Stretching (span : ℕ) (before : Option ℕ) (text rest : List ℕ)
@@ -206,7 +190,7 @@ char_inside span before text rest after made all c held parts u inside =
     let valid = first_scalar rest after c held.rest_utf8 parts in
     let grown : chars (held.front ++ encode c) ≡ chars held.front ++ c ∷ [] =
     chars-append held.front (encode c) held.front_utf8
-    ∙ ap (λ cs. chars held.front ++ cs) (chars_of_one c valid) in
+    ∙ ap (λ cs. chars held.front ++ cs) (chars-encode c valid) in
     record {
       front = held.front ++ encode c;
       split = held.split

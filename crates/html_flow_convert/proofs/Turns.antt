@@ -13,11 +13,9 @@ mutual
   unfolding node_turns node_count
 
   turns_among_one : (n : NodeView) → node_turns n ≤ node_count n
-  turns_among_one (tag_node t) = omega arith
-  turns_among_one (text_node s span) = omega arith
   turns_among_one (element_node h ns) =
       turns_inside (is_entered h) (nodes_turns ns) (nodes_count ns) (turns_among ns)
-  turns_among_one (frame_node f) = omega arith
+  turns_among_one x = omega arith
 
   pub turns_among : (ns : NodesView) → nodes_turns ns ≤ nodes_count ns
   turns_among none = omega arith

@@ -15,11 +15,9 @@ use Rattle.html_flow_convert.proofs.Lines.{seen, answers_step, answers_end}
 
 pub one_seen : (w : WalkView) (next : Look) → walk_with w next ≡ walk_on w (look_things next [])
 unfolding walk_on
-one_seen w look.Border = refl
-one_seen w look.Visible = refl
-one_seen w look.Space = refl
 one_seen w look.Nothing = ap (λ (bs : List Bool). (bs, w.1)) (append-nil w.0)
 one_seen w look.Inside = ap (λ (bs : List Bool). (bs, w.1)) (append-nil w.0)
+one_seen w x = refl
 
 walk_append : (w : WalkView) (ts us : List Thing) → walk_on w (ts ++ us) ≡ walk_on (walk_on w ts) us
 unfolding walk_on

@@ -4,12 +4,13 @@ use Rattle.std.specs.Str.{IsCharBoundary}
 use Rattle.std.proofs.lemmas.Result.{on_err_weaker}
 use Rattle.std.proofs.lemmas.Str.{IsCharBoundary-at_seam}
 use Rattle.html_names.proofs.Held.{on_err}
+use Rattle.html_names.proofs.Basics.{front_length}
 use Rattle.html_flow_convert.specs.Beginnings.{AddsBeginning}
 use Rattle.html_dom_tree.specs.Views.{node_view}
 use Rattle.html_flow_convert.specs.Pieces.{outside_stretch, piece_node, text_nodes}
 use Rattle.html_flow_convert.specs.TextStretches.{with_stretch}
 use Rattle.html_flow_convert.proofs.Beginnings.{grows_by_none, grows_more, begins, begins_between, begins_as}
-use Rattle.html_flow_convert.proofs.Stretching.{front_length, nothing_passed, char_inside, char_outside, text_ended}
+use Rattle.html_flow_convert.proofs.Stretching.{nothing_passed, char_inside, char_outside, text_ended}
 use Rattle.html_flow_convert.proofs.pieces.push_pieces.Goals as goal
 use native.Mathlib.Numerals.{unary_clauses}
 use lib.Utf8.{encode}

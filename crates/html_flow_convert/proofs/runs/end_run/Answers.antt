@@ -1,11 +1,11 @@
 use Rattle.std.proofs.Common.{◌≡◌, ◌++◌, ◌∷◌, [], map, take, drop, ap, sym, ◌∙◌, true, false}
 use Rattle.std.specs.List.{filter}
-use Rattle.std.proofs.lemmas.List.{map-append, take-append-drop}
+use Rattle.std.proofs.lemmas.List.{map-append, take-append-drop, take_rest}
 use Rattle.html_dom_tree.specs.Tree.{NodeView, element_node}
 use Rattle.html_dom_tree.specs.Views.{node_view, nodes_view}
 use Rattle.html_flow_convert.specs.Nodes.{pre_wrap_head}
 use Rattle.html_flow_convert.specs.Runs.{is_blank_node, are_kept, first_span}
-use Rattle.html_flow_convert.proofs.Blanks.{from_there, kept_run, left_run}
+use Rattle.html_flow_convert.proofs.Blanks.{kept_run, left_run}
 use Rattle.html_flow_convert.proofs.runs.end_run.Goals as goal
 
 pub returns-then-not-are_kept : goal.returns-then-not-are_kept
@@ -14,7 +14,7 @@ returns-then-not-are_kept c =
     let start = c.args.start in
     let run = map node_view (drop start made) in
     let off : are_kept (filter is_blank_node run) ≡ false =
-    rw (from_there, c.deref.ensures.value) at (sym c.are_kept.ensures ∙ c.if-not-are_kept.true) in
+    rw (take_rest, c.deref.ensures.value) at (sym c.are_kept.ensures ∙ c.if-not-are_kept.true) in
     ap (map node_view) (sym (take-append-drop start made))
     ∙ (map-append node_view (take start made) (drop start made)
     ∙ ap (λ l. map node_view (take start made) ++ l) (sym (left_run run off)))
@@ -25,7 +25,7 @@ returns c =
     let start = c.args.start in
     let run = map node_view (drop start made) in
     let kept : are_kept (filter is_blank_node run) ≡ true =
-    rw (from_there, c.deref.ensures.value) at (sym c.are_kept.ensures ∙ c.if-not-are_kept.false) in
+    rw (take_rest, c.deref.ensures.value) at (sym c.are_kept.ensures ∙ c.if-not-are_kept.false) in
     let rest : c.in_ok-run.run'.items ≡ drop start made = c.in_ok-run.ensures.tail in
     let span = c.first_span-span.ensures
     ∙ ap (λ ns. first_span (map node_view ns)) (c.deref-2.ensures.value ∙ rest) in

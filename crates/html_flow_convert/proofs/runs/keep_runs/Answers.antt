@@ -1,10 +1,10 @@
 use Rattle.std.proofs.Common.{◌≡◌, ◌≤◌, ◌++◌, [], ◌∷◌, true, false, map, take, drop, length, refl, sym, ap, ◌∙◌, arith}
 use Rattle.std.specs.Vec.Iter.{into_iter_items}
-use Rattle.std.proofs.lemmas.List.{map-append, nil_from_length, length-append, take-append-le, drop-append-le, take_all, drop_all}
+use Rattle.std.proofs.lemmas.List.{map-append, nil_from_length, length-append, take-append-le, drop-append-le, take_all, drop_all, take_rest}
 use Rattle.html_dom_tree.specs.Views.{node_view}
 use Rattle.html_flow_convert.specs.OpenRuns.{goes_on, has_kept_run}
 use Rattle.html_flow_convert.specs.Runs.{run_nodes}
-use Rattle.html_flow_convert.proofs.Blanks.{from_there, goes_on_node, begins_on, run_goes_on, run_ends, runs_end, runs_stay}
+use Rattle.html_flow_convert.proofs.Blanks.{goes_on_node, begins_on, run_goes_on, run_ends, runs_end, runs_stay}
 use Rattle.html_flow_convert.proofs.runs.keep_runs.Goals as goal
 
 pub returns-then-not-has_kept_run : goal.returns-then-not-has_kept_run
@@ -24,7 +24,7 @@ loop-node-preserved-in-Continue-branch-2 c =
     let run = map node_view (drop start old) in
     let left = map node_view (into_iter_items c.next.new.self) in
     let on : goes_on run n ≡ true =
-    rw (from_there, c.deref-in-loop-node.ensures.value) at (sym c.goes_on.ensures ∙ c.if-goes_on.true) in
+    rw (take_rest, c.deref-in-loop-node.ensures.value) at (sym c.goes_on.ensures ∙ c.if-goes_on.true) in
     let done : map node_view (take start c.push.new.self.items) ≡ map node_view (take start old) =
     ap (λ l. map node_view (take start l)) c.in_ok-push.ensures.items
     ∙ ap (map node_view) (take-append-le start old one held.within) in
@@ -52,7 +52,7 @@ loop-node-preserved c =
     let new = c.push-else-goes_on.new.self.items in
     let left = map node_view (into_iter_items c.next.new.self) in
     let off : goes_on run n ≡ false =
-    rw (from_there, c.deref-in-loop-node.ensures.value) at (sym c.goes_on.ensures ∙ c.if-goes_on.false) in
+    rw (take_rest, c.deref-in-loop-node.ensures.value) at (sym c.goes_on.ensures ∙ c.if-goes_on.false) in
     let pushed : map node_view new ≡ (done ++ run_nodes run) ++ n ∷ [] =
     ap (map node_view) c.in_ok-push-2.ensures.items
     ∙ (map-append node_view c.end_run.new.made.items (c.in-Some.node ∷ [])
