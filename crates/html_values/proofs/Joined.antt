@@ -1,18 +1,13 @@
 -- The texts of a list's items, made one by one.
-use Rattle.std.proofs.Common.{◌≡◌, ℕ, List, [], ◌∷◌, ◌++◌, Ok, Err, refl, ap, sym, subst, append_assoc}
+use Rattle.std.proofs.Common.{◌≡◌, ℕ, List, ◌++◌, Ok, Err, refl, subst}
 use Rattle.html_values_css.specs.CastFaults.{IsFirst}
-use Rattle.html_values.specs.Casts.{CastAnswer, gives, nothing, refuses, answer_faults, Texts, and_then, item_answer}
+use Rattle.html_values.specs.Casts.{CastAnswer, gives, nothing, refuses, answer_faults, Texts, item_answer}
 use Rattle.html_values_css.specs.declared.cast_fault.CastFault.{CastFault}
 
 -- texts that are made, and those of the items that are left
 abbrev pub after : List (List ℕ) → Texts → Texts
 after made (Ok more) = Ok (made ++ more)
 after made (Err fault) = Err fault
-
-pub after-one : (made : List (List ℕ)) (t : List ℕ) (more : Texts)
-    → after made (and_then (Ok t) more) ≡ after (made ++ t ∷ []) more
-after-one made t (Ok more) = ap (λ l. Ok l) (sym (append_assoc made (t ∷ []) more))
-after-one made t (Err fault) = refl
 
 -- a refusal is no nothing, so it stays
 item_faults : (a : CastAnswer) → answer_faults a ≡ answer_faults (item_answer a)

@@ -19,6 +19,3 @@ pub more_are : (bs rest more : List ℕ) (c d : ℕ) → IsUtf8 bs → bs ≡ en
 more_are bs rest more c d u e f =
     let second = chars_past_char rest more d (IsUtf8-past_char bs rest c u e) f in
     ap one_char (chars_past_char bs rest c u e ∙ ap (λ l. c ∷ l) second)
-
-pub none_is : (bs : List ℕ) → length bs ≡ 0 → one_char (chars bs) ≡ refuses NotOneChar
-none_is bs h = ap one_char (chars-empty bs h)

@@ -1,5 +1,5 @@
 use Rattle.std.proofs.Common.{sym, ◌∙◌}
-use Rattle.html_values.proofs.Equals.{text_decides}
+use Rattle.html_values_css.proofs.Equals.{text_decides}
 use Rattle.html_values.proofs.laws.equal_strs.Goals as goal
 
 pub returns : goal.returns
