@@ -1,5 +1,5 @@
 -- The first argument without a name, and what is left without it.
-use Rattle.std.proofs.Common.{◌≡◌, ℕ, zero, suc, ◌<◌, List, [], ◌∷◌, length, get_or, Bool, true, false, Option, None, Some, option_map, is_some, refl, ap, sym, ◌∙◌, arith, inl, inr}
+use Rattle.std.proofs.Common.{◌≡◌, ℕ, zero, suc, List, [], ◌∷◌, Bool, true, false, Option, None, Some, option_map, is_some, refl, ap, sym, ◌∙◌, inl, inr}
 use Rattle.std.specs.List.{remove}
 use Rattle.std.proofs.lemmas.Bool.{cases_Bool}
 use Rattle.std.proofs.lemmas.Option.{none-some, same_Some}
@@ -18,12 +18,6 @@ faults-from : (body : Option BodyView) (span : ℕ) (left : List ArgView)
     → choice_faults (choice_from body span left) ≡ body_faults body span
 faults-from None span left = refl
 faults-from (Some body) span left = refl
-
-pub arg_at_is : (args : List Arg) (k : ℕ) (d : Arg) → k < length args
-    → arg_at (args_view args) k ≡ arg_view (get_or args k d)
-arg_at_is [] k d h = absurd (omega arith)
-arg_at_is (a ∷ more) zero d h = refl
-arg_at_is (a ∷ more) (suc k) d h = arg_at_is more k d (omega arith)
 
 pub removed_view : (args : List Arg) (k : ℕ) → args_view (remove args k) ≡ remove (args_view args) k
 removed_view [] zero = refl
