@@ -1,11 +1,11 @@
 -- Indents in pieces.
-use Rattle.std.proofs.Common.{◌≡◌, ℕ, zero, suc, ◌+◌, ◌-◌, ◌*◌, ◌≤◌, true, List, [], ◌∷◌, ◌++◌, length, refl, ap, ◌∙◌, codes, bytes_eq, append_assoc, arith, ltb-true}
+use Rattle.std.proofs.Common.{◌≡◌, ℕ, zero, suc, ◌+◌, ◌-◌, ◌*◌, ◌≤◌, true, List, ◌∷◌, ◌++◌, length, refl, ap, ◌∙◌, codes, bytes_eq, append_assoc, arith}
 use Rattle.std.specs.List.{slice_range}
 use Rattle.std.specs.Str.{IsAscii}
-use Rattle.std.proofs.lemmas.Bool.{agree_below_at, and_parts}
+use Rattle.std.proofs.lemmas.Bool.{agree_below_at}
 use Rattle.std.proofs.lemmas.Slice.Eq.{bytes_eq-Decides}
-use Rattle.std.proofs.lemmas.Str.Ascii.{IsAscii-nil, IsAscii-cons}
 use Rattle.html_names.specs.Names.{is_ascii}
+use Rattle.html_names.proofs.Basics.{is_ascii_is}
 use Rattle.typst_html_encode.specs.Layout.{spaces, indent}
 use Rattle.typst_html_encode.specs.declared.indent.TheConstants.{LINE}
 
@@ -22,14 +22,8 @@ pub indent_ascii : (n : ℕ) → is_ascii (indent n) ≡ true
 unfolding indent
 indent_ascii n = spaces_ascii n
 
-ascii_from : (s : List ℕ) → is_ascii s ≡ true → IsAscii s
-ascii_from [] h = IsAscii-nil
-ascii_from (c ∷ cs) h =
-    let both = and_parts _ _ h in
-    IsAscii-cons c cs (ltb-true c 128 both.0) (ascii_from cs both.1)
-
 pub line_ascii : IsAscii LINE.now
-line_ascii = ascii_from LINE.now refl
+line_ascii = is_ascii_is LINE.now refl
 
 pub line_length : length LINE.now ≡ 129
 line_length = refl

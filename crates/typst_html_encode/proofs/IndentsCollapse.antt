@@ -8,7 +8,7 @@ use Rattle.html_names.specs.Names.{stands_in}
 use Rattle.html_names.specs.Kinds.{is_raw, is_escapable_raw, is_replaced, is_line_break}
 use Rattle.html_dom_tree.specs.PlainTree.{words, branch, Plains, no_plains, plain, put_words, nodes_normal}
 use Rattle.html_dom_tree.specs.Tree.{TextPair, Head, NodeView, tag_node, text_node, element_node, frame_node, NodesView, none, node}
-use Rattle.typst_html_encode.specs.Collapsing.{Atom, visible, ignorable, collapsible, kept, object, break, border, Piece, char, edge, merged_edges, text_atoms, preserves, has_border_display, has_border, element_atoms, plains_atoms, is_supported_by, then_supports, atoms_pieces, collapsed_pieces}
+use Rattle.typst_html_encode.specs.Collapsing.{Atom, ignorable, collapsible, object, border, Piece, char, edge, merged_edges, text_atoms, preserves, has_border_display, has_border, element_atoms, plains_atoms, is_supported_by, then_supports, atoms_pieces, collapsed_pieces}
 use Rattle.typst_html_encode.specs.Indented.{with_indent, node_layout, nodes_layout, content_layout}
 use Rattle.typst_html_encode.specs.IndentsCollapse.{HeadIsEdged, NodesAreEdged, body_children, body_in, ContentCollapses, BodyCollapses}
 use Rattle.typst_html_encode.specs.Layout.{spaces, indent, allows_pretty_inside, wants_pretty_around, nodes_want_pretty, is_pretty_inside}
@@ -36,13 +36,9 @@ IsClosed us = (is_supported_by us ≡ false) × ((b : Bool) →
 -- one atom before
 before_one : (x : Atom) (us vs : List Atom) → is_supported_by us ≡ is_supported_by vs →
     is_supported_by (x ∷ us) ≡ is_supported_by (x ∷ vs)
-before_one (visible c) us vs e = refl
 before_one (ignorable c) us vs e = e
 before_one (collapsible c) us vs e = e
-before_one (kept c) us vs e = refl
-before_one (object name) us vs e = refl
-before_one break us vs e = refl
-before_one border us vs e = refl
+before_one x us vs e = refl
 
 under : (xs us vs : List Atom) → Same us vs → Same (xs ++ us) (xs ++ vs)
 under [] us vs s = s
@@ -333,7 +329,7 @@ unfolding nodes_normal
 past_indent true level ns = past_words (indent level) (nodes_normal ns)
 past_indent false level ns = refl
 
-body_is_not_raw : is_raw (codes "body") ≡ false
+pub body_is_not_raw : is_raw (codes "body") ≡ false
 unfolding is_raw stands_in
 body_is_not_raw = refl
 

@@ -1,13 +1,7 @@
 -- Indents and lines that grow at their end.
-use Rattle.std.proofs.Common.{◌≡◌, ℕ, zero, suc, ◌+◌, List, [], ◌∷◌, ◌++◌, Bool, true, false, ◌||◌, refl, ap, sym, ◌∙◌, codes, append_assoc, append-nil}
+use Rattle.std.proofs.Common.{◌≡◌, ℕ, List, [], ◌∷◌, ◌++◌, Bool, true, false, ◌||◌, refl, ap, sym, ◌∙◌, append_assoc, append-nil}
 use Rattle.std.specs.Prelude.{if◌then◌else◌}
-use native.Mathlib.Numerals.{unary_clauses}
-use Rattle.typst_html_encode.specs.Layout.{spaces, by_lines}
-
-pub spaces_more : (n : ℕ) → spaces n ++ codes "  " ≡ spaces (n + 1)
-spaces_more zero = refl
-spaces_more (suc n) = simp unary_clauses (ap (λ s. codes "  " ++ s)
-    (spaces_more n ∙ simp unary_clauses refl))
+use Rattle.typst_html_encode.specs.Layout.{by_lines}
 
 -- there is a line
 abbrev pub begun : List (List ℕ) → Bool

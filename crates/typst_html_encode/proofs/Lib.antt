@@ -18,7 +18,6 @@ pub mod RawNames
 pub mod ReadIds
 pub mod ReadingBack
 pub mod References
-pub mod Rows
 pub mod Runs
 pub mod Same
 pub mod NextSiblings

@@ -5,7 +5,6 @@ use Rattle.typst_html_encode.specs.ExportFaults.{void_faults, text_faults, nodes
 use Rattle.typst_html_encode.specs.ReadingBack.{NodeIsNamed, NodesAreNamed}
 use Rattle.typst_html_encode.specs.declared.escape.Escaping.{Escaping}
 use Rattle.typst_html_encode.specs.declared.escape.Escaping.TheVariants as escaping
-use Rattle.typst_html_encode.proofs.Firsts.{first_of_more}
 use Rattle.typst_html_encode.proofs.Runs.{left_empty, right_empty}
 
 pub texts_named : (e : Escaping) (ns : NodesView) → nodes_raw_faults e ns ≡ [] → NodesAreNamed ns
@@ -26,6 +25,3 @@ pub childless_named : (span : ℕ) (ns : NodesView) → void_faults span ns ≡ 
 unfolding NodesAreNamed
 childless_named span none h = tt
 childless_named span (node n ns) h = cc
-
--- for calls that write nodes
-pub ruleset writing = (first_of_more, texts_named, raw_content_named, childless_named)

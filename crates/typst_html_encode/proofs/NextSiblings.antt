@@ -161,10 +161,8 @@ at_end names nodes place index beyond =
 pub not_element : (names : NamesView) (place : ℕ) (flat : FlatNode) →
     ((e : FlatElement) → flat ≡ Element e → ⊥) →
     place_after place (flat_node_view names flat) ≡ place + 1
-not_element names place (Tag t) other = refl
-not_element names place (Text s span) other = refl
-not_element names place (Frame b) other = refl
 not_element names place (Element e) other = absurd (other e refl)
+not_element names place x other = refl
 
 -- each node of a list comes with what stands in it, at whatever depth
 

@@ -1,9 +1,9 @@
 -- What the reader gathers is the normal form.
-use Rattle.std.proofs.Common.{◌≡◌, ℕ, List, [], ◌∷◌, ◌++◌, refl, ap, ◌∙◌, sym, append_assoc}
-use Rattle.std.proofs.lemmas.List.{append-nil}
+use Rattle.std.proofs.Common.{◌≡◌, ℕ, List, [], ◌∷◌, ◌++◌, refl, ap, ◌∙◌, sym}
 use Rattle.html_dom_tree.specs.Tree.{TextPair, tag_node, text_node, element_node, frame_node, NodesView, none, node}
 use Rattle.typst_html_encode.specs.Text.{nodes_raw_text}
-use Rattle.html_dom_tree.specs.PlainTree.{words, branch, Plains, no_plains, plain, put_words, nodes_normal}
+use Rattle.html_dom_tree.specs.PlainTree.{branch, Plains, no_plains, plain, put_words, nodes_normal}
+use Rattle.html_dom_tree.proofs.Basics.{put_twice}
 use Rattle.typst_html_encode.specs.ExportFaults.{nodes_raw_faults, text_faults}
 use Rattle.typst_html_encode.specs.declared.escape.Escaping.{Escaping}
 use Rattle.typst_html_encode.specs.Reader.{◌then◌, with_text}
@@ -22,27 +22,13 @@ joined before text (node (frame_node b) ns) = joined before text ns
 abbrev pub closed : Plains × List ℕ → Plains
 closed x = with_text x.1 x.0
 
-then_assoc : (a b c : Plains) → ((a then b) then c) ≡ (a then (b then c))
+pub then_assoc : (a b c : Plains) → ((a then b) then c) ≡ (a then (b then c))
 then_assoc no_plains b c = refl
 then_assoc (plain p ps) b c = ap (plain p) (then_assoc ps b c)
 
-then_none : (a : Plains) → (a then no_plains) ≡ a
+pub then_none : (a : Plains) → (a then no_plains) ≡ a
 then_none no_plains = refl
 then_none (plain p ps) = ap (plain p) (then_none ps)
-
-pub put_words-put_words : (t u : List ℕ) (ps : Plains) →
-    put_words t (put_words u ps) ≡ put_words (t ++ u) ps
-put_words-put_words [] u ps = refl
-put_words-put_words (c ∷ cs) [] no_plains = ap (λ l. plain (words (c ∷ l)) no_plains)
-    (sym (append-nil cs))
-put_words-put_words (c ∷ cs) [] (plain (words t) ps) =
-    ap (λ l. plain (words (c ∷ l ++ t)) ps) (sym (append-nil cs))
-put_words-put_words (c ∷ cs) [] (plain (branch name attrs kids) ps) =
-    ap (λ l. plain (words (c ∷ l)) (plain (branch name attrs kids) ps)) (sym (append-nil cs))
-put_words-put_words (c ∷ cs) (d ∷ ds) no_plains = refl
-put_words-put_words (c ∷ cs) (d ∷ ds) (plain (words t) ps) =
-    ap (λ l. plain (words (c ∷ l)) ps) (sym (append_assoc cs (d ∷ ds) t))
-put_words-put_words (c ∷ cs) (d ∷ ds) (plain (branch name attrs kids) ps) = refl
 
 with_text_is : (t : List ℕ) (b : Plains) → with_text t b ≡ (b then put_words t no_plains)
 with_text_is [] b = sym (then_none b)
@@ -60,7 +46,7 @@ unfolding nodes_normal
 joined_is none b t = with_text_is t b
 joined_is (node (tag_node m) ns) b t = joined_is ns b t
 joined_is (node (text_node s span) ns) b t = joined_is ns b (t ++ s)
-    ∙ ap (λ n. b then n) (sym (put_words-put_words t s (nodes_normal ns)))
+    ∙ ap (λ n. b then n) (sym (put_twice t s (nodes_normal ns)))
 joined_is (node (element_node h kids) ns) b t =
     let e = branch h.name h.attrs (nodes_normal kids) in
     joined_is ns (with_text t b then plain e no_plains) []
@@ -77,7 +63,7 @@ unfolding nodes_normal
 texts_alone e none h = refl
 texts_alone e (node (tag_node m) ns) h = texts_alone e ns h
 texts_alone e (node (text_node s span) ns) h =
-    sym (put_words-put_words s (nodes_raw_text ns) no_plains)
+    sym (put_twice s (nodes_raw_text ns) no_plains)
     ∙ ap (put_words s) (texts_alone e ns (right_empty (text_faults e span s)
     (nodes_raw_faults e ns) h))
 texts_alone e (node (element_node h kids) ns) f = cc

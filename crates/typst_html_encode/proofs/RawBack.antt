@@ -51,17 +51,9 @@ name_no_end : (c : ℕ) → is_tag_char c ≡ true → is_tag_end c ≡ false
 unfolding is_tag_end
 name_no_end c h = grind (arith, nat_tests)
 
-end_47 : is_tag_end 47 ≡ true
+tag_ends : (is_tag_end 47 ≡ true) × (is_tag_end 60 ≡ false) × (is_tag_end 62 ≡ true)
 unfolding is_tag_end
-end_47 = refl
-
-end_60 : is_tag_end 60 ≡ false
-unfolding is_tag_end
-end_60 = refl
-
-end_62 : is_tag_end 62 ≡ true
-unfolding is_tag_end
-end_62 = refl
+tag_ends = (refl, refl, refl)
 
 lower_pass : (name : List ℕ) → all is_tag_char name ≡ true →
     all is_not_less (map to_ascii_lowercase name) ≡ true
@@ -127,7 +119,7 @@ module _ (name : List ℕ) (attrs : List TextPair) (s : List Open) where
       (ap (map to_ascii_lowercase) cut) in
       let exact : ends_exact name x ≡ true = (bytes_eq-Decides (drop (length x - k) x)
       (codes "</" ++ name)).1 cut in
-      rw (end_62, ends, exact, front) refl
+      rw (tag_ends.2, ends, exact, front) refl
 
   -- nothing is cut at the end tag's own characters
   pub raw_back : (t : List ℕ) → IsOf is_tag_char name → holds_closing name t ≡ false →
@@ -136,10 +128,10 @@ module _ (name : List ℕ) (attrs : List TextPair) (s : List Open) where
   raw_back t n h =
       let named : all is_tag_char name ≡ true = all_of is_tag_char name n in
       let x : List ℕ = (t ++ 60 ∷ []) ++ 47 ∷ [] in
-      let less : step (Raw name attrs t s) 60 ≡ Raw name attrs (t ++ 60 ∷ []) s = rw end_60 refl in
+      let less : step (Raw name attrs t s) 60 ≡ Raw name attrs (t ++ 60 ∷ []) s = rw tag_ends.1 refl in
       let early = no_end_at_less name t named in
       let slash : step (Raw name attrs (t ++ 60 ∷ []) s) 47 ≡ Raw name attrs x s =
-      rw (end_47, early) refl in
+      rw (tag_ends.0, early) refl in
       read_on (Raw name attrs [] s) (Raw name attrs t s) _ t (codes "</" ++ (name ++ codes ">"))
       (raw_more [] t h)
       (ap (λ r. run r (47 ∷ (name ++ codes ">"))) less

@@ -1,23 +1,20 @@
 -- What the names of raw elements and of those that drop a line feed are.
 use Rattle.std.proofs.Common.{◌≡◌, ℕ, Bool, true, false, ◌&&◌, ◌||◌, List, codes, bytes_eq, sym, subst, refl}
 use Rattle.std.proofs.lemmas.Bool.{false≢true}
-use Rattle.std.proofs.lemmas.Slice.Eq.{bytes_eq-Decides}
 use Rattle.html_names.specs.Names.{stands_in}
 use Rattle.html_names.specs.Kinds.{is_raw, is_mathml, is_token}
 use Rattle.html_names.specs.Displays.{default_display}
+use Rattle.html_names.proofs.Basics.{bytes_eq-same}
 use Rattle.html_dom_tree.specs.Tree.{Head, NodesView}
 use Rattle.typst_html_encode.specs.Layout.{allows_pretty_inside, is_pretty_inside}
 use Rattle.typst_html_encode.specs.Reader.{drops_feed}
-
-is_same : (a b : List ℕ) → bytes_eq a b ≡ true → a ≡ b
-is_same a b h = (bytes_eq-Decides a b).0 h
 
 module _ (P : List ℕ → Type 0) where
   raw_by : (a b : Bool) (name : List ℕ) → P (codes "script") → P (codes "style") →
       bytes_eq (codes "script") name ≡ a → bytes_eq (codes "style") name ≡ b →
       (a || (b || false)) ≡ true → P name
-  raw_by true b name x y p q h = subst P (is_same (codes "script") name p) x
-  raw_by false true name x y p q h = subst P (is_same (codes "style") name q) y
+  raw_by true b name x y p q h = subst P (bytes_eq-same (codes "script") name p) x
+  raw_by false true name x y p q h = subst P (bytes_eq-same (codes "style") name q) y
   raw_by false false name x y p q h = absurd (false≢true h)
 
   -- of raw elements it holds where it does of both
@@ -51,9 +48,9 @@ textarea_shuts = refl
 shuts_by : (a b : Bool) (name : List ℕ) → bytes_eq name (codes "pre") ≡ a →
     bytes_eq name (codes "textarea") ≡ b → (a || b) ≡ true → allows_pretty_inside name ≡ false
 shuts_by true b name p q h = subst (λ n. allows_pretty_inside n ≡ false)
-    (sym (is_same name (codes "pre") p)) pre_shuts
+    (sym (bytes_eq-same name (codes "pre") p)) pre_shuts
 shuts_by false true name p q h = subst (λ n. allows_pretty_inside n ≡ false)
-    (sym (is_same name (codes "textarea") q)) textarea_shuts
+    (sym (bytes_eq-same name (codes "textarea") q)) textarea_shuts
 shuts_by false false name p q h = absurd (false≢true h)
 
 shuts : (name : List ℕ) → drops_feed name ≡ true → allows_pretty_inside name ≡ false

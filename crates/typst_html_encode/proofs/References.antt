@@ -4,12 +4,13 @@ use Rattle.std.specs.Prelude.{if◌then◌else◌}
 use Rattle.std.specs.Char.{digit_value}
 use Rattle.std.specs.Fmt.{digits}
 use Rattle.std.specs.Str.Parse.{AllDigits, digits_value}
-use Rattle.std.proofs.lemmas.Bool.{cases_Bool, lt-ltb, eqb-true, and_from, and_parts}
+use Rattle.std.proofs.lemmas.Bool.{cases_Bool, lt-ltb, eqb-true, and_from, and_parts, not-true}
 use Rattle.std.proofs.lemmas.Bool.Decides.{nat_tests}
 use Rattle.std.proofs.lemmas.Fmt.{digits_is_IsNumeral}
 use Rattle.std.proofs.lemmas.List.{append-nil}
 use Rattle.std.proofs.lemmas.Slice.Eq.{bytes_eq-Decides}
 use Rattle.html_names.specs.Characters.{all, is_text_char, is_element_text_char}
+use Rattle.html_names.proofs.Basics.{all_append}
 use Rattle.html_dom_tree.specs.Tree.{tag_node, text_node, element_node, frame_node, NodesView, none, node}
 use Rattle.typst_html_encode.specs.References.{numeric, numbered_char, reference, reference_to}
 use Rattle.typst_html_encode.specs.Text.{char_text, escaped_text, escaping_of, nodes_raw_text}
@@ -82,17 +83,13 @@ spelled c s h =
       ]
     ]
 
-pub is_not : (b : Bool) → not b ≡ true → b ≡ false
-is_not true h = cc
-is_not false h = refl
-
 -- states that hold what stands since `&`, and the state after the reference
 module _ (since : List ℕ → ReaderState) (done : ℕ → ReaderState)
     (next : (xs : List ℕ) (c : ℕ) → step (since xs) c
     ≡ (if eqb c 59 then or_stop (reference xs) done else since (xs ++ c ∷ []))) where
   more_since : (xs : List ℕ) (c : ℕ) → is_no_semicolon c ≡ true →
       step (since xs) c ≡ since (xs ++ c ∷ [])
-  more_since xs c h = next xs c ∙ rw (is_not (eqb c 59) h) refl
+  more_since xs c h = next xs c ∙ rw (not-true (eqb c 59) h) refl
 
   pub reference_read : (before : ReaderState) → step before 38 ≡ since [] → (c : ℕ) → scalar c ≡ true →
       0 < c →
@@ -123,8 +120,8 @@ plain_char : (text : List ℕ) (p : List Open) (c : ℕ) → is_element_text_cha
     step (Content text p) c ≡ Content (text ++ c ∷ []) p
 plain_char text p c h =
     let parts = and_parts (is_text_char c && not (eqb c 38)) (not (eqb c 60)) h in
-    let no_less : eqb c 60 ≡ false = is_not (eqb c 60) parts.1 in
-    let no_and : eqb c 38 ≡ false = is_not (eqb c 38)
+    let no_less : eqb c 60 ≡ false = not-true (eqb c 60) parts.1 in
+    let no_and : eqb c 38 ≡ false = not-true (eqb c 38)
     (and_parts (is_text_char c) (not (eqb c 38)) parts.0).1 in
     rw (no_less, no_and) refl
 
@@ -164,13 +161,6 @@ text_good e span (c ∷ cs) h =
     and_from (is_text_char c) (all is_text_char cs)
     (good_by (is_text_char c) (is_reference e && eqb c 13) one)
     (text_good e span cs (right_empty (char_faults e span c) (text_faults e span cs) h))
-
-all_append : (p : ℕ → Bool) (xs ys : List ℕ) → all p xs ≡ true → all p ys ≡ true →
-    all p (xs ++ ys) ≡ true
-all_append p [] ys h k = k
-all_append p (x ∷ xs) ys h k =
-    let both = and_parts (p x) (all p xs) h in
-    and_from (p x) (all p (xs ++ ys)) both.0 (all_append p xs ys both.1 k)
 
 pub raw_good : (e : Escaping) (ns : NodesView) → nodes_raw_faults e ns ≡ [] →
     all is_text_char (nodes_raw_text ns) ≡ true

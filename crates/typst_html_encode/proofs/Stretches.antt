@@ -1,19 +1,20 @@
 -- Stretches of a text that are written as they are.
-use Rattle.std.proofs.Common.{◌≡◌, ℕ, zero, suc, ◌+◌, ◌<◌, ◌≤◌, ◌-◌, length, take, drop, get_or, subst, Bool, true, false, not, ◌&&◌, List, [], ◌∷◌, ◌++◌, arith, refl, ap, ◌∙◌, sym, chars, append-nil, append_assoc}
+use Rattle.std.proofs.Common.{◌≡◌, ℕ, zero, suc, ◌+◌, ◌<◌, ◌≤◌, length, take, drop, get_or, subst, Bool, true, false, not, ◌&&◌, List, [], ◌∷◌, ◌++◌, arith, refl, ap, ◌∙◌, sym, chars, append_assoc}
 use Rattle.std.proofs.lemmas.Bool.{agree_below_at, and_from, and_parts, not-true}
 use Rattle.std.proofs.lemmas.Bool.Decides.{nat_tests}
-use Rattle.std.proofs.lemmas.List.{length-append, take_more}
-use Rattle.std.proofs.Math.Seq.{take-append_seam}
-use Rattle.std.proofs.lemmas.Str.{IsCharBoundary-after_ascii, IsUtf8-nil, IsUtf8-append, IsUtf8-encode, IsUtf8-from_ascii, chars-IsAscii, chars-append, chars-nil, chars_past_char, scalars-chars}
+use Rattle.std.proofs.lemmas.List.{take_more}
+use Rattle.std.proofs.lemmas.Str.{IsCharBoundary-after_ascii, IsUtf8-nil, IsUtf8-append, IsUtf8-encode, IsUtf8-from_ascii, chars-IsAscii, chars-append, chars-nil}
 use Rattle.std.proofs.lemmas.Str.Ascii.{IsAscii-nil, IsAscii-cons}
 use Rattle.std.specs.Str.{IsUtf8, IsAscii, IsCharBoundary}
 use Rattle.html_names.specs.Characters.{all}
+use Rattle.html_names.proofs.Basics.{all_append, chars-encode}
 use Rattle.typst_html_encode.specs.ExportFaults.{is_bad, is_reference, text_faults}
 use Rattle.typst_html_encode.specs.PlainStretches.{begins_common, is_common, is_plain, PassesCommon, PassesPlain}
 use Rattle.typst_html_encode.specs.Text.{stands_as_is, escaped_text}
 use Rattle.typst_html_encode.specs.declared.escape.Escaping.{Escaping}
 use Rattle.typst_html_encode.specs.declared.escape.Escaping.TheVariants as escaping
-use lib.Utf8.{scalar, scalars, encode}
+use lib.Utf8.{encode}
+use Rattle.html_flow_convert.proofs.Stretching.{first_scalar}
 
 pub common_small : (c : ℕ) → is_common c ≡ true → c < 128
 unfolding is_common
@@ -27,29 +28,9 @@ by_table p c h e = (and_parts (is_common c) (p c) (e ∙ h)).1
 -- a common character is plain where not each is a reference
 common_plain : (e : Escaping) (c : ℕ) → is_common c ≡ true → is_plain e c ≡ not (is_reference e)
 unfolding is_common
-common_plain escaping.Text c h = by_table (is_plain escaping.Text) c h
-    (agree_below_at (λ d. is_common d && is_plain escaping.Text d) is_common 128 c refl
-    (common_small c h))
 common_plain escaping.Reference c h = refl
-common_plain escaping.Value c h = by_table (is_plain escaping.Value) c h
-    (agree_below_at (λ d. is_common d && is_plain escaping.Value d) is_common 128 c refl
-    (common_small c h))
-common_plain escaping.Raw c h = by_table (is_plain escaping.Raw) c h
-    (agree_below_at (λ d. is_common d && is_plain escaping.Raw d) is_common 128 c refl
-    (common_small c h))
-
-pub other_than_reference : (e : Escaping) → (e ≡ escaping.Reference → ⊥) → is_reference e ≡ false
-other_than_reference escaping.Text h = refl
-other_than_reference escaping.Reference h = absurd (h refl)
-other_than_reference escaping.Value h = refl
-other_than_reference escaping.Raw h = refl
-
--- the character that a text begins with
-first_scalar : (bs rest : List ℕ) (c : ℕ) → IsUtf8 bs → bs ≡ encode c ++ rest →
-    scalar c ≡ true
-first_scalar bs rest c u e =
-    (and_parts (scalar c) (scalars (chars rest))
-    (ap scalars (sym (chars_past_char bs rest c u e)) ∙ scalars-chars bs u)).0
+common_plain e c h = by_table (is_plain e) c h
+    (agree_below_at (λ d. is_common d && is_plain e d) is_common 128 c refl (common_small c h))
 
 -- a stretch is written as it is
 pub escaped_plain : (e : Escaping) (cs ds : List ℕ) → all (is_plain e) cs ≡ true →
@@ -71,17 +52,6 @@ faults_plain e span (c ∷ cs) ds h =
     not-true (is_bad e c) (and_parts (stands_as_is e c) (not (is_bad e c)) both.0).1 in
     rw (good, faults_plain e span cs ds both.1) refl
 
--- how many bytes stand before the rest
-pub front_length : (text front rest : List ℕ) → text ≡ front ++ rest →
-    length front ≡ length text - length rest
-front_length text front rest e = omega (arith, ap length e, length-append front rest)
-
-pub front_taken : (text front rest : List ℕ) → text ≡ front ++ rest →
-    take (length text - length rest) text ≡ front
-front_taken text front rest e =
-    ap (λ n. take n text) (sym (front_length text front rest e))
-    ∙ (ap (take (length front)) e ∙ take-append_seam front rest)
-
 -- common characters are ASCII, a byte each
 pub common_ascii : (bs : List ℕ) → all is_common bs ≡ true → IsAscii bs
 common_ascii [] h = IsAscii-nil
@@ -96,13 +66,6 @@ common_all e o (b ∷ bs) h =
     let both = and_parts (is_common b) (all is_common bs) h in
     and_from (is_plain e b) (all (is_plain e) bs) (common_plain e b both.0 ∙ ap not o)
     (common_all e o bs both.1)
-
-pub all_append : (p : ℕ → Bool) (xs ys : List ℕ) → all p xs ≡ true → all p ys ≡ true →
-    all p (xs ++ ys) ≡ true
-all_append p [] ys h k = k
-all_append p (x ∷ xs) ys h k =
-    let both = and_parts (p x) (all p xs) h in
-    and_from (p x) (all p (xs ++ ys)) both.0 (all_append p xs ys both.1 k)
 
 -- nothing is passed
 pub passes_none : (e : Escaping) (text : List ℕ) → IsUtf8 text → PassesPlain e text text
@@ -132,11 +95,8 @@ pub passes_char : (e : Escaping) (text rest left : List ℕ) (c : ℕ) → Passe
     rest ≡ encode c ++ left → is_plain e c ≡ true → IsUtf8 left → PassesPlain e text left
 passes_char e text rest left c h split plain u =
     let valid = first_scalar rest left c h.rest_utf8 split in
-    let one : chars (encode c) ≡ c ∷ [] =
-    chars_past_char (encode c) [] c (IsUtf8-encode c valid) (sym (append-nil (encode c)))
-    ∙ ap (λ cs. c ∷ cs) chars-nil in
     passes_more e text rest (encode c) left h split (IsUtf8-encode c valid) u
-    (ap (all (is_plain e)) one ∙ and_from (is_plain e c) true plain refl)
+    (ap (all (is_plain e)) (chars-encode c valid) ∙ and_from (is_plain e c) true plain refl)
 
 -- common characters more, where not each character is a reference
 pub passes_common : (e : Escaping) (text rest left : List ℕ) → is_reference e ≡ false →

@@ -2,7 +2,7 @@
 use Rattle.std.proofs.Common.{◌≡◌, ℕ, Bool, true, false, not, ◌&&◌, inl, inr, eqb, List, [], ◌∷◌, ◌++◌, codes, bytes_eq, sym, refl, ap, ◌∙◌, arith, append_assoc}
 use Rattle.std.specs.Prelude.{if◌then◌else◌}
 use Rattle.std.specs.List.{AllByRecursion}
-use Rattle.std.proofs.lemmas.Bool.{cases_Bool, and_parts}
+use Rattle.std.proofs.lemmas.Bool.{cases_Bool, and_parts, not-true}
 use Rattle.std.proofs.lemmas.Bool.Decides.{nat_tests}
 use Rattle.std.proofs.lemmas.List.{append-nil}
 use Rattle.std.proofs.lemmas.Slice.Eq.{bytes_eq-Decides}
@@ -15,34 +15,13 @@ use Rattle.typst_html_encode.specs.Text.{char_text, escaped_text, value_text, at
 use Rattle.typst_html_encode.specs.Reader.{ReaderState, Content, Less, StartName, Space, AttrName, Equals, Value, ValueReference, Quoted, EndName, Open, with_text, complete, after_start_tag, close, holds_text_alone, run, step}
 use Rattle.typst_html_encode.specs.ReadingBack.{PairIsNamed}
 use Rattle.typst_html_encode.specs.ExportFaults.{text_faults, attrs_faults}
-use Rattle.typst_html_encode.proofs.References.{is_not, reference_read, text_scalar, text_positive, text_good}
+use Rattle.typst_html_encode.proofs.References.{reference_read, text_scalar, text_positive, text_good}
 use Rattle.typst_html_encode.proofs.Runs.{grows, read_on, all_of, left_empty, right_empty}
 
 -- a start tag is read
 abbrev pub started : List ℕ → List TextPair → List Open → ReaderState
 started name attrs s = if is_foreign_self_closing name then complete name attrs no_plains s
     else after_start_tag name attrs s
-
-attr_32 : is_attr_char 32 ≡ false
-attr_32 = refl
-
-attr_47 : is_attr_char 47 ≡ false
-attr_47 = refl
-
-attr_61 : is_attr_char 61 ≡ false
-attr_61 = refl
-
-attr_62 : is_attr_char 62 ≡ false
-attr_62 = refl
-
-tag_32 : is_tag_char 32 ≡ false
-tag_32 = refl
-
-tag_47 : is_tag_char 47 ≡ false
-tag_47 = refl
-
-tag_62 : is_tag_char 62 ≡ false
-tag_62 = refl
 
 no_slash : (c : ℕ) → is_tag_char c ≡ true → eqb c 47 ≡ false
 no_slash c h = grind (arith, nat_tests)
@@ -56,8 +35,8 @@ module _ (name : List ℕ) (attrs : List TextPair) (attr : List ℕ) (s : List O
       elim (cases_Bool (is_value_char c)) [
         | inl e ↦
             let parts = and_parts (is_text_char c && not (eqb c 38)) (not (eqb c 34)) e in
-            let no_quote : eqb c 34 ≡ false = is_not (eqb c 34) parts.1 in
-            let no_and : eqb c 38 ≡ false = is_not (eqb c 38)
+            let no_quote : eqb c 34 ≡ false = not-true (eqb c 34) parts.1 in
+            let no_and : eqb c 38 ≡ false = not-true (eqb c 38)
             (and_parts (is_text_char c) (not (eqb c 38)) parts.0).1 in
             rw (e, no_quote, no_and) refl
         | inr e ↦ rw e (reference_read
@@ -126,14 +105,14 @@ attr_close : (b : Bool) (name : List ℕ) (attrs : List TextPair) (n : List ℕ)
     run (AttrName name attrs n s) (if b then codes "/>" else codes ">")
     ≡ run (Quoted name (attrs ++ (n, []) ∷ []) s) (if b then codes "/>" else codes ">")
 attr_close true name attrs n s = ap (λ t. run t (codes ">"))
-    (attr_ends name attrs n s 47 attr_47 refl)
-attr_close false name attrs n s = attr_ends name attrs n s 62 attr_62 refl
+    (attr_ends name attrs n s 47 refl refl)
+attr_close false name attrs n s = attr_ends name attrs n s 62 refl refl
 
 name_close : (b : Bool) (name : List ℕ) (s : List Open) →
     run (StartName name s) (if b then codes "/>" else codes ">")
     ≡ run (Quoted name [] s) (if b then codes "/>" else codes ">")
-name_close true name s = ap (λ t. run t (codes ">")) (name_ends name s 47 tag_47)
-name_close false name s = name_ends name s 62 tag_62
+name_close true name s = ap (λ t. run t (codes ">")) (name_ends name s 47 refl)
+name_close false name s = name_ends name s 62 refl
 
 attr_on : (name : List ℕ) (attrs : List TextPair) (n : List ℕ) (s : List Open)
     (ps : List TextPair) →
@@ -142,14 +121,14 @@ attr_on : (name : List ℕ) (attrs : List TextPair) (n : List ℕ) (s : List Ope
 attr_on name attrs n s [] = attr_close (is_foreign_self_closing name) name attrs n s
 attr_on name attrs n s (p ∷ ps) = ap (λ t. run t
     ((p.0 ++ (value_text p.1 ++ attrs_text ps)) ++ tag_close name))
-    (attr_ends name attrs n s 32 attr_32 refl)
+    (attr_ends name attrs n s 32 refl refl)
 
 name_on : (name : List ℕ) (s : List Open) (ps : List TextPair) →
     run (StartName name s) (attrs_text ps ++ tag_close name)
     ≡ run (Quoted name [] s) (attrs_text ps ++ tag_close name)
 name_on name s [] = name_close (is_foreign_self_closing name) name s
 name_on name s (p ∷ ps) = ap (λ t. run t ((p.0 ++ (value_text p.1 ++ attrs_text ps))
-    ++ tag_close name)) (name_ends name s 32 tag_32)
+    ++ tag_close name)) (name_ends name s 32 refl)
 
 -- a value, or none
 valued : (name : List ℕ) (attrs : List TextPair) (n v : List ℕ) (s : List Open)

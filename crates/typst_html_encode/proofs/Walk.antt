@@ -127,11 +127,9 @@ pub first_in_node : (frames : Frames) (pre_span pretty : Bool) (n : NodeView) (e
     IsFirst e (first_faults frames pre_span pretty n) →
     IsFirst e (node_faults frames pre_span pretty n)
 unfolding node_faults
-first_in_node frames pre_span pretty (tag_node t) e is = is
-first_in_node frames pre_span pretty (text_node s span) e is = is
 first_in_node frames pre_span pretty (element_node h ns) e is =
     first_in_element frames pre_span pretty h ns e (is_element_entered h) refl is
-first_in_node frames pre_span pretty (frame_node f) e is = is
+first_in_node frames pre_span pretty x e is = is
 
 -- the first node of what is left, and what comes after it
 

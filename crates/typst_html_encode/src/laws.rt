@@ -31,7 +31,6 @@ pub fn same_text_same_form()
 
 /// Values stand in double quotes, end tags are exact, and there is one element with nothing but
 /// blanks around it.
-#[tactic(auto, using(crate::proofs::Rows::exact_syntax))]
 pub fn reads_exact_syntax()
     ensures quotes { read (codes "<!DOCTYPE html><p title='x'></p>") ≡ None }
     ensures case { read (codes "<!DOCTYPE html><p></P>") ≡ None }
@@ -50,7 +49,6 @@ pub fn reads_exact_syntax()
 {}
 
 /// A reference is one of five names, or the one spelling of a scalar value in lower hexadecimal.
-#[tactic(auto, using(crate::proofs::Rows::references))]
 pub fn reads_references()
     ensures entity { read (codes "<!DOCTYPE html><p>&nbsp;</p>") ≡ None }
     ensures reference { read (codes "<!DOCTYPE html><p>&#x41;</p>")
@@ -66,7 +64,6 @@ pub fn reads_references()
 
 /// Raw text ends before its closing tag, escapable raw text holds no element, and after the start
 /// tag of `pre` and `textarea` one line feed is dropped.
-#[tactic(auto, using(crate::proofs::Rows::raw_texts))]
 pub fn reads_raw_text()
     ensures script { read (codes "<!DOCTYPE html><script></script</script>")
         ≡ Some (paragraph_of (codes "script") (codes "</script")) }

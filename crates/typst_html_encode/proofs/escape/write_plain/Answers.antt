@@ -3,9 +3,10 @@ use Rattle.std.specs.Str.{IsCharBoundary}
 use Rattle.std.proofs.lemmas.List.{length-append}
 use Rattle.std.proofs.lemmas.Str.{IsCharBoundary-at_seam, chars-append}
 use Rattle.typst_html_encode.specs.ExportFaults.{text_faults}
-use Rattle.typst_html_encode.proofs.Stretches.{escaped_plain, faults_plain, front_length, front_taken}
+use Rattle.typst_html_encode.proofs.Stretches.{escaped_plain, faults_plain}
 use Rattle.typst_html_encode.proofs.escape.write_plain.Goals as goal
 use native.Mathlib.Numerals.{unary_clauses}
+use Rattle.html_names.proofs.Basics.{front_length, front_taken}
 
 pub range-requires-clause-end_boundary : goal.range-requires-clause-end_boundary
 range-requires-clause-end_boundary c =
