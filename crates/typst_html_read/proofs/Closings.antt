@@ -2,49 +2,25 @@
 use Rattle.std.proofs.Common.{◌≡◌, ℕ, suc, eqb, ◌+◌, ◌-◌, ◌<◌, ◌≤◌, Bool, true, List, [], ◌∷◌, ◌++◌, bytes_eq, chars, codes, drop, take, map, refl, sym, ap, ◌∙◌, subst, arith, length, get_or, length-append, length-drop}
 use Rattle.std.specs.Char.{to_ascii_lowercase}
 use Rattle.std.specs.Str.{IsUtf8, IsAscii, IsCharBoundary}
-use Rattle.std.proofs.lemmas.Bool.{and_parts}
 use Rattle.std.proofs.lemmas.Bool.Decides.{nat_tests}
-use Rattle.std.proofs.lemmas.List.{take-append-drop, take_all, length-map, get_or-drop}
-use Rattle.std.proofs.Math.Seq.{drop-append_seam, take-append_seam}
+use Rattle.std.proofs.lemmas.List.{take-append-drop, length-map, get_or-drop, take_rest}
 use Rattle.std.proofs.lemmas.Slice.Eq.{bytes_eq-Decides}
 use Rattle.std.proofs.lemmas.Str.{chars-append, chars-IsAscii, encodes-chars, encodes-append, encodes-IsAscii, IsUtf8-take, IsCharBoundary-before_ascii}
 use Rattle.std.proofs.lemmas.Str.Ascii.{IsAscii-nil, IsAscii-cons, IsAscii-map, lowercase_ascii}
 use lib.Utf8.{encodes}
-use Rattle.html_names.specs.Characters.{all, IsOf, is_tag_char}
+use Rattle.html_names.specs.Characters.{IsOf, is_tag_char}
+use Rattle.html_names.proofs.Basics.{is_ascii_is, last_dropped, last_taken}
+use Rattle.html_names.proofs.Faults.{tag_ascii}
 use Rattle.typst_html_encode.specs.ClosingTags.{is_tag_end, closing, ends_closing}
 use Rattle.typst_html_read.specs.RawEnds.{EndsAt}
 
--- the last of a list
-pub last_dropped : (xs ys : List ℕ) (m : ℕ) → length ys ≡ m →
-    drop (length (xs ++ ys) - m) (xs ++ ys) ≡ ys
-last_dropped xs ys m h =
-    let at : length (xs ++ ys) - m ≡ length xs = omega (arith, length-append xs ys) in
-    ap (λ n. drop n (xs ++ ys)) at ∙ drop-append_seam xs ys
-
-pub last_taken : (xs ys : List ℕ) (m : ℕ) → length ys ≡ m →
-    take (length (xs ++ ys) - m) (xs ++ ys) ≡ xs
-last_taken xs ys m h =
-    let at : length (xs ++ ys) - m ≡ length xs = omega (arith, length-append xs ys) in
-    ap (λ n. take n (xs ++ ys)) at ∙ take-append_seam xs ys
-
 -- what a slice to the end holds
 pub end_is : (xs ys : List ℕ) (k : ℕ) → ys ≡ xs → take (length ys - k) (drop k ys) ≡ drop k xs
-end_is xs ys k e = take_all (length ys - k) (drop k ys) (omega (arith, length-drop k ys))
-    ∙ ap (drop k) e
+end_is xs ys k e = take_rest ys k ∙ ap (drop k) e
 
 -- names of tags are ASCII
-
-tag_char_ascii : (c : ℕ) → is_tag_char c ≡ true → c < 128
-tag_char_ascii c h = grind (arith, nat_tests)
-
-all_ascii : (n : List ℕ) → all is_tag_char n ≡ true → IsAscii n
-all_ascii [] h = IsAscii-nil
-all_ascii (c ∷ cs) h = let both = and_parts (is_tag_char c) (all is_tag_char cs) h in
-    IsAscii-cons c cs (tag_char_ascii c both.0) (all_ascii cs both.1)
-
 name_ascii : (n : List ℕ) → IsOf is_tag_char n → IsAscii n
-name_ascii [] h = absurd h
-name_ascii (c ∷ cs) h = IsAscii-cons c cs (tag_char_ascii c h.0) (all_ascii cs h.1)
+name_ascii n h = is_ascii_is n (tag_ascii n h)
 
 pub name_is : (n : List ℕ) → IsUtf8 n → IsOf is_tag_char (chars n) → n ≡ chars n
 name_is n u h = sym (encodes-chars n u) ∙ encodes-IsAscii (chars n) (name_ascii (chars n) h)

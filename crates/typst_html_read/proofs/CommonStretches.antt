@@ -4,10 +4,11 @@ use Rattle.std.proofs.lemmas.Bool.{and_parts, false≢true}
 use Rattle.std.proofs.lemmas.List.{length-append}
 use Rattle.std.proofs.lemmas.Str.{chars-IsAscii, chars-append, IsUtf8-from_ascii}
 use Rattle.html_names.specs.Characters.{all}
+use Rattle.html_names.proofs.Basics.{front_length}
 use Rattle.html_dom_tree.specs.Tree.{TextPair}
 use Rattle.typst_html_encode.specs.PlainStretches.{is_common}
-use Rattle.typst_html_encode.specs.Reader.{Open, ReaderState, Outside, Content, Fresh, Reference, Raw, Less, StartName, Space, AttrName, Equals, Value, ValueReference, Quoted, Slash, EndName, Stop}
-use Rattle.typst_html_encode.proofs.Stretches.{common_ascii, front_length}
+use Rattle.typst_html_encode.specs.Reader.{Open, ReaderState, Content, Value}
+use Rattle.typst_html_encode.proofs.Stretches.{common_ascii}
 use Rattle.typst_html_read.specs.CommonStretches.{takes_text, with_more, ReadsCommon}
 use Rattle.typst_html_read.specs.LimitedReading.{next_state, begins_deep, deep_places}
 use Rattle.typst_html_read.proofs.Loops.{deep_later}
@@ -87,48 +88,18 @@ nothing s front e = rw e record {
 -- a stretch of common characters
 pub stretch : (s : ReaderState) (front : List ℕ) → all is_common front ≡ true →
     (takes_text s ≡ false → front ≡ []) → Passes front s (with_more front s)
-stretch (Outside root) front h k = nothing (Outside root) front (k refl)
 stretch (Content text stack) front h k =
     grown (λ t. Content t stack) text front (in_text stack) h refl
-stretch (Fresh stack) front h k = nothing (Fresh stack) front (k refl)
-stretch (Reference text since stack) front h k =
-    nothing (Reference text since stack) front (k refl)
-stretch (Raw name attrs text stack) front h k = nothing (Raw name attrs text stack) front (k refl)
-stretch (Less stack) front h k = nothing (Less stack) front (k refl)
-stretch (StartName name stack) front h k = nothing (StartName name stack) front (k refl)
-stretch (Space name attrs stack) front h k = nothing (Space name attrs stack) front (k refl)
-stretch (AttrName name attrs attr stack) front h k =
-    nothing (AttrName name attrs attr stack) front (k refl)
-stretch (Equals name attrs attr stack) front h k =
-    nothing (Equals name attrs attr stack) front (k refl)
 stretch (Value name attrs attr value stack) front h k =
     grown (λ t. Value name attrs attr t stack) value front (in_value name attrs attr stack) h refl
-stretch (ValueReference name attrs attr value since stack) front h k =
-    nothing (ValueReference name attrs attr value since stack) front (k refl)
-stretch (Quoted name attrs stack) front h k = nothing (Quoted name attrs stack) front (k refl)
-stretch (Slash name attrs stack) front h k = nothing (Slash name attrs stack) front (k refl)
-stretch (EndName name stack) front h k = nothing (EndName name stack) front (k refl)
-stretch Stop front h k = nothing Stop front (k refl)
+stretch s front h k = nothing s front (k refl)
 
 -- no characters
 pub with_none : (s : ReaderState) → with_more [] s ≡ s
-with_none (Outside root) = refl
 with_none (Content text stack) = ap (λ t. Content t stack) (append-nil text)
-with_none (Fresh stack) = refl
-with_none (Reference text since stack) = refl
-with_none (Raw name attrs text stack) = refl
-with_none (Less stack) = refl
-with_none (StartName name stack) = refl
-with_none (Space name attrs stack) = refl
-with_none (AttrName name attrs attr stack) = refl
-with_none (Equals name attrs attr stack) = refl
 with_none (Value name attrs attr value stack) =
     ap (λ t. Value name attrs attr t stack) (append-nil value)
-with_none (ValueReference name attrs attr value since stack) = refl
-with_none (Quoted name attrs stack) = refl
-with_none (Slash name attrs stack) = refl
-with_none (EndName name stack) = refl
-with_none Stop = refl
+with_none s = refl
 
 -- what was read of a text is read of the rest
 pub record Goes (limit before : ℕ) (old new : ReaderState) (text rest : List ℕ) : Type 0 where

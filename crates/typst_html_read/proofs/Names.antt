@@ -3,6 +3,7 @@ use Rattle.std.proofs.Common.{◌≡◌, ℕ, Bool, true, false, not, ◌&&◌, 
 use Rattle.std.specs.Prelude.{if◌then◌else◌, is_some, is_none}
 use Rattle.std.specs.List.{list_all}
 use Rattle.std.proofs.lemmas.Bool.{cases_Bool}
+use Rattle.std.proofs.Math.Bool.{and-true, and-false, and_assoc}
 use Rattle.html_names.specs.Characters.{is_tag_char, is_attr_char, is_blank}
 use Rattle.html_names.specs.Kinds.{is_void, is_foreign_self_closing, is_raw}
 use Rattle.html_names.specs.Names.{tag_fault, attr_fault}
@@ -63,24 +64,10 @@ or_holds : (o : Option ℕ) (f : ℕ → ReaderState) (g : Bool) → ((d : ℕ) 
 or_holds None f g h = inl refl
 or_holds (Some d) f g h = h d
 
--- tests
-
-and_true : (a : Bool) → (a && true) ≡ a
-and_true true = refl
-and_true false = refl
-
-and_false : (a : Bool) → (a && false) ≡ false
-and_false true = refl
-and_false false = refl
-
-and_assoc : (a b c : Bool) → ((a && b) && c) ≡ (a && (b && c))
-and_assoc true b c = refl
-and_assoc false b c = refl
-
 and_last : (a b x g : Bool) → ((a && (b && x)) && g) ≡ (x && ((a && b) && g))
 and_last true true x g = refl
-and_last true false x g = sym (and_false x)
-and_last false b x g = sym (and_false x)
+and_last true false x g = sym (and-false x)
+and_last false b x g = sym (and-false x)
 
 some_none : {A : Type 0} (o : Option A) → is_none o ≡ not (is_some o)
 some_none None = refl
@@ -105,12 +92,12 @@ named_then (plain (branch name attrs kids) ps) qs =
 one_named : (name : List ℕ) (attrs : List TextPair) (kids : Plains) →
     are_named (plain (branch name attrs kids) no_plains) ≡ (is_named name attrs && are_named kids)
 unfolding are_named
-one_named name attrs kids = ap (λ b. is_named name attrs && b) (and_true (are_named kids))
+one_named name attrs kids = ap (λ b. is_named name attrs && b) (and-true (are_named kids))
 
 words_named : (t : List ℕ) (ps : Plains) → are_named (with_text t ps) ≡ are_named ps
 unfolding are_named
 words_named [] ps = refl
-words_named (c ∷ cs) ps = named_then ps (plain (words (c ∷ cs)) no_plains) ∙ and_true (are_named ps)
+words_named (c ∷ cs) ps = named_then ps (plain (words (c ∷ cs)) no_plains) ∙ and-true (are_named ps)
 
 text_taken : (t : List ℕ) (stack : List Open) → stack_taken (add_text t stack) ≡ stack_taken stack
 text_taken t [] = refl
@@ -119,7 +106,7 @@ text_taken t (o ∷ os) =
 
 all_more : (p : TextPair → Bool) (xs : List TextPair) (x : TextPair) →
     list_all p (xs ++ x ∷ []) ≡ (list_all p xs && p x)
-all_more p [] x = and_true (p x)
+all_more p [] x = and-true (p x)
 all_more p (y ∷ ys) x = ap (λ b. p y && b) (all_more p ys x)
     ∙ sym (and_assoc (p y) (list_all p ys) (p x))
 
@@ -137,7 +124,7 @@ named_more name attrs attr value =
 complete_holds : (name : List ℕ) (attrs : List TextPair) (kids : Plains) (stack : List Open) →
     Holds (complete name attrs kids stack)
     ((is_named name attrs && are_named kids) && stack_taken stack)
-complete_holds name attrs kids [] = inr (sym (and_true (is_named name attrs && are_named kids)))
+complete_holds name attrs kids [] = inr (sym (and-true (is_named name attrs && are_named kids)))
 complete_holds name attrs kids (o ∷ os) =
     inr (ap (λ b. (is_named o.name o.attrs && b) && stack_taken os)
     (named_then o.children (plain (branch name attrs kids) no_plains)
@@ -150,7 +137,7 @@ bare_holds : (name : List ℕ) (attrs : List TextPair) (kids : Plains) (stack : 
     (is_named name attrs && stack_taken stack)
 bare_holds name attrs kids stack h =
     subst (λ b. Holds (complete name attrs kids stack) (b && stack_taken stack))
-    (ap (λ b. is_named name attrs && b) h ∙ and_true (is_named name attrs))
+    (ap (λ b. is_named name attrs && b) h ∙ and-true (is_named name attrs))
     (complete_holds name attrs kids stack)
 
 entered : (name : List ℕ) (attrs : List TextPair) (stack : List Open) →
@@ -158,7 +145,7 @@ entered : (name : List ℕ) (attrs : List TextPair) (stack : List Open) →
     ≡ (is_named name attrs && stack_taken stack)
 entered name attrs stack =
     ap (λ b. (is_named name attrs && b) && stack_taken stack) none_named
-    ∙ ap (λ b. b && stack_taken stack) (and_true (is_named name attrs))
+    ∙ ap (λ b. b && stack_taken stack) (and-true (is_named name attrs))
 
 start_holds : (name : List ℕ) (attrs : List TextPair) (stack : List Open) →
     Holds (after_start_tag name attrs stack) (is_named name attrs && stack_taken stack)
@@ -192,7 +179,7 @@ start_name_holds : (b : Bool) (name : List ℕ) (stack : List Open) (c : ℕ) �
 start_name_holds true name stack c = inr refl
 start_name_holds false name stack c =
     subst (λ b. Holds (after name [] stack c) (b && stack_taken stack))
-    (and_true (is_none (tag_fault name)) ∙ some_none (tag_fault name))
+    (and-true (is_none (tag_fault name)) ∙ some_none (tag_fault name))
     (after_holds name [] stack c)
 
 attr_name_holds : (b : Bool) (name : List ℕ) (attrs : List TextPair) (attr : List ℕ)
@@ -215,7 +202,7 @@ attr_name_holds false name attrs attr stack c =
   where
     moved : (n a k : Bool) → ((n && a) && k) ≡ (a && (n && k))
     moved true a k = refl
-    moved false a k = sym (and_false a)
+    moved false a k = sym (and-false a)
 
 -- what a character changes
 pub step_holds : (s : ReaderState) (c : ℕ) →
@@ -268,28 +255,14 @@ root_none (Some (branch name attrs kids)) h = rw h refl
 
 state_none : (s : ReaderState) → taken s ≡ false → accepted (final_root s) ≡ None
 state_none (Outside root) h = root_none root h
-state_none (Content text stack) h = refl
-state_none (Fresh stack) h = refl
-state_none (Reference text since stack) h = refl
-state_none (Raw name attrs text stack) h = refl
-state_none (Less stack) h = refl
-state_none (StartName name stack) h = refl
-state_none (Space name attrs stack) h = refl
-state_none (AttrName name attrs attr stack) h = refl
-state_none (Equals name attrs attr stack) h = refl
-state_none (Value name attrs attr value stack) h = refl
-state_none (ValueReference name attrs attr value since stack) h = refl
-state_none (Quoted name attrs stack) h = refl
-state_none (Slash name attrs stack) h = refl
-state_none (EndName name stack) h = refl
-state_none Stop h = refl
+state_none s h = refl
 
 none_after : (cs : List ℕ) (s : ReaderState) → Holds s false → outcome s cs ≡ None
 none_after cs s (inl e) = ap (λ t. outcome t cs) e ∙ stopped cs
 none_after [] s (inr e) = state_none s e
 none_after (c ∷ cs) s (inr e) = none_after cs (step s c)
     (subst (Holds (step s c)) (ap (λ b. not (ends_refused s c) && b) e
-    ∙ and_false (not (ends_refused s c))) (step_holds s c))
+    ∙ and-false (not (ends_refused s c))) (step_holds s c))
 
 -- it is the same where nothing is read after a name that is none
 pub next_outcome : (s : ReaderState) (c : ℕ) (cs : List ℕ) →
@@ -322,18 +295,4 @@ root_accepted name attrs kids h = rw h refl
 pub root_read : (s : ReaderState) (p : Plain) → Some p ≡ final_root s →
     taken s ≡ root_taken (Some p)
 root_read (Outside root) p e = ap root_taken (sym e)
-root_read (Content text stack) p e = cc
-root_read (Fresh stack) p e = cc
-root_read (Reference text since stack) p e = cc
-root_read (Raw name attrs text stack) p e = cc
-root_read (Less stack) p e = cc
-root_read (StartName name stack) p e = cc
-root_read (Space name attrs stack) p e = cc
-root_read (AttrName name attrs attr stack) p e = cc
-root_read (Equals name attrs attr stack) p e = cc
-root_read (Value name attrs attr value stack) p e = cc
-root_read (ValueReference name attrs attr value since stack) p e = cc
-root_read (Quoted name attrs stack) p e = cc
-root_read (Slash name attrs stack) p e = cc
-root_read (EndName name stack) p e = cc
-root_read Stop p e = cc
+root_read s p e = cc

@@ -8,6 +8,7 @@ use Rattle.html_dom_tree.specs.PlainTree.{Plain, words, branch, Plains, no_plain
 use Rattle.typst_html_encode.specs.ClosingTags.{is_tag_end, ends_closing, ends_exact, before_closing}
 use Rattle.typst_html_encode.specs.References.{reference}
 use Rattle.typst_html_encode.specs.Reader.{drops_feed, ◌then◌, Open, ReaderState, Outside, Content, Fresh, Reference, Raw, Less, StartName, Space, AttrName, Equals, Value, ValueReference, Quoted, Slash, EndName, Stop, with_text, add_text, complete, holds_text_alone, after_start_tag, after, close, or_stop, in_content, step, run}
+use Rattle.typst_html_encode.proofs.Normals.{then_assoc, then_none}
 use Rattle.typst_html_read.specs.PlainElements.{plain_nodes}
 
 -- the normal form of plain nodes
@@ -26,14 +27,6 @@ abbrev pub Parted : Plains → Type 0
 Parted ps = IsNormal ps × ((name : List ℕ) (attrs : List TextPair) (kids qs : Plains) →
     normal (ps then plain (branch name attrs kids) qs)
     ≡ (ps then plain (branch name attrs (normal kids)) (normal qs)))
-
-then_assoc : (a b c : Plains) → ((a then b) then c) ≡ (a then (b then c))
-then_assoc no_plains b c = refl
-then_assoc (plain p ps) b c = ap (plain p) (then_assoc ps b c)
-
-then_none : (a : Plains) → (a then no_plains) ≡ a
-then_none no_plains = refl
-then_none (plain p ps) = ap (plain p) (then_none ps)
 
 none_ended : Ended no_plains
 none_ended qs = refl

@@ -1,25 +1,16 @@
 -- Numbers in small hexadecimal digits.
 use Rattle.std.proofs.Common.{◌≡◌, ℕ, ◌<◌, ◌^◌, true, false, ◌&&◌, inl, inr, List, [], ◌∷◌, Some, None, eqb, nat_lt, bytes_eq, chars, refl, sym, ap, ◌∙◌, subst, arith, ltb-true}
-use Rattle.std.specs.Char.{digit_value}
 use Rattle.std.specs.Fmt.{digits}
-use Rattle.std.specs.Str.{IsUtf8, IsAscii}
+use Rattle.std.specs.Str.{IsUtf8}
 use Rattle.std.specs.Str.Parse.{AllDigits, IsNumeral, digits_value, without_leading_plus}
 use Rattle.std.proofs.lemmas.Bool.{cases_Bool, and_parts, lt-ltb}
 use Rattle.std.proofs.lemmas.Bool.Decides.{nat_tests}
 use Rattle.std.proofs.lemmas.Fmt.{digits_is_IsNumeral}
 use Rattle.std.proofs.lemmas.Slice.Eq.{bytes_eq-Decides}
 use Rattle.std.proofs.lemmas.Str.{encodes-chars, encodes-IsAscii}
-use Rattle.std.proofs.lemmas.Str.Ascii.{IsAscii-nil, IsAscii-cons}
 use lib.Utf8.{scalar, scalar_fits, encodes}
 use Rattle.typst_html_encode.specs.References.{numbered_char}
-use Rattle.html_names.proofs.Digits.{chars-digits}
-
-digit_ascii : (c : ℕ) → digit_value c < 16 → c < 128
-digit_ascii c h = grind (arith, nat_tests)
-
-digits_ascii : (ds : List ℕ) → AllDigits 16 ds → IsAscii ds
-digits_ascii [] h = IsAscii-nil
-digits_ascii (c ∷ cs) h = IsAscii-cons c cs (digit_ascii c h.0) (digits_ascii cs h.1)
+use Rattle.html_names.proofs.Digits.{chars-digits, digits_ascii}
 
 no_plus : (ds : List ℕ) → AllDigits 16 ds → without_leading_plus ds ≡ ds
 no_plus [] h = refl

@@ -1,14 +1,15 @@
 -- What is written is read, and what was read is written.
-use Rattle.std.proofs.Common.{◌≡◌, ℕ, Bool, true, false, not, ◌&&◌, inl, inr, List, [], ◌∷◌, Option, Some, None, find, bytes_eq, codes, take, drop, refl, sym, ap, ◌∙◌, subst}
+use Rattle.std.proofs.Common.{◌≡◌, ℕ, Bool, true, false, ◌&&◌, inl, inr, List, [], ◌∷◌, Option, Some, None, bytes_eq, codes, take, drop, refl, sym, ap, ◌∙◌, subst}
 use Rattle.std.specs.Prelude.{if◌then◌else◌, is_none}
 use Rattle.std.specs.List.{list_all}
-use Rattle.std.proofs.lemmas.Bool.{cases_Bool, false≢true, and_parts, and_from}
-use Rattle.html_names.specs.Characters.{all, IsOf, is_tag_char, is_attr_char}
-use Rattle.html_names.specs.Names.{fault_after, bad_attr_char, tag_fault, attr_fault}
+use Rattle.std.proofs.lemmas.Bool.{cases_Bool, and_parts}
+use Rattle.html_names.specs.Names.{tag_fault, attr_fault}
+use Rattle.html_names.proofs.Faults.{valid_attr, valid_tag}
+use Rattle.html_names.proofs.Basics.{none_from_is_none}
 use Rattle.html_dom_tree.specs.FrameFree.{NodeIsFrameFree, NodesAreFrameFree, ElementIsFrameFree}
 use Rattle.html_dom_tree.specs.PlainTree.{Plain, words, branch, Plains, no_plains, plain, element_normal}
 use Rattle.html_dom_tree.specs.Tree.{TextPair, ElementView}
-use Rattle.typst_html_encode.specs.Reader.{ReaderState, Outside, Content, Fresh, Reference, Raw, Less, StartName, Space, AttrName, Equals, Value, ValueReference, Quoted, Slash, EndName, Stop, final_root, read}
+use Rattle.typst_html_encode.specs.Reader.{ReaderState, Outside, final_root, read}
 use Rattle.typst_html_encode.specs.ReadingBack.{PairsAreNamed, HeadIsNamed, NodeIsNamed, NodesAreNamed, ElementIsNamed}
 use Rattle.typst_html_encode.proofs.ReadingBack.{reads_back}
 use Rattle.typst_html_read.specs.PlainElements.{plain_head, plain_nodes, plain_element, is_named, are_named, accepted}
@@ -22,21 +23,7 @@ written_is_read frames e named free clean = ap accepted ((reads_back frames).0 e
 
 final_fits : (s : ReaderState) → Fits s → RootIsNormal (final_root s)
 final_fits (Outside root) h = h
-final_fits (Content text stack) h = tt
-final_fits (Fresh stack) h = tt
-final_fits (Reference text since stack) h = tt
-final_fits (Raw name attrs text stack) h = tt
-final_fits (Less stack) h = tt
-final_fits (StartName name stack) h = tt
-final_fits (Space name attrs stack) h = tt
-final_fits (AttrName name attrs attr stack) h = tt
-final_fits (Equals name attrs attr stack) h = tt
-final_fits (Value name attrs attr value stack) h = tt
-final_fits (ValueReference name attrs attr value since stack) h = tt
-final_fits (Quoted name attrs stack) h = tt
-final_fits (Slash name attrs stack) h = tt
-final_fits (EndName name stack) h = tt
-final_fits Stop h = tt
+final_fits s h = tt
 
 if_normal : (b : Bool) (r : Option Plain) → RootIsNormal r → RootIsNormal (if b then r else None)
 if_normal true r h = h
@@ -78,50 +65,20 @@ read_is_normal text e h =
     a.is ∙ (ap (λ ks. Some (branch a.name a.attrs ks)) (sym n)
     ∙ ap (λ x. Some (element_normal x)) a.element)
 
--- names that are names are made of their characters
-
-all_found : (p : ℕ → Bool) (cs : List ℕ) → find (λ d. not (p d)) cs ≡ None → all p cs ≡ true
-all_found p [] h = refl
-all_found p (c ∷ cs) h =
-    elim (cases_Bool (p c)) [
-      | inl e ↦ and_from (p c) (all p cs) e (all_found p cs (rw e at h))
-      | inr e ↦ let k = rw e at h in cc
-    ]
-
-no_bad : (name : List ℕ) (o : Option ℕ) → is_none (fault_after name o) ≡ true → o ≡ None
-no_bad name None h = refl
-no_bad name (Some c) h = absurd (false≢true h)
-
-tag_valid : (name : List ℕ) → is_none (tag_fault name) ≡ true → IsOf is_tag_char name
-tag_valid [] h = absurd (false≢true h)
-tag_valid (c ∷ cs) h =
-    and_parts (is_tag_char c) (all is_tag_char cs) (all_found is_tag_char (c ∷ cs)
-    (no_bad (c ∷ cs) (find (λ d. not (is_tag_char d)) (c ∷ cs)) h))
-
-no_bad_attr : (o : Option ℕ) → is_none (bad_attr_char o) ≡ true → o ≡ None
-no_bad_attr None h = refl
-no_bad_attr (Some c) h = absurd (false≢true h)
-
-attr_valid : (name : List ℕ) → is_none (attr_fault name) ≡ true → IsOf is_attr_char name
-attr_valid [] h = absurd (false≢true h)
-attr_valid (c ∷ cs) h =
-    and_parts (is_attr_char c) (all is_attr_char cs) (all_found is_attr_char (c ∷ cs)
-    (no_bad_attr (find (λ d. not (is_attr_char d)) (c ∷ cs)) h))
-
 pairs_valid : (attrs : List TextPair) →
     list_all (λ p. is_none (attr_fault p.0)) attrs ≡ true → PairsAreNamed attrs
 pairs_valid [] h = tt
 pairs_valid (p ∷ ps) h =
     let both = and_parts (is_none (attr_fault p.0))
     (list_all (λ q. is_none (attr_fault q.0)) ps) h in
-    (attr_valid p.0 both.0, pairs_valid ps both.1)
+    (valid_attr p.0 (none_from_is_none (attr_fault p.0) both.0), pairs_valid ps both.1)
 
 head_valid : (name : List ℕ) (attrs : List TextPair) → is_named name attrs ≡ true →
     HeadIsNamed (plain_head name attrs)
 head_valid name attrs h =
     let both = and_parts (is_none (tag_fault name))
     (list_all (λ p. is_none (attr_fault p.0)) attrs) h in
-    (tag_valid name both.0, pairs_valid attrs both.1)
+    (valid_tag name (none_from_is_none (tag_fault name) both.0), pairs_valid attrs both.1)
 
 nodes_valid : (ps : Plains) → are_named ps ≡ true → NodesAreNamed (plain_nodes ps)
 unfolding plain_nodes are_named NodeIsNamed NodesAreNamed

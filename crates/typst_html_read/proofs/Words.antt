@@ -1,17 +1,11 @@
 -- Words of ASCII in a text, by its characters.
-use Rattle.std.proofs.Common.{◌≡◌, ℕ, true, false, inl, inr, List, [], ◌∷◌, ◌++◌, sym, ap, ◌∙◌, bytes_eq, chars, ltb-true}
-use Rattle.std.specs.Str.{IsUtf8, IsAscii}
-use Rattle.std.proofs.lemmas.Bool.{cases_Bool, and_parts}
-use Rattle.std.proofs.lemmas.Slice.Eq.{bytes_eq-Decides}
+use Rattle.std.proofs.Common.{◌≡◌, ℕ, true, false, List, ◌++◌, sym, ap, ◌∙◌, bytes_eq, chars}
+use Rattle.std.specs.Str.{IsUtf8}
+use Rattle.std.proofs.lemmas.Bool.{false_from_ne_true}
 use Rattle.std.proofs.lemmas.Str.{chars-IsAscii, chars-append, encodes-chars, encodes-append, encodes-IsAscii, IsUtf8-from_ascii}
-use Rattle.std.proofs.lemmas.Str.Ascii.{IsAscii-nil, IsAscii-cons}
 use lib.Utf8.{encodes}
 use Rattle.html_names.specs.Names.{is_ascii}
-
-pub is_ascii_is : (s : List ℕ) → is_ascii s ≡ true → IsAscii s
-is_ascii_is [] h = IsAscii-nil
-is_ascii_is (c ∷ cs) h = IsAscii-cons c cs (ltb-true c 128 (and_parts _ _ h).0)
-    (is_ascii_is cs (and_parts _ _ h).1)
+use Rattle.html_names.proofs.Basics.{is_ascii_is, bytes_eq-same}
 
 -- what follows a word
 pub chars_after_word : (n s rest : List ℕ) → is_ascii n ≡ true → s ≡ n ++ rest →
@@ -34,9 +28,5 @@ word_is n s a e = ap chars e ∙ chars-IsAscii n (is_ascii_is n a)
 pub word_is_not : (n s : List ℕ) → is_ascii n ≡ true → IsUtf8 s → (s ≡ n → ⊥) →
     bytes_eq (chars s) n ≡ false
 word_is_not n s a u h =
-    elim (cases_Bool (bytes_eq (chars s) n)) [
-      | inl e ↦ absurd (h (sym (encodes-chars s u)
-          ∙ (ap encodes ((bytes_eq-Decides (chars s) n).0 e)
-          ∙ encodes-IsAscii n (is_ascii_is n a))))
-      | inr e ↦ e
-    ]
+    false_from_ne_true (bytes_eq (chars s) n) (λ e. h (sym (encodes-chars s u)
+    ∙ (ap encodes (bytes_eq-same (chars s) n e) ∙ encodes-IsAscii n (is_ascii_is n a))))

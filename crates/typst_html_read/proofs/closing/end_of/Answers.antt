@@ -1,14 +1,10 @@
-use Rattle.std.proofs.Common.{◌≡◌, Bool, ◌&&◌, refl, ◌+◌, ◌-◌, ◌≤◌, true, false, inl, inr, chars, sym, ap, ◌∙◌, length, arith, bytes_eq, drop, map, subst}
+use Rattle.std.proofs.Common.{◌≡◌, ◌&&◌, ◌+◌, ◌-◌, ◌≤◌, true, false, inl, inr, chars, sym, ap, ◌∙◌, length, arith, bytes_eq, drop, map, subst}
 use Rattle.std.specs.Char.{to_ascii_lowercase}
-use Rattle.std.proofs.lemmas.Bool.{cases_Bool, false≢true}
+use Rattle.std.proofs.lemmas.Bool.{cases_Bool, false≢true, and_right}
 use Rattle.typst_html_encode.specs.ClosingTags as ending
 use Rattle.typst_html_read.specs.RawEnds.{EndsAt}
 use Rattle.typst_html_read.proofs.Closings.{by_characters, by_bytes, name_is, end_is}
 use Rattle.typst_html_read.proofs.closing.end_of.Goals as goal
-
-not_both : (a b : Bool) → b ≡ false → (a && b) ≡ false
-not_both true b h = h
-not_both false b h = refl
 
 pub returns-then-not-is_tag_end : goal.returns-then-not-is_tag_end
 returns-then-not-is_tag_end c =
@@ -19,7 +15,7 @@ pub returns-then-text-closing : goal.returns-then-text-closing
 returns-then-text-closing c =
     let name = chars c.args.name.now in
     let same = ap length (name_is c.args.name.now c.utf8.name c.requires) in
-    not_both (ending.is_tag_end c.args.c) _
+    and_right (ending.is_tag_end c.args.c) _
     (elim (cases_Bool (ending.ends_closing name (chars c.args.text.now))) [
       | inl e ↦
           let long = (by_characters name c.args.text.now c.requires c.utf8.text e).0 in
@@ -35,7 +31,7 @@ returns-then-not-is_closing c =
     let name = chars bytes in
     let begin = length text - (length bytes + 2) in
     let end = end_is text c.as_bytes.result.now begin c.as_bytes.ensures.value in
-    not_both (ending.is_tag_end c.args.c) _
+    and_right (ending.is_tag_end c.args.c) _
     (elim (cases_Bool (ending.ends_closing name (chars text))) [
       | inl e ↦
           let found = (by_characters name text c.requires c.utf8.text e).1 in

@@ -3,9 +3,10 @@ use Rattle.std.proofs.lemmas.Bool.{false≢true}
 use Rattle.std.proofs.lemmas.Str.{IsCharBoundary-at_seam, IsUtf8-string_bytes, chars-IsAscii}
 use Rattle.std.specs.Str.{IsCharBoundary}
 use Rattle.html_names.proofs.Texts.{chars_add}
+use Rattle.html_names.proofs.Basics.{front_length, front_taken}
 use Rattle.html_dom_tree.specs.Views.{attrs_view, text_view}
 use Rattle.typst_html_encode.specs.Reader.{Content, Value}
-use Rattle.typst_html_encode.proofs.Stretches.{common_ascii, front_length, front_taken}
+use Rattle.typst_html_encode.proofs.Stretches.{common_ascii}
 use Rattle.typst_html_read.specs.CommonStretches.{takes_text, with_more}
 use Rattle.typst_html_read.specs.OpenViews.{stack_of}
 use Rattle.typst_html_read.specs.ReaderViews.{reader_state, state_at}
@@ -20,23 +21,10 @@ use native.Mathlib.Numerals.{unary_clauses}
 more_read : (m : Mode) (r : Reader) (t : String Global) (cs : List ℕ) →
     takes_text (state_at m r) ≡ true → text_view t ≡ text_view r.text ++ cs →
     state_at m (record r { text = t }) ≡ with_more cs (state_at m r)
-more_read mode.Outside r t cs h e = absurd (false≢true h)
 more_read mode.Content r t cs h e = ap (λ l. Content l (stack_of r.stack)) e
-more_read mode.Fresh r t cs h e = absurd (false≢true h)
-more_read mode.Reference r t cs h e = absurd (false≢true h)
-more_read mode.Raw r t cs h e = absurd (false≢true h)
-more_read mode.Less r t cs h e = absurd (false≢true h)
-more_read mode.StartName r t cs h e = absurd (false≢true h)
-more_read mode.Space r t cs h e = absurd (false≢true h)
-more_read mode.AttrName r t cs h e = absurd (false≢true h)
-more_read mode.Equals r t cs h e = absurd (false≢true h)
 more_read mode.Value r t cs h e =
     ap (λ l. Value r.tag (attrs_view r.attrs) r.attr l (stack_of r.stack)) e
-more_read mode.ValueReference r t cs h e = absurd (false≢true h)
-more_read mode.Quoted r t cs h e = absurd (false≢true h)
-more_read mode.Slash r t cs h e = absurd (false≢true h)
-more_read mode.EndName r t cs h e = absurd (false≢true h)
-more_read mode.Stop r t cs h e = absurd (false≢true h)
+more_read m r t cs h e = absurd (false≢true h)
 
 pub range-requires-clause-end_boundary : goal.range-requires-clause-end_boundary
 range-requires-clause-end_boundary c =
