@@ -15,6 +15,7 @@ use Rattle.typst_html_spaces.specs.CleanNodes.{is_clean_tag, are_clean_values, i
 use Rattle.typst_html_spaces.specs.PlainFlow.{is_plain_name}
 use Rattle.typst_html_spaces.specs.PlainNodes.{is_plain_node, are_plain_nodes}
 use Rattle.typst_html_spaces.proofs.CleanNodes.{plain_clean, clean_plain}
+use Rattle.typst_html_spaces.proofs.MadeNodes.{made_are_named}
 
 -- a new attribute says nothing of how an element is shown
 
@@ -111,21 +112,15 @@ module _ {P : List ℕ → Type 0} where
 pub anchors_keep_edges : AnchorsKeepEdges
 anchors_keep_edges ns ms r c = anchored_edged r c
 
--- plain nodes
-
-span_is_plain : is_plain_name (codes "span") ≡ true
-unfolding is_plain_name is_replaced default_display stands_in
-span_is_plain = refl
-
 module _ {P : List ℕ → Type 0} where
   pub anchored_plain : {ns ms : NodesView} → Anchored P ns ms → are_plain_nodes ns ≡ true →
       are_plain_nodes ms ≡ true
   unfolding is_plain_node
   anchored_plain at_end e = refl
   anchored_plain (at_tag r) e = anchored_plain r e
-  anchored_plain (after_tag id span p r) e = rw span_is_plain (anchored_plain r e)
+  anchored_plain (after_tag id span p r) e = rw made_are_named.1 (anchored_plain r e)
   anchored_plain (at_text r) e = anchored_plain r e
-  anchored_plain (around_text id own p r) e = rw span_is_plain (anchored_plain r e)
+  anchored_plain (around_text id own p r) e = rw made_are_named.1 (anchored_plain r e)
   anchored_plain (at_element {h = h} {kids = kids} {ns = ns} q r) e =
       let both = and_parts (is_plain_name h.name && are_plain_nodes kids) (are_plain_nodes ns) e in
       let one = and_parts (is_plain_name h.name) (are_plain_nodes kids) both.0 in
@@ -150,24 +145,18 @@ module _ {P : List ℕ → Type 0} where
 
 -- clean nodes
 
-span_is_not_void : is_void (codes "span") ≡ false
+pub span_is_not_void : is_void (codes "span") ≡ false
 unfolding is_void stands_in
 span_is_not_void = refl
 
 anchor_clean : (id : List ℕ) (span : ℕ) (ns : NodesView) → IsCleanValue id →
     is_clean_head (anchor_head id span) ns ≡ true
-anchor_clean id span ns c = rw (span_is_plain, c, span_is_not_void) refl
+anchor_clean id span ns c = rw (made_are_named.1, c, span_is_not_void) refl
 
 empty_kept : {P : List ℕ → Type 0} {ns ms : NodesView} → Anchored P ns ms →
     is_empty ms ≡ is_empty ns
 empty_kept at_end = refl
-empty_kept (at_tag r) = refl
-empty_kept (after_tag id span p r) = refl
-empty_kept (at_text r) = refl
-empty_kept (around_text id own p r) = refl
-empty_kept (at_element q r) = refl
-empty_kept (of_element a v p q r) = refl
-empty_kept (at_frame r) = refl
+empty_kept more = refl
 
 head_kept : (h : Head) (kids new : NodesView) → is_empty new ≡ is_empty kids →
     is_clean_head h kids ≡ true → is_clean_head h new ≡ true

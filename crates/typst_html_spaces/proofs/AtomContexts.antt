@@ -1,6 +1,6 @@
 -- Atoms between others: lists one after the other, and collapsing by context.
 use Rattle.std.proofs.Common.{◌≡◌, Bool, false, List, [], ◌∷◌, ◌++◌, refl, ap, ◌∙◌, sym, append_assoc}
-use Rattle.typst_html_encode.specs.Collapsing.{Atom, visible, ignorable, collapsible, kept, object, break, border, Piece, is_supported_by, then_supports, atom_pieces, atoms_pieces, merged_edges, collapsed_pieces}
+use Rattle.typst_html_encode.specs.Collapsing.{Atom, ignorable, collapsible, border, Piece, is_supported_by, then_supports, atom_pieces, atoms_pieces, merged_edges, collapsed_pieces}
 use Rattle.typst_html_spaces.specs.AtomContexts.{supports_or, support_at, support_past, pieces_between, AtomStays, AtomsStay, own_piece, own_pieces, CollapsesByContext, PiecesOfBoth}
 
 pub support_at-append : (xs ys : List Atom) (after : Bool) →
@@ -28,13 +28,9 @@ pieces_of_both before after (x ∷ xs) ys =
 
 supported : (xs : List Atom) → is_supported_by xs ≡ support_at xs false
 supported [] = refl
-supported (visible c ∷ xs) = refl
 supported (ignorable c ∷ xs) = supported xs
 supported (collapsible c ∷ xs) = supported xs
-supported (kept c ∷ xs) = refl
-supported (object name ∷ xs) = refl
-supported (break ∷ xs) = refl
-supported (border ∷ xs) = refl
+supported (x ∷ xs) = refl
 
 between : (before : Bool) (xs : List Atom) →
     atoms_pieces before xs ≡ pieces_between before false xs
@@ -51,13 +47,8 @@ collapses_by_context xs = ap (merged_edges false) (between false xs)
 
 own : (before after : Bool) (x : Atom) → AtomStays before after x →
     atom_pieces before after x ≡ own_piece x ∷ []
-own before after (visible c) s = refl
-own before after (ignorable c) s = refl
 own before after (collapsible c) s = let e = s.0 in let b = s.1 in let a = s.2 in rw (e, b, a) refl
-own before after (kept c) s = refl
-own before after (object name) s = refl
-own before after break s = refl
-own before after border s = refl
+own before after x s = refl
 
 pub own_between : (before after : Bool) (xs : List Atom) → AtomsStay before after xs →
     pieces_between before after xs ≡ own_pieces xs
@@ -86,11 +77,6 @@ AtomsStay-front before after [] ys s = tt
 AtomsStay-front before after (x ∷ xs) ys s =
     rw (← support_at-append xs ys after)
     (s.0, AtomsStay-front (then_supports before x) after xs ys s.1)
-
-pub AtomsStay-back : (before after : Bool) (xs ys : List Atom) →
-    AtomsStay before after (xs ++ ys) → AtomsStay (support_past before xs) after ys
-AtomsStay-back before after [] ys s = s
-AtomsStay-back before after (x ∷ xs) ys s = AtomsStay-back (then_supports before x) after xs ys s.1
 
 -- between borders
 

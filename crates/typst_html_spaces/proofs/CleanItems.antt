@@ -24,12 +24,7 @@ use Rattle.typst_html_spaces.proofs.MadeHeads.{stands_for_block}
 use Rattle.typst_html_spaces.proofs.MadeNodes.{break_made, wrap_made, block_made}
 use Rattle.typst_html_spaces.proofs.PlainParts.{plain_head as plain_parts, element_made}
 use Rattle.typst_html_spaces.proofs.ReadyRuns.{one_char}
-
--- what conversion makes on the way
-
-span_is_not_void : is_void (codes "span") ≡ false
-unfolding is_void stands_in
-span_is_not_void = refl
+use Rattle.typst_html_spaces.proofs.Anchored.{span_is_not_void}
 
 div_is_not_void : is_void (codes "div") ≡ false
 unfolding is_void stands_in

@@ -1,11 +1,12 @@
 -- Nodes that have no fault at any depth.
 use Rattle.std.proofs.Common.{◌≡◌, ℕ, Bool, true, false, not, ◌&&◌, ◌||◌, ◌==◌, List, [], ◌∷◌, ◌++◌, None, inl, inr, refl, ap, ◌∙◌, sym, codes}
-use Rattle.std.proofs.lemmas.Bool.{cases_Bool, false≢true, and_parts, not-true}
+use Rattle.std.proofs.lemmas.Bool.{cases_Bool, false≢true, and_parts, not-true, false_from_ne_true}
 use Rattle.html_names.specs.Characters.{all, is_text_char}
 use Rattle.html_names.specs.Kinds.{is_replaced, is_raw, is_escapable_raw, is_void, is_foreign_self_closing, foreign_self_closing_names}
 use Rattle.html_names.specs.Displays.{default_display}
 use Rattle.html_names.specs.Names.{stands_in}
 use Rattle.html_names.specs.Texts.{TextPair}
+use Rattle.html_names.proofs.Basics.{implied}
 use Rattle.html_dom_tree.specs.Attributes.{first}
 use Rattle.html_dom_tree.specs.Styled.{styled_attrs, head_with_style, styled_node, styled_nodes}
 use Rattle.html_dom_tree.specs.Tags.{TagView}
@@ -16,7 +17,7 @@ use Rattle.typst_html_encode.specs.Text.{ends_at_once, escaping_of}
 use Rattle.typst_html_spaces.specs.CleanNodes.{is_clean_tag, are_clean_values, is_no_return, is_clean_content, is_empty, is_clean_head, is_clean_node, are_clean_nodes, CleanNodesAreWritten}
 use Rattle.typst_html_spaces.specs.PlainFlow.{is_plain_name}
 use Rattle.typst_html_spaces.proofs.DeepNodes.{HoldsOf, HoldsOfAll}
-use Rattle.typst_html_spaces.proofs.MadeHeads.{MadeCss, plain, block, wrap, block_wrap, made_css, MadeHead, listed_pass}
+use Rattle.typst_html_spaces.proofs.MadeHeads.{MadeCss, plain, made_css, MadeHead, listed_pass}
 use Rattle.typst_html_spaces.proofs.ReadyElements.{raw_is_not_plain, escapable_is_not_plain}
 
 -- texts
@@ -26,10 +27,6 @@ good true true true e f = absurd (false≢true (f refl))
 good true true false e f = refl
 good true false d e f = refl
 good false b d e f = absurd (false≢true e)
-
-implied : (a b : Bool) → (not a || b) ≡ true → a ≡ true → b ≡ true
-implied true b e f = e
-implied false b e f = absurd (false≢true f)
 
 implies : (a b : Bool) → (a ≡ true → b ≡ true) → (not a || b) ≡ true
 implies true b f = f refl
@@ -86,9 +83,7 @@ clean_values-append (p ∷ ps) qs e f =
 made_values : (c : MadeCss) (attrs : List TextPair) → first attrs (codes "style") ≡ None →
     are_clean_values attrs ≡ true → are_clean_values (styled_attrs (made_css c) attrs) ≡ true
 made_values plain attrs n e = e
-made_values block attrs n e = rw n (clean_values-append attrs _ e refl)
-made_values wrap attrs n e = rw n (clean_values-append attrs _ e refl)
-made_values block_wrap attrs n e = rw n (clean_values-append attrs _ e refl)
+made_values c attrs n e = rw n (clean_values-append attrs _ e refl)
 
 -- heads
 
@@ -106,10 +101,7 @@ foreign_is_not_plain name e = not-true (is_plain_name name)
 -- a test that no plain name passes
 never : (p : List ℕ → Bool) (name : List ℕ) → is_plain_name name ≡ true →
     (p name ≡ true → is_plain_name name ≡ false) → p name ≡ false
-never p name e f = elim (cases_Bool (p name)) [
-  | inl t ↦ absurd (false≢true (sym (f t) ∙ e))
-  | inr t ↦ t
-]
+never p name e f = false_from_ne_true (p name) (λ t. false≢true (sym (f t) ∙ e))
 
 ends_by_void : (h : Head) → is_plain_name h.name ≡ true → ends_at_once h ≡ is_void h.name
 ends_by_void h e =

@@ -1,13 +1,14 @@
 -- What pretty writing puts indents around or inside is a border in the nodes of plain flow.
 use Rattle.std.proofs.Common.{◌≡◌, ◌⊎◌, ℕ, Bool, true, false, not, ◌&&◌, ◌||◌, List, Option, Some, inl, inr, refl, ap, ◌∙◌, sym, codes, bytes_eq}
-use Rattle.std.proofs.lemmas.Bool.{cases_Bool, false≢true, and_parts, or_cases, not-true}
+use Rattle.std.proofs.lemmas.Bool.{cases_Bool, false≢true, and_parts, or_cases, not-true, false_from_ne_true}
 use Rattle.std.proofs.lemmas.Slice.Eq.{bytes_eq-Decides}
 use Rattle.html_names.specs.Displays.{default_display}
-use Rattle.html_names.specs.Kinds.{is_replaced, is_raw, is_mathml, mathml_names, is_token, is_metadata_content, metadata_content_names, shows_border}
+use Rattle.html_names.specs.Kinds.{is_replaced, is_mathml, mathml_names, is_token, is_metadata_content, metadata_content_names, shows_border}
 use Rattle.html_names.specs.Names.{stands_in}
 use Rattle.html_names.specs.Texts.{TextPair}
 use Rattle.html_names.specs.declared.property.Display.{Display}
 use Rattle.html_names.specs.declared.property.Display.TheVariants as display
+use Rattle.html_names.proofs.Basics.{implied}
 use Rattle.html_dom_tree.specs.Attributes.{first}
 use Rattle.html_dom_tree.specs.Styled.{styled_attrs, head_with_style, styled_node, styled_nodes}
 use Rattle.html_dom_tree.specs.Tree.{Head, tag_node, text_node, element_node, frame_node, NodesView, none, node}
@@ -21,7 +22,7 @@ use Rattle.html_flow_convert.specs.declared.convert.Whitespace.TheVariants.{Norm
 use Rattle.typst_html_spaces.specs.PlainFlow.{is_plain_name, is_plain_flow}
 use Rattle.typst_html_spaces.proofs.MadeHeads.{MadeCss, plain, block, wrap, block_wrap, made_style, MadeHead, head_style_is, is_wrap, is_away, plain_is_there, plain_is_no_math, listed_pass}
 use Rattle.typst_html_spaces.proofs.MadeNodes.{AreMade, list_made, items_made}
-use Rattle.typst_html_spaces.proofs.ReadyElements.{raw_is_not_plain}
+use Rattle.typst_html_spaces.proofs.ReadyElements.{plain_is_not_raw}
 
 -- names
 
@@ -47,20 +48,16 @@ plain_lines name p e = elim (of_lines (default_display name) e) [
   | inr f ↦ absurd (false≢true (sym (plain_is_there name p) ∙ f))
 ]
 
-by_plain : (a b : Bool) → (not a || b) ≡ true → a ≡ true → b ≡ true
-by_plain true b e f = e
-by_plain false b e f = absurd (false≢true f)
-
 plain_mathml : (name : List ℕ) → is_plain_name name ≡ true → is_mathml name ≡ true →
     has_border_display name ≡ true
 unfolding is_mathml is_plain_name is_replaced default_display stands_in
-plain_mathml name p e = by_plain (is_plain_name name) (has_border_display name)
+plain_mathml name p e = implied (is_plain_name name) (has_border_display name)
     (listed_pass (λ n. not (is_plain_name n) || has_border_display n) mathml_names name refl e) p
 
 plain_metadata : (name : List ℕ) → is_plain_name name ≡ true →
     is_metadata_content name ≡ true → has_border_display name ≡ true
 unfolding is_metadata_content is_plain_name is_replaced default_display stands_in
-plain_metadata name p e = by_plain (is_plain_name name) (has_border_display name)
+plain_metadata name p e = implied (is_plain_name name) (has_border_display name)
     (listed_pass (λ n. not (is_plain_name n) || has_border_display n) metadata_content_names name
     refl e) p
 
@@ -75,7 +72,7 @@ head_is_not_plain = refl
 
 plain_head : (name : List ℕ) → is_plain_name name ≡ true → bytes_eq name (codes "head") ≡ true →
     has_border_display name ≡ true
-plain_head name p e = by_plain (is_plain_name name) (has_border_display name)
+plain_head name p e = implied (is_plain_name name) (has_border_display name)
     (of_name (λ n. not (is_plain_name n) || has_border_display n) name (codes "head")
     head_is_not_plain e) p
 
@@ -148,20 +145,12 @@ kept_by block_wrap name attrs w e f = absurd (false≢true (sym w))
 
 border_no_wrap : (h : Head) (m : MadeHead h) → has_border_display h.name ≡ true →
     is_wrap m.kind ≡ false
-border_no_wrap h m e = elim (cases_Bool (is_wrap m.kind)) [
-  | inl w ↦ absurd (false≢true (sym (m.in_line w) ∙ e))
-  | inr w ↦ w
-]
-
-not_raw : (name : List ℕ) → is_plain_name name ≡ true → is_raw name ≡ false
-not_raw name p = elim (cases_Bool (is_raw name)) [
-  | inl e ↦ absurd (false≢true (sym (raw_is_not_plain name e) ∙ p))
-  | inr e ↦ e
-]
+border_no_wrap h m e =
+    false_from_ne_true (is_wrap m.kind) (λ w. false≢true (sym (m.in_line w) ∙ e))
 
 pub made_is_edged : (h : Head) → MadeHead h → HeadIsEdged (head_with_style h)
 made_is_edged h m = (
-  not_raw h.name m.named,
+  plain_is_not_raw h.name m.named,
   around_border (head_with_style h) m.named,
   λ e. let b = inside_border h.name m.named e in (
     b,

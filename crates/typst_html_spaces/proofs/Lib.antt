@@ -22,7 +22,6 @@ pub mod ReadyItems
 pub mod ReadyNodes
 pub mod ReadyPieces
 pub mod ReadyRuns
-pub mod Rows
 pub mod Runs
 pub mod SeenBody
 pub mod SpacesStay

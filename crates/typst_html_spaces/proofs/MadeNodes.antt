@@ -29,30 +29,23 @@ AreMade = HoldsOfAll (λ h b. MadeHead h) (λ p s. Unit {0}) (λ t. Unit {0})
 
 -- what conversion itself makes
 
-named_break : is_plain_name (codes "br") ≡ true
+pub made_are_named : (is_plain_name (codes "br") ≡ true) × (is_plain_name (codes "span") ≡ true)
+    × (is_plain_name (codes "div") ≡ true)
 unfolding is_plain_name is_replaced default_display stands_in
-named_break = refl
-
-named_span : is_plain_name (codes "span") ≡ true
-unfolding is_plain_name is_replaced default_display stands_in
-named_span = refl
-
-named_div : is_plain_name (codes "div") ≡ true
-unfolding is_plain_name is_replaced default_display stands_in
-named_div = refl
+made_are_named = (refl, refl, refl)
 
 span_in_line : shows_border (default_display (codes "span")) ≡ false
 unfolding default_display stands_in
 span_in_line = refl
 
 pub break_made : (span : ℕ) → MadeHead (made_head (codes "br") [] span)
-break_made span = record { kind = plain; css_is = refl; no_style = refl; named = named_break; in_line = λ e. absurd (false≢true e) }
+break_made span = record { kind = plain; css_is = refl; no_style = refl; named = made_are_named.0; in_line = λ e. absurd (false≢true e) }
 
 pub wrap_made : (span : ℕ) → MadeHead (pre_wrap_head span)
-wrap_made span = record { kind = wrap; css_is = refl; no_style = refl; named = named_span; in_line = λ e. span_in_line }
+wrap_made span = record { kind = wrap; css_is = refl; no_style = refl; named = made_are_named.1; in_line = λ e. span_in_line }
 
 pub block_made : (span : ℕ) → MadeHead (block_head span)
-block_made span = record { kind = plain; css_is = refl; no_style = refl; named = named_div; in_line = λ e. absurd (false≢true e) }
+block_made span = record { kind = plain; css_is = refl; no_style = refl; named = made_are_named.2; in_line = λ e. absurd (false≢true e) }
 
 made_way : HoldsOnTheWay (λ h b. MadeHead h) (λ p s. Unit {0}) (λ t. Unit {0})
 made_way = record {
@@ -77,7 +70,7 @@ piece_made span (stretch s) r = tt
 piece_made span (alone c) r = tt
 piece_made span line_break r = (break_made span, tt)
 
-any_pieces : (ps : List PieceView) → Each (λ p. Unit {0}) ps
+pub any_pieces : (ps : List PieceView) → Each (λ p. Unit {0}) ps
 any_pieces [] = tt
 any_pieces (p ∷ ps) = (tt, any_pieces ps)
 

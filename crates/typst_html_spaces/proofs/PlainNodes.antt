@@ -1,10 +1,10 @@
 -- Nodes of plain flow can be read back.
-use Rattle.std.proofs.Common.{◌≡◌, ℕ, Bool, true, false, ◌&&◌, List, codes, bytes_eq, inl, inr, refl, ap, ◌∙◌, sym}
-use Rattle.std.proofs.lemmas.Bool.{cases_Bool, and_parts, true≢false, both_ways}
-use Rattle.std.proofs.lemmas.Slice.Eq.{bytes_eq-Decides}
+use Rattle.std.proofs.Common.{◌≡◌, ℕ, Bool, true, false, ◌&&◌, List, codes, bytes_eq, refl, ap, ◌∙◌, sym}
+use Rattle.std.proofs.lemmas.Bool.{and_parts, true≢false, both_ways, false_from_ne_true}
 use Rattle.html_names.specs.Displays.{default_display}
-use Rattle.html_names.specs.Kinds.{is_raw, is_replaced}
+use Rattle.html_names.specs.Kinds.{is_replaced}
 use Rattle.html_names.specs.Names.{stands_in}
+use Rattle.html_names.proofs.Basics.{bytes_eq-same}
 use Rattle.html_dom_tree.specs.Styled.{styled_nodes}
 use Rattle.html_dom_tree.specs.Tree.{NodeView, tag_node, text_node, element_node, frame_node, NodesView, none, node}
 use Rattle.html_flow_convert.specs.Converted.{items_nodes, converted_nodes}
@@ -16,7 +16,7 @@ use Rattle.typst_html_spaces.specs.ReadableNodes.{AreReadable}
 use Rattle.typst_html_spaces.proofs.EdgedNodes.{converted_are_edged}
 use Rattle.typst_html_spaces.proofs.MadeNodes.{IsMade, AreMade, list_made, items_made}
 use Rattle.typst_html_spaces.proofs.ReadableNodes.{readable_can_be_read, styled_readable}
-use Rattle.typst_html_spaces.proofs.ReadyElements.{raw_is_not_plain}
+use Rattle.typst_html_spaces.proofs.ReadyElements.{plain_is_not_raw}
 
 mutual
   unfolding is_plain_node
@@ -44,12 +44,8 @@ makes_plain_nodes role items e = (
 not_named : (own name : List ℕ) → is_plain_name own ≡ false → is_plain_name name ≡ true →
     bytes_eq name own ≡ false
 not_named own name f e =
-    elim (cases_Bool (bytes_eq name own)) [
-      | inl t ↦
-          let same : name ≡ own = (bytes_eq-Decides name own).0 t in
-          absurd (both_ways (is_plain_name name) (ap is_plain_name same ∙ f) e)
-      | inr t ↦ t
-    ]
+    false_from_ne_true (bytes_eq name own) (λ t.
+    both_ways (is_plain_name name) (ap is_plain_name (bytes_eq-same name own t) ∙ f) e)
 
 html_not_plain : is_plain_name (codes "html") ≡ false
 unfolding is_plain_name is_replaced default_display stands_in
@@ -59,18 +55,11 @@ body_not_plain : is_plain_name (codes "body") ≡ false
 unfolding is_plain_name is_replaced default_display stands_in
 body_not_plain = refl
 
-not_raw : (name : List ℕ) → is_plain_name name ≡ true → is_raw name ≡ false
-not_raw name e =
-    elim (cases_Bool (is_raw name)) [
-      | inl t ↦ absurd (both_ways (is_plain_name name) (raw_is_not_plain name t) e)
-      | inr t ↦ t
-    ]
-
 pub names_are_inside : PlainNamesAreInside
 names_are_inside name e = (
   not_named (codes "html") name html_not_plain e,
   not_named (codes "body") name body_not_plain e,
-  not_raw name e,
+  plain_is_not_raw name e,
 )
 
 -- reading
@@ -83,7 +72,7 @@ plain_readable (node (text_node s span) ns) e = (tt, plain_readable ns e)
 plain_readable (node (element_node h kids) ns) e =
     let both = and_parts (is_plain_name h.name && are_plain_nodes kids) (are_plain_nodes ns) e in
     let own = and_parts (is_plain_name h.name) (are_plain_nodes kids) both.0 in
-    ((not_raw h.name own.0, plain_readable kids own.1), plain_readable ns both.1)
+    ((plain_is_not_raw h.name own.0, plain_readable kids own.1), plain_readable ns both.1)
 plain_readable (node (frame_node f) ns) e = absurd (true≢false (sym e))
 
 pub can_be_read : PlainNodesCanBeRead

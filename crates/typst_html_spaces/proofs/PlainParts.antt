@@ -1,11 +1,12 @@
 -- What holds of an element in plain flow.
-use Rattle.std.proofs.Common.{◌≡◌, ℕ, Bool, true, false, not, ◌&&◌, ◌||◌, List, [], ◌∷◌, ◌++◌, Option, Some, None, inl, inr, refl, sym, codes, bytes_eq}
-use Rattle.std.specs.Prelude.{is_some}
+use Rattle.std.proofs.Common.{◌≡◌, ℕ, true, false, not, ◌&&◌, List, [], ◌∷◌, ◌++◌, Some, None, inl, inr, refl, codes, bytes_eq}
 use Rattle.std.proofs.lemmas.Bool.{cases_Bool, false≢true, and_parts, not-true}
+use Rattle.std.proofs.Math.Bool.{or-false}
 use Rattle.html_names.specs.Displays.{default_display}
 use Rattle.html_names.specs.Kinds.{is_replaced, replaced_names, is_line_break, shows_border}
 use Rattle.html_names.specs.Names.{stands_in}
 use Rattle.html_names.specs.Texts.{TextPair}
+use Rattle.html_names.proofs.Basics.{none_from_not_some}
 use Rattle.html_dom_tree.specs.Attributes.{first, has_name}
 use Rattle.typst_html_encode.specs.Collapsing.{has_border}
 use Rattle.html_flow_convert.specs.Converted.{RoleText, passes_role, role_pairs, element_head}
@@ -16,10 +17,6 @@ use Rattle.typst_html_spaces.proofs.MadeHeads.{plain, MadeHead, listed_pass}
 no_css : (css : List TextPair) → has_no_css css ≡ true → css ≡ []
 no_css [] e = refl
 no_css (p ∷ ps) e = absurd (false≢true e)
-
-no_value : (o : Option (List ℕ)) → is_some o ≡ false → o ≡ None
-no_value None e = refl
-no_value (Some t) e = absurd (false≢true (sym e))
 
 -- a plain name, no css, and no attribute `style`
 pub record PlainHead (h : ElemHead) : Type 0 where
@@ -35,7 +32,7 @@ plain_head h e =
     record {
       named = front.0;
       no_css = no_css h.css front.1;
-      no_style = no_value (first h.attrs (codes "style"))
+      no_style = none_from_not_some (first h.attrs (codes "style"))
           (not-true (has_name h.attrs (codes "style")) both.1);
     }
 
@@ -71,16 +68,10 @@ element_made role h p = record {
   in_line = λ e. absurd (false≢true e);
 }
 
--- without a `style` the default display makes borders
-
-or_no : (b : Bool) → (b || false) ≡ b
-or_no true = refl
-or_no false = refl
-
 pub plain_border : (name : List ℕ) (attrs : List TextPair) → first attrs (codes "style") ≡ None →
     has_border name attrs ≡ shows_border (default_display name)
 unfolding has_border
-plain_border name attrs e = rw e (or_no (shows_border (default_display name)))
+plain_border name attrs e = rw e (or-false (shows_border (default_display name)))
 
 -- replaced elements have no border, and are no line breaks
 

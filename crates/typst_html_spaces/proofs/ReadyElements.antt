@@ -1,12 +1,13 @@
 -- The walk goes past an element of plain flow.
-use Rattle.std.proofs.Common.{◌≡◌, ℕ, Bool, true, false, not, ◌||◌, cond, List, [], ◌∷◌, None, inl, inr, refl, ap, ◌∙◌, sym, codes, bytes_eq}
-use Rattle.std.proofs.lemmas.Bool.{cases_Bool, false≢true, or_left, or_right, not-true}
-use Rattle.std.proofs.lemmas.Slice.Eq.{bytes_eq-Decides}
+use Rattle.std.proofs.Common.{◌≡◌, ℕ, Bool, true, false, not, cond, List, [], ◌∷◌, None, inl, inr, refl, ap, ◌∙◌, sym, codes, bytes_eq}
+use Rattle.std.proofs.lemmas.Bool.{cases_Bool, false≢true, or_left, or_right, not-true, false_from_ne_true}
+use Rattle.std.proofs.Math.Bool.{or-false}
 use Rattle.html_names.specs.Characters.{is_blank, is_ignorable}
 use Rattle.html_names.specs.Displays.{default_display}
 use Rattle.html_names.specs.Kinds.{is_replaced, is_line_break, is_raw, raw_names, is_escapable_raw, escapable_raw_names, shows_border, is_whitespace_collapsing}
 use Rattle.html_names.specs.Names.{stands_in}
 use Rattle.html_names.specs.Texts.{TextPair}
+use Rattle.html_names.proofs.Basics.{bytes_eq-same}
 use Rattle.html_dom_tree.specs.Attributes.{first}
 use Rattle.html_dom_tree.specs.Styled.{styled_attrs, styled_node, styled_nodes}
 use Rattle.html_dom_tree.specs.Tree.{Head, NodeView, tag_node, text_node, element_node, frame_node, NodesView, none, node}
@@ -91,17 +92,18 @@ pre_is_border = refl
 
 no_border_no_pre : (name : List ℕ) → shows_border (default_display name) ≡ false →
     bytes_eq name (codes "pre") ≡ false
-no_border_no_pre name e = elim (cases_Bool (bytes_eq name (codes "pre"))) [
-  | inl t ↦ absurd (false≢true (sym e
-      ∙ (ap (λ n. shows_border (default_display n)) ((bytes_eq-Decides name (codes "pre")).0 t)
-      ∙ pre_is_border)))
-  | inr f ↦ f
-]
+no_border_no_pre name e = false_from_ne_true (bytes_eq name (codes "pre")) (λ t. false≢true (sym e
+    ∙ (ap (λ n. shows_border (default_display n)) (bytes_eq-same name (codes "pre") t)
+    ∙ pre_is_border)))
 
 pub raw_is_not_plain : (name : List ℕ) → is_raw name ≡ true → is_plain_name name ≡ false
 unfolding is_raw is_plain_name is_replaced default_display stands_in
 raw_is_not_plain name e =
     not-true (is_plain_name name) (listed_pass (λ n. not (is_plain_name n)) raw_names name refl e)
+
+pub plain_is_not_raw : (name : List ℕ) → is_plain_name name ≡ true → is_raw name ≡ false
+plain_is_not_raw name p = false_from_ne_true (is_raw name)
+    (λ e. false≢true (sym (raw_is_not_plain name e) ∙ p))
 
 pub escapable_is_not_plain : (name : List ℕ) → is_escapable_raw name ≡ true →
     is_plain_name name ≡ false
@@ -111,13 +113,10 @@ escapable_is_not_plain name e = not-true (is_plain_name name)
 
 plain_not_raw : (name : List ℕ) → is_plain_name name ≡ true →
     bytes_eq name (codes "pre") ≡ false → is_preformatted name ≡ false
-plain_not_raw name p e = elim (cases_Bool (is_raw name)) [
-  | inl f ↦ absurd (false≢true (sym (raw_is_not_plain name f) ∙ p))
-  | inr f ↦ elim (cases_Bool (is_escapable_raw name)) [
-    | inl g ↦ absurd (false≢true (sym (escapable_is_not_plain name g) ∙ p))
-    | inr g ↦ rw (e, f, g) refl
-  ]
-]
+plain_not_raw name p e =
+    let escapable : is_escapable_raw name ≡ false = false_from_ne_true (is_escapable_raw name)
+    (λ g. false≢true (sym (escapable_is_not_plain name g) ∙ p)) in
+    rw (e, plain_is_not_raw name p, escapable) refl
 
 collapses_inside : (h : ElemHead) → is_plain_name h.name ≡ true →
     bytes_eq h.name (codes "pre") ≡ false → body_whitespace Normal h ≡ Normal
@@ -148,11 +147,7 @@ block_body_stays role (present items) r =
 preserves_by_name : (name : List ℕ) (attrs : List TextPair) → first attrs (codes "style") ≡ None →
     preserves name attrs ≡ bytes_eq name (codes "pre")
 unfolding preserves
-preserves_by_name name attrs e = rw e (or_no (bytes_eq name (codes "pre")))
-  where
-    or_no : (b : Bool) → (b || false) ≡ b
-    or_no true = refl
-    or_no false = refl
+preserves_by_name name attrs e = rw e (or-false (bytes_eq name (codes "pre")))
 
 module _ (role : RoleText) (h : ElemHead) (body : BodyView) (p : PlainHead h)
     (q : is_plain_body (body_whitespace Normal h) body ≡ true)

@@ -1,6 +1,6 @@
 -- The nodes of a text past which the walk goes, lone tabs aside.
 use Rattle.std.proofs.Common.{◌≡◌, ℕ, true, false, not, ◌&&◌, ◌||◌, ◌==◌, List, [], ◌∷◌, Option, None, Some, inl, inr, ◌⊎◌, refl, ap, ◌∙◌, sym, arith}
-use Rattle.std.proofs.lemmas.Bool.{cases_Bool, false≢true, and_parts, or_parts, eqb-true, not-true, not-false}
+use Rattle.std.proofs.lemmas.Bool.{cases_Bool, false≢true, and_parts, or_parts, eqb-true, not-false}
 use Rattle.std.proofs.lemmas.Bool.Decides.{nat_tests}
 use Rattle.html_names.specs.Characters.{is_blank, is_ignorable}
 use Rattle.html_dom_tree.specs.Tree.{NodeView, text_node}
@@ -12,22 +12,10 @@ use Rattle.typst_html_encode.specs.Collapsing.{Atom, visible, ignorable, collaps
 use Rattle.typst_html_spaces.proofs.Each.{Each, Each-map}
 use Rattle.typst_html_spaces.proofs.Walks.{Ready, Seen, Unseen}
 use Rattle.typst_html_spaces.proofs.ReadyNodes.{unseen_text, seen_text, space_ready, break_ready}
-
--- characters
-
-normal_parts : (c : ℕ) → is_normal c ≡ true → (is_blank c ≡ false) × (is_ignorable c ≡ false)
-normal_parts c h =
-    let both = and_parts (not (is_blank c)) (not (is_ignorable c)) h in
-    (not-true (is_blank c) both.0, not-true (is_ignorable c) both.1)
+use Rattle.typst_html_spaces.proofs.TextPieces.{normal_parts}
 
 no_space : (c : ℕ) → is_blank c ≡ false → (c == 32) ≡ false
 no_space c h = grind (arith, nat_tests)
-
-space_is_blank : (c : ℕ) → (c == 32) ≡ true → is_blank c ≡ true
-space_is_blank c h = ap is_blank (eqb-true c 32 h)
-
-space_is_not_normal : (c : ℕ) → (c == 32) ≡ true → is_normal c ≡ false
-space_is_not_normal c h = ap (λ b. not b && not (is_ignorable c)) (space_is_blank c h)
 
 normal_atom : (c : ℕ) → is_normal c ≡ true → char_atom false c ≡ visible c
 normal_atom c h = let p = normal_parts c h in rw (p.0, p.1) refl

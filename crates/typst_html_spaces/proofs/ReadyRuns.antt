@@ -65,16 +65,12 @@ run_unseen (frame_node f ∷ ns) r = absurd (false≢true r.0)
 -- a run of one space, or of tags alone
 
 space_is_ready : (n : NodeView) → is_space n ≡ true → Ready n
-space_is_ready (tag_node t) e = absurd (false≢true e)
 space_is_ready (text_node s span) e = rw (one_char 32 s e) (space_ready span)
-space_is_ready (element_node h kids) e = absurd (false≢true e)
-space_is_ready (frame_node f) e = absurd (false≢true e)
+space_is_ready x e = absurd (false≢true e)
 
 tag_is_ready : (n : NodeView) → is_tag n ≡ true → Ready n
 tag_is_ready (tag_node t) e = tag_ready t
-tag_is_ready (text_node s span) e = absurd (false≢true e)
-tag_is_ready (element_node h kids) e = absurd (false≢true e)
-tag_is_ready (frame_node f) e = absurd (false≢true e)
+tag_is_ready x e = absurd (false≢true e)
 
 other_is_tag : (n : NodeView) → (is_blank_node n || is_tag n) ≡ true → is_blank_node n ≡ false →
     is_tag n ≡ true

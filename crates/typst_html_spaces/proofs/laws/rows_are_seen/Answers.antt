@@ -1,14 +1,25 @@
-use Rattle.typst_html_spaces.proofs.Rows.{lines_seen, blocks_seen, lists_and_tables_seen, others_not_plain}
+use Rattle.std.proofs.Common.{refl}
+use lib.Utf8.{encode}
+use Rattle.html_names.specs.Characters.{is_ignorable}
+use Rattle.html_names.specs.Displays.{default_display}
+use Rattle.html_names.specs.Kinds.{is_replaced, is_raw, is_escapable_raw}
+use Rattle.html_names.specs.Names.{stands_in}
+use Rattle.html_dom_tree.specs.PlainTree.{nodes_normal}
+use Rattle.html_dom_tree.specs.Styled.{styled_node}
+use Rattle.typst_html_encode.specs.Collapsing.{preserves, has_border}
+use Rattle.html_flow_convert.specs.BareSpaces.{is_border_element, is_entered, node_things, bare_after}
+use Rattle.html_flow_convert.specs.Pieces.{pieces_after}
+use Rattle.html_flow_convert.specs.Protected.{node_by_answers}
+use Rattle.html_flow_convert.specs.Runs.{blank_front, after_front}
+use Rattle.html_flow_convert.specs.Converted.{item_nodes}
+use Rattle.html_flow_convert.specs.LoneNode.{lone_node, node_list}
+use Rattle.typst_html_spaces.specs.ItemText.{item_pieces}
+use Rattle.typst_html_spaces.specs.PlainFlow.{is_plain_name, is_plain_item}
 use Rattle.typst_html_spaces.proofs.laws.rows_are_seen.Goals as goal
 
-pub returns-clause-lines : goal.returns-clause-lines
-returns-clause-lines c = lines_seen
-
-pub returns-clause-blocks : goal.returns-clause-blocks
-returns-clause-blocks c = blocks_seen
-
-pub returns-clause-lists_and_tables : goal.returns-clause-lists_and_tables
-returns-clause-lists_and_tables c = lists_and_tables_seen
-
-pub returns-clause-others : goal.returns-clause-others
-returns-clause-others c = others_not_plain
+pub returns : goal.returns
+unfolding is_ignorable default_display is_replaced is_raw is_escapable_raw stands_in nodes_normal
+    styled_node preserves has_border is_border_element is_entered node_things bare_after pieces_after
+    node_by_answers blank_front after_front item_nodes lone_node node_list item_pieces is_plain_name
+    is_plain_item lib.Utf8.encode
+returns c = record { lines = refl; blocks = refl; lists_and_tables = refl; others = refl }
