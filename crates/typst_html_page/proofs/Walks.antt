@@ -36,10 +36,6 @@ between_borders true s t u v inner e f g =
     g ∙ (ap (λ l. run l (border ∷ [])) (f ∙ ap (λ l. run l inner) e)
     ∙ sym (run-append (step s border) inner (border ∷ [])))
 
--- what the element shows between its borders
-abbrev content_atoms : (replaced : Bool) → List ℕ → List Atom → List Atom
-content_atoms replaced name inner = if replaced then object name ∷ [] else inner
-
 module _ (name : List ℕ) (attrs : List TextPair) (inner : List Atom) where
   pub past_break : (s : Seen) → is_line_break name ≡ true →
       step s break ≡ run s (element_atoms name attrs inner)
@@ -70,10 +66,8 @@ by_name false kids rest = refl
 
 pub body_first : (n : NodeView) (ns : NodesView) →
     body_children (node n ns) ≡ or_else (body_children (node n none)) (body_children ns)
-body_first (tag_node t) ns = refl
-body_first (text_node s span) ns = refl
 body_first (element_node h kids) ns = by_name (bytes_eq h.name (codes "body")) kids (body_children ns)
-body_first (frame_node b) ns = refl
+body_first x ns = refl
 
 normal_by_name : (b : Bool) (kids ns : NodesView) →
     body_in (nodes_normal ns) ≡ option_map nodes_normal (body_children ns) →
