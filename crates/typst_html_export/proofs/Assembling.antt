@@ -1,27 +1,15 @@
 -- The parts of an assembled document are those of the whole.
-use Rattle.std.proofs.Common.{◌≡◌, ℕ, List, [], ◌∷◌, ◌++◌, refl, sym, ap, subst, ◌∙◌}
+use Rattle.std.proofs.Common.{◌≡◌, ℕ, [], refl, ap, ◌∙◌}
 use Rattle.html_dom_tree.specs.Styled.{styled_nodes}
 use Rattle.html_dom_tree.specs.Tree.{NodesView}
 use Rattle.html_dom_document.specs.Documents.{InfoView}
-use Rattle.typst_html_encode.specs.FaultViews.{ExportFaultView, not_alone, IsFirstView}
-use Rattle.typst_html_encode.specs.declared.fault.ExportFault.{ExportFault}
 use Rattle.html_flow_convert.specs.Depth.{items_too_deep}
 use Rattle.html_flow_convert.specs.Items.{ItemsView, no_items, item}
 use Rattle.typst_html_export.specs.Assembled.{Outline, own_html, own_body, nothing_own, own_among_others, document_outline, first_own, shown_count, output_by, assembled_output, styled_output, item_spans, note_faults, outline_faults, depth_faults, assembly_faults}
 use Rattle.typst_html_export.specs.Roots.{styled_root}
-use Rattle.typst_html_export.proofs.Firsts.{first_of_more, first_after_none, none_after_none}
+use Rattle.typst_html_export.proofs.Firsts.{none_after_none}
 use Rattle.typst_html_export.proofs.Outlines.{own_found, own_stands}
 use Rattle.typst_html_export.proofs.StyledRoots.{lone_styled}
-
--- an element among others is refused, whatever the footnotes are
-refused_alone : (e : ExportFault) (o : Outline) (notes : ItemsView) (gs : List ExportFaultView)
-    → IsFirstView e (outline_faults o no_items) → IsFirstView e (outline_faults o notes ++ gs)
-refused_alone e (own_html place) notes gs h =
-    first_of_more e [] (note_faults (item_spans notes) ++ gs) h
-refused_alone e own_body notes gs h = first_of_more e [] (note_faults (item_spans notes) ++ gs) h
-refused_alone e nothing_own notes gs h = first_of_more e [] gs h
-refused_alone e (own_among_others name span) notes gs h =
-    first_of_more e (not_alone name span ∷ []) gs h
 
 -- where no footnote is refused there is none, so none is too deep
 no_notes : (limit : ℕ) (notes : ItemsView) → note_faults (item_spans notes) ≡ []
@@ -31,35 +19,10 @@ no_notes limit no_items e = refl
 no_notes limit (item i role notes) e = cc
 
 module _ (limit : ℕ) (content : NodesView) (notes : ItemsView) where
-  abbrev depth : List ExportFaultView
-  depth = depth_faults (items_too_deep 1 limit notes)
-
-  pub outline_refused : (e : ExportFault)
-      → IsFirstView e (outline_faults (document_outline content) no_items)
-      → IsFirstView e (assembly_faults limit content notes)
-  outline_refused e h = refused_alone e (document_outline content) notes depth h
-
-  -- beside an element of the document's own
-  pub notes_refused : (e : ExportFault)
-      → outline_faults (document_outline content) notes ≡ note_faults (item_spans notes)
-      → IsFirstView e (note_faults (item_spans notes))
-      → IsFirstView e (assembly_faults limit content notes)
-  notes_refused e own h =
-      first_of_more e _ depth (subst (λ fs. IsFirstView e fs) (sym own) h)
-
   pub no_notes_clean :
       outline_faults (document_outline content) notes ≡ note_faults (item_spans notes)
       → note_faults (item_spans notes) ≡ [] → assembly_faults limit content notes ≡ []
   no_notes_clean own clean = none_after_none _ _ (own ∙ clean) (no_notes limit notes clean)
-
-  -- in a body that is made
-  pub depth_refused : (e : ExportFault) → outline_faults (document_outline content) notes ≡ []
-      → IsFirstView e depth → IsFirstView e (assembly_faults limit content notes)
-  depth_refused e none h = first_after_none e _ depth none h
-
-  pub depth_clean : outline_faults (document_outline content) notes ≡ [] → depth ≡ []
-      → assembly_faults limit content notes ≡ []
-  depth_clean none clean = none_after_none _ _ none clean
 
 -- the styles of the root are those of all nodes
 styled_by : (o : Outline) (info : InfoView) (content notes : NodesView)

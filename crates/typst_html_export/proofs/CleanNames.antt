@@ -1,12 +1,12 @@
 -- Names that are made of clean labels are clean: they are the label or `loc`, a hyphen and digits.
-use Rattle.std.proofs.Common.{◌≡◌, ℕ, zero, suc, ◌+◌, ◌%◌, ◌<◌, ◌^◌, Bool, true, false, ◌&&◌, ◌==◌, List, [], ◌∷◌, ◌++◌, codes, Option, Some, None, refl, arith}
+use Rattle.std.proofs.Common.{◌≡◌, ℕ, ◌+◌, ◌%◌, ◌<◌, ◌^◌, Bool, true, false, ◌&&◌, ◌==◌, List, [], ◌∷◌, ◌++◌, codes, Option, Some, None, refl, arith}
 use Rattle.std.specs.Prelude.{decimal, if◌then◌else◌}
-use Rattle.std.proofs.lemmas.Bool.{and_parts, false≢true}
+use Rattle.std.proofs.lemmas.Bool.{and_parts, false≢true, agree_below_at}
 use Rattle.std.proofs.lemmas.Fmt.{decimal_by_steps}
 use Rattle.html_names.specs.Characters.{all, is_text_char}
+use Rattle.html_names.proofs.Basics.{all_append}
 use Rattle.html_dom_tree.specs.Tags.{starts, ends}
 use Rattle.html_dom_tree.specs.Tree.{tag_node, text_node, element_node, frame_node, NodesView, none, node}
-use Rattle.typst_html_encode.proofs.Stretches.{all_append}
 use Rattle.html_dom_link.specs.NewNames.{Name, name_with_number, first_free, stem_of, first_number, free_name, new_name}
 use Rattle.html_dom_link.specs.Events.{Start, Event, other_start, target_start, end_tag, element, text, html_frame, Targets, start_event, events}
 use Rattle.html_dom_link.specs.Groups.{serves, waiting_after, cut_at, cuts, own_name, first_label, label_of, label_for}
@@ -19,18 +19,7 @@ use Rattle.typst_html_export.proofs.AnchoredRoots.{Passing, MadePasses}
 -- numbers
 
 digit_is_text : (d : ℕ) → d < 10 → is_text_char (48 + d) ≡ true
-digit_is_text zero h = refl
-digit_is_text (suc zero) h = refl
-digit_is_text (suc (suc zero)) h = refl
-digit_is_text (suc (suc (suc zero))) h = refl
-digit_is_text (suc (suc (suc (suc zero)))) h = refl
-digit_is_text (suc (suc (suc (suc (suc zero))))) h = refl
-digit_is_text (suc (suc (suc (suc (suc (suc zero)))))) h = refl
-digit_is_text (suc (suc (suc (suc (suc (suc (suc zero))))))) h = refl
-digit_is_text (suc (suc (suc (suc (suc (suc (suc (suc zero)))))))) h = refl
-digit_is_text (suc (suc (suc (suc (suc (suc (suc (suc (suc zero))))))))) h = refl
-digit_is_text (suc (suc (suc (suc (suc (suc (suc (suc (suc (suc d)))))))))) h =
-    absurd (omega arith)
+digit_is_text d h = agree_below_at (λ k. is_text_char (48 + k)) (λ k. true) 10 d refl h
 
 decimal_is_text : (n : ℕ) → n < 2 ^ 64 → all is_text_char (decimal n) ≡ true
 decimal_is_text = decimal_by_steps (λ m ds. all is_text_char ds ≡ true)
@@ -93,14 +82,9 @@ none_or_all false group r = r
 
 waiting_is_clean : (group : List Start) (e : Event) → Each StartIsClean group → EventIsClean e →
     Each StartIsClean (waiting_after group e)
-waiting_is_clean group other_start r c = none_or_all (serves group other_start) group r
 waiting_is_clean group (target_start s) r c =
     Each-append StartIsClean group (s ∷ []) r (c, tt)
-waiting_is_clean group (end_tag l) r c = none_or_all (serves group (end_tag l)) group r
-waiting_is_clean group (element id) r c = none_or_all (serves group (element id)) group r
-waiting_is_clean group text r c = none_or_all (serves group text) group r
-waiting_is_clean group (html_frame id inside) r c =
-    none_or_all (serves group (html_frame id inside)) group r
+waiting_is_clean group e r c = none_or_all (serves group e) group r
 
 first_is_clean : (group : List Start) → Each StartIsClean group →
     is_clean_text (first_label group) ≡ true
@@ -119,12 +103,8 @@ label_of_is_clean l (s ∷ ss) r = by_test (s.location == l) (label_of_is_clean 
 
 label_is_clean : (e : Event) (group : List Start) → Each StartIsClean group →
     is_clean_text (label_for e group) ≡ true
-label_is_clean other_start group r = first_is_clean group r
-label_is_clean (target_start s) group r = first_is_clean group r
 label_is_clean (end_tag l) group r = label_of_is_clean l group r
-label_is_clean (element id) group r = first_is_clean group r
-label_is_clean text group r = first_is_clean group r
-label_is_clean (html_frame id inside) group r = first_is_clean group r
+label_is_clean e group r = first_is_clean group r
 
 made_is_clean : (own label : Option Name) (used : Name → Bool) (group : List Start) →
     is_clean_text label ≡ true → Passing IsCleanValue (made_for own label used group)

@@ -9,6 +9,7 @@ use Rattle.html_names.specs.Characters.{all, is_text_char}
 use Rattle.html_names.specs.Kinds.{is_void, is_raw, is_escapable_raw, is_foreign_self_closing}
 use Rattle.html_names.specs.Names.{stands_in}
 use Rattle.html_names.specs.Texts.{TextPair}
+use Rattle.html_names.proofs.Basics.{all_append}
 use Rattle.html_dom_tree.specs.Styled.{styled_node, styled_nodes}
 use Rattle.html_dom_tree.specs.Tree.{Head, NodeView, tag_node, text_node, element_node, frame_node, NodesView, none, node, ElementView}
 use Rattle.html_dom_tree.specs.Views.{nodes_of}
@@ -19,7 +20,6 @@ use Rattle.typst_html_encode.specs.ExportFaults as writing
 use Rattle.typst_html_encode.specs.FrameWriters.{Frames}
 use Rattle.typst_html_encode.specs.Layout.{is_pretty_inside}
 use Rattle.typst_html_encode.specs.Text.{ends_at_once, escaping_of}
-use Rattle.typst_html_encode.proofs.Stretches.{all_append}
 use Rattle.typst_html_encode.specs.declared.options.HtmlOptions.{HtmlOptions}
 use Rattle.html_flow_convert.specs.Items.{ItemsView, no_items}
 use Rattle.html_dom_link.specs.Anchors.{nodes_size, nodes_with_anchors, element_with_anchors}

@@ -11,15 +11,6 @@ use Rattle.typst_html_encode.specs.declared.fault.ExportFault.TheVariants as fau
 use Rattle.typst_html_export.specs.Assembled.{depth_faults}
 use Rattle.typst_html_export.specs.Assembles.{FailsByMemoryAlone}
 
-abbrev more : {A : Type 0} {x : A} {fs : List A} (gs : List A)
-    → (rest : List A) × (fs ≡ x ∷ rest) → (rest : List A) × (fs ++ gs ≡ x ∷ rest)
-more gs h = (h.0 ++ gs, ap (λ xs. xs ++ gs) h.1)
-
-pub first_of_more : (e : ExportFault) (fs gs : List ExportFaultView) → IsFirstView e fs
-    → IsFirstView e (fs ++ gs)
-first_of_more fault.OutOfMemory fs gs h = tt
-first_of_more e fs gs h = more gs h
-
 pub first_after_none : (e : ExportFault) (fs gs : List ExportFaultView) → fs ≡ []
     → IsFirstView e gs → IsFirstView e (fs ++ gs)
 first_after_none e fs gs none h = subst (λ xs. IsFirstView e (xs ++ gs)) (sym none) h

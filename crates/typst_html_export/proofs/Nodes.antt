@@ -1,5 +1,5 @@
 -- Nodes in a row, as lists and as pure values.
-use Rattle.std.proofs.Common.{◌≡◌, ℕ, suc, ◌+◌, ◌<◌, List, ◌∷◌, ◌++◌, map, length, get_or, drop, refl, ap, sym, ◌∙◌, add-one, drop-cons}
+use Rattle.std.proofs.Common.{◌≡◌, List, ◌++◌, map, refl, ap, sym, ◌∙◌}
 use Rattle.std.proofs.lemmas.List.{map-append}
 use Rattle.html_dom_tree.specs.Views.{node_view, nodes_of, nodes_view}
 use Rattle.html_dom_tree.specs.declared.node.HtmlNode.{HtmlNode}
@@ -13,10 +13,3 @@ both_view ns others =
     ≡ nodes_of (map node_view ns ++ map node_view others) =
     rw (node_list_of (map node_view ns), node_list_of (map node_view others)) refl in
     ap nodes_of (map-append node_view ns others) ∙ sym both
-
--- those from a place on, with the node at it
-pub from_place : (nodes : List HtmlNode) (k : ℕ) (n : HtmlNode) → k < length nodes
-    → n ≡ get_or nodes k n → drop k nodes ≡ n ∷ drop (k + 1) nodes
-from_place nodes k n below is =
-    drop-cons nodes k n below ∙ (ap (λ m. m ∷ drop (suc k) nodes) (sym is)
-    ∙ ap (λ j. n ∷ drop j nodes) (sym (add-one k)))

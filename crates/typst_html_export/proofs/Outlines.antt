@@ -8,9 +8,9 @@ use Rattle.html_dom_tree.specs.Tree.{Head, NodeView, tag_node, text_node, elemen
 use Rattle.html_dom_tree.specs.Views.{node_view, nodes_view}
 use Rattle.html_dom_tree.specs.declared.node.HtmlNode.{HtmlNode}
 use Rattle.html_dom_document.specs.Documents.{is_element_at}
-use Rattle.typst_html_export.proofs.Nodes.{from_place}
 use Rattle.html_dom_document.specs.Places.{is_html}
 use Rattle.typst_html_export.specs.Assembled.{Outline, own_html, own_body, nothing_own, own_among_others, own_head, is_own, own_after, first_own, shown_count, outline_by, document_outline}
+use Rattle.html_names.proofs.Basics.{from_place}
 
 -- so many nodes more
 after_after : (k : ℕ) (found : Option (ℕ × Head))

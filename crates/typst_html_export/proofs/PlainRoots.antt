@@ -4,11 +4,12 @@ use Rattle.std.proofs.lemmas.Bool.{and_parts}
 use Rattle.html_names.specs.Kinds.{is_raw}
 use Rattle.html_names.specs.Names.{stands_in}
 use Rattle.html_dom_tree.specs.Styled.{head_with_style, styled_node, styled_nodes}
-use Rattle.html_dom_tree.specs.Tree.{NodeView, tag_node, text_node, element_node, frame_node, NodesView, none, node, ElementView, new_element}
+use Rattle.html_dom_tree.specs.Tree.{NodeView, element_node, NodesView, none, node, ElementView, new_element}
 use Rattle.html_dom_tree.specs.Views.{nodes_of}
 use Rattle.html_flow_convert.specs.Protected.{nodes_by_answers}
 use Rattle.html_flow_convert.specs.Runs.{blank_front, after_front}
 use Rattle.typst_html_encode.specs.IndentsCollapse.{body_children}
+use Rattle.typst_html_encode.proofs.IndentsCollapse.{body_is_not_raw}
 use Rattle.html_dom_document.specs.Documents.{InfoView, OutputView, DocumentView, node_of, root_of, given_root, with_root, document_root}
 use Rattle.html_dom_link.specs.Anchors.{element_with_anchors}
 use Rattle.html_dom_link.specs.Events.{Targets}
@@ -31,12 +32,10 @@ use Rattle.typst_html_export.specs.SpacesInDocuments.{PlainDocumentsAreMade}
 
 plain_not_own : (n : NodeView) → is_plain_node n ≡ true → own_head n ≡ None
 unfolding is_plain_node
-plain_not_own (tag_node t) e = refl
-plain_not_own (text_node s span) e = refl
 plain_not_own (element_node h ns) e =
     let names = names_are_inside h.name (and_parts (is_plain_name h.name) (are_plain_nodes ns) e).0 in
     rw (names.0, names.1) refl
-plain_not_own (frame_node f) e = refl
+plain_not_own x e = refl
 
 no_own : (ns : NodesView) → are_plain_nodes ns ≡ true → first_own ns ≡ None
 unfolding is_plain_node first_own
@@ -91,25 +90,10 @@ body_is info ns = refl
 
 -- it can be read back: there is no frame and no raw element
 
-meta_not_raw : is_raw (codes "meta") ≡ false
+pub made_not_raw : (is_raw (codes "html") ≡ false) × (is_raw (codes "head") ≡ false)
+    × (is_raw (codes "title") ≡ false) × (is_raw (codes "meta") ≡ false)
 unfolding is_raw stands_in
-meta_not_raw = refl
-
-title_not_raw : is_raw (codes "title") ≡ false
-unfolding is_raw stands_in
-title_not_raw = refl
-
-head_not_raw : is_raw (codes "head") ≡ false
-unfolding is_raw stands_in
-head_not_raw = refl
-
-body_not_raw : is_raw (codes "body") ≡ false
-unfolding is_raw stands_in
-body_not_raw = refl
-
-pub html_not_raw : is_raw (codes "html") ≡ false
-unfolding is_raw stands_in
-html_not_raw = refl
+made_not_raw = (refl, refl, refl, refl)
 
 both_readable : (ns more : List NodeView) → AreReadable (nodes_of ns) →
     AreReadable (nodes_of more) → AreReadable (nodes_of (ns ++ more))
@@ -118,15 +102,15 @@ both_readable (n ∷ ns) more r s = (r.0, both_readable ns more r.1 s)
 
 title_readable : (t : Option (List ℕ)) → AreReadable (nodes_of (title_nodes t))
 title_readable None = tt
-title_readable (Some t) = ((title_not_raw, (tt, tt)), tt)
+title_readable (Some t) = ((made_not_raw.2, (tt, tt)), tt)
 
 description_readable : (t : Option (List ℕ)) → AreReadable (nodes_of (description_nodes t))
 description_readable None = tt
-description_readable (Some t) = ((meta_not_raw, tt), tt)
+description_readable (Some t) = ((made_not_raw.3, tt), tt)
 
 list_readable : (name : List ℕ) (ts : List (List ℕ)) → AreReadable (nodes_of (list_meta_nodes name ts))
 list_readable name [] = tt
-list_readable name (t ∷ ts) = ((meta_not_raw, tt), tt)
+list_readable name (t ∷ ts) = ((made_not_raw.3, tt), tt)
 
 entries_readable : (info : InfoView) → AreReadable (nodes_of (entry_nodes info))
 entries_readable info =
@@ -140,8 +124,8 @@ pub root_readable : (info : InfoView) (ns : NodesView) → AreReadable ns →
     AreReadable (root_over info ns).1
 root_readable info ns r =
     styled_readable (node (head_node info) (node (body_node ns) none)) (
-      (head_not_raw, ((meta_not_raw, tt), ((meta_not_raw, tt), entries_readable info))),
-      ((body_not_raw, r), tt),
+      (made_not_raw.1, ((made_not_raw.3, tt), ((made_not_raw.3, tt), entries_readable info))),
+      ((body_is_not_raw, r), tt),
     )
 
 pub assembled_root_is : (info : InfoView) (items : ItemsView) → is_plain_flow items ≡ true →

@@ -33,7 +33,7 @@ use Rattle.typst_html_export.specs.Linked.{linked_document}
 use Rattle.typst_html_export.specs.SpacesInDocuments.{PlainDocumentsAreSeen, PlainLinkedDocumentsAreSeen, IsReadAs, PlainDocumentsAreRead, PlainLinkedDocumentsAreRead, SpacesAreLeft}
 use Rattle.typst_html_export.proofs.AnchoredRoots.{root_anchored}
 use Rattle.typst_html_export.proofs.LinkedRoots.{nodes_linked}
-use Rattle.typst_html_export.proofs.PlainRoots.{assembled_root_is, root_over, body_is, html_not_raw, root_readable, linked_root_is}
+use Rattle.typst_html_export.proofs.PlainRoots.{assembled_root_is, root_over, body_is, made_not_raw, root_readable, linked_root_is}
 
 -- a root without a raw element and without a frame, in whose body exactly that text of items is
 -- seen, and what has indents is a border
@@ -80,7 +80,7 @@ made_shown info items e =
     let ns : NodesView = document_nodes items in
     let made = makes_plain_nodes None items e in
     record {
-      not_raw = html_not_raw;
+      not_raw = made_not_raw.0;
       readable = root_readable info ns (plain_readable ns made.0);
       body = styled_nodes ns;
       body_is = body_is info ns;
