@@ -70,12 +70,10 @@ around_free : (outline : Outline) (info : InfoView) (content notes : NodesView) 
     NodesHaveNoHyperlink content → NodesHaveNoHyperlink notes →
     NodesHaveNoHyperlink (output_by outline info content notes).nodes
 around_free (own_html place) info content notes free more = free
-around_free own_body info content notes free more = html_free info content free
 around_free nothing_own info content notes free more =
     html_free info (node (body_node (both_nodes content notes)) none)
     ((refl, both_free content notes free more), tt)
-around_free (own_among_others name span) info content notes free more =
-    html_free info content free
+around_free x info content notes free more = html_free info content free
 
 -- styles
 
@@ -83,10 +81,8 @@ mutual
   unfolding styled_node
 
   node_styled : (n : NodeView) → NodeHasNoHyperlink n → NodeHasNoHyperlink (styled_node n)
-  node_styled (tag_node t) free = tt
-  node_styled (text_node s span) free = tt
   node_styled (element_node h ns) free = (styled_head h free.0, nodes_styled ns free.1)
-  node_styled (frame_node f) free = tt
+  node_styled x free = tt
 
   nodes_styled : (ns : NodesView) → NodesHaveNoHyperlink ns → NodesHaveNoHyperlink (styled_nodes ns)
   nodes_styled none free = tt

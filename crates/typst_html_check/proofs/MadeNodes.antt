@@ -18,6 +18,7 @@ use Rattle.html_flow_convert.specs.declared.convert.ConversionLevel.TheVariants.
 use Rattle.html_flow_convert.specs.declared.convert.Whitespace.{Whitespace}
 use Rattle.html_flow_convert.specs.declared.convert.Whitespace.TheVariants.{Normal, Pre}
 use Rattle.typst_html_spaces.proofs.Each.{Each, Each-append, Each-map}
+use Rattle.typst_html_spaces.proofs.MadeNodes.{any_pieces}
 use Rattle.typst_html_check.specs.ItemHyperlinks.{ItemHasNoHyperlink, ItemsHaveNoHyperlink, BodyHasNoHyperlink}
 use Rattle.typst_html_check.proofs.KeptHeads.{head_with_role}
 
@@ -119,10 +120,8 @@ list_made Block Normal ns free =
 
 node_changed : (change : DisplayChangeView) (n : NodeView) → NodeHasNoHyperlink n →
     NodeHasNoHyperlink (node_with_display change n)
-node_changed change (tag_node t) free = tt
-node_changed change (text_node s span) free = tt
 node_changed change (element_node h ns) free = free
-node_changed change (frame_node f) free = tt
+node_changed change x free = tt
 
 changed_made : (h : Head) (change : Option DisplayChangeView) (ns : NodesView) →
     HeadIsNoHyperlink h → NodesHaveNoHyperlink ns → NoneHasHyperlink (changed_or_in h change ns)
@@ -137,10 +136,6 @@ piece_made : (span : ℕ) (p : PieceView) → Unit {0} → NodeHasNoHyperlink (p
 piece_made span (stretch s) any = tt
 piece_made span (alone c) any = tt
 piece_made span line_break any = (refl, tt)
-
-any_pieces : (ps : List PieceView) → Each (λ p. Unit {0}) ps
-any_pieces [] = tt
-any_pieces (p ∷ ps) = (tt, any_pieces ps)
 
 text_made : (whitespace : Whitespace) (s : List ℕ) (span : ℕ) →
     NoneHasHyperlink (text_item_nodes whitespace s span)
