@@ -1,24 +1,14 @@
 -- The forms of a value, by the length of its list.
-use Rattle.std.proofs.Common.{◌≡◌, ◌≢◌, ℕ, ◌+◌, ◌≤◌, List, [], ◌∷◌, length, get_or, drop, Some, None, refl, rules, arith, String}
-use Rattle.std.specs.declared.alloc.Global.{Global}
+use Rattle.std.proofs.Common.{◌≡◌, ◌≢◌, ℕ, ◌+◌, ◌≤◌, List, [], ◌∷◌, length, get_or, drop, Some, None, refl, arith}
 use Rattle.serde_json.specs.declared.value.Value.{Value}
 use Rattle.serde_json.specs.View.{view, items_view}
-use Rattle.html_dom_tree.specs.Tree.{tag_node, text_node, element_node}
-use Rattle.html_dom_tree.specs.Views.{text_view, tag_view, node_view, element_view}
-use Rattle.html_dom_tree.specs.declared.introspection.Tag.{Tag}
-use Rattle.html_dom_tree.specs.declared.node.HtmlElement.{HtmlElement}
-use Rattle.html_dom_tree.specs.declared.node.HtmlNode as HtmlNode
-use Rattle.html_dom_tree.specs.declared.node.HtmlNode.{HtmlNode, the_lemmas}
-use Rattle.html_dom_tree.specs.declared.span.Span.{Span}
 use Rattle.html_tool_run.specs.Fields.{text_at, pairs_at, pair_form, text_form, no_fields, start_form, end_form, element_from}
 use Rattle.html_tool_run.specs.Spelled.{element_form, element_made, list_at}
 
 pub text_form-other : (vs : List Value) → length vs ≢ 2
     → text_form (items_view (drop 1 vs)) ≡ None
-text_form-other [] h = refl
-text_form-other (v ∷ []) h = refl
 text_form-other (v ∷ w ∷ []) h = absurd (h refl)
-text_form-other (v ∷ w ∷ x ∷ vs) h = refl
+text_form-other vs h = refl
 
 pub no_fields-few : (vs : List Value) → length vs ≤ 1
     → no_fields (items_view (drop 1 vs)) ≡ Some tt
@@ -34,33 +24,23 @@ no_fields-other (v ∷ w ∷ vs) g h = refl
 
 pub end_form-other : (vs : List Value) → length vs ≢ 2
     → end_form (items_view (drop 1 vs)) ≡ None
-end_form-other [] h = refl
-end_form-other (v ∷ []) h = refl
 end_form-other (v ∷ w ∷ []) h = absurd (h refl)
-end_form-other (v ∷ w ∷ x ∷ vs) h = refl
+end_form-other vs h = refl
 
 pub start_form-other : (vs : List Value) → length vs ≢ 2 → length vs ≢ 3
     → start_form (items_view (drop 1 vs)) ≡ None
-start_form-other [] g h = refl
-start_form-other (v ∷ []) g h = refl
 start_form-other (v ∷ w ∷ []) g h = absurd (g refl)
 start_form-other (v ∷ w ∷ x ∷ []) g h = absurd (h refl)
-start_form-other (v ∷ w ∷ x ∷ y ∷ vs) g h = refl
+start_form-other vs g h = refl
 
 pub pair_form-other : (vs : List Value) → length vs ≢ 2 → pair_form (items_view vs) ≡ None
-pair_form-other [] h = refl
-pair_form-other (v ∷ []) h = refl
 pair_form-other (v ∷ w ∷ []) h = absurd (h refl)
-pair_form-other (v ∷ w ∷ x ∷ vs) h = refl
+pair_form-other vs h = refl
 
 pub element_form-other : (vs : List Value) (n : ℕ) → length vs ≢ 4
     → element_form (items_view (drop 1 vs)) n ≡ None
-element_form-other [] n h = refl
-element_form-other (u ∷ []) n h = refl
-element_form-other (u ∷ v ∷ []) n h = refl
-element_form-other (u ∷ v ∷ w ∷ []) n h = refl
 element_form-other (u ∷ v ∷ w ∷ x ∷ []) n h = absurd (h refl)
-element_form-other (u ∷ v ∷ w ∷ x ∷ y ∷ vs) n h = refl
+element_form-other vs n h = refl
 
 -- a kind, a name, attributes and what stands in the element
 pub element_form-four : (vs : List Value) (a b d : Value) (n : ℕ) → length vs ≡ 4
@@ -68,23 +48,8 @@ pub element_form-four : (vs : List Value) (a b d : Value) (n : ℕ) → length v
     → element_form (items_view (drop 1 vs)) n
     ≡ element_from (element_made n) (text_at (view a)) (pairs_at (view b))
     (list_at (view d) (n + 1))
-element_form-four [] a b d n h p q r = absurd (omega (arith, h))
-element_form-four (u ∷ []) a b d n h p q r = absurd (omega (arith, h))
-element_form-four (u ∷ v ∷ []) a b d n h p q r = absurd (omega (arith, h))
-element_form-four (u ∷ v ∷ w ∷ []) a b d n h p q r = absurd (omega (arith, h))
 element_form-four (u ∷ v ∷ w ∷ x ∷ []) a b d n h p q r = rw (p, q, r) refl
-element_form-four (u ∷ v ∷ w ∷ x ∷ y ∷ vs) a b d n h p q r = absurd (omega (arith, h))
-
-pub node_view-Tag : (t : Tag) → node_view (HtmlNode.Tag t) ≡ tag_node (tag_view t)
-node_view-Tag t = search (rules, the_lemmas)
-
-pub node_view-Text : (s : String Global) (span : Span)
-    → node_view (HtmlNode.Text s span) ≡ text_node (text_view s) span.0
-node_view-Text s span = search (rules, the_lemmas)
-
-pub node_view-Element : (e : HtmlElement)
-    → node_view (HtmlNode.Element e) ≡ element_node (element_view e).0 (element_view e).1
-node_view-Element e = search (rules, the_lemmas)
+element_form-four vs a b d n h p q r = absurd (omega (arith, h))
 
 pub ruleset forms = (
   text_form-other,

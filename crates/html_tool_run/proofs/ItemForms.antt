@@ -20,12 +20,8 @@ use Rattle.html_tool_run.specs.SpelledItems.{element_made, element_form, body_fo
 
 pub element_form-other : (vs : List Value) (n : ℕ) → length vs ≢ 4
     → element_form (items_view (drop 1 vs)) n ≡ None
-element_form-other [] n h = refl
-element_form-other (u ∷ []) n h = refl
-element_form-other (u ∷ v ∷ []) n h = refl
-element_form-other (u ∷ v ∷ w ∷ []) n h = refl
 element_form-other (u ∷ v ∷ w ∷ x ∷ []) n h = absurd (h refl)
-element_form-other (u ∷ v ∷ w ∷ x ∷ y ∷ vs) n h = refl
+element_form-other vs n h = refl
 
 -- a kind, a name, attributes and what stands in the element
 pub element_form-four : (vs : List Value) (a b d : Value) (n : ℕ) → length vs ≡ 4
@@ -33,27 +29,19 @@ pub element_form-four : (vs : List Value) (a b d : Value) (n : ℕ) → length v
     → element_form (items_view (drop 1 vs)) n
     ≡ element_from (element_made n) (text_at (view a)) (pairs_at (view b))
     (list_at (view d) (n + 1))
-element_form-four [] a b d n h p q r = absurd (omega (arith, h))
-element_form-four (u ∷ []) a b d n h p q r = absurd (omega (arith, h))
-element_form-four (u ∷ v ∷ []) a b d n h p q r = absurd (omega (arith, h))
-element_form-four (u ∷ v ∷ w ∷ []) a b d n h p q r = absurd (omega (arith, h))
 element_form-four (u ∷ v ∷ w ∷ x ∷ []) a b d n h p q r = rw (p, q, r) refl
-element_form-four (u ∷ v ∷ w ∷ x ∷ y ∷ vs) a b d n h p q r = absurd (omega (arith, h))
+element_form-four vs a b d n h p q r = absurd (omega (arith, h))
 
 -- a kind, and the list of the items
 pub body_form-two : (vs : List Value) (d : Value) (n : ℕ) → length vs ≡ 2 → d ≡ get_or vs 1 d
     → body_form (items_view (drop 1 vs)) n ≡ list_at (view d) n
-body_form-two [] d n h p = absurd (omega (arith, h))
-body_form-two (v ∷ []) d n h p = absurd (omega (arith, h))
 body_form-two (v ∷ w ∷ []) d n h p = rw p refl
-body_form-two (v ∷ w ∷ x ∷ vs) d n h p = absurd (omega (arith, h))
+body_form-two vs d n h p = absurd (omega (arith, h))
 
 pub body_form-other : (vs : List Value) (n : ℕ) → length vs ≢ 2
     → body_form (items_view (drop 1 vs)) n ≡ None
-body_form-other [] n h = refl
-body_form-other (v ∷ []) n h = refl
 body_form-other (v ∷ w ∷ []) n h = absurd (h refl)
-body_form-other (v ∷ w ∷ x ∷ vs) n h = refl
+body_form-other vs n h = refl
 
 pub item_view-Space : (span : Span)
     → flow_views.item_view (Item.Space span) ≡ flow.space_item span.0

@@ -49,10 +49,8 @@ told_node : (w : NodeView) (n code : ℕ) (span : Span)
     → IsFirst (Refused code span) (name_refusals w)
     → IsSomeAnd (element_of (w, n)) (λ e. IsFirst (Refused code span) (element_refusals e))
 unfolding name_refusals
-told_node (tag_node t) n code span h = absurd (cc (h.1))
-told_node (text_node s place) n code span h = absurd (cc (h.1))
 told_node (element_node head kids) n code span h = h
-told_node (frame_node b) n code span h = absurd (cc (h.1))
+told_node x n code span h = absurd (cc (h.1))
 
 pub told_element : (d : Data) (made : NodeView) (before after : Reader) (code : ℕ) (span : Span)
     → before.next ≡ 1 → before.refused ≡ None → after.refused ≡ Some (code, span)

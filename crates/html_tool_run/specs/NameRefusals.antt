@@ -8,10 +8,6 @@ use Rattle.html_dom_tree.specs.Tree.{TextPair, NodeView, tag_node, text_node, el
 use Rattle.html_flow_convert.specs.Items as flow
 use Rattle.html_flow_convert.specs.Items.{ItemView, tag_item, element_item, space_item, text_item, hole_item, break_item, box_item, block_item, frame_item, ItemsView, BodyView, absent, present}
 
--- a name is seen as its text
-abbrev pub name_view : List ℕ → List ℕ
-name_view text = text
-
 -- a refusal: its number and its span
 abbrev pub Refusal : Type 0
 Refusal = ℕ × ℕ

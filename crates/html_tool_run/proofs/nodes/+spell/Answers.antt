@@ -6,7 +6,8 @@ use Rattle.serde_json.proofs.Views.{view-Array}
 use Rattle.serde_json.specs.View.{view, items_view}
 use Rattle.html_dom_tree.specs.Views.{node_view, nodes_view, attrs_view}
 use Rattle.html_dom_tree.specs.declared.node.HtmlNode as HtmlNode
-use Rattle.html_tool_run.proofs.Forms.{element_form-four, node_view-Element}
+use Rattle.html_dom_tree.proofs.Basics.{node_view-Element}
+use Rattle.html_tool_run.proofs.Forms.{element_form-four}
 use Rattle.html_tool_run.proofs.KindForms.{form-kind}
 use Rattle.html_tool_run.proofs.NodeRows.{nodes_row, joined-nodes, own_first}
 use Rattle.html_tool_run.proofs.Readings.{read_element}

@@ -1,7 +1,7 @@
 use Rattle.std.proofs.Common.{refl}
 use Rattle.html_dom_tree.specs.Views.{node_view}
 use Rattle.html_dom_tree.specs.declared.node.HtmlNode as HtmlNode
-use Rattle.html_tool_run.proofs.Forms.{node_view-Text}
+use Rattle.html_dom_tree.proofs.Basics.{node_view-Text}
 use Rattle.html_tool_run.proofs.Readings.{read_clean}
 use Rattle.html_tool_run.specs.NameRefusals.{name_refusals}
 use Rattle.html_tool_run.proofs.nodes.push_text.Goals as goal
