@@ -1,4 +1,4 @@
-use Rattle.std.proofs.Common.{◌-◌, ap, ◌∙◌, length, take, ◌∷◌, []}
+use Rattle.std.proofs.Common.{◌-◌, ap, ◌∙◌, length, take, ◌∷◌, [], refl}
 use Rattle.html_names.proofs.Basics.{last_taken}
 use Rattle.html_dom_check.proofs.path.leave.Goals as goal
 
