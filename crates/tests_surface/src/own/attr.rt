@@ -31,18 +31,17 @@ mod tests {
     use super::Limit;
     use crate::asserts::assert_text;
     use html_values::IntoAttr;
-    use std::alloc::Global;
-    use std::process::Abort;
+    use std::alloc::{AllocError, Global};
+    use std::test::Fail;
 
-    /// Asserts that the value has that text as an attribute.
-    fn assert_attr<T: IntoAttr>(rt: &impl Abort, alloc: Global, value: &T, wanted: &str) {
-        let text = value.into_attr(alloc).expect(rt, "memory for the text");
-        assert_text(rt, &text, wanted);
+    fn text_of<T: IntoAttr>(alloc: Global, value: &T) -> Result<String, AllocError> {
+        value.into_attr(alloc)
     }
 
     #[test]
-    fn a_value_has_its_text(rt: HostRuntime) {
-        assert_attr(&rt, rt.alloc(), &Limit::Most(7), "7");
-        assert_attr(&rt, rt.alloc(), &Limit::Unlimited, "none");
+    fn a_value_has_its_text(rt: HostRuntime) -> Result<(), Fail> {
+        assert_text(&rt, &text_of(rt.alloc(), &Limit::Most(7))?, "7");
+        assert_text(&rt, &text_of(rt.alloc(), &Limit::Unlimited)?, "none");
+        Ok(())
     }
 }

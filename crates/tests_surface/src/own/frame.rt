@@ -27,36 +27,40 @@ impl FrameWriter for OneText {
 
 mod tests {
     use super::OneText;
-    use crate::asserts::{assert_text, text_of};
+    use crate::asserts::assert_text;
     use std::alloc::Global;
-    use std::process::Abort;
+    use std::test::Fail;
     use typst_html::{
-        Abs, Frame, HtmlElement, HtmlFrame, HtmlNode, HtmlOptions, Span, html_in_bundle, tag,
+        Abs, ExportFault, Frame, FrameFault, FrameWriter, HtmlElement, HtmlFrame, HtmlNode,
+        HtmlOptions, Span, html_in_bundle, tag,
     };
 
-    /// A `div` with a frame.
-    fn with_frame(rt: &impl Abort, alloc: Global) -> HtmlElement {
-        let frame = Frame {
-            picture: 1,
-            items: Vec::new(alloc),
-        };
+    /// A frame of span 2.
+    fn frame(alloc: Global) -> HtmlFrame {
+        let (picture, items) = (1, Vec::new(alloc));
         let size = Abs::from_millionths(11_000_000);
-        let frame = HtmlFrame::new(alloc, frame, size, Span(2));
-        let mut children = Vec::new(alloc);
-        children
-            .push(HtmlNode::from(frame))
-            .expect(rt, "memory for a child");
-        HtmlElement::new(alloc, tag::div).with_children(children)
+        HtmlFrame::new(alloc, Frame { picture, items }, size, Span(2))
+    }
+
+    /// The text of a `div` with such a frame.
+    fn written<W: FrameWriter>(alloc: Global, writer: &W) -> Result<String, ExportFault> {
+        let root = HtmlElement::new(alloc, tag::div).with_child(HtmlNode::from(frame(alloc)))?;
+        html_in_bundle(alloc, &root, &HtmlOptions::default(), writer)
     }
 
     #[test]
-    fn a_frame_is_its_writers_text(rt: HostRuntime) {
-        let (alloc, root) = (rt.alloc(), with_frame(&rt, rt.alloc()));
-        let writer = OneText {
-            text: text_of(&rt, alloc, "<svg/>"),
-        };
-        let html = html_in_bundle(alloc, &root, &HtmlOptions::default(), &writer);
-        let html = html.expect(&rt, "memory for the text");
+    fn a_frame_is_its_writers_text(rt: HostRuntime) -> Result<(), Fail> {
+        let text = String::from_str(rt.alloc(), "<svg/>")?;
+        let html = written(rt.alloc(), &OneText { text })?;
         assert_text(&rt, &html, "<!DOCTYPE html><div><svg/></div>");
+        Ok(())
+    }
+
+    #[test]
+    fn no_writer_refuses_each_frame(rt: HostRuntime) {
+        let answer = ().write(rt.alloc(), &frame(rt.alloc()), false);
+        assert!(rt; answer.err() == Some(FrameFault::Refused));
+        let wanted = ExportFault::FrameRefused { span: Span(2) };
+        assert!(rt; written(rt.alloc(), &()).err() == Some(wanted));
     }
 }

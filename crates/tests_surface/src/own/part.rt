@@ -48,25 +48,21 @@ mod tests {
     use super::Gap;
     use crate::asserts::assert_text;
     use html_values::{Abs, Calc, CalcPart, CssWriter, Ratio};
-    use std::alloc::AllocError;
-
-    /// Adds half of the whole and a gap.
-    fn add_half_and_gap(out: &mut CssWriter<()>, gap: &Gap) -> Result<(), AllocError> {
-        let mut sum: Calc<'_, ()> = out.calc();
-        sum.sum(&Ratio::from_millionths(500_000))?;
-        sum.sum(gap)?;
-        sum.finish()
-    }
+    use std::test::Fail;
 
     #[test]
-    fn a_part_is_added(rt: HostRuntime) {
+    fn a_part_is_added(rt: HostRuntime) -> Result<(), Fail> {
         let gap = Gap {
             width: Abs::from_millionths(-2_000_000),
         };
         let mut out = CssWriter::new(rt.alloc(), ());
-        add_half_and_gap(&mut out, &gap).expect(&rt, "memory");
+        let mut sum: Calc<'_, ()> = out.calc();
+        sum.sum(&Ratio::from_millionths(500_000))?;
+        sum.sum(&gap)?;
+        sum.finish()?;
         assert_text(&rt, out.text(), "calc(50% - 2pt)");
         assert!(rt; gap.is_negative() && !gap.is_zero());
         assert!(rt; !gap.negated().is_negative());
+        Ok(())
     }
 }

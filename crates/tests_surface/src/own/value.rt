@@ -27,23 +27,20 @@ mod tests {
     use super::Dimension;
     use crate::asserts::assert_text;
     use html_values::{CssWriter, ToCss};
-
-    const SECOND: Dimension<'static> = Dimension {
-        number: "1",
-        unit: "s",
-    };
+    use std::test::Fail;
 
     #[test]
-    fn a_value_has_its_text(rt: HostRuntime) {
-        let css = SECOND.to_css(rt.alloc(), &mut ()).expect(&rt, "memory");
+    fn a_value_has_its_text(rt: HostRuntime) -> Result<(), Fail> {
+        let second = Dimension {
+            number: "1",
+            unit: "s",
+        };
+        let css = second.to_css(rt.alloc(), &mut ())?;
         assert_text(&rt, &css, "1s");
-    }
-
-    #[test]
-    fn a_value_is_appended(rt: HostRuntime) {
         let mut out = CssWriter::new(rt.alloc(), ());
-        out.write("left ").expect(&rt, "memory");
-        out.emit(&SECOND).expect(&rt, "memory");
+        out.write("left ")?;
+        out.emit(&second)?;
         assert_text(&rt, out.text(), "left 1s");
+        Ok(())
     }
 }

@@ -1,0 +1,91 @@
+//! Numbers, spans and texts of faults, and what `?` makes of those of the layers below.
+
+use crate::asserts::assert_text;
+use html_tool_run::WriteFailed;
+use std::alloc::{AllocError, AllocFailed};
+use std::test::Fail;
+use typst_html::{
+    CastFault, ConstructFault, ExportFault, FlowFault, FrameFault, NameFault, NameTable, ReadFault,
+    Refused, Span,
+};
+
+/// What is made of faults of the layers below: numbers, spans and texts.
+const MADE: &str = "\
+    8 at 7: items are nested too deeply\n\
+    15 at 0: a frame was refused by its writer\n\
+    1 at 0: tag name must not be empty\n\
+    23 at 0: the year is out of range\n\
+    24 at 7: the body has the wrong kind\n\
+    18 at 5: arguments could not be cast\n";
+
+#[test]
+fn faults_of_the_layers_below(rt: HostRuntime) -> Result<(), Fail> {
+    let (mut shown, span) = (String::new(rt.alloc()), Span(7));
+    let casts = vec![in rt.alloc(); (CastFault::NumberRange, Span(5))]?;
+    let faults = [
+        ExportFault::from(FlowFault::TooDeep { span }),
+        ExportFault::from(FrameFault::Refused),
+        ExportFault::from(NameFault::EmptyTag),
+        ExportFault::from(CastFault::YearRange),
+        ExportFault::from(ConstructFault::BodyKind { span }),
+        ExportFault::from(ConstructFault::Casts(casts)),
+    ];
+    for fault in &faults {
+        write!(shown, "{} at {}: {fault}\n", fault.number(), fault.span().0)?;
+    }
+    assert_text(&rt, &shown, MADE);
+    Ok(())
+}
+
+#[test]
+fn want_of_memory_is_one_fault(rt: HostRuntime) {
+    let faults = [
+        ExportFault::from(AllocError),
+        ExportFault::from(AllocFailed { value: 1u8 }),
+        ExportFault::from(Refused { back: 1u8 }),
+        ExportFault::from(NameFault::from(AllocError)),
+        ExportFault::from(NameFault::from(AllocFailed { value: 1u8 })),
+        ExportFault::from(NameFault::from(Refused { back: 1u8 })),
+        ExportFault::from(CastFault::from(AllocError)),
+        ExportFault::from(CastFault::from(AllocFailed { value: 1u8 })),
+        ExportFault::from(CastFault::from(Refused { back: 1u8 })),
+        ExportFault::from(FlowFault::OutOfMemory),
+        ExportFault::from(ConstructFault::OutOfMemory),
+        ExportFault::from(FrameFault::OutOfMemory),
+    ];
+    for fault in &faults {
+        assert!(rt; *fault == ExportFault::OutOfMemory);
+    }
+}
+
+/// Faults with texts of their own, and their numbers.
+const OWN: &str = "\
+    0: out of memory\n\
+    8: items are nested too deeply\n\
+    0: out of memory\n\
+    8: elements are nested too deeply\n\
+    a write failed\n";
+
+#[test]
+fn faults_with_texts_of_their_own(rt: HostRuntime) -> Result<(), Fail> {
+    let mut shown = String::new(rt.alloc());
+    let (span, place) = (Span(7), 3);
+    for fault in [FlowFault::OutOfMemory, FlowFault::TooDeep { span }] {
+        write!(shown, "{}: {fault}\n", fault.number())?;
+    }
+    for fault in [ReadFault::OutOfMemory, ReadFault::TooDeep { place }] {
+        write!(shown, "{}: {fault}\n", fault.number())?;
+    }
+    write!(shown, "{WriteFailed}\n")?;
+    assert_text(&rt, &shown, OWN);
+    Ok(())
+}
+
+/// Values whose fields are not shown.
+#[test]
+fn hidden_fields(rt: HostRuntime) -> Result<(), Fail> {
+    let (refused, names) = (Refused { back: 7u8 }, NameTable::new(rt.alloc()));
+    let shown = format!(in rt.alloc(); "{refused:?} {names:?}")?;
+    assert_text(&rt, &shown, "Refused(..) NameTable");
+    Ok(())
+}

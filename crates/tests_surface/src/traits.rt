@@ -1,0 +1,225 @@
+//! The traits of public types. Each function that does nothing is there for its bounds.
+
+use html_tool_run::{Fault, LastCall, Settings, Status, Task, WriteFailed};
+use std::alloc::{AllocError, Global};
+use std::collections::HashMap;
+use std::error::Error;
+use std::fmt::{Debug, Display as Shown};
+use std::hash::Hash;
+use std::num::{NonZeroI64, NonZeroU64};
+use std::process::Abort;
+use std::test::Fail;
+use typst_html::property::Display;
+use typst_html::{
+    Abs, Angle, AutoValue, CalcPart, CastFault, ConstructFault, ConversionLevel, Datetime,
+    DeadFragment, DeadLink, Dir, DocumentInfo, Duration, Em, ExportFault, FlowFault, Frame,
+    FrameFault, FrameItem, FrameWriter, HorizontalDir, HtmlAttr, HtmlAttrs, HtmlElement, HtmlFrame,
+    HtmlNode, HtmlOptions, HtmlTag, IconSize, ImageCandidate, Inline, IntoAttr, Length, Locale,
+    Location, Moment, NameFault, NativeType, NoneEmpty, NoneUndefined, NoneValue, OnOffBool,
+    PageText, Paint, Point, Properties, Property, Ratio, ReadFault, Refused, Rel, RepeatedId, Rgba,
+    Separator, Span, Str, Tag, ToCss, TrueFalseBool, Warning, WarningSink, Whitespace, YesNoBool,
+    attr, tag,
+};
+
+fn are_compared<T: Debug + Drop + Eq>() {}
+
+fn are_copied<T: Copy + Debug + Eq>() {}
+
+fn are_keys<T: Debug + Drop + Eq + Hash>() {}
+
+fn is_error<T: Debug + Drop + Eq + Error>() {}
+
+fn is_shown<T: Shown>() {}
+
+fn is_css<T: ToCss>() {}
+
+fn is_part_of_sums<T: CalcPart>() {}
+
+fn is_attribute<T: IntoAttr>() {}
+
+fn is_sink<T: WarningSink>() {}
+
+fn writes_frames<T: FrameWriter>() {}
+
+#[test]
+fn types_that_are_compared() {
+    are_compared::<(DocumentInfo, Frame, FrameItem, HtmlElement)>();
+    are_compared::<(HtmlFrame, HtmlNode, ImageCandidate, Locale)>();
+    are_compared::<(PageText, Str, Tag)>();
+}
+
+#[test]
+fn types_that_are_copied() {
+    are_copied::<(AutoValue, Datetime, Dir, Duration, Fault)>();
+    are_copied::<(HorizontalDir, IconSize, LastCall, Moment, NativeType)>();
+    are_copied::<(NoneEmpty, NoneUndefined, NoneValue, OnOffBool, Point)>();
+    are_copied::<(Separator, Settings, Status, Task)>();
+    are_copied::<(TrueFalseBool, YesNoBool)>();
+}
+
+#[test]
+fn types_that_are_keys() {
+    are_keys::<(Abs, Angle, Em, Ratio)>();
+    are_keys::<(ConversionLevel, DeadFragment, DeadLink, Display)>();
+    are_keys::<(HtmlAttr, HtmlAttrs, HtmlOptions, HtmlTag)>();
+    are_keys::<(Length, Location, Paint, Properties, Property)>();
+    are_keys::<(Rel, RepeatedId, Rgba, Span, Whitespace)>();
+}
+
+#[test]
+fn types_that_are_errors() {
+    is_error::<CastFault>();
+    is_error::<ConstructFault>();
+    is_error::<ExportFault>();
+    is_error::<FlowFault>();
+    is_error::<FrameFault>();
+    is_error::<NameFault>();
+    is_error::<ReadFault>();
+    is_error::<Refused<u8>>();
+    is_error::<Warning>();
+    is_error::<WriteFailed>();
+}
+
+#[test]
+fn types_that_are_shown() {
+    is_shown::<HtmlAttr>();
+    is_shown::<HtmlTag>();
+    is_shown::<Inline<'static>>();
+    is_shown::<PageText>();
+}
+
+#[test]
+fn types_that_have_css() {
+    is_css::<&'static str>();
+    is_css::<Display>();
+    is_css::<Length>();
+    is_css::<Paint>();
+    is_css::<Rel>();
+    is_css::<Rgba>();
+    is_css::<String>();
+    is_part_of_sums::<Abs>();
+    is_part_of_sums::<Angle>();
+    is_part_of_sums::<Em>();
+    is_part_of_sums::<Ratio>();
+}
+
+#[test]
+fn types_that_are_attributes() {
+    is_attribute::<AutoValue>();
+    is_attribute::<Datetime>();
+    is_attribute::<Dir>();
+    is_attribute::<Duration>();
+    is_attribute::<HorizontalDir>();
+    is_attribute::<IconSize>();
+    is_attribute::<ImageCandidate>();
+    is_attribute::<NoneEmpty>();
+    is_attribute::<NoneUndefined>();
+    is_attribute::<NoneValue>();
+    is_attribute::<NonZeroI64>();
+    is_attribute::<NonZeroU64>();
+    is_attribute::<OnOffBool>();
+    is_attribute::<Rgba>();
+    is_attribute::<Str>();
+    is_attribute::<TrueFalseBool>();
+    is_attribute::<YesNoBool>();
+    is_attribute::<char>();
+    is_attribute::<i64>();
+    is_attribute::<u64>();
+}
+
+#[test]
+fn types_that_take_warnings_or_frames() {
+    is_sink::<()>();
+    is_sink::<&'static mut ()>();
+    is_sink::<Vec<Warning>>();
+    writes_frames::<()>();
+}
+
+/// Asserts that a value is equal to itself, and to no other.
+fn assert_differ<T: Eq>(rt: &impl Abort, value: &T, other: &T) {
+    assert!(rt; *value == *value && *value != *other);
+}
+
+#[test]
+fn numbers_and_colours_differ(rt: HostRuntime) {
+    let (em, abs) = (Em::from_millionths(1), Abs::from_millionths(0));
+    let (one, two) = (
+        Length { em, abs },
+        Length {
+            em: Em::from_millionths(2),
+            abs,
+        },
+    );
+    let rel = Ratio::from_millionths(1);
+    let (r, g, b, a) = (1, 2, 3, 4);
+    let (faint, opaque) = (Rgba { r, g, b, a }, Rgba { r, g, b, a: 255 });
+    assert_differ(&rt, &one, &two);
+    assert_differ(&rt, &Rel { rel, abs: one }, &Rel { rel, abs: two });
+    assert_differ(&rt, &Paint::Solid(faint), &Paint::Solid(opaque));
+    assert_differ(&rt, &Separator::Space, &Separator::Slash);
+    assert!(rt; Span(1) < Span(2) && Location(1) < Location(2));
+}
+
+#[test]
+fn parts_and_faults_differ(rt: HostRuntime) {
+    let (location, span) = (Location(1), Span(1));
+    let frame = Frame {
+        picture: 1,
+        items: Vec::new(rt.alloc()),
+    };
+    let other = Frame {
+        picture: 2,
+        items: Vec::new(rt.alloc()),
+    };
+    assert_differ(&rt, &frame, &other);
+    assert_differ(&rt, &FrameItem::Group(frame), &FrameItem::Group(other));
+    assert_differ(
+        &rt,
+        &Tag::End { location },
+        &Tag::End {
+            location: Location(2),
+        },
+    );
+    assert_differ(&rt, &FlowFault::OutOfMemory, &FlowFault::TooDeep { span });
+    assert_differ(&rt, &Refused { back: 1u8 }, &Refused { back: 2 });
+    let (dest, further) = (Location(1), Location(2));
+    assert_differ(
+        &rt,
+        &DeadLink { span, dest },
+        &DeadLink {
+            span,
+            dest: further,
+        },
+    );
+}
+
+/// Asserts that what is kept under a key is found by an equal one, and by no other.
+fn assert_key<K: Eq + Hash + Drop>(
+    rt: &impl Abort,
+    alloc: Global,
+    key: K,
+    same: &K,
+    other: &K,
+) -> Result<(), AllocError> {
+    let mut table = HashMap::new(alloc);
+    table.insert(key, 1u8)?;
+    assert!(rt; table.get(same) == Some(&1));
+    assert!(rt; table.get(other).is_none());
+    Ok(())
+}
+
+#[test]
+fn what_is_kept_is_found(rt: HostRuntime) -> Result<(), Fail> {
+    let (alloc, block, line) = (rt.alloc(), ConversionLevel::Block, ConversionLevel::Inline);
+    let (normal, pre) = (Whitespace::Normal, Whitespace::Pre);
+    let (pretty, plain) = (HtmlOptions { pretty: true }, HtmlOptions::default());
+    assert_key(&rt, alloc, Span(1), &Span(1), &Span(2))?;
+    assert_key(&rt, alloc, Location(1), &Location(1), &Location(2))?;
+    assert_key(&rt, alloc, block, &block, &line)?;
+    assert_key(&rt, alloc, normal, &normal, &pre)?;
+    assert_key(&rt, alloc, Display::Ruby, &Display::Ruby, &Display::None)?;
+    assert_key(&rt, alloc, tag::p.try_clone()?, &tag::p, &tag::b)?;
+    assert_key(&rt, alloc, attr::id.try_clone()?, &attr::id, &attr::dir)?;
+    assert_key(&rt, alloc, pretty.clone()?, &pretty, &plain)?;
+    Ok(())
+}
