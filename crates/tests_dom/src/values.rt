@@ -2,16 +2,12 @@
 
 mod casts;
 mod equality;
-mod examples;
-mod lists;
-mod moments;
 mod natives;
 mod texts;
 
-use crate::asserts::assert_text;
-use html_values::{AttrType, CastFault, Dir, ListType, NativeType, Rgba, Value};
+use crate::asserts::{TestResult, Tester, assert_text};
+use html_values::{AttrType, CastFault, Dir, Value};
 use std::alloc::{AllocError, Global};
-use std::process::Abort;
 
 /// A value of a document, as it stands in a table.
 #[derive(Clone, Copy)]
@@ -21,8 +17,6 @@ enum Sample {
     Bool(bool),
     Int(i64),
     Text(&'static str),
-    Seconds(u64),
-    Color(Rgba),
     Dir(Dir),
     Image(&'static str, Option<i64>),
 }
@@ -35,8 +29,6 @@ fn value_of(alloc: Global, sample: Sample) -> Result<Value, AllocError> {
         Sample::Bool(on) => Value::Bool(on),
         Sample::Int(n) => Value::Int(n),
         Sample::Text(text) => Value::Str(String::from_str(alloc, text)?),
-        Sample::Seconds(seconds) => Value::Duration(seconds),
-        Sample::Color(color) => Value::Color(color),
         Sample::Dir(dir) => Value::Dir(dir),
         Sample::Image(src, width) => {
             let src = String::from_str(alloc, src)?;
@@ -54,7 +46,7 @@ fn array_of(alloc: Global, samples: &[Sample]) -> Result<Value, AllocError> {
     Ok(Value::Array(items))
 }
 
-/// What a cast answers, in words: a text in quotes, `nothing`, or a fault's number.
+/// What a cast returns, in words: a text in quotes, `nothing`, or a fault's number.
 fn shown(alloc: Global, answer: Result<Option<String>, CastFault>) -> Result<String, AllocError> {
     match answer {
         Ok(Some(text)) => format!(in alloc; "'{text}'"),
@@ -63,65 +55,29 @@ fn shown(alloc: Global, answer: Result<Option<String>, CastFault>) -> Result<Str
     }
 }
 
-/// Asserts what a cast of the value to the type answers, in words.
-fn assert_cast(rt: &impl Abort, alloc: Global, attr_type: &AttrType, value: &Value, wanted: &str) {
-    let answer = shown(alloc, attr_type.cast(alloc, value)).expect(rt, "memory for the answer");
+/// Asserts what a cast of the value to the type returns, in words.
+fn assert_cast(rt: &impl Tester, attr_type: &AttrType, value: &Value, wanted: &str) -> TestResult {
+    let answer = shown(rt.alloc(), attr_type.cast(rt.alloc(), value))?;
     assert_text(rt, &answer, wanted);
+    Ok(())
 }
 
-/// Asserts what a cast of the value that a table means answers.
-fn assert_sample(rt: &impl Abort, alloc: Global, attr_type: &AttrType, row: &(Sample, &str)) {
-    let value = value_of(alloc, row.0).expect(rt, "memory for the value");
-    assert_cast(rt, alloc, attr_type, &value, row.1);
-}
-
-/// Asserts that each cast to the type answers what stands beside the value.
-fn assert_casts(rt: &impl Abort, alloc: Global, attr_type: &AttrType, rows: &[(Sample, &str)]) {
-    for row in rows {
-        assert_sample(rt, alloc, attr_type, row);
-    }
-}
-
-/// Asserts for each value whether it may be cast to the type.
-fn assert_castable(rt: &impl Abort, alloc: Global, attr_type: &AttrType, rows: &[(Sample, bool)]) {
+/// Asserts that each cast to the type returns what stands beside the value.
+fn assert_casts(rt: &impl Tester, attr_type: &AttrType, rows: &[(Sample, &str)]) -> TestResult {
     for (sample, wanted) in rows {
-        let value = value_of(alloc, *sample).expect(rt, "memory for the value");
-        assert!(rt; attr_type.castable(&value) == *wanted);
+        assert_cast(rt, attr_type, &value_of(rt.alloc(), *sample)?, wanted)?;
     }
+    Ok(())
 }
 
-/// Asserts that each cast of an array to the type answers what stands beside its items.
+/// Asserts that each cast of an array to the type returns what stands beside its items.
 fn assert_array_casts(
-    rt: &impl Abort,
-    alloc: Global,
+    rt: &impl Tester,
     attr_type: &AttrType,
     rows: &[(&[Sample], &str)],
-) {
+) -> TestResult {
     for (samples, wanted) in rows {
-        let value = array_of(alloc, samples).expect(rt, "memory for the array");
-        assert_cast(rt, alloc, attr_type, &value, wanted);
+        assert_cast(rt, attr_type, &array_of(rt.alloc(), samples)?, wanted)?;
     }
-}
-
-/// Asserts that each cast of a value to the type before it answers what stands after it.
-fn assert_native_casts(rt: &impl Abort, alloc: Global, rows: &[(NativeType, Sample, &str)]) {
-    for (native_type, sample, wanted) in rows {
-        let attr_type = AttrType::Native(*native_type);
-        assert_sample(rt, alloc, &attr_type, &(*sample, *wanted));
-    }
-}
-
-/// The type of one of those texts.
-fn strings(alloc: Global, texts: &[&str]) -> Result<AttrType, AllocError> {
-    let mut allowed = Vec::new(alloc);
-    for text in texts {
-        allowed.push(String::from_str(alloc, text)?)?;
-    }
-    Ok(AttrType::Strings(allowed))
-}
-
-/// The type of several texts with that separator.
-fn texts_by(alloc: Global, separator: char, shorthand: bool) -> Result<AttrType, AllocError> {
-    let inner = AttrType::Native(NativeType::Str);
-    Ok(AttrType::List(ListType::new(alloc, inner, separator, shorthand)?))
+    Ok(())
 }

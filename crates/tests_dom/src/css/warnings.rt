@@ -1,10 +1,9 @@
-//! What values warn of, and what a sink is handed.
+//! What values warn of, and what a sink receives.
 
-use super::{assert_inline, assert_warned, assert_written};
-use crate::asserts::assert_text;
+use super::{assert_inline, assert_warned};
+use crate::asserts::{TestResult, assert_text};
 use html_values_css::{CssWriter, Paint, Properties, ToCss, Warning, WarningSink};
 use std::alloc::{AllocError, Global};
-use std::process::Abort;
 
 /// A sink that refuses a warning when it holds `room` of them.
 #[derive(Drop)]
@@ -32,13 +31,10 @@ impl WarningSink for Shelf {
     }
 }
 
-impl Shelf {
-    fn with_room(alloc: Global, room: usize) -> Shelf {
-        Shelf {
-            taken: Vec::new(alloc),
-            room,
-        }
-    }
+/// An empty shelf with that room.
+fn empty_shelf(alloc: Global, room: usize) -> Shelf {
+    let taken = Vec::new(alloc);
+    Shelf { taken, room }
 }
 
 /// Two paints, one after another.
@@ -60,92 +56,74 @@ impl ToCss for Pair {
 }
 
 #[test]
-fn a_gradient_and_a_tiling_have_no_text(rt: HostRuntime) {
+fn a_gradient_and_a_tiling_have_no_text(rt: HostRuntime) -> TestResult {
     let mut warnings = Vec::new(rt.alloc());
     for paint in [Paint::Gradient, Paint::Tiling] {
-        let css = paint.to_css(rt.alloc(), &mut warnings);
-        assert_text(&rt, &css.expect(&rt, "memory for the text"), "");
+        let css = paint.to_css(rt.alloc(), &mut warnings)?;
+        assert_text(&rt, &css, "");
     }
     assert_warned(&rt, &warnings, &[Warning::Gradient, Warning::Tiling]);
+    Ok(())
 }
 
-/// Asserts what becomes of a tiling and a gradient where the sink has that room: the text, and what
-/// the sink has taken.
-fn assert_taken(
-    rt: &impl Abort,
-    alloc: Global,
-    room: usize,
-    wanted: Option<&str>,
-    taken: &[Warning],
-) {
-    let mut sink = Shelf::with_room(alloc, room);
-    let css = Pair(Paint::Tiling, Paint::Gradient).to_css(alloc, &mut sink);
-    assert!(rt; css.ok().as_deref() == wanted);
-    assert_warned(rt, &sink.taken, taken);
+/// A sink receives all warnings in order, up to the first that it refuses.
+#[test]
+fn sinks_refuse_what_they_have_no_room_for(rt: HostRuntime) {
+    let both = [Warning::Tiling, Warning::Gradient];
+    for room in 0..=2usize {
+        let mut sink = empty_shelf(rt.alloc(), room);
+        let css = Pair(Paint::Tiling, Paint::Gradient).to_css(rt.alloc(), &mut sink);
+        let wanted = if room == 2 { Some("") } else { None };
+        assert!(rt; css.ok().as_deref() == wanted);
+        assert_warned(&rt, &sink.taken, &both[..room]);
+    }
 }
 
 #[test]
-fn a_sink_is_handed_all_in_order_up_to_the_first_that_it_refuses(rt: HostRuntime) {
-    let alloc = rt.alloc();
-    assert_taken(&rt, alloc, 0, None, &[]);
-    assert_taken(&rt, alloc, 1, None, &[Warning::Tiling]);
-    assert_taken(
-        &rt,
-        alloc,
-        2,
-        Some(""),
-        &[Warning::Tiling, Warning::Gradient],
-    );
-}
-
-#[test]
-fn a_builder_answers_a_sink_that_refuses(rt: HostRuntime) {
-    let mut sink = Shelf::with_room(rt.alloc(), 1);
+fn a_builder_reports_a_sink_that_refuses(rt: HostRuntime) -> TestResult {
+    let mut sink = empty_shelf(rt.alloc(), 1);
     let mut builder = Properties::build(rt.alloc(), &mut sink);
+    builder.push("color", &"red")?;
     let both = Pair(Paint::Tiling, Paint::Gradient);
-    assert!(rt; builder.push("color", &"red").is_ok());
     assert!(rt; builder.push("color", &both).is_err());
-    assert_inline(&rt, rt.alloc(), &builder.finish(), "color: red");
+    assert_inline(&rt, &builder.finish(), "color: red")?;
     assert_warned(&rt, &sink.taken, &[Warning::Tiling]);
+    Ok(())
 }
 
 #[test]
-fn with_hands_the_builder_back_where_the_sink_refuses(rt: HostRuntime) {
-    let mut sink = Shelf::with_room(rt.alloc(), 0);
-    let builder = Properties::build(rt.alloc(), &mut sink)
-        .with("color", &"red")
-        .ok()
-        .expect(&rt, "memory for a property");
-    let refused = builder
-        .with("color", &Paint::Gradient)
-        .err()
-        .expect(&rt, "no room");
-    assert_inline(&rt, rt.alloc(), &refused.back.finish(), "color: red");
+fn with_returns_the_builder_where_the_sink_refuses(rt: HostRuntime) -> TestResult {
+    let mut sink = empty_shelf(rt.alloc(), 0);
+    let builder = Properties::build(rt.alloc(), &mut sink).with("color", &"red")?;
+    let refused = builder.with("color", &Paint::Gradient).err();
+    let back = refused.expect(&rt, "no room").back;
+    assert_inline(&rt, &back.finish(), "color: red")?;
     assert!(rt; sink.taken.is_empty());
+    Ok(())
 }
 
 #[test]
-fn with_hands_each_warning_once(rt: HostRuntime) {
-    let mut sink = Shelf::with_room(rt.alloc(), 2);
-    let builder = Properties::build(rt.alloc(), &mut sink)
-        .with("color", &Pair(Paint::Gradient, Paint::Tiling))
-        .ok()
-        .expect(&rt, "room for both");
+fn with_passes_each_warning_once(rt: HostRuntime) -> TestResult {
+    let mut sink = empty_shelf(rt.alloc(), 2);
+    let both = Pair(Paint::Gradient, Paint::Tiling);
+    let builder = Properties::build(rt.alloc(), &mut sink).with("color", &both)?;
     assert!(rt; builder.finish().as_slice().is_empty());
     assert_warned(&rt, &sink.taken, &[Warning::Gradient, Warning::Tiling]);
+    Ok(())
 }
 
 #[test]
-fn a_caller_may_fail(rt: HostRuntime) {
+fn a_caller_may_fail(rt: HostRuntime) -> TestResult {
     let mut warnings = Vec::new(rt.alloc());
     let mut out = CssWriter::new(rt.alloc(), &mut warnings);
-    out.write("a").expect(&rt, "memory");
-    out.fail(Warning::Tiling).expect(&rt, "memory");
-    out.write("b").expect(&rt, "memory");
+    out.write("a")?;
+    out.fail(Warning::Tiling)?;
+    out.write("b")?;
     assert!(rt; out.failed());
-    assert_written(&rt, &out, "ab");
+    assert_text(&rt, out.text(), "ab");
     drop(out);
     assert_warned(&rt, &warnings, &[Warning::Tiling]);
+    Ok(())
 }
 
 /// Warnings and their texts.
@@ -155,11 +133,9 @@ const TEXTS: [(Warning, &str); 2] = [
 ];
 
 #[test]
-fn texts_of_warnings(rt: HostRuntime) {
+fn texts_of_warnings(rt: HostRuntime) -> TestResult {
     for (warning, wanted) in TEXTS {
-        let text = warning
-            .to_string(rt.alloc())
-            .expect(&rt, "memory for the text");
-        assert_text(&rt, &text, wanted);
+        assert_text(&rt, &warning.to_string(rt.alloc())?, wanted);
     }
+    Ok(())
 }

@@ -1,112 +1,64 @@
 //! Numbers, spans and texts of faults.
 
-use crate::asserts::assert_text;
+use crate::asserts::{TestResult, assert_text};
 use html_dom_tree::Span;
 use html_names::tag;
-use std::alloc::Global;
-use std::process::Abort;
+use std::alloc::AllocError;
 use typst_html_encode::{ExportFault, FrameFault};
 
-/// Asserts that the fault has that number, that span and that text.
-fn assert_fault(
-    rt: &impl Abort,
-    alloc: Global,
-    fault: &ExportFault,
-    number: u8,
-    span: Span,
-    wanted: &str,
-) {
-    let text = fault.to_string(alloc).expect(rt, "memory for the text");
-    assert_text(rt, &text, wanted);
-    assert!(rt; fault.number() == number, "{wanted}");
-    assert!(rt; fault.span() == span, "{wanted}");
+/// Adds a line with the fault's number, its span and its text.
+fn show(shown: &mut String, fault: &ExportFault) -> Result<(), AllocError> {
+    write!(shown, "{} at {}: {fault}\n", fault.number(), fault.span().0)
 }
 
+/// Faults with their numbers, their spans and their texts.
+const FAULTS: &str = "\
+    0 at 0: out of memory\n\
+    8 at 7: items are nested too deeply\n\
+    9 at 7: this element must be the only element in the document\n\
+    11 at 7: a character cannot be encoded in HTML\n\
+    12 at 7: HTML void elements must not have children\n\
+    13 at 7: HTML raw text element cannot have non-text children\n\
+    14 at 7: HTML raw text element cannot contain its own closing tag\n\
+    15 at 7: a frame was refused by its writer\n\
+    10 at 7: footnotes are not supported with a custom root element\n\
+    10 at 0: footnotes are not supported with a custom root element\n";
+
 #[test]
-fn export_faults(rt: HostRuntime) {
-    let alloc = rt.alloc();
-    let at = Span(7);
-    let rows = [
-        (ExportFault::OutOfMemory, 0, Span(0), "out of memory"),
-        (
-            ExportFault::Unencodable { c: '\0', span: at },
-            11,
-            at,
-            "a character cannot be encoded in HTML",
-        ),
-        (
-            ExportFault::VoidChildren { span: at },
-            12,
-            at,
-            "HTML void elements must not have children",
-        ),
-        (
-            ExportFault::RawChild { span: at },
-            13,
-            at,
-            "HTML raw text element cannot have non-text children",
-        ),
-        (
-            ExportFault::RawClosing { span: at },
-            14,
-            at,
-            "HTML raw text element cannot contain its own closing tag",
-        ),
-        (
-            ExportFault::FrameRefused { span: at },
-            15,
-            at,
-            "a frame was refused by its writer",
-        ),
+fn export_faults(rt: HostRuntime) -> TestResult {
+    let (span, c, tag) = (Span(7), '\0', tag::body);
+    let mut shown = String::new(rt.alloc());
+    let faults = [
+        ExportFault::OutOfMemory,
+        ExportFault::TooDeep { span },
+        ExportFault::NotAlone { tag, span },
+        ExportFault::Unencodable { c, span },
+        ExportFault::VoidChildren { span },
+        ExportFault::RawChild { span },
+        ExportFault::RawClosing { span },
+        ExportFault::FrameRefused { span },
     ];
-    for (fault, number, span, text) in &rows {
-        assert_fault(&rt, alloc, fault, *number, *span, text);
+    for fault in &faults {
+        show(&mut shown, fault)?;
     }
+    let spans = vec![in rt.alloc(); span, Span(8)]?;
+    show(&mut shown, &ExportFault::Footnotes { spans })?;
+    let spans = Vec::new(rt.alloc());
+    show(&mut shown, &ExportFault::Footnotes { spans })?;
+    assert_text(&rt, &shown, FAULTS);
+    Ok(())
 }
 
-/// Asserts what a refusal of footnotes with these spans is.
-fn assert_footnotes(rt: &impl Abort, alloc: Global, spans: &[Span], first: Span) {
-    let spans = Vec::from_slice(alloc, spans).expect(rt, "memory for the spans");
-    let text = "footnotes are not supported with a custom root element";
-    assert_fault(
-        rt,
-        alloc,
-        &ExportFault::Footnotes { spans },
-        10,
-        first,
-        text,
+#[test]
+fn faults_of_frame_writers(rt: HostRuntime) -> TestResult {
+    let mut shown = String::new(rt.alloc());
+    for fault in [FrameFault::OutOfMemory, FrameFault::Refused] {
+        write!(shown, "{}: {fault}\n", fault.number())?;
+    }
+    assert_text(
+        &rt,
+        &shown,
+        "0: out of memory\n15: a frame was refused by its writer\n",
     );
-}
-
-#[test]
-fn document_faults(rt: HostRuntime) {
-    let alloc = rt.alloc();
-    let at = Span(7);
-    let deep = ExportFault::TooDeep { span: at };
-    assert_fault(&rt, alloc, &deep, 8, at, "items are nested too deeply");
-    let beside = ExportFault::NotAlone {
-        tag: tag::body,
-        span: at,
-    };
-    let text = "this element must be the only element in the document";
-    assert_fault(&rt, alloc, &beside, 9, at, text);
-    assert_footnotes(&rt, alloc, &[at, Span(8)], at);
-    assert_footnotes(&rt, alloc, &[], Span(0));
-}
-
-/// Each fault of a writer of frames with its number and its text.
-static FRAME_FAULTS: [(FrameFault, u8, &str); 2] = [
-    (FrameFault::OutOfMemory, 0, "out of memory"),
-    (FrameFault::Refused, 15, "a frame was refused by its writer"),
-];
-
-#[test]
-fn faults_of_frame_writers(rt: HostRuntime) {
-    for (fault, number, wanted) in &FRAME_FAULTS {
-        let text = fault
-            .to_string(rt.alloc())
-            .expect(&rt, "memory for the text");
-        assert_text(&rt, &text, wanted);
-        assert!(rt; fault.number() == *number, "{wanted}");
-    }
+    Ok(())
 }

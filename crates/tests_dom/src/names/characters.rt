@@ -3,99 +3,52 @@
 use html_names::charsets;
 
 /// The characters that are not shown by default: first and last of each range.
-static IGNORABLE: [(char, char); 17] = [
-    ('\u{00ad}', '\u{00ad}'),
-    ('\u{034f}', '\u{034f}'),
-    ('\u{061c}', '\u{061c}'),
-    ('\u{115f}', '\u{1160}'),
-    ('\u{17b4}', '\u{17b5}'),
-    ('\u{180b}', '\u{180f}'),
-    ('\u{200b}', '\u{200f}'),
-    ('\u{202a}', '\u{202e}'),
-    ('\u{2060}', '\u{206f}'),
-    ('\u{3164}', '\u{3164}'),
-    ('\u{fe00}', '\u{fe0f}'),
-    ('\u{feff}', '\u{feff}'),
-    ('\u{ffa0}', '\u{ffa0}'),
-    ('\u{fff0}', '\u{fff8}'),
-    ('\u{1bca0}', '\u{1bca3}'),
-    ('\u{1d173}', '\u{1d17a}'),
-    ('\u{e0000}', '\u{e0fff}'),
+static IGNORABLE: [u32; 34] = [
+    0xad, 0xad, 0x34f, 0x34f, 0x61c, 0x61c, 0x115f, 0x1160, 0x17b4, 0x17b5, 0x180b, 0x180f, 0x200b,
+    0x200f, 0x202a, 0x202e, 0x2060, 0x206f, 0x3164, 0x3164, 0xfe00, 0xfe0f, 0xfeff, 0xfeff, 0xffa0,
+    0xffa0, 0xfff0, 0xfff8, 0x1bca0, 0x1bca3, 0x1d173, 0x1d17a, 0xe0000, 0xe0fff,
 ];
 
-/// Whether one of the ranges has the character.
-fn is_listed(c: char) -> bool {
-    IGNORABLE
-        .iter()
-        .any(|(first, last)| *first <= c && c <= *last)
+/// Whether one of the ranges has the character of that code.
+fn is_listed(code: u32) -> bool {
+    let mut ranges = IGNORABLE.chunks_exact(2);
+    ranges.any(|range| matches!(range, [first, last] if *first <= code && code <= *last))
 }
 
 #[test]
 fn ignorable_characters(rt: HostRuntime) {
     for code in 0..0x11_0000u32 {
         if let Some(c) = char::from_u32(code) {
-            assert!(rt; charsets::is_default_ignorable(c) == is_listed(c), "{code}");
+            let is_ignorable = charsets::is_default_ignorable(c);
+            assert!(rt; is_ignorable == is_listed(code), "{code}");
         }
     }
 }
 
-/// Characters, and whether they may stand in a tag name, an attribute name, a text, a value and an
-/// ordinary element's text.
-static CHARACTERS: [(char, bool, bool, bool, bool, bool); 24] = [
-    ('a', true, true, true, true, true),
-    ('Z', true, true, true, true, true),
-    ('7', true, true, true, true, true),
-    ('-', true, true, true, true, true),
-    ('_', false, true, true, true, true),
-    ('\u{e9}', false, true, true, true, true),
-    ('\u{2029}', false, true, true, true, true),
-    (' ', false, false, true, true, true),
-    ('"', false, false, true, false, true),
-    ('\'', false, false, true, true, true),
-    ('>', false, false, true, true, true),
-    ('/', false, false, true, true, true),
-    ('=', false, false, true, true, true),
-    ('&', false, true, true, false, false),
-    ('<', false, true, true, true, false),
-    ('\0', false, false, false, false, false),
-    ('\t', false, false, true, true, true),
-    ('\n', false, false, true, true, true),
-    ('\u{c}', false, false, true, true, true),
-    ('\r', false, false, true, true, true),
-    ('\u{1f}', false, false, false, false, false),
-    ('\u{9f}', false, false, false, false, false),
-    ('\u{fdd0}', false, false, false, false, false),
-    ('\u{1ffff}', false, false, false, false, false),
+const CHARACTERS: &str = "aZ7-_\u{e9}\u{2029} \"'>/=&<\0\t\n\u{c}\r\u{1f}\u{9f}\u{fdd0}\u{1ffff}";
+
+/// Those of them that may stand in a tag name, in an attribute name, in a text, in an ordinary
+/// element's text, and in a value.
+static CLASSES: [&str; 5] = [
+    "aZ7-",
+    "aZ7-_\u{e9}\u{2029}&<",
+    "aZ7-_\u{e9}\u{2029} \"'>/=&<\t\n\u{c}\r",
+    "aZ7-_\u{e9}\u{2029} \"'>/=\t\n\u{c}\r",
+    "aZ7-_\u{e9}\u{2029} '>/=<\t\n\u{c}\r",
 ];
 
 #[test]
-fn characters_of_names(rt: HostRuntime) {
-    for (c, in_tag, in_attr, _, _, _) in &CHARACTERS {
-        assert!(rt; charsets::is_valid_in_tag_name(*c) == *in_tag, "{c:?}");
-        assert!(rt;
-            charsets::is_valid_in_attribute_name(*c) == *in_attr,
-            "{c:?}"
-        );
-    }
-}
-
-#[test]
-fn characters_of_texts(rt: HostRuntime) {
-    for (c, _, _, in_text, _, in_element) in &CHARACTERS {
-        assert!(rt; charsets::is_w3c_text_char(*c) == *in_text, "{c:?}");
-        assert!(rt;
-            charsets::is_valid_in_normal_element_text(*c) == *in_element,
-            "{c:?}"
-        );
-    }
-}
-
-#[test]
-fn characters_of_values(rt: HostRuntime) {
-    for (c, _, _, _, in_value, _) in &CHARACTERS {
-        assert!(rt;
-            charsets::is_valid_in_attribute_value(*c) == *in_value,
-            "{c:?}"
-        );
+fn classes_of_characters(rt: HostRuntime) {
+    for c in CHARACTERS.chars() {
+        let answers = [
+            charsets::is_valid_in_tag_name(c),
+            charsets::is_valid_in_attribute_name(c),
+            charsets::is_w3c_text_char(c),
+            charsets::is_valid_in_normal_element_text(c),
+            charsets::is_valid_in_attribute_value(c),
+        ];
+        for (class, answer) in CLASSES.iter().zip(answers.iter()) {
+            assert!(rt; *answer == class.contains(c), "{c:?} of {class:?}");
+        }
     }
 }

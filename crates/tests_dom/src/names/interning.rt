@@ -1,12 +1,10 @@
 //! Names made of texts, what they are shown as, and what is wrong with a text.
 
-use super::{assert_no_tag, tag_of};
-use crate::asserts::{assert_number, assert_text};
+use crate::asserts::{TestResult, Tester, assert_debug, assert_text};
 use html_names::{HtmlAttr, HtmlTag, NameFault, Refused, attr, tag};
 use std::alloc::Global;
 use std::collections::HashMap;
 use std::fmt::{Debug, Display};
-use std::process::Abort;
 
 /// Texts that are no tag names.
 const BAD_TAGS: [(&str, NameFault); 8] = [
@@ -20,51 +18,6 @@ const BAD_TAGS: [(&str, NameFault); 8] = [
     ("annotation-xml", NameFault::Reserved),
 ];
 
-#[test]
-fn refused_tags(rt: HostRuntime) {
-    for (text, wanted) in &BAD_TAGS {
-        assert_no_tag(&rt, rt.alloc(), text, wanted);
-    }
-}
-
-/// Asserts that the text is the name of a tag, which is equal to its copy.
-fn assert_tag(rt: &impl Abort, alloc: Global, text: &str) {
-    let tag = HtmlTag::intern(alloc, text).expect(rt, "a name");
-    assert_text(rt, tag.resolve(), text);
-    assert!(rt; tag == tag.try_clone().expect(rt, "memory for the copy"));
-}
-
-#[test]
-fn interned_tags(rt: HostRuntime) {
-    for text in ["1x", "p", "P", "my-el", "x"] {
-        assert_tag(&rt, rt.alloc(), text);
-    }
-}
-
-#[test]
-fn known_tags_are_constants(rt: HostRuntime) {
-    assert!(rt; tag_of(&rt, rt.alloc(), "wbr") == tag::wbr);
-}
-
-/// Asserts what a value is shown as for programmers.
-fn assert_debug<T: Debug>(rt: &impl Abort, alloc: Global, value: &T, wanted: &str) {
-    let shown = format!(in alloc; "{value:?}").expect(rt, "memory for the text");
-    assert_text(rt, &shown, wanted);
-}
-
-/// Asserts what a value is shown as, for users and for programmers.
-fn assert_shown<T: Display + Debug>(rt: &impl Abort, alloc: Global, value: &T, wanted: &str) {
-    let shown = value.to_string(alloc).expect(rt, "memory for the text");
-    assert_text(rt, &shown, wanted);
-    assert_debug(rt, alloc, value, wanted);
-}
-
-#[test]
-fn tags_shown(rt: HostRuntime) {
-    let own = HtmlTag::constant(rt.alloc(), "font-face").expect(&rt, "a name");
-    assert_shown(&rt, rt.alloc(), &own, "<font-face>");
-}
-
 /// Texts that are no attribute names.
 const BAD_ATTRS: [(&str, NameFault); 3] = [
     ("", NameFault::EmptyAttr),
@@ -72,107 +25,93 @@ const BAD_ATTRS: [(&str, NameFault); 3] = [
     ("a\u{fffe}=", NameFault::BadAttrChar('\u{fffe}')),
 ];
 
-/// Asserts that the text is no name of an attribute, for that reason.
-fn assert_no_attr(rt: &impl Abort, alloc: Global, text: &str, wanted: &NameFault) {
-    let fault = HtmlAttr::intern(alloc, text).err().expect(rt, "no name");
-    assert!(rt; fault == *wanted, "{text}");
-}
-
 #[test]
-fn refused_attributes(rt: HostRuntime) {
-    for (text, wanted) in &BAD_ATTRS {
-        assert_no_attr(&rt, rt.alloc(), text, wanted);
+fn refused_names(rt: HostRuntime) {
+    for (text, wanted) in BAD_TAGS {
+        assert!(rt; HtmlTag::intern(rt.alloc(), text) == Err(wanted), "{text}");
+    }
+    for (text, wanted) in BAD_ATTRS {
+        assert!(rt; HtmlAttr::intern(rt.alloc(), text) == Err(wanted), "{text}");
     }
 }
 
-/// Asserts that the text is the name of an attribute, which is shown as the text, and is equal to
-/// its copy.
-fn assert_attr(rt: &impl Abort, alloc: Global, text: &str) {
-    let attr = HtmlAttr::intern(alloc, text).expect(rt, "a name");
-    assert_text(rt, attr.resolve(), text);
-    assert_shown(rt, alloc, &attr, text);
-    assert!(rt; attr == attr.try_clone().expect(rt, "memory for the copy"));
+/// Asserts what a value is shown as, for users and for programmers.
+fn assert_shown<T: Display + Debug>(rt: &impl Tester, value: &T, wanted: &str) -> TestResult {
+    assert_text(rt, &value.to_string(rt.alloc())?, wanted);
+    assert_debug(rt, value, wanted)
 }
 
 #[test]
-fn interned_attributes(rt: HostRuntime) {
+fn interned_tags(rt: HostRuntime) -> TestResult {
+    for text in ["1x", "p", "P", "my-el", "x"] {
+        let tag = HtmlTag::intern(rt.alloc(), text)?;
+        assert_text(&rt, tag.resolve(), text);
+        assert!(rt; tag == tag.try_clone()?);
+    }
+    let own = HtmlTag::constant(rt.alloc(), "font-face")?;
+    assert_shown(&rt, &own, "<font-face>")?;
+    assert!(rt; HtmlTag::intern(rt.alloc(), "wbr")? == tag::wbr);
+    Ok(())
+}
+
+#[test]
+fn interned_attributes(rt: HostRuntime) -> TestResult {
     for text in ["class", "a<", "\u{e9}t\u{e9}", "Class"] {
-        assert_attr(&rt, rt.alloc(), text);
+        let attr = HtmlAttr::intern(rt.alloc(), text)?;
+        assert_text(&rt, attr.resolve(), text);
+        assert_shown(&rt, &attr, text)?;
+        assert!(rt; attr == attr.try_clone()?);
     }
-}
-
-#[test]
-fn known_attributes_are_constants(rt: HostRuntime) {
-    let class = HtmlAttr::constant(rt.alloc(), "class").expect(&rt, "a name");
-    assert!(rt; attr::class == class);
+    assert!(rt; HtmlAttr::constant(rt.alloc(), "class")? == attr::class);
     assert!(rt; attr::mathml::width == attr::width);
+    Ok(())
 }
 
 #[test]
-fn tags_are_keys(rt: HostRuntime) {
-    let mut tags = HashMap::new(rt.alloc());
-    assert!(rt; tags.insert(tag::p, 1u8).is_ok());
-    assert!(rt; tags.get(&tag_of(&rt, rt.alloc(), "p")) == Some(&1u8));
-    assert!(rt; tags.get(&tag_of(&rt, rt.alloc(), "P")).is_none());
-}
-
-#[test]
-fn attributes_are_keys(rt: HostRuntime) {
-    let mut attrs = HashMap::new(rt.alloc());
-    let id = HtmlAttr::intern(rt.alloc(), "id").expect(&rt, "a name");
-    assert!(rt; attrs.insert(id, 2u8).is_ok());
+fn names_are_keys(rt: HostRuntime) -> TestResult {
+    let (mut tags, mut attrs) = (HashMap::new(rt.alloc()), HashMap::new(rt.alloc()));
+    tags.insert(tag::p, 1u8)?;
+    assert!(rt; tags.get(&HtmlTag::intern(rt.alloc(), "p")?) == Some(&1u8));
+    assert!(rt; tags.get(&HtmlTag::intern(rt.alloc(), "P")?).is_none());
+    attrs.insert(HtmlAttr::intern(rt.alloc(), "id")?, 2u8)?;
     assert!(rt; attrs.get(&attr::id) == Some(&2u8));
+    Ok(())
 }
 
-/// Each fault and its text, in the order of their numbers.
-const FAULTS: [(NameFault, &str); 8] = [
-    (NameFault::OutOfMemory, "out of memory"),
-    (NameFault::EmptyTag, "tag name must not be empty"),
-    (
-        NameFault::BadTagChar('_'),
-        "a character is not valid in a tag name",
-    ),
-    (
-        NameFault::CustomStart,
-        "custom element name must start with a lowercase letter",
-    ),
-    (
-        NameFault::CustomCapital,
-        "custom element name must not contain uppercase letters",
-    ),
-    (
-        NameFault::Reserved,
-        "name is reserved and not valid for a custom element",
-    ),
-    (NameFault::EmptyAttr, "attribute name must not be empty"),
-    (
-        NameFault::BadAttrChar(' '),
-        "a character is not valid in an attribute name",
-    ),
+/// Each fault.
+const FAULTS: [NameFault; 8] = [
+    NameFault::OutOfMemory,
+    NameFault::EmptyTag,
+    NameFault::BadTagChar('_'),
+    NameFault::CustomStart,
+    NameFault::CustomCapital,
+    NameFault::Reserved,
+    NameFault::EmptyAttr,
+    NameFault::BadAttrChar(' '),
 ];
 
-/// Asserts that the fault has that number and that text.
-fn assert_fault(rt: &impl Abort, alloc: Global, fault: &NameFault, number: usize, wanted: &str) {
-    assert_number(rt, usize::from(fault.number()), number);
-    let text = fault.to_string(alloc).expect(rt, "memory for the text");
-    assert_text(rt, &text, wanted);
-}
+/// Their numbers and texts.
+const TEXTS: &str = "\
+    0: out of memory\n\
+    1: tag name must not be empty\n\
+    2: a character is not valid in a tag name\n\
+    3: custom element name must start with a lowercase letter\n\
+    4: custom element name must not contain uppercase letters\n\
+    5: name is reserved and not valid for a custom element\n\
+    6: attribute name must not be empty\n\
+    7: a character is not valid in an attribute name\n";
 
 #[test]
-fn numbers_and_texts_of_faults(rt: HostRuntime) {
-    for (number, (fault, text)) in FAULTS.iter().enumerate() {
-        assert_fault(&rt, rt.alloc(), fault, number, text);
+fn numbers_and_texts_of_faults(rt: HostRuntime) -> TestResult {
+    let mut shown = String::new(rt.alloc());
+    for fault in &FAULTS {
+        write!(shown, "{}: {fault}\n", fault.number())?;
     }
-}
-
-#[test]
-fn refused_calls_have_a_number_and_a_text(rt: HostRuntime) {
-    let answer = Refused { back: 7u8 };
-    assert!(rt; answer.number() == 0);
-    let text = answer
-        .to_string(rt.alloc())
-        .expect(&rt, "memory for the text");
-    assert_text(&rt, &text, "out of memory");
+    assert_text(&rt, &shown, TEXTS);
+    let refused = Refused { back: 7u8 };
+    assert!(rt; refused.number() == 0);
+    assert_text(&rt, &refused.to_string(rt.alloc())?, "out of memory");
+    Ok(())
 }
 
 /// The name of the text, or the number 7 that comes back.
@@ -185,6 +124,6 @@ fn refused(alloc: Global, text: &str) -> Result<HtmlTag, NameFault> {
 
 #[test]
 fn refused_calls_are_faults_of_names(rt: HostRuntime) {
-    assert!(rt; refused(rt.alloc(), "").err() == Some(NameFault::OutOfMemory));
-    assert!(rt; refused(rt.alloc(), "p").ok() == Some(tag::p));
+    assert!(rt; refused(rt.alloc(), "") == Err(NameFault::OutOfMemory));
+    assert!(rt; refused(rt.alloc(), "p") == Ok(tag::p));
 }

@@ -1,86 +1,48 @@
 //! Numbers of names: known and own ones, and what is asked by number.
 
-use super::tag_of;
-use crate::asserts::{assert_number, assert_text};
+use crate::asserts::{TestResult, Tester, assert_number, assert_text};
 use html_names::property::Display;
-use html_names::{HtmlAttr, HtmlTag, NameTable, attr, tag};
-use std::alloc::Global;
-use std::process::Abort;
+use html_names::{HtmlAttr, HtmlTag, NameTable};
 
-/// Tags in the order in which they are given, each with its number.
-static TAGS: [(&str, usize); 9] = [
-    ("p", 0),
-    ("my-el", 1),
-    ("p", 0),
-    ("wbr", 2),
-    ("a", 3),
-    ("my-el", 1),
-    ("my-em", 4),
-    ("P", 5),
-    ("wbr", 2),
-];
-
-/// Attributes in the order in which they are given, each with its number.
-static ATTRS: [(&str, usize); 7] = [
-    ("wrap", 0),
-    ("p", 1),
-    ("class", 2),
-    ("data-x", 3),
-    ("p", 1),
-    ("data-y", 4),
-    ("wrap", 0),
-];
-
-/// Asserts that the table gives the tag that number, and the tag back for it.
-fn assert_tag(rt: &impl Abort, names: &mut NameTable, tag: &HtmlTag, number: usize) {
-    let given = names.tag(tag).expect(rt, "memory for a tag");
-    assert_number(rt, given, number);
+/// Asserts that the table gives the tag of that text that number, and the tag back for it.
+fn assert_tag(rt: &impl Tester, names: &mut NameTable, text: &str, number: usize) -> TestResult {
+    let tag = HtmlTag::intern(rt.alloc(), text)?;
+    assert_number(rt, names.tag(&tag)?, number);
     assert!(rt; number < names.tags());
-    assert_text(rt, names.tag_at(number).resolve(), tag.resolve());
+    assert_text(rt, names.tag_at(number).resolve(), text);
+    Ok(())
 }
 
-/// Asserts that the table gives the tag of that text that number.
-fn assert_tag_text(rt: &impl Abort, alloc: Global, names: &mut NameTable, row: &(&str, usize)) {
-    assert_tag(rt, names, &tag_of(rt, alloc, row.0), row.1);
-}
-
-/// Asserts how many tags and attributes the table has.
-fn assert_counts(rt: &impl Abort, names: &NameTable, tags: usize, attrs: usize) {
-    assert_number(rt, names.tags(), tags);
-    assert_number(rt, names.attrs(), attrs);
-}
-
-#[test]
-fn numbered_tags(rt: HostRuntime) {
-    let mut names = NameTable::new(rt.alloc());
-    for row in &TAGS {
-        assert_tag_text(&rt, rt.alloc(), &mut names, row);
-    }
-    assert_counts(&rt, &names, 6, 0);
-}
-
-/// Asserts that the table gives the attribute that number, and the attribute back for it.
-fn assert_attr(rt: &impl Abort, names: &mut NameTable, attr: &HtmlAttr, number: usize) {
-    let given = names.attr(attr).expect(rt, "memory for an attribute");
-    assert_number(rt, given, number);
+/// Asserts the same of an attribute.
+fn assert_attr(rt: &impl Tester, names: &mut NameTable, text: &str, number: usize) -> TestResult {
+    let attr = HtmlAttr::intern(rt.alloc(), text)?;
+    assert_number(rt, names.attr(&attr)?, number);
     assert!(rt; number < names.attrs());
-    assert_text(rt, names.attr_at(number).resolve(), attr.resolve());
+    assert_text(rt, names.attr_at(number).resolve(), text);
+    Ok(())
 }
 
-/// Asserts that the table gives the attribute of that text that number.
-fn assert_attr_text(rt: &impl Abort, alloc: Global, names: &mut NameTable, row: &(&str, usize)) {
-    let attr = HtmlAttr::intern(alloc, row.0).expect(rt, "a name");
-    assert_attr(rt, names, &attr, row.1);
-}
+/// Tags in the order in which they are given, and their numbers.
+static TAGS: (&str, [usize; 9]) = (
+    "p my-el p wbr a my-el my-em P wbr",
+    [0, 1, 0, 2, 3, 1, 4, 5, 2],
+);
+
+/// Attributes in that order, and their numbers.
+static ATTRS: (&str, [usize; 7]) = ("wrap p class data-x p data-y wrap", [0, 1, 2, 3, 1, 4, 0]);
 
 #[test]
-fn numbered_attributes(rt: HostRuntime) {
+fn numbered_names(rt: HostRuntime) -> TestResult {
     let mut names = NameTable::new(rt.alloc());
-    assert_tag(&rt, &mut names, &tag::p, 0);
-    for row in &ATTRS {
-        assert_attr_text(&rt, rt.alloc(), &mut names, row);
+    for (text, number) in TAGS.0.split_whitespace().zip(TAGS.1.iter()) {
+        assert_tag(&rt, &mut names, text, *number)?;
     }
-    assert_counts(&rt, &names, 1, 5);
+    for (text, number) in ATTRS.0.split_whitespace().zip(ATTRS.1.iter()) {
+        assert_attr(&rt, &mut names, text, *number)?;
+    }
+    assert_number(&rt, names.tags(), 6);
+    assert_number(&rt, names.attrs(), 5);
+    Ok(())
 }
 
 /// Tags, and whether each is void, raw, escapable raw and foreign self-closing, and its display.
@@ -93,41 +55,20 @@ static KINDS: [(&str, [bool; 4], Option<Display>); 6] = [
     ("my-el", [false, false, false, false], None),
 ];
 
-/// The four kinds of the tag of that number.
-fn kinds_of(rt: &impl Abort, names: &NameTable, number: usize) -> [bool; 4] {
-    assert!(rt; number < names.tags());
-    [
-        names.is_void(number),
-        names.is_raw(number),
-        names.is_escapable_raw(number),
-        names.is_foreign_self_closing(number),
-    ]
-}
-
-/// Asserts that the tag of that number has that display.
-fn assert_display(rt: &impl Abort, names: &NameTable, number: usize, wanted: Option<Display>) {
-    assert!(rt; number < names.tags());
-    assert!(rt; names.default_for(number) == wanted);
-}
-
 #[test]
-fn kinds_by_number(rt: HostRuntime) {
+fn kinds_by_number(rt: HostRuntime) -> TestResult {
     let mut names = NameTable::new(rt.alloc());
     for (number, (text, kinds, display)) in KINDS.iter().enumerate() {
-        assert_tag(&rt, &mut names, &tag_of(&rt, rt.alloc(), text), number);
-        assert!(rt; kinds_of(&rt, &names, number) == *kinds, "{text}");
-        assert_display(&rt, &names, number, *display);
+        assert_tag(&rt, &mut names, text, number)?;
+        assert!(rt; number < names.tags());
+        let answers = [
+            names.is_void(number),
+            names.is_raw(number),
+            names.is_escapable_raw(number),
+            names.is_foreign_self_closing(number),
+        ];
+        assert!(rt; answers == *kinds, "{text}");
+        assert!(rt; names.default_for(number) == *display, "{text}");
     }
-}
-
-/// The example of the type.
-#[test]
-fn example_of_name_table(rt: HostRuntime) {
-    let mut names = NameTable::new(rt.alloc());
-    assert_tag(&rt, &mut names, &tag::br, 0);
-    assert_tag(&rt, &mut names, &tag_of(&rt, rt.alloc(), "my-el"), 1);
-    assert_tag(&rt, &mut names, &tag::br, 0);
-    assert_attr(&rt, &mut names, &attr::class, 0);
-    assert!(rt; names.tags() == 2);
-    assert!(rt; names.is_void(0));
+    Ok(())
 }

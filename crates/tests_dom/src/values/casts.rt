@@ -1,80 +1,68 @@
-//! Casts to presence, listed texts and unions.
+//! Casts to presence, listed texts, unions and lists.
 
-use super::{Sample, assert_castable, assert_casts, strings};
-use crate::asserts::assert_text;
-use html_values::{AttrType, CastFault, NativeType};
+use super::Sample::{Bool, Int, Text};
+use super::{Sample, array_of, assert_array_casts, assert_casts, value_of};
+use crate::asserts::{TestResult, assert_text};
+use html_values::{AttrType, CastFault, ListType, NativeType};
 use std::alloc::{AllocError, Global};
-use std::process::Abort;
 
-/// Values, and what a cast to presence answers.
-static PRESENCES: [(Sample, &str); 3] = [
-    (Sample::Bool(true), "''"),
-    (Sample::Bool(false), "nothing"),
+/// The type of one of those texts.
+fn strings(alloc: Global, texts: &[&str]) -> Result<AttrType, AllocError> {
+    let mut allowed = Vec::new(alloc);
+    for text in texts {
+        allowed.push(String::from_str(alloc, text)?)?;
+    }
+    Ok(AttrType::Strings(allowed))
+}
+
+/// Values, and what a cast to presence returns.
+static PRESENCES: [(Sample, &str); 4] = [
+    (Bool(true), "''"),
+    (Bool(false), "nothing"),
+    (Int(7), "16"),
     (Sample::None, "16"),
 ];
 
-#[test]
-fn presence(rt: HostRuntime) {
-    assert_casts(&rt, rt.alloc(), &AttrType::Presence, &PRESENCES);
-}
-
-/// Values, and what a cast to `auto` or `none` answers.
+/// Values, and what a cast to `auto` or `none` returns.
 static AUTO_OR_NONE: [(Sample, &str); 3] = [
-    (Sample::Text("none"), "'none'"),
-    (Sample::Text("no"), "17"),
+    (Text("none"), "'none'"),
+    (Text("no"), "17"),
     (Sample::None, "16"),
 ];
 
-/// Values, and whether they may be cast to `auto` or `none`.
-static MAY_BE_AUTO_OR_NONE: [(Sample, bool); 2] = [
-    (Sample::Text("auto"), true),
-    (Sample::Text("x"), false),
-];
-
 #[test]
-fn listed_texts(rt: HostRuntime) {
-    let alloc = rt.alloc();
-    let allowed = strings(alloc, &["auto", "none"]).expect(&rt, "memory for the type");
-    assert_casts(&rt, alloc, &allowed, &AUTO_OR_NONE);
-    assert_castable(&rt, alloc, &allowed, &MAY_BE_AUTO_OR_NONE);
+fn presence_and_listed_texts(rt: HostRuntime) -> TestResult {
+    assert_casts(&rt, &AttrType::Presence, &PRESENCES)?;
+    let allowed = strings(rt.alloc(), &["auto", "none"])?;
+    assert_casts(&rt, &allowed, &AUTO_OR_NONE)?;
+    assert!(rt; allowed.castable(&value_of(rt.alloc(), Text("auto"))?));
+    assert!(rt; !allowed.castable(&value_of(rt.alloc(), Text("x"))?));
+    Ok(())
 }
 
-/// A whole number, or the text `auto`.
-fn number_or_auto(alloc: Global) -> Result<AttrType, AllocError> {
-    let mut members = Vec::new(alloc);
-    members.push(AttrType::Native(NativeType::Int))?;
-    members.push(strings(alloc, &["auto"])?)?;
-    Ok(AttrType::Union(members))
-}
-
-/// Values, and what a cast to a whole number or `auto` answers.
+/// Values, and what a cast to a whole number or `auto` returns.
 static NUMBER_OR_AUTO: [(Sample, &str); 3] = [
-    (Sample::Text("auto"), "'auto'"),
-    (Sample::Text("x"), "16"),
-    (Sample::Int(3), "'3'"),
+    (Text("auto"), "'auto'"),
+    (Text("x"), "16"),
+    (Int(3), "'3'"),
 ];
 
+/// Unions refuse by their first type.
 #[test]
-fn unions(rt: HostRuntime) {
-    let union = number_or_auto(rt.alloc()).expect(&rt, "memory for the type");
-    assert_casts(&rt, rt.alloc(), &union, &NUMBER_OR_AUTO);
+fn unions(rt: HostRuntime) -> TestResult {
+    let auto = strings(rt.alloc(), &["auto"])?;
+    let types = vec![in rt.alloc(); AttrType::Native(NativeType::Int), auto]?;
+    let union = AttrType::Union(types);
+    assert_casts(&rt, &union, &NUMBER_OR_AUTO)?;
     assert!(rt; !union.has_presence());
-}
-
-/// One character, a text, or presence.
-fn character_text_or_presence(alloc: Global) -> Result<AttrType, AllocError> {
-    let mut members = Vec::new(alloc);
-    members.push(AttrType::Native(NativeType::Char))?;
-    members.push(AttrType::Native(NativeType::Str))?;
-    members.push(AttrType::Presence)?;
-    Ok(AttrType::Union(members))
-}
-
-#[test]
-fn unions_refuse_by_their_first_type(rt: HostRuntime) {
-    let union = character_text_or_presence(rt.alloc()).expect(&rt, "memory for the type");
-    assert_casts(&rt, rt.alloc(), &union, &[(Sample::Text("ab"), "19")]);
+    let (character, text) = (
+        AttrType::Native(NativeType::Char),
+        AttrType::Native(NativeType::Str),
+    );
+    let union = AttrType::Union(vec![in rt.alloc(); character, text, AttrType::Presence]?);
+    assert_casts(&rt, &union, &[(Text("ab"), "19")])?;
     assert!(rt; union.has_presence());
+    Ok(())
 }
 
 #[test]
@@ -83,41 +71,73 @@ fn types_with_presence(rt: HostRuntime) {
     assert!(rt; !AttrType::Native(NativeType::TrueFalse).has_presence());
 }
 
-/// Each fault with its number and its text.
-static FAULTS: [(CastFault, u8, &str); 9] = [
-    (CastFault::OutOfMemory, 0, "out of memory"),
-    (CastFault::WrongKind, 16, "the value has the wrong kind"),
-    (
-        CastFault::NotInStrings,
-        17,
-        "the text is not one of the allowed ones",
-    ),
-    (CastFault::NumberRange, 18, "the number is out of range"),
-    (CastFault::NotOneChar, 19, "expected exactly one character"),
-    (CastFault::VerticalDir, 20, "direction must be horizontal"),
-    (
-        CastFault::BadImageSource,
-        21,
-        "src must not be empty or start or end with a comma",
-    ),
-    (
-        CastFault::SeparatorInItem,
-        22,
-        "array item may not contain the separator",
-    ),
-    (CastFault::YearRange, 23, "the year is out of range"),
-];
-
-/// Asserts that the fault has that number and that text.
-fn assert_fault(rt: &impl Abort, alloc: Global, fault: CastFault, number: u8, wanted: &str) {
-    assert!(rt; fault.number() == number);
-    let text = fault.to_string(alloc).expect(rt, "memory for the text");
-    assert_text(rt, &text, wanted);
+/// The type of several texts with that separator.
+fn texts_by(alloc: Global, separator: char, shorthand: bool) -> Result<AttrType, AllocError> {
+    let inner = AttrType::Native(NativeType::Str);
+    Ok(AttrType::List(ListType::new(alloc, inner, separator, shorthand)?))
 }
 
+/// Arrays, and what a cast to texts between commas returns.
+static BY_COMMAS: [(&[Sample], &str); 2] = [(&[Text("a"), Text("b")], "'a, b'"), (&[], "''")];
+
+/// Arrays may be cast whatever their items.
 #[test]
-fn numbers_and_texts_of_faults(rt: HostRuntime) {
-    for (fault, number, text) in &FAULTS {
-        assert_fault(&rt, rt.alloc(), *fault, *number, text);
+fn separated_by_commas(rt: HostRuntime) -> TestResult {
+    let commas = texts_by(rt.alloc(), ',', false)?;
+    assert_array_casts(&rt, &commas, &BY_COMMAS)?;
+    assert_casts(&rt, &commas, &[(Text("a"), "16")])?;
+    assert!(rt; commas.castable(&array_of(rt.alloc(), &[Int(1), Text("a b")])?));
+    assert!(rt; !commas.castable(&value_of(rt.alloc(), Int(1))?));
+    Ok(())
+}
+
+/// Arrays, and what a cast to texts between spaces returns: items with a space are refused, and the
+/// first wrong item decides.
+static BY_SPACES: [(&[Sample], &str); 3] = [
+    (&[Text("a"), Text("b")], "'a b'"),
+    (&[Text("a b")], "22"),
+    (&[Int(1), Text("a b")], "16"),
+];
+
+/// A text stands for an array of itself.
+#[test]
+fn separated_by_spaces(rt: HostRuntime) -> TestResult {
+    let spaces = texts_by(rt.alloc(), ' ', true)?;
+    assert_array_casts(&rt, &spaces, &BY_SPACES)?;
+    assert_casts(&rt, &spaces, &[(Text("a b"), "'a b'"), (Int(1), "16")])
+}
+
+/// Each fault.
+const FAULTS: [CastFault; 9] = [
+    CastFault::OutOfMemory,
+    CastFault::WrongKind,
+    CastFault::NotInStrings,
+    CastFault::NumberRange,
+    CastFault::NotOneChar,
+    CastFault::VerticalDir,
+    CastFault::BadImageSource,
+    CastFault::SeparatorInItem,
+    CastFault::YearRange,
+];
+
+/// Their numbers and texts.
+const TEXTS: &str = "\
+    0: out of memory\n\
+    16: the value has the wrong kind\n\
+    17: the text is not one of the allowed ones\n\
+    18: the number is out of range\n\
+    19: expected exactly one character\n\
+    20: direction must be horizontal\n\
+    21: src must not be empty or start or end with a comma\n\
+    22: array item may not contain the separator\n\
+    23: the year is out of range\n";
+
+#[test]
+fn numbers_and_texts_of_faults(rt: HostRuntime) -> TestResult {
+    let mut shown = String::new(rt.alloc());
+    for fault in &FAULTS {
+        write!(shown, "{}: {fault}\n", fault.number())?;
     }
+    assert_text(&rt, &shown, TEXTS);
+    Ok(())
 }

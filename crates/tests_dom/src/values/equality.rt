@@ -1,6 +1,6 @@
 //! What `==` tells apart.
 
-use crate::asserts::text_of;
+use crate::asserts::TestResult;
 use html_values::civil::{date, time};
 use html_values::laws::{
     equal_cast_faults, equal_durations, equal_horizontal_dirs, equal_icon_sizes,
@@ -10,6 +10,7 @@ use html_values::{
     CastFault, Duration, HorizontalDir, IconSize, ImageCandidate, Moment, NativeType, Str,
     YesNoBool,
 };
+use std::alloc::{AllocError, Global};
 use std::num::NonZeroU64;
 
 #[test]
@@ -22,53 +23,37 @@ fn faults_and_types(rt: HostRuntime) {
 
 #[test]
 fn moments_and_durations(rt: HostRuntime) {
-    let same = equal_moments(
-        Moment::Date(date(2024, 2, 9)),
-        Moment::Date(date(2024, 2, 9)),
-    );
-    assert!(rt; same);
-    let later = equal_moments(
-        Moment::Date(date(2024, 2, 9)),
-        Moment::Date(date(2024, 2, 10)),
-    );
-    assert!(rt; !later);
-    let mixed = equal_moments(
-        Moment::Date(date(2024, 2, 9)),
-        Moment::Time(time(8, 5, 0, 0)),
-    );
-    assert!(rt; !mixed);
+    let day = Moment::Date(date(2024, 2, 9));
+    assert!(rt; equal_moments(day, Moment::Date(date(2024, 2, 9))));
+    assert!(rt; !equal_moments(day, Moment::Date(date(2024, 2, 10))));
+    assert!(rt; !equal_moments(day, Moment::Time(time(8, 5, 0, 0))));
     assert!(rt; !equal_durations(Duration(1), Duration(2)));
+}
+
+/// An icon of that size.
+fn icon(width: u64, height: u64) -> IconSize {
+    IconSize { width, height }
 }
 
 #[test]
 fn small_values(rt: HostRuntime) {
     assert!(rt; !equal_yes_no(YesNoBool(true), YesNoBool(false)));
     assert!(rt; !equal_horizontal_dirs(HorizontalDir::LTR, HorizontalDir::RTL));
-    let wide = IconSize {
-        width: 2,
-        height: 1,
-    };
-    let high = IconSize {
-        width: 1,
-        height: 2,
-    };
-    assert!(rt; equal_icon_sizes(wide, wide));
-    assert!(rt; !equal_icon_sizes(wide, high));
+    assert!(rt; equal_icon_sizes(icon(2, 1), icon(2, 1)));
+    assert!(rt; !equal_icon_sizes(icon(2, 1), icon(1, 2)));
+}
+
+/// An image of that width, or of none where it is 0.
+fn image(alloc: Global, width: u64) -> Result<ImageCandidate, AllocError> {
+    let (src, width) = (String::from_str(alloc, "a")?, NonZeroU64::new(width));
+    Ok(ImageCandidate { src, width })
 }
 
 #[test]
-fn texts_and_images(rt: HostRuntime) {
-    let a = Str(text_of(&rt, rt.alloc(), "a"));
-    let b = Str(text_of(&rt, rt.alloc(), "b"));
-    assert!(rt; !equal_strs(&a, &b));
-    let image = ImageCandidate {
-        src: a.0,
-        width: None,
-    };
-    let wide = ImageCandidate {
-        src: text_of(&rt, rt.alloc(), "a"),
-        width: NonZeroU64::new(1),
-    };
-    assert!(rt; equal_image_candidates(&image, &image));
-    assert!(rt; !equal_image_candidates(&image, &wide));
+fn texts_and_images(rt: HostRuntime) -> TestResult {
+    let (a, b) = (image(rt.alloc(), 0)?, String::from_str(rt.alloc(), "b")?);
+    assert!(rt; equal_image_candidates(&a, &a));
+    assert!(rt; !equal_image_candidates(&a, &image(rt.alloc(), 1)?));
+    assert!(rt; !equal_strs(&Str(a.src), &Str(b)));
+    Ok(())
 }
