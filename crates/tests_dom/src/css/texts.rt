@@ -84,10 +84,11 @@ fn lengths_are_sums(rt: HostRuntime) -> TestResult {
 fn a_ratio_and_a_length(rt: HostRuntime) -> TestResult {
     let rel = Ratio::from_millionths(500_000);
     let abs = length(0, -2_000_000).expect(&rt, "numbers in range");
-    assert_css(&rt, &Rel { rel, abs }, "calc(50% - 2pt)")?;
+    let sum = Rel { rel, abs };
+    assert_css(&rt, &sum, "calc(50% - 2pt)")?;
     let mut out = CssWriter::new(rt.alloc(), ());
     out.write("0 ")?;
-    out.emit(&Rel { rel, abs })?;
+    out.emit(&sum)?;
     assert_text(&rt, out.text(), "0 calc(50% - 2pt)");
     assert!(rt; !out.failed());
     Ok(())

@@ -23,10 +23,12 @@ fn faults_and_types(rt: HostRuntime) {
 
 #[test]
 fn moments_and_durations(rt: HostRuntime) {
-    let day = Moment::Date(date(2024, 2, 9));
-    assert!(rt; equal_moments(day, Moment::Date(date(2024, 2, 9))));
-    assert!(rt; !equal_moments(day, Moment::Date(date(2024, 2, 10))));
-    assert!(rt; !equal_moments(day, Moment::Time(time(8, 5, 0, 0))));
+    let (day, same) = (date(2024, 2, 9), date(2024, 2, 9));
+    assert!(rt; equal_moments(Moment::Date(day), Moment::Date(same)));
+    let (day, next) = (date(2024, 2, 9), date(2024, 2, 10));
+    assert!(rt; !equal_moments(Moment::Date(day), Moment::Date(next)));
+    let (day, at_eight) = (date(2024, 2, 9), time(8, 5, 0, 0));
+    assert!(rt; !equal_moments(Moment::Date(day), Moment::Time(at_eight)));
     assert!(rt; !equal_durations(Duration(1), Duration(2)));
 }
 
