@@ -9,7 +9,6 @@ use crate::attr::*;
 
 /// The texts of HTML's attributes from `abbr` to `aria-owns`.
 #[rattlefmt::skip]
-#[tactic(auto, unfolding(crate::specs::Tables::known_attrs))]
 pub fn html_1() -> [HtmlAttr; 38]
     ensures { result ≡ listed_names (codes "abbr accept accept-charset accesskey action allow")
         ++ listed_names (codes "allowfullscreen alpha alt aria-activedescendant aria-atomic")
@@ -33,7 +32,6 @@ pub fn html_1() -> [HtmlAttr; 38]
 
 /// The texts of HTML's attributes from `aria-placeholder` to `contenteditable`.
 #[rattlefmt::skip]
-#[tactic(auto, unfolding(crate::specs::Tables::known_attrs))]
 pub fn html_2() -> [HtmlAttr; 38]
     ensures { result ≡ listed_names (codes "aria-placeholder aria-posinset aria-pressed")
         ++ listed_names (codes "aria-readonly aria-relevant aria-required aria-roledescription")
@@ -56,7 +54,6 @@ pub fn html_2() -> [HtmlAttr; 38]
 
 /// The texts of HTML's attributes from `controls` to `ismap`.
 #[rattlefmt::skip]
-#[tactic(auto, unfolding(crate::specs::Tables::known_attrs))]
 pub fn html_3() -> [HtmlAttr; 38]
     ensures { result ≡ listed_names (codes "controls coords crossorigin data datetime decoding")
         ++ listed_names (codes "default defer dir dirname disabled download draggable enctype")
@@ -75,7 +72,6 @@ pub fn html_3() -> [HtmlAttr; 38]
 
 /// The texts of HTML's attributes from `itemid` to `rel`.
 #[rattlefmt::skip]
-#[tactic(auto, unfolding(crate::specs::Tables::known_attrs))]
 pub fn html_4() -> [HtmlAttr; 38]
     ensures { result ≡ listed_names (codes "itemid itemprop itemref itemscope itemtype kind")
         ++ listed_names (codes "label lang list loading loop low max maxlength media method min")
@@ -94,7 +90,6 @@ pub fn html_4() -> [HtmlAttr; 38]
 
 /// The texts of HTML's attributes from `required` to `writingsuggestions`.
 #[rattlefmt::skip]
-#[tactic(auto, unfolding(crate::specs::Tables::known_attrs))]
 pub fn html_5() -> [HtmlAttr; 36]
     ensures { result ≡ listed_names (codes "required reversed role rows rowspan sandbox scope")
         ++ listed_names (codes "selected shadowrootclonable shadowrootcustomelementregistry")
@@ -114,7 +109,6 @@ pub fn html_5() -> [HtmlAttr; 36]
 
 /// The texts of MathML's attributes from `display` to `rowspan`.
 #[rattlefmt::skip]
-#[tactic(auto, unfolding(crate::specs::Tables::known_attrs))]
 pub fn mathml_1() -> [HtmlAttr; 22]
     ensures { result ≡ listed_names (codes "display displaystyle scriptlevel linethickness")
         ++ listed_names (codes "mathvariant form fence separator lspace rspace stretchy")

@@ -9,7 +9,6 @@ use crate::tag::*;
 
 /// The texts of HTML's tags from `a` to `form`.
 #[rattlefmt::skip]
-#[tactic(auto, unfolding(crate::specs::Tables::known_tags))]
 pub fn html_1() -> [HtmlTag; 38]
     ensures { result ≡ listed_names (codes "a abbr address area article aside audio b base bdi")
         ++ listed_names (codes "bdo blockquote body br button canvas caption cite code col")
@@ -25,7 +24,6 @@ pub fn html_1() -> [HtmlTag; 38]
 
 /// The texts of HTML's tags from `h1` to `progress`.
 #[rattlefmt::skip]
-#[tactic(auto, unfolding(crate::specs::Tables::known_tags))]
 pub fn html_2() -> [HtmlTag; 38]
     ensures { result ≡ listed_names (codes "h1 h2 h3 h4 h5 h6 head header hgroup hr html i")
         ++ listed_names (codes "iframe img input ins kbd label legend li link main map mark menu")
@@ -41,7 +39,6 @@ pub fn html_2() -> [HtmlTag; 38]
 
 /// The texts of HTML's tags from `q` to `wbr`.
 #[rattlefmt::skip]
-#[tactic(auto, unfolding(crate::specs::Tables::known_tags))]
 pub fn html_3() -> [HtmlTag; 36]
     ensures { result ≡ listed_names (codes "q rp rt ruby s samp script search section select")
         ++ listed_names (codes "slot small source span strong style sub summary sup table tbody")
@@ -57,7 +54,6 @@ pub fn html_3() -> [HtmlTag; 36]
 
 /// The texts of MathML's tags from `annotation` to `semantics`.
 #[rattlefmt::skip]
-#[tactic(auto, unfolding(crate::specs::Tables::known_tags))]
 pub fn mathml_1() -> [HtmlTag; 30]
     ensures { result ≡ listed_names (codes "annotation annotation-xml maction math merror mfrac")
         ++ listed_names (codes "mi mmultiscripts mn mo mover mpadded mphantom mprescripts mroot")
