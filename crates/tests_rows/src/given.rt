@@ -39,54 +39,77 @@ fn list_of(value: &Value) -> Result<&[Value]> {
     Ok(value.as_array().context("a list is wanted")?.as_slice())
 }
 
+/// The items of a list, or none where the body is absent.
 #[cycle(items)]
 fn body_of(alloc: Global, value: &Value, number: &mut u64) -> Result<Option<Vec<Pair>>> {
-    let Value::Array(values) = value else {
-        return Ok(None);
-    };
+    match value {
+        Value::Array(values) => Ok(Some(pairs_of(alloc, values, number)?)),
+        _ => Ok(None),
+    }
+}
+
+#[cycle(items)]
+fn pairs_of(alloc: Global, values: &[Value], number: &mut u64) -> Result<Vec<Pair>> {
     let mut pairs = Vec::new(alloc);
     for value in values {
         pairs.push(pair_of(alloc, value, number)?)?;
     }
-    Ok(Some(pairs))
+    Ok(pairs)
 }
 
 #[cycle(items)]
 fn pair_of(alloc: Global, value: &Value, number: &mut u64) -> Result<Pair> {
-    let (role, value) = match list_of(value)? {
-        [kind, role, inner] if kind.as_str() == Some("role") => {
-            (Role::Set(string_of(alloc, role)?), inner)
-        }
-        [kind, inner] if kind.as_str() == Some("norole") => (Role::Unset, inner),
-        _ => (Role::Inherit, value),
+    let Value::Array(fields) = value else {
+        bail!("an item is wanted");
     };
-    let item = item_of(alloc, value, number)?;
-    Ok(Pair { item, role })
+    match fields.as_slice() {
+        [kind, role, inner] if kind.as_str() == Some("role") => {
+            let item = item_of(alloc, inner, number)?;
+            let role = Role::Set(string_of(alloc, role)?);
+            Ok(Pair { item, role })
+        }
+        [kind, inner] if kind.as_str() == Some("norole") => {
+            let item = item_of(alloc, inner, number)?;
+            Ok(Pair {
+                item,
+                role: Role::Unset,
+            })
+        }
+        fields => Ok(Pair::from(item_in(alloc, fields, number)?)),
+    }
 }
 
 #[cycle(items)]
 fn item_of(alloc: Global, value: &Value, number: &mut u64) -> Result<Item> {
-    let (kind, fields) = list_of(value)?.split_first().context("a kind is wanted")?;
-    match (text_of(kind)?, fields) {
-        ("css", [name, text, inner]) => {
+    match value {
+        Value::Array(fields) => item_in(alloc, fields, number),
+        _ => bail!("an item is wanted"),
+    }
+}
+
+#[cycle(items)]
+fn item_in(alloc: Global, fields: &[Value], number: &mut u64) -> Result<Item> {
+    match fields {
+        [kind, name, text, inner] if kind.as_str() == Some("css") => {
             let item = item_of(alloc, inner, number)?;
             styled(alloc, item, text_of(name)?, text)
         }
-        ("el", [tag, attrs, inner]) => {
+        [kind, tag, attrs, inner] if kind.as_str() == Some("el") => {
             let span = next_span(number);
             let body = body_of(alloc, inner, number)?;
             let element = element_of(alloc, tag, attrs)?.spanned(span);
             Ok(Item::Element(HtmlElem { body, ..element }))
         }
-        ("box", [inner]) => {
+        [kind, inner] if kind.as_str() == Some("box") => {
             let span = next_span(number);
             Ok(Item::Box(body_of(alloc, inner, number)?, span))
         }
-        ("block", [inner]) => {
+        [kind, inner] if kind.as_str() == Some("block") => {
             let span = next_span(number);
             Ok(Item::Block(body_of(alloc, inner, number)?, span))
         }
-        (kind, fields) => leaf(alloc, kind, fields, next_span(number)),
+        [kind, fields @ ..] => leaf(alloc, text_of(kind)?, fields, next_span(number)),
+        [] => bail!("an item is wanted"),
     }
 }
 

@@ -60,7 +60,7 @@ struct Counts {
 fn run(rt: &HostRuntime) -> Result<ExitCode> {
     let mut counts = Counts { rows: 0, wrong: 0 };
     for name in &names(rt)? {
-        run_file(rt, name, &mut counts).with_context(|| format_args!("{name}"))?;
+        run_file(rt, name, &mut counts).context(format_args!("{name}"))?;
     }
     let Counts { rows, wrong } = counts;
     ensure!(rows != 0, "no rows");
@@ -95,7 +95,7 @@ fn run_file(rt: &HostRuntime, name: &str, counts: &mut Counts) -> Result<()> {
     for line in text.lines() {
         number = number.saturating_add(1);
         let row = Row::from_line(rt.alloc(), line);
-        let row = row.with_context(|| format_args!("line {number}"))?;
+        let row = row.context(format_args!("line {number}"))?;
         if let Some(row) = row {
             counts.rows = counts.rows.saturating_add(1);
             if !gives_its_output(rt, name, number, &row)? {
