@@ -9,7 +9,6 @@ mod given;
 mod items;
 mod names;
 mod nodes;
-mod pages;
 mod reading;
 mod taken;
 mod texts;

@@ -3,9 +3,9 @@
 //!
 //! ```
 //! let text = String::from_str(alloc, "a text")?;
-//! assert!(rt; refuses_lent(alloc, text, |text: &mut String| -> Result<bool, AllocError> {
+//! refuses_lent(alloc, text, |text: &mut String| -> Result<bool, AllocError> {
 //!     Ok(text.clone()?.as_str() == "a text")
-//! }));
+//! })?;
 //! ```
 #![tactic(auto)]
 
@@ -14,6 +14,7 @@ mod memory;
 mod shown;
 
 pub use attempts::{
-    refuses, refuses_copy, refuses_given, refuses_kept, refuses_lent, refuses_taken, refuses_tested,
+    Made, TestResult, refuses, refuses_copy, refuses_given, refuses_kept, refuses_lent,
+    refuses_taken, refuses_tested,
 };
 pub use shown::{is_shown, shown_of};

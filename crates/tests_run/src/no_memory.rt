@@ -3,7 +3,7 @@
 use crate::runs::words;
 use html_tool_run::{Status, run};
 use std::alloc::{AllocError, Global};
-use tests_growth::refuses_lent;
+use tests_growth::{TestResult, refuses_lent};
 
 /// How many bytes are written at most.
 const ROOM: usize = 4096;
@@ -42,15 +42,14 @@ static RUNS: [(&[&str], &str); 4] = [
 ];
 
 #[test]
-fn runs_without_memory(rt: HostRuntime) {
+fn runs_without_memory(rt: HostRuntime) -> TestResult {
     let alloc = rt.alloc();
     for (list, input) in RUNS {
         let words = words(&rt, alloc, list);
         let out = Vec::with_capacity(alloc, ROOM).expect(&rt, "memory for what is written");
-        assert!(rt;
-            refuses_lent(alloc, out, |out: &mut Vec<u8>| {
-                is_written(alloc, &words, input, out)
-            })
-        );
+        refuses_lent(alloc, out, |out: &mut Vec<u8>| {
+            is_written(alloc, &words, input, out)
+        })?;
     }
+    Ok(())
 }

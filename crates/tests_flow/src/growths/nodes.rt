@@ -1,48 +1,40 @@
 //! Flat trees, positions of located elements, and spaces that are bare.
 
-use crate::growths::given::{element_of, list_of, start_of, text_node_of};
+use crate::growths::given::{element_of, start_of, text_node_of};
 use html_dom_document::HtmlIntrospector;
 use html_dom_flat::FlatTree;
 use html_dom_tree::{HtmlElement, HtmlNode, Location};
 use html_flow_convert::bare_spaces;
 use std::alloc::{AllocError, Global};
-use std::process::Abort;
-use tests_growth::{is_shown, refuses, refuses_kept, refuses_lent, shown_of};
-
-/// How many nodes at all depths there are in `element_of`, itself included.
-const COUNT: usize = 7;
+use tests_growth::{TestResult, is_shown, refuses, refuses_kept, refuses_lent, shown_of};
 
 /// The element as the only node.
-fn nodes_of(rt: &impl Abort, alloc: Global) -> Vec<HtmlNode> {
-    list_of(rt, alloc, [HtmlNode::from(element_of(rt, alloc))])
+fn nodes_of(alloc: Global) -> Result<Vec<HtmlNode>, AllocError> {
+    Ok(vec![in alloc; HtmlNode::from(element_of(alloc)?)]?)
 }
 
-/// The tree of the nodes.
-fn tree_of(rt: &impl Abort, alloc: Global, nodes: &[HtmlNode]) -> FlatTree {
-    FlatTree::from_nodes(alloc, nodes).expect(rt, "memory for a tree")
+/// Whether all nodes at all depths of `element_of` are there, itself included.
+fn has_all(tree: FlatTree) -> bool {
+    tree.nodes().len() == 7
 }
 
 #[test]
-fn flat_trees(rt: HostRuntime) {
-    let alloc = rt.alloc();
-    let (nodes, element) = (nodes_of(&rt, alloc), element_of(&rt, alloc));
-    let tree = tree_of(&rt, alloc, &nodes);
-    let shown = shown_of(alloc, &nodes).expect(&rt, "memory for a text");
-    assert!(rt;
-        refuses_lent(alloc, nodes, |nodes: &mut Vec<HtmlNode>| {
-            FlatTree::from_nodes(alloc, nodes).map(|tree| tree.nodes().len() == COUNT)
-        })
+fn flat_trees(rt: HostRuntime) -> TestResult {
+    let (alloc, nodes) = (rt.alloc(), nodes_of(rt.alloc())?);
+    let (tree, shown) = (
+        FlatTree::from_nodes(alloc, &nodes)?,
+        shown_of(alloc, &nodes)?,
     );
-    assert!(rt;
-        refuses_lent(alloc, element, |element: &mut HtmlElement| {
-            FlatTree::from_element(alloc, element).map(|tree| tree.nodes().len() == COUNT)
-        })
-    );
-    assert!(rt;
-        refuses(alloc, || {
-            tree.to_nodes().map(|nodes| is_shown(&nodes, &shown))
-        })
-    );
+    refuses_lent(alloc, nodes, |nodes: &mut Vec<HtmlNode>| {
+        FlatTree::from_nodes(alloc, nodes).map(has_all)
+    })?;
+    refuses_lent(alloc, element_of(alloc)?, |element: &mut HtmlElement| {
+        FlatTree::from_element(alloc, element).map(has_all)
+    })?;
+    refuses(
+        alloc,
+        || tree.to_nodes().map(|nodes| is_shown(&nodes, &shown)),
+    )
 }
 
 /// Whether the element is known that starts in the nodes, and what a frame in them links to.
@@ -57,52 +49,47 @@ fn lists_targets(introspector: &HtmlIntrospector) -> Result<bool, AllocError> {
     Ok(targets.contains(&Location(2)) && targets.contains(&Location(3)))
 }
 
-/// What is known of the nodes.
-fn introspector_of(rt: &impl Abort, alloc: Global) -> HtmlIntrospector {
-    HtmlIntrospector::new(alloc, &nodes_of(rt, alloc)).expect(rt, "memory for positions")
+/// Asserts that a call on what is known of the nodes is refused at first, and leaves it.
+fn assert_known<F: Fn(&HtmlIntrospector) -> Result<bool, AllocError>>(
+    alloc: Global,
+    call: F,
+) -> TestResult
+    requires { F.IsAlwaysCallable call }
+{
+    let known = HtmlIntrospector::new(alloc, &nodes_of(alloc)?)?;
+    refuses_kept(
+        alloc,
+        known,
+        is_known,
+        |known: &mut HtmlIntrospector|
+            requires { F.IsAlwaysCallable call }
+        { call(known) },
+    )
 }
 
 #[test]
-fn positions_of_nodes(rt: HostRuntime) {
+fn positions_of_nodes(rt: HostRuntime) -> TestResult {
     let alloc = rt.alloc();
-    assert!(rt;
-        refuses_lent(alloc, nodes_of(&rt, alloc), |nodes: &mut Vec<HtmlNode>| {
-            HtmlIntrospector::new(alloc, nodes).map(|introspector| is_known(&introspector))
-        })
-    );
-    let known = introspector_of(&rt, alloc);
-    assert!(rt;
-        refuses_kept(alloc, known, is_known, |known: &mut HtmlIntrospector| {
-            lists_targets(known)
-        })
-    );
-    let known = introspector_of(&rt, alloc);
-    assert!(rt;
-        refuses_kept(alloc, known, is_known, |known: &mut HtmlIntrospector| {
-            known.try_clone().map(|copy| is_known(&copy))
-        })
-    );
+    refuses_lent(alloc, nodes_of(alloc)?, |nodes: &mut Vec<HtmlNode>| {
+        HtmlIntrospector::new(alloc, nodes).map(|introspector| is_known(&introspector))
+    })?;
+    assert_known(alloc, lists_targets)?;
+    assert_known(alloc, |known| known.try_clone().map(|copy| is_known(&copy)))
 }
 
 /// A space at the beginning, and one between two words.
-fn spaces_of(rt: &impl Abort, alloc: Global) -> FlatTree {
-    let nodes = [
-        text_node_of(rt, alloc, " ", 1),
-        text_node_of(rt, alloc, "one", 2),
-        HtmlNode::from(start_of(rt, alloc)),
-        text_node_of(rt, alloc, " ", 3),
-        text_node_of(rt, alloc, "two", 4),
-    ];
-    tree_of(rt, alloc, &list_of(rt, alloc, nodes))
-}
-
 #[test]
-fn spaces(rt: HostRuntime) {
+fn spaces(rt: HostRuntime) -> TestResult {
     let alloc = rt.alloc();
-    let tree = spaces_of(&rt, alloc);
-    assert!(rt;
-        refuses(alloc, || {
-            bare_spaces(alloc, &tree).map(|found| found.bare.as_slice() == [false, true].as_slice())
-        })
-    );
+    let nodes = vec![in alloc;
+        text_node_of(alloc, " ", 1)?,
+        text_node_of(alloc, "one", 2)?,
+        HtmlNode::from(start_of(alloc)?),
+        text_node_of(alloc, " ", 3)?,
+        text_node_of(alloc, "two", 4)?,
+    ]?;
+    let tree = FlatTree::from_nodes(alloc, &nodes)?;
+    refuses(alloc, || {
+        bare_spaces(alloc, &tree).map(|found| found.bare.as_slice() == [false, true].as_slice())
+    })
 }

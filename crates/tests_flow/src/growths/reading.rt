@@ -1,7 +1,9 @@
-//! Texts that are read.
+//! Texts that are read, and what is shown of a page that was read.
 
 use html_dom_tree::HtmlElement;
-use tests_growth::refuses;
+use std::alloc::AllocError;
+use tests_growth::{TestResult, refuses, refuses_lent};
+use typst_html_page::page_text;
 use typst_html_read::read_html;
 
 /// A text with names of one's own, attributes, references, raw texts, and elements in one another.
@@ -16,26 +18,34 @@ fn is_read(root: Option<HtmlElement>, attrs: usize, children: usize) -> bool {
     root.is_some_and(|root| root.attrs.0.len() == attrs && root.children.len() == children)
 }
 
-#[test]
-fn texts_that_are_read(rt: HostRuntime) {
-    let alloc = rt.alloc();
-    assert!(rt;
-        refuses(
-            alloc,
-            || read_html(alloc, PAGE, 9).map(|root| is_read(root, 3, 8))
-        )
-    );
-}
-
 /// What stands before the place where reading ends takes memory too.
 #[test]
-fn texts_that_are_not_read(rt: HostRuntime) {
+fn texts(rt: HostRuntime) -> TestResult {
+    let (alloc, wrong) = (rt.alloc(), "<!DOCTYPE html><p class=\"a\">b<i>c</i></b>");
+    refuses(
+        alloc,
+        || read_html(alloc, PAGE, 9).map(|root| is_read(root, 3, 8)),
+    )?;
+    refuses(
+        alloc,
+        || read_html(alloc, wrong, 9).map(|root| root.is_none()),
+    )
+}
+
+/// Text with spaces and ignorable characters, objects and line breaks, in blocks.
+const SHOWN: &str = concat!(
+    "<!DOCTYPE html><html><body><p>a \u{200b} b<br><img></p><pre> c</pre>d</body></html>",
+);
+
+#[test]
+fn pages(rt: HostRuntime) -> TestResult {
     let alloc = rt.alloc();
-    let page = "<!DOCTYPE html><p class=\"a\">b<i>c</i></b>";
-    assert!(rt;
-        refuses(
-            alloc,
-            || read_html(alloc, page, 9).map(|root| root.is_none())
-        )
-    );
+    let root = read_html(alloc, SHOWN, 9)?.ok_or("an element")?;
+    refuses_lent(
+        alloc,
+        root,
+        |root: &mut HtmlElement| -> Result<bool, AllocError> {
+            page_text(alloc, root).map(|page| page.parts().len() == 8)
+        },
+    )
 }

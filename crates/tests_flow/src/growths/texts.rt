@@ -1,19 +1,18 @@
 //! Documents of items, and texts of trees and documents, plain and pretty.
 
-use crate::frames::frame_writer;
+use crate::frames::{OneText, frame_writer};
 use crate::growths::given::documents::{content_of, document_of, info_of};
 use crate::growths::given::element_of;
 use crate::growths::given::items::line_of;
-use html_dom_document::DocumentInfo;
+use html_dom_document::{DocumentInfo, HtmlDocument};
 use html_flow::Pair;
-use std::alloc::Global;
+use std::alloc::{AllocError, Global};
 use std::fmt::Debug;
-use std::process::Abort;
-use tests_growth::refuses_lent;
+use tests_growth::{TestResult, refuses_lent};
 use typst_html_encode::{ExportFault, HtmlOptions, html_in_bundle};
 use typst_html_export::{export, export_linked, html, html_document, html_document_for_bundle};
 
-/// What a document is made of.
+/// What a document with a footnote is made of.
 #[derive(Debug, Drop)]
 struct Content {
     items: Vec<Pair>,
@@ -21,80 +20,72 @@ struct Content {
     info: DocumentInfo,
 }
 
-/// What a document with a footnote is made of.
-fn sources_of(rt: &impl Abort, alloc: Global) -> Content {
-    Content {
-        items: content_of(rt, alloc),
-        footnotes: line_of(rt, alloc),
-        info: info_of(rt, alloc),
-    }
+fn sources_of(alloc: Global) -> Result<Content, AllocError> {
+    Ok(Content {
+        items: content_of(alloc)?,
+        footnotes: line_of(alloc)?,
+        info: info_of(alloc)?,
+    })
 }
 
-/// Asserts that a call that makes a text is refused at first, and leaves what it is lent.
+/// Asserts that a call that makes a text is refused at first, and leaves what it borrows.
 fn assert_text<T: Debug + Drop, F: Fn(&mut T) -> Result<String, ExportFault>>(
-    rt: &impl Abort,
     alloc: Global,
     lent: T,
     call: F,
-)
+) -> TestResult
     requires { F.IsAlwaysCallable call }
 {
     let is_written = |lent: &mut T|
         requires { F.IsAlwaysCallable call }
     { call(lent).map(|text| !text.is_empty()) };
-    assert!(rt; refuses_lent(alloc, lent, is_written));
+    refuses_lent(alloc, lent, is_written)
 }
 
 /// Texts of a tree and of a document.
-fn assert_written(rt: &impl Abort, alloc: Global, options: &HtmlOptions) {
-    let frames = frame_writer(rt, alloc);
-    assert_text(rt, alloc, element_of(rt, alloc), |root| {
-        html_in_bundle(alloc, root, options, &frames)
-    });
-    assert_text(rt, alloc, document_of(rt, alloc), |document| {
-        html(alloc, document, options, &frames)
-    });
+fn assert_written(alloc: Global, options: &HtmlOptions, frames: &OneText) -> TestResult {
+    assert_text(alloc, element_of(alloc)?, |root| {
+        html_in_bundle(alloc, root, options, frames)
+    })?;
+    assert_text(alloc, document_of(alloc)?, |document| {
+        html(alloc, document, options, frames)
+    })
 }
 
 /// Texts of what a document is made of.
-fn assert_exported(rt: &impl Abort, alloc: Global, options: &HtmlOptions) {
-    let frames = frame_writer(rt, alloc);
-    assert_text(rt, alloc, sources_of(rt, alloc), |content: &mut Content| {
-        let (items, info, footnotes) = (&content.items, &content.info, &content.footnotes);
-        export(alloc, items, info, footnotes, 9, options, &frames)
-    });
-    assert_text(rt, alloc, sources_of(rt, alloc), |content: &mut Content| {
-        let (items, info, footnotes) = (&content.items, &content.info, &content.footnotes);
-        export_linked(alloc, items, info, footnotes, 9, options, &frames)
-    });
+fn assert_exported(alloc: Global, options: &HtmlOptions, frames: &OneText) -> TestResult {
+    assert_text(alloc, sources_of(alloc)?, |of: &mut Content| {
+        let (items, info, notes) = (&of.items, &of.info, &of.footnotes);
+        export(alloc, items, info, notes, 9, options, frames)
+    })?;
+    assert_text(alloc, sources_of(alloc)?, |of: &mut Content| {
+        let (items, info, notes) = (&of.items, &of.info, &of.footnotes);
+        export_linked(alloc, items, info, notes, 9, options, frames)
+    })
 }
 
 #[test]
-fn texts(rt: HostRuntime) {
+fn texts(rt: HostRuntime) -> TestResult {
+    let frames = frame_writer(&rt, rt.alloc());
     for pretty in [false, true] {
-        let options = HtmlOptions { pretty };
-        assert_written(&rt, rt.alloc(), &options);
-        assert_exported(&rt, rt.alloc(), &options);
+        assert_written(rt.alloc(), &HtmlOptions { pretty }, &frames)?;
+        assert_exported(rt.alloc(), &HtmlOptions { pretty }, &frames)?;
     }
+    Ok(())
+}
+
+/// Whether the root is all that a document has.
+fn is_alone(document: HtmlDocument) -> bool {
+    document.nodes().len() == 1
 }
 
 #[test]
-fn made_documents(rt: HostRuntime) {
+fn made_documents(rt: HostRuntime) -> TestResult {
     let alloc = rt.alloc();
-    assert!(rt;
-        refuses_lent(alloc, sources_of(&rt, alloc), |content: &mut Content| {
-            let (items, info, footnotes) = (&content.items, &content.info, &content.footnotes);
-            html_document_for_bundle(alloc, items, info, footnotes, 9).map(|document| document
-                .nodes()
-                .len()
-                == 1)
-        })
-    );
-    assert!(rt;
-        refuses_lent(alloc, sources_of(&rt, alloc), |content: &mut Content| {
-            let (items, info, footnotes) = (&content.items, &content.info, &content.footnotes);
-            html_document(alloc, items, info, footnotes, 9).map(|document| document.nodes().len()
-                == 1)
-        })
-    );
+    refuses_lent(alloc, sources_of(alloc)?, |of: &mut Content| {
+        html_document_for_bundle(alloc, &of.items, &of.info, &of.footnotes, 9).map(is_alone)
+    })?;
+    refuses_lent(alloc, sources_of(alloc)?, |of: &mut Content| {
+        html_document(alloc, &of.items, &of.info, &of.footnotes, 9).map(is_alone)
+    })
 }
