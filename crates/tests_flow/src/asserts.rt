@@ -1,6 +1,5 @@
 //! What tests make texts and names by, and assert by.
 
-use html_names::{HtmlAttr, HtmlTag};
 use std::alloc::Global;
 use std::process::Abort;
 
@@ -12,14 +11,4 @@ pub(crate) fn assert_text(rt: &impl Abort, text: &str, wanted: &str) {
 /// A text on the heap.
 pub(crate) fn text_of(rt: &impl Abort, alloc: Global, text: &str) -> String {
     String::from_str(alloc, text).expect(rt, "memory for a text")
-}
-
-/// The tag of that name.
-pub(crate) fn tag_of(rt: &impl Abort, alloc: Global, name: &str) -> HtmlTag {
-    HtmlTag::intern(alloc, name).expect(rt, "the name of a tag")
-}
-
-/// The attribute of that name.
-pub(crate) fn attr_of(rt: &impl Abort, alloc: Global, name: &str) -> HtmlAttr {
-    HtmlAttr::intern(alloc, name).expect(rt, "the name of an attribute")
 }
