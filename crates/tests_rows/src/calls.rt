@@ -1,24 +1,34 @@
-//! What a row gives, by its first word.
+//! What a row gives, by its first word. `N` is a number, and words in brackets may be left out.
 //!
-//! | Words | Input | Output |
-//! |---|---|---|
-//! | `nodes LEVEL SPACE`, `depth=N`, `limit=N`, `role=TEXT` | items | what stands in a `body` of the nodes that they become |
-//! | `block-fragment`, `inline-fragment`, `math-fragment`, `depth=N`, `limit=N` | items | the same, by the call of that name with the span 9 |
-//! | `spans` | items | the spans of these nodes, those of children in brackets |
-//! | `bare` | items | for each lone space 1 where it may stay bare, and the number of turns |
-//! | `document`, `limit=N` | items, or an object with items, footnotes and what is known | what stands in the body, or the whole text |
-//! | `links`, `limit=N` | the same | the same with links resolved |
-//! | `anchors` | the same | each link target and its anchor |
-//! | `positions` | the same | each location below 100 and its path |
-//! | `dead-links` | the same | span and destination of each |
-//! | `distinct-ids` | the same | whether the ids differ |
-//! | `read`, `limit=N` | a page behind its document type | the text of the tree that is read, `same` if that is the input, `none`, `too deep at N` |
-//! | `page-text` | the same | what is visible of it: texts in brackets, objects, `/` a line break, `\|` an edge |
-//! | `items-text` | items | what is visible of their document, written plain and pretty |
-//! | `dead-fragments`, `repeated-ids` | a page behind its document type | path and name of each |
+//! Of items, of which [`given`](crate::given) says how they are spelled:
 //!
-//! A refusal is `refused`, its number, `at` and its span. Depth, limit and role are 0, 50 and none where
-//! they are not said.
+//! - `nodes LEVEL SPACE [depth=N] [limit=N] [role=TEXT]`, where the level is `block` or `inline` and white
+//!   space `normal` or `pre`: what stands in a `body` of the nodes that they become. The depth is 0, the
+//!   limit 50, and there is no role where they are not said.
+//! - `block-fragment`, `inline-fragment`, `math-fragment`, each `[depth=N] [limit=N]`: the same by the call
+//!   of that name, with the span 9
+//! - `spans`: the spans of these nodes, those of children in brackets
+//! - `bare`: for each lone space 1 where it may stay bare and else 0, and how many nodes were looked at
+//! - `items-text`: what is visible of their document, written plain and pretty
+//!
+//! Of items, or of an object with `items`, `footnotes`, and what is known of a document (`title`,
+//! `description`, `authors`, `keywords`, `lang`, `region`), each with `[limit=N]`:
+//!
+//! - `document`: what stands in the body, or the whole text where more is known than nothing
+//! - `links`: the same with links resolved
+//! - `anchors`: each link target and its anchor
+//! - `positions`: each location below 100 and its path
+//! - `dead-links`: span and destination of each
+//! - `distinct-ids`: whether the ids differ
+//!
+//! Of a page, whose text behind the document type the input is:
+//!
+//! - `read [limit=N]`: the text of the tree that is read, `same` where that is the input; `none` where
+//!   nothing is read; `too deep at N`
+//! - `page-text`: what is visible: each text in brackets, objects, `/` for a line break, `|` for an edge
+//! - `dead-fragments`, `repeated-ids`: path and name of each
+//!
+//! A refusal is `refused`, its number, `at` and its span.
 
 use crate::row::Row;
 use crate::{checks, documents, nodes, pages, runs};
