@@ -1,6 +1,7 @@
 #!/usr/bin/env python3
-"""The calls have the same arguments, by number and type, in the library's source, in the header, in Rust
-and in Python; the reply has the same fields, the version and the words of refusals are the same.
+"""The calls have the same arguments, by number, name and type, in the library's source, in the header, in
+Rust and in Python; the reply has the same fields, laid out as C does; the version, the words of refusals
+and the licence are the same. At the end it tries changed copies, of which each must differ.
 """
 
 import ast
@@ -8,11 +9,17 @@ import re
 import sys
 from pathlib import Path
 
-HERE = Path(__file__).resolve().parent
-SOURCE = HERE.parent / "crates" / "typst_html_c" / "src"
+ROOT = Path(__file__).resolve().parent.parent
+SOURCE = ROOT / "crates" / "typst_html_c" / "src"
+FILES = {
+    "header": "bindings/typst_html.h", "raw": "bindings/rust/src/raw.rs", "refusal": "bindings/rust/src/refusal.rs",
+    "lib": "bindings/rust/src/lib.rs", "package": "bindings/python/typst_html_proved/__init__.py",
+    "library": "bindings/python/typst_html_proved/_library.py", "crate": "bindings/rust/Cargo.toml",
+    "project": "bindings/python/pyproject.toml", "licence": "LICENSE", "readme": "README.md",
+}  # fmt: skip
 
-# What stands for a type, in the words of Rust.
-OF_SOURCE = {"&[u8]": ["*const u8", "usize"], "&mut [u8]": ["*mut u8", "usize"], "Global": []}
+# What stands for a type, in the words of Rust. A slice is a pointer and a length.
+SLICES = {"&[u8]": ("*const u8", "length"), "&mut [u8]": ("*mut u8", "room")}
 OF_C = {
     "uint8_t": "u8", "uint32_t": "u32", "uint64_t": "u64", "size_t": "usize", "const uint8_t *": "*const u8",
     "uint8_t *": "*mut u8", "struct typst_html_reply": "Reply",
@@ -22,28 +29,53 @@ OF_PYTHON = {
     "c_void_p": "*mut u8", "Reply": "Reply",
 }  # fmt: skip
 
+# What is changed in which file, and what then differs.
+CHANGES = [
+    ("header", "uint8_t kind, uint8_t layout", "uint8_t layout, uint8_t kind", "calls"),
+    ("header", "uint8_t links", "uint32_t links", "calls"),
+    ("source", "document(\n    alloc: Global,\n    layout: u8,\n    links: u8,", "document(\n    alloc: Global,\n    links: u8,\n    layout: u8,", "calls"),
+    ("source", "    page: &[u8],\n    output: &mut [u8],", "    output: &mut [u8],\n    page: &[u8],", "calls"),
+    ("raw", "        layout: u8,\n        links: u8,", "        links: u8,\n        layout: u8,", "calls"),
+    ("raw", "page: *const u8", "input: *const u8", "calls"),
+    ("library", '"layout": ctypes.c_uint8, "links": ctypes.c_uint8', '"links": ctypes.c_uint8, "layout": ctypes.c_uint8', "calls"),
+    ("library", '"limit": ctypes.c_uint32', '"limit": ctypes.c_uint8', "calls"),
+    ("source", "#[repr(C)]\n", "", "reply"),
+    ("raw", "#[repr(C)]\n", "", "reply"),
+    ("raw", "#[repr(C)]\n", "#[repr(C, packed)]\n", "reply"),
+    ("raw", "    status: u8,\n    number: u8,", "    number: u8,\n    status: u8,", "reply"),
+    ("library", "    _fields_", "    _pack_ = 1\n    _fields_", "reply"),
+    ("library", '("status", ctypes.c_uint8)', '("state", ctypes.c_uint8)', "reply"),
+    ("library", "VERSION = 2", "VERSION = 3", "version"),
+    ("refusal", "tag name must not be empty", "tag name is empty", "words"),
+    ("crate", "Apache-2.0", "MIT", "licence"),
+    ("project", "Apache-2.0", "MIT", "licence"),
+]  # fmt: skip
+
 
 def parted(text):
     return [part.strip() for part in text.split(",") if part.strip()]
 
 
-def typed(field):
-    """The type of `name: type`."""
-    return field.split(":", 1)[1].strip()
+def given(argument):
+    """What a call in a text of Rust or Rattle is given for `name: type`: the memory to allocate in is none of it."""
+    name, kind = re.match(r"(\w+): (.*)$", argument).groups()
+    if kind in SLICES:
+        pointer, length = SLICES[kind]
+        return [(name, pointer), (length, "usize")]
+    return [] if kind == "Global" else [(name, kind)]
 
 
-def of_rust(text, types):
+def of_rust(text):
     """The calls that stand in a text of Rust or Rattle: what each takes, and what it gives."""
-    found = {}
-    for name, takes, gives in re.findall(r"fn (typst_html_\w+)\(([^)]*)\)\s*->\s*(\w+)", text):
-        takes = [types.get(typed(it), [typed(it)]) for it in parted(takes)]
-        found[name] = ([one for many in takes for one in many], gives)
-    return found
+    calls = re.findall(r"fn (typst_html_\w+)\(([^)]*)\)\s*->\s*(\w+)", text)
+    return {name: ([one for it in parted(takes) for one in given(it)], gives) for name, takes, gives in calls}
 
 
 def struct_of_rust(text):
-    body = re.search(r"struct Reply \{(.*?)\n\}", text, re.S)[1]
-    return re.findall(r"^\s*(?:pub )?(\w+): (\w+),", body, re.M)
+    """How the reply is laid out, and its fields."""
+    attributes, body = re.search(r"((?:^#.*\n)*)^(?:pub )?struct Reply \{(.*?)\n\}", text, re.S | re.M).groups()
+    layout = "C" if "#[repr(C)]\n" in attributes else "Rust"
+    return [layout, *re.findall(r"^\s*(?:pub )?(\w+): (\w+),", body, re.M)]
 
 
 def without_comments(text):
@@ -54,14 +86,14 @@ def of_header(text):
     found = {}
     declared = r"^((?:struct )?\w+) (typst_html_\w+)\(([^)]*)\);"
     for gives, name, takes in re.findall(declared, without_comments(text), re.M):
-        takes = [re.match(r"((?:const |struct )?\w+ \*?)\w*$", " ".join(it.split())) for it in parted(takes) if it != "void"]
-        found[name] = ([OF_C[it[1].strip()] for it in takes], OF_C[gives])
+        takes = [re.match(r"((?:const |struct )?\w+ \*?)(\w+)$", " ".join(it.split())) for it in parted(takes) if it != "void"]
+        found[name] = ([(it[2], OF_C[it[1].strip()]) for it in takes], OF_C[gives])
     return found
 
 
 def struct_of_header(text):
-    body = re.search(r"struct typst_html_reply \{(.*?)\n\}", without_comments(text), re.S)[1]
-    return [(name, OF_C[kind]) for kind, name in re.findall(r"(\w+) (\w+);", body)]
+    body = re.search(r"^struct typst_html_reply \{(.*?)\n\};$", without_comments(text), re.S | re.M)[1]
+    return ["C", *((name, OF_C[kind]) for kind, name in re.findall(r"(\w+) (\w+);", body))]
 
 
 def plain(node):
@@ -73,10 +105,10 @@ def plain(node):
     return node.value if isinstance(node, ast.Constant) else node.attr if isinstance(node, ast.Attribute) else node.id
 
 
-def assigned(text):
-    """What names are given in a text of Python, in its classes too."""
+def assigned(tree):
+    """What names are given in a tree of Python, in its classes too."""
     found = {}
-    for node in ast.walk(ast.parse(text)):
+    for node in ast.walk(tree):
         if isinstance(node, (ast.Assign, ast.AnnAssign)):
             target = node.targets[0] if isinstance(node, ast.Assign) else node.target
             found[getattr(target, "id", None)] = node.value
@@ -85,41 +117,70 @@ def assigned(text):
 
 def of_python(names):
     calls = plain(names["DECLARED"])
-    return {name: ([OF_PYTHON[it] for it in takes], OF_PYTHON[gives]) for name, (gives, takes) in calls.items()}
+    return {name: ([(it, OF_PYTHON[kind]) for it, kind in takes.items()], OF_PYTHON[gives]) for name, (gives, takes) in calls.items()}
+
+
+def struct_of_python(tree):
+    reply = next(node for node in ast.walk(tree) if isinstance(node, ast.ClassDef) and node.name == "Reply")
+    names = assigned(reply)
+    layout = "C" if [plain(base) for base in reply.bases] == ["Structure"] and list(names) == ["_fields_"] else "another"
+    return [layout, *((name, OF_PYTHON[kind]) for name, kind in plain(names["_fields_"]))]
 
 
 def words_of(text, pattern):
     return {int(number): words for number, words in re.findall(pattern, text, re.M)}
 
 
-def main():
-    source = "".join(path.read_text() for path in sorted(SOURCE.glob("*.rt")) if path.name != "tests.rt")
-    header = (HERE / "typst_html.h").read_text()
-    raw, refusal, lib = ((HERE / "rust" / "src" / f"{name}.rs").read_text() for name in ("raw", "refusal", "lib"))
-    package, python = (
-        assigned((HERE / "python" / "typst_html_proved" / f"{name}.py").read_text()) for name in ("__init__", "_library")
-    )
+def compared(texts):
+    """What stands in each file, by what is compared."""
+    source, header, raw = texts["source"], texts["header"], texts["raw"]
+    library = ast.parse(texts["library"])
+    python, package = assigned(library), assigned(ast.parse(texts["package"]))
     exports = "".join(re.findall(r'pub extern "C" (fn.*?)ensures', source, re.S))
-    number = lambda pattern, text: int(re.search(pattern, text)[1])
-    compared = {
-        "calls": [of_rust(exports, OF_SOURCE), of_header(header), of_rust(raw, {}), of_python(python)],
-        "reply": [
-            struct_of_rust(source), struct_of_header(header), struct_of_rust(raw),
-            [(name, OF_PYTHON[kind]) for name, kind in plain(python["_fields_"])],
-        ],
+    imports = re.search(r'^extern "C" \{\n(.*?)^\}', raw, re.S | re.M)[1]
+    first = lambda pattern, name: re.search(pattern, texts[name], re.M)[1]
+    number = lambda pattern, name: int(first(pattern, name))
+    return {
+        "calls": [of_rust(exports), of_header(header), of_rust(imports), of_python(python)],
+        "reply": [struct_of_rust(source), struct_of_header(header), struct_of_rust(raw), struct_of_python(library)],
         "version": [
-            number(r"const VERSION: u32 = (\d+)", source), number(r"define TYPST_HTML_VERSION (\d+)", header),
-            number(r"pub const VERSION: u32 = (\d+)", lib), plain(python["VERSION"]),
+            number(r"const VERSION: u32 = (\d+)", "source"), number(r"define TYPST_HTML_VERSION (\d+)", "header"),
+            number(r"pub const VERSION: u32 = (\d+)", "lib"), plain(python["VERSION"]),
         ],
         "words": [
-            words_of(header, r"^ \* +(\d+)  (.*)$"), words_of(refusal, r'^ +(\d+) => "(.*)",$'), plain(package["WORDS"]),
+            words_of(header, r"^ \* +(\d+)  (.*)$"), words_of(texts["refusal"], r'^ +(\d+) => "(.*)",$'), plain(package["WORDS"]),
+        ],
+        "licence": [
+            "-".join(re.match(r"\s*(\w+) License\s+Version ([\d.]+),", texts["licence"]).groups()),
+            first(r'^license = "(.*)"$', "crate"), first(r'^license = \{ text = "(.*)" \}$', "project"),
+            first(r"\[([^]]*)\]\(LICENSE\)", "readme"),
         ],
     }  # fmt: skip
-    wrong = [what for what, found in compared.items() if not found[0] or any(it != found[0] for it in found)]
+
+
+def differing(found):
+    return [what for what, those in found.items() if not those[0] or any(it != those[0] for it in those)]
+
+
+def unseen(texts):
+    """The changes of which nothing is seen."""
+    for name, old, new, what in CHANGES:
+        changed = {**texts, name: texts[name].replace(old, new, 1)}
+        if changed == texts or differing(compared(changed)) != [what]:
+            yield f"no difference of {what} is seen where {name} has {new!r} for {old!r}"
+
+
+def main():
+    texts = {name: (ROOT / path).read_text() for name, path in FILES.items()}
+    texts["source"] = "".join(path.read_text() for path in sorted(SOURCE.glob("*.rt")) if path.name != "tests.rt")
+    found = compared(texts)
+    wrong = differing(found)
     for what in wrong:
-        print(f"{what} differ:", *compared[what], sep="\n  ", file=sys.stderr)
-    print(f"declarations: {len(compared) - len(wrong)} passed, {len(wrong)} failed")
-    return 1 if wrong else 0
+        print(f"{what} differ:", *found[what], sep="\n  ", file=sys.stderr)
+    missed = [] if wrong else list(unseen(texts))
+    print(*missed, sep="\n", end="\n" if missed else "", file=sys.stderr)
+    print(f"declarations: {len(found) - len(wrong)} passed, {len(wrong)} failed; {len(missed)} of {len(CHANGES)} changes unseen")
+    return 1 if wrong or missed else 0
 
 
 if __name__ == "__main__":

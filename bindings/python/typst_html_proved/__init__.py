@@ -24,7 +24,7 @@ import json
 from dataclasses import dataclass
 from typing import Any, Iterable, Sequence, Union
 
-from ._library import LIBRARY, VERSION, Reply, called
+from ._library import VERSION, Reply, called
 
 __all__ = [
     "BREAK", "HOLE", "SPACE", "VERSION", "BadInput", "DeadFragment", "Failure", "Findings", "Info", "Item",
@@ -257,8 +257,8 @@ def write(
     if not 1 <= limit <= 10_000:
         raise BadInput
     document = {**info.members(), "items": _listed(items), "footnotes": _listed(footnotes)}
-    numbers = (int(bool(pretty)), int(bool(links)), limit)
-    return _text(called(LIBRARY.typst_html_document, numbers, _spelled(document)))
+    numbers = {"layout": int(bool(pretty)), "links": int(bool(links)), "limit": limit}
+    return _text(called("typst_html_document", _spelled(document), **numbers))
 
 
 def write_tree(root: Item, *, pretty: bool = False) -> str:
@@ -285,11 +285,11 @@ def write_json(data: bytes | str, *, kind: str = "items", pretty: bool = False) 
     data = _bytes(data)
     layout = int(bool(pretty))
     if kind == "document":
-        return _text(called(LIBRARY.typst_html_document, (layout, 0, 50), data))
+        return _text(called("typst_html_document", data, layout=layout, links=0, limit=50))
     kinds = {"tree": 0, "items": 1}
     if kind not in kinds:
         raise BadInput
-    return _text(called(LIBRARY.typst_html_write, (kinds[kind], layout), data))
+    return _text(called("typst_html_write", data, kind=kinds[kind], layout=layout))
 
 
 def check(page: bytes | str, *, limit: int = 50) -> Findings:
@@ -305,7 +305,7 @@ def check(page: bytes | str, *, limit: int = 50) -> Findings:
     """
     if not 1 <= limit <= 10_000:
         raise BadInput
-    found = json.loads(_text(called(LIBRARY.typst_html_check, (limit,), _bytes(page))))
+    found = json.loads(_text(called("typst_html_check", _bytes(page), limit=limit)))
     return Findings(
         tuple(DeadFragment(tuple(it["path"]), it["fragment"]) for it in found["dead_fragments"]),
         tuple(RepeatedId(tuple(it["path"]), it["id"]) for it in found["repeated_ids"]),

@@ -5,7 +5,7 @@ from __future__ import annotations
 import ctypes
 import os
 from pathlib import Path
-from typing import Any, Callable
+from typing import Any
 
 NAME = "libtypst_html.so"
 
@@ -24,43 +24,22 @@ class Reply(ctypes.Structure):
     ]
 
 
-DECLARED: dict[str, tuple[Any, list[Any]]] = {
-    "typst_html_version": (ctypes.c_uint32, []),
-    "typst_html_write": (
-        Reply,
-        [
-            ctypes.c_uint8,
-            ctypes.c_uint8,
-            ctypes.c_char_p,
-            ctypes.c_size_t,
-            ctypes.c_void_p,
-            ctypes.c_size_t,
-        ],
-    ),
-    "typst_html_document": (
-        Reply,
-        [
-            ctypes.c_uint8,
-            ctypes.c_uint8,
-            ctypes.c_uint32,
-            ctypes.c_char_p,
-            ctypes.c_size_t,
-            ctypes.c_void_p,
-            ctypes.c_size_t,
-        ],
-    ),
-    "typst_html_check": (
-        Reply,
-        [
-            ctypes.c_uint32,
-            ctypes.c_char_p,
-            ctypes.c_size_t,
-            ctypes.c_void_p,
-            ctypes.c_size_t,
-        ],
-    ),
-}
-"""What each call gives and takes."""
+DECLARED: dict[str, tuple[Any, dict[str, Any]]] = {
+    "typst_html_version": (ctypes.c_uint32, {}),
+    "typst_html_write": (Reply, {
+        "kind": ctypes.c_uint8, "layout": ctypes.c_uint8, "input": ctypes.c_char_p, "length": ctypes.c_size_t,
+        "output": ctypes.c_void_p, "room": ctypes.c_size_t,
+    }),
+    "typst_html_document": (Reply, {
+        "layout": ctypes.c_uint8, "links": ctypes.c_uint8, "limit": ctypes.c_uint32, "input": ctypes.c_char_p,
+        "length": ctypes.c_size_t, "output": ctypes.c_void_p, "room": ctypes.c_size_t,
+    }),
+    "typst_html_check": (Reply, {
+        "limit": ctypes.c_uint32, "page": ctypes.c_char_p, "length": ctypes.c_size_t,
+        "output": ctypes.c_void_p, "room": ctypes.c_size_t,
+    }),
+}  # fmt: skip
+"""What each call gives, and what it takes, by name and in order."""
 
 
 def _path() -> Path:
@@ -76,7 +55,7 @@ def _loaded() -> ctypes.CDLL:
     library = ctypes.CDLL(str(_path()))
     for name, (gives, takes) in DECLARED.items():
         call = getattr(library, name)
-        call.restype, call.argtypes = gives, takes
+        call.restype, call.argtypes = gives, list(takes.values())
     if library.typst_html_version() != VERSION:
         raise ImportError(f"{_path()} has version {library.typst_html_version()}, not {VERSION}")
     return library
@@ -85,12 +64,14 @@ def _loaded() -> ctypes.CDLL:
 LIBRARY = _loaded()
 
 
-def called(call: Callable[..., Reply], numbers: tuple[int, ...], data: bytes) -> tuple[Reply, bytes]:
-    """The reply of a call, and the text. The other threads of Python run meanwhile."""
+def called(name: str, data: bytes, **numbers: int) -> tuple[Reply, bytes]:
+    """The reply of a call, whose numbers are given by name, and the text. The other threads of Python run meanwhile."""
+    call, (_, takes) = getattr(LIBRARY, name), DECLARED[name]
     room = 4 * len(data) + 1024
     while True:
         output = ctypes.create_string_buffer(room)
-        reply = call(*numbers, data, len(data), output, room)
-        if reply.status != 4:
+        given = {**numbers, "input": data, "page": data, "length": len(data), "output": output, "room": room}
+        reply = call(*(given[one] for one in takes))
+        if reply.status != 4 or reply.length <= room:
             return reply, output.raw[: reply.length] if reply.length < room else output.raw
         room = reply.length
