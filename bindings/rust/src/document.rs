@@ -1,8 +1,16 @@
 //! What is written: documents, items and elements, which `serde` spells as the library reads them.
 
-use serde::ser::{Serialize, SerializeMap, Serializer};
+use serde::ser::{Error, Serialize, SerializeMap, Serializer};
+use std::mem;
+
+/// How many bodies may stand in one another: JSON is read 127 lists deep, and each is two.
+const DEEPEST: usize = 63;
 
 /// Something in a document or in an element.
+///
+/// Items stand in one another to any depth: those that are deeper than JSON is read are refused where
+/// they are spelled, and all are dropped, without more of the stack. `Clone`, `==` and `Debug` take
+/// stack for each level.
 #[derive(Clone, Debug, PartialEq, Eq)]
 pub enum Item {
     /// A text.
@@ -49,15 +57,77 @@ impl From<Element> for Item {
     }
 }
 
+impl Item {
+    /// The items that stand in it, which it then has no more.
+    fn take_body(&mut self) -> Vec<Item> {
+        match self {
+            Item::Element(Element { body, .. }) | Item::Block(body) | Item::Box(body) => {
+                mem::take(body)
+            }
+            _ => Vec::new(),
+        }
+    }
+}
+
+impl Drop for Item {
+    /// Drops what stands in it one after the other.
+    fn drop(&mut self) {
+        let mut waiting = self.take_body();
+        while let Some(mut item) = waiting.pop() {
+            waiting.append(&mut item.take_body());
+        }
+    }
+}
+
+/// A part of a document, in which so many bodies may stand in one another.
+struct Within<'a, T: ?Sized> {
+    part: &'a T,
+    room: usize,
+}
+
+impl<T: ?Sized> Within<'_, T> {
+    /// The body of this part, if it may have one.
+    fn body<'a, E: Error>(&self, body: &'a [Item]) -> Result<Within<'a, [Item]>, E> {
+        match self.room.checked_sub(1) {
+            Some(room) => Ok(Within { part: body, room }),
+            None => Err(E::custom(format!(
+                "more than {DEEPEST} bodies stand in one another"
+            ))),
+        }
+    }
+}
+
+impl Serialize for Within<'_, [Item]> {
+    fn serialize<S: Serializer>(&self, to: S) -> Result<S::Ok, S::Error> {
+        let room = self.room;
+        to.collect_seq(self.part.iter().map(|part| Within { part, room }))
+    }
+}
+
+impl Serialize for Within<'_, Element> {
+    fn serialize<S: Serializer>(&self, to: S) -> Result<S::Ok, S::Error> {
+        let Element { tag, attrs, body } = self.part;
+        ("el", tag, attrs, self.body(body)?).serialize(to)
+    }
+}
+
 impl Serialize for Item {
     fn serialize<S: Serializer>(&self, to: S) -> Result<S::Ok, S::Error> {
-        match self {
+        let (part, room) = (self, DEEPEST);
+        Within { part, room }.serialize(to)
+    }
+}
+
+impl Serialize for Within<'_, Item> {
+    fn serialize<S: Serializer>(&self, to: S) -> Result<S::Ok, S::Error> {
+        let room = self.room;
+        match self.part {
             Item::Text(text) => ("text", text).serialize(to),
             Item::Space => ("space",).serialize(to),
             Item::Break => ("break",).serialize(to),
-            Item::Element(element) => element.serialize(to),
-            Item::Block(body) => ("block", body).serialize(to),
-            Item::Box(body) => ("box", body).serialize(to),
+            Item::Element(part) => Within { part, room }.serialize(to),
+            Item::Block(body) => ("block", self.body(body)?).serialize(to),
+            Item::Box(body) => ("box", self.body(body)?).serialize(to),
             Item::Hole => ("hole",).serialize(to),
             Item::Start {
                 location,
@@ -117,7 +187,8 @@ impl Element {
 
 impl Serialize for Element {
     fn serialize<S: Serializer>(&self, to: S) -> Result<S::Ok, S::Error> {
-        ("el", &self.tag, &self.attrs, &self.body).serialize(to)
+        let (part, room) = (self, DEEPEST);
+        Within { part, room }.serialize(to)
     }
 }
 
@@ -151,7 +222,10 @@ fn told<S: SerializeMap>(to: &mut S, texts: &[(&str, &Option<String>)]) -> Resul
 impl Info {
     /// The members of what is known.
     fn tell<S: SerializeMap>(&self, to: &mut S) -> Result<(), S::Error> {
-        told(to, &[("title", &self.title), ("description", &self.description)])?;
+        told(
+            to,
+            &[("title", &self.title), ("description", &self.description)],
+        )?;
         to.serialize_entry("authors", &self.authors)?;
         to.serialize_entry("keywords", &self.keywords)?;
         match self.lang {

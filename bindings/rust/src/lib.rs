@@ -75,13 +75,13 @@ pub fn version() -> u32 {
 
 /// The text of a document.
 pub fn write(document: &Document, options: Options) -> Result<String, Refusal> {
-    raw::document(options, &spelled(document))
+    raw::document(options, &spelled(document)?)
 }
 
 /// The text of a tree, of which only texts, elements, starts and ends may be part: another item is bad
 /// input.
 pub fn write_tree(root: &Element, pretty: bool) -> Result<String, Refusal> {
-    raw::write(Kind::Tree, pretty, &spelled(root))
+    raw::write(Kind::Tree, pretty, &spelled(root)?)
 }
 
 /// The text of a tree or of the document of a list of items, which JSON spells.
@@ -136,7 +136,8 @@ pub fn check(page: &str, limit: u32) -> Result<Findings, Refusal> {
     Ok(serde_json::from_str(&json).expect("the library writes JSON of that form"))
 }
 
-/// The JSON by which the library is told.
-fn spelled(value: &impl serde::Serialize) -> Vec<u8> {
-    serde_json::to_vec(value).expect("texts, numbers, lists and maps of texts are JSON")
+/// The JSON by which the library is told. Texts, numbers, lists and maps of texts are JSON; only what
+/// is deeper than it is read is not spelled.
+fn spelled(value: &impl serde::Serialize) -> Result<Vec<u8>, Refusal> {
+    serde_json::to_vec(value).map_err(|_| Refusal::BadInput)
 }

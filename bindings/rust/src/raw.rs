@@ -1,6 +1,6 @@
 //! The calls of the static library, as typst_html.h has them.
 
-use crate::{Kind, Options, Refusal};
+use crate::{Kind, Options, Refusal, VERSION};
 
 /// How a call ended.
 #[repr(C)]
@@ -55,8 +55,9 @@ pub(crate) fn write(kind: Kind, pretty: bool, input: &[u8]) -> Result<String, Re
         Kind::Items => 1,
     };
     text_by(input.len(), |output| {
-        // SAFETY: the declaration is that of the export, which requires nothing beyond its types; each
-        // pointer and length are those of one slice, that of `output` lent for writing.
+        // SAFETY: the library is of this version, so the declaration is that of the export, which requires
+        // nothing beyond its types; each pointer and length are those of one slice, that of `output` lent
+        // for writing.
         unsafe {
             typst_html_write(
                 kind,
@@ -105,12 +106,16 @@ pub(crate) fn check(limit: u32, page: &[u8]) -> Result<String, Refusal> {
 }
 
 /// The text that a call makes, in a buffer that is mostly long enough: four bytes for each of the input.
+/// A library of another version is not called.
 fn text_by(length: usize, call: impl Fn(&mut [u8]) -> Reply) -> Result<String, Refusal> {
+    if version() != VERSION {
+        return Err(Refusal::OtherLibrary);
+    }
     let mut output = vec![0; 4 * length + 1024];
     loop {
         let reply = call(&mut output);
         match reply.status {
-            0 => {
+            0 if reply.length <= output.len() => {
                 output.truncate(reply.length);
                 output.shrink_to_fit();
                 return Ok(String::from_utf8(output).expect("the library writes UTF-8"));
@@ -123,7 +128,8 @@ fn text_by(length: usize, call: impl Fn(&mut [u8]) -> Reply) -> Result<String, R
             }
             2 => return Err(Refusal::BadInput),
             3 => return Err(Refusal::OutOfMemory),
-            _ => output.resize(reply.length, 0),
+            4 if reply.length > output.len() => output.resize(reply.length, 0),
+            _ => return Err(Refusal::OtherLibrary),
         }
     }
 }

@@ -2,6 +2,8 @@
 
 use thiserror::Error;
 
+const OTHER_LIBRARY: &str = "the library that is linked is not of the version that is wanted";
+
 /// Why there is no text.
 #[derive(Clone, Copy, Debug, PartialEq, Eq, Error)]
 pub enum Refusal {
@@ -23,6 +25,10 @@ pub enum Refusal {
     /// An allocation failed.
     #[error("out of memory")]
     OutOfMemory,
+    /// The library that is linked has another [`version`](crate::version), or replies as none of
+    /// [`VERSION`](crate::VERSION) does.
+    #[error("{OTHER_LIBRARY}")]
+    OtherLibrary,
 }
 
 impl Refusal {
@@ -30,7 +36,7 @@ impl Refusal {
     pub fn number(&self) -> u8 {
         match self {
             Refusal::Refused { number, .. } => *number,
-            Refusal::BadInput | Refusal::OutOfMemory => 0,
+            Refusal::BadInput | Refusal::OutOfMemory | Refusal::OtherLibrary => 0,
         }
     }
 
@@ -38,7 +44,7 @@ impl Refusal {
     pub fn span(&self) -> u64 {
         match self {
             Refusal::Refused { span, .. } => *span,
-            Refusal::BadInput | Refusal::OutOfMemory => 0,
+            Refusal::BadInput | Refusal::OutOfMemory | Refusal::OtherLibrary => 0,
         }
     }
 
@@ -48,6 +54,7 @@ impl Refusal {
             Refusal::Refused { number, .. } => words(number),
             Refusal::BadInput => "bad input",
             Refusal::OutOfMemory => "out of memory",
+            Refusal::OtherLibrary => OTHER_LIBRARY,
         }
     }
 }

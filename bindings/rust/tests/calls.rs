@@ -194,6 +194,36 @@ fn refusals_have_numbers_spans_and_words() {
     assert_eq!(Refusal::BadInput.to_string(), "bad input");
 }
 
+/// So many elements in one another, the inmost without a body.
+fn nested(count: usize) -> Element {
+    (1..count).fold(Element::new("b"), |inner, _| Element::new("b").child(inner))
+}
+
+/// They are built, refused and dropped, on a stack of 256 KB.
+#[test]
+fn items_of_any_depth_are_refused_or_written() {
+    let small = thread::Builder::new().stack_size(256 << 10);
+    let all = || {
+        assert!(write_tree(&nested(63), false).is_ok());
+        for count in [64, 65, 2_000, 100_000] {
+            let root = nested(count);
+            assert_eq!(write_tree(&root, false), Err(Refusal::BadInput));
+            let document = Document::new().item(root);
+            let options = Options {
+                limit: 10_000,
+                ..Options::default()
+            };
+            assert_eq!(write(&document, options), Err(Refusal::BadInput));
+        }
+        for around in [Item::Block, Item::Box] {
+            let block = (0..100_000).fold(Item::Hole, |inner, _| around(vec![inner]));
+            let document = Document::new().footnote(block);
+            assert!(serde_json::to_vec(&document).is_err());
+        }
+    };
+    small.spawn(all).unwrap().join().unwrap();
+}
+
 #[test]
 fn a_tree_with_a_block_is_bad_input() {
     let tree = Element::new("p").child(Item::Block(vec![]));

@@ -1,0 +1,93 @@
+//! What a caller sees of a library that is not the one that the crate was made for. Its calls are those of
+//! this file, which the linker finds before those of the archive.
+
+use std::process::abort;
+use std::sync::atomic::{AtomicU32, AtomicUsize, Ordering::SeqCst};
+use typst_html_proved::*;
+
+/// As the library lays it out.
+#[repr(C)]
+pub struct Reply {
+    length: usize,
+    span: u64,
+    status: u8,
+    number: u8,
+}
+
+static LINKED: AtomicU32 = AtomicU32::new(VERSION);
+static CALLS: AtomicUsize = AtomicUsize::new(0);
+
+/// A reply with that status. One call is too many after a few: then the crate never ends.
+fn reply(status: u8) -> Reply {
+    if CALLS.fetch_add(1, SeqCst) > 10 {
+        abort();
+    }
+    Reply {
+        length: 7,
+        span: 0,
+        status,
+        number: 0,
+    }
+}
+
+#[no_mangle]
+extern "C" fn typst_html_version() -> u32 {
+    LINKED.load(SeqCst)
+}
+
+/// For each kind and layout another status: one that is known, and three that are not.
+#[no_mangle]
+extern "C" fn typst_html_write(
+    kind: u8,
+    layout: u8,
+    _: *const u8,
+    _: usize,
+    _: *mut u8,
+    _: usize,
+) -> Reply {
+    reply([4, 5, 200, 255][usize::from(2 * kind + layout)])
+}
+
+#[no_mangle]
+extern "C" fn typst_html_document(
+    _: u8,
+    _: u8,
+    _: u32,
+    _: *const u8,
+    _: usize,
+    _: *mut u8,
+    _: usize,
+) -> Reply {
+    reply(6)
+}
+
+#[no_mangle]
+extern "C" fn typst_html_check(_: u32, _: *const u8, _: usize, _: *mut u8, _: usize) -> Reply {
+    reply(7)
+}
+
+/// Each call of this crate, of which none has a text. (Status 4 tells a length that is less than the
+/// buffer's.)
+fn all_are_refused() {
+    for kind in [Kind::Tree, Kind::Items] {
+        for pretty in [false, true] {
+            assert_eq!(write_json(kind, b"[]", pretty), Err(Refusal::OtherLibrary));
+        }
+    }
+    let document = write(&Document::new(), Options::default());
+    assert_eq!(document, Err(Refusal::OtherLibrary));
+    assert_eq!(check("", 50), Err(Refusal::OtherLibrary));
+}
+
+#[test]
+fn another_library_is_told() {
+    all_are_refused();
+    assert_eq!(CALLS.load(SeqCst), 6);
+    LINKED.store(VERSION + 1, SeqCst);
+    all_are_refused();
+    assert_eq!(CALLS.load(SeqCst), 6, "another version is not called");
+    assert_eq!(
+        Refusal::OtherLibrary.to_string(),
+        "the library that is linked is not of the version that is wanted"
+    );
+}
