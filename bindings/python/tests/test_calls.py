@@ -5,16 +5,18 @@ import doctest
 import json
 import sys
 import unittest
+import unittest.mock
 from concurrent.futures import ThreadPoolExecutor
 from pathlib import Path
 
 BINDINGS = Path(__file__).resolve().parents[2]
-sys.path[:0] = [str(BINDINGS), str(BINDINGS / "python")]
+sys.path[:0] = [str(BINDINGS), str(BINDINGS / "python"), str(BINDINGS / "python" / "tests")]
 
+import refused  # noqa: E402
 import rows  # noqa: E402
 import typst_html_proved as html  # noqa: E402
 from typst_html_proved import Info, Refused, element  # noqa: E402
-from typst_html_proved._library import LIBRARY  # noqa: E402
+from typst_html_proved._library import LIBRARY, Reply  # noqa: E402
 
 ROWS = rows.rows()
 KINDS = ("tree", "items")
@@ -111,11 +113,41 @@ class Calls(unittest.TestCase):
         self.assertIs(outcome(html.write_tree, html.block()), html.BadInput)
         deep = []
         for _ in range(100_000):
-            deep = [deep]
-        self.assertIs(outcome(html.write, deep), html.BadInput)
+            deep = ["el", "b", [], [deep]]
+        self.assertIs(outcome(html.write, [deep]), html.BadInput)
+        for count in (64, 2_000, 100_000):
+            item = element("b")
+            for _ in range(1, count):
+                item = element("b", item)
+            self.assertIs(outcome(html.write, [item], limit=10_000), html.BadInput)
+            self.assertIs(outcome(html.write_tree, item), html.BadInput)
 
-    def test_one_text_is_no_list_of_texts(self):
-        self.assertIs(outcome(html.write, [], info=Info(authors="Reed")), html.BadInput)
+    def test_what_is_refused_for_its_type(self):
+        for words, call in refused.REFUSED:
+            with self.subTest(words):
+                with self.assertRaises(html.BadInput) as caught:
+                    call()
+                self.assertEqual(str(caught.exception), f"bad input: {words}")
+
+    def test_attributes_and_items_of_each_type(self):
+        texts = refused.taken()
+        self.assertEqual(texts, texts[:1] * len(texts))
+        self.assertTrue(texts[0].endswith('<body><p id="x">a</p></body></html>'), texts[0])
+
+    def test_one_text_is_one_item(self):
+        self.assertEqual(html.write("a  b", footnotes="c"), html.write(["a  b"], footnotes=["c"]))
+
+    def test_a_library_that_replies_otherwise(self):
+        # A status that is none, and a length that is no longer than the buffer of a text that does not fit.
+        for status, length in ((5, 0), (255, 1 << 20), (4, 0), (4, 7)):
+            calls = iter(range(10))
+
+            def call(*_):
+                next(calls)
+                return Reply(length=length, status=status)
+
+            with unittest.mock.patch.object(LIBRARY, "typst_html_write", call), self.subTest(status, length=length):
+                self.assertIs(outcome(html.write_json, "[]"), html.OtherLibrary)
 
     def test_findings(self):
         page = '<!DOCTYPE html><p id="a"><a href="#b%20c&quot;">x</a><b id="a"></b><b id="a">y</b></p>'

@@ -10,7 +10,15 @@ a void element has a child (refusal 12 at 1) 12 1
 
 A document is a list of items. They are made by the functions `text`, `element`, `block`, `box`, `start` and
 `end` and the constants `SPACE`, `BREAK` and `HOLE`; a `str` where an item may stand is a text. Items are lists
-that JSON can hold, so others may make them.
+that JSON can hold, so others may make them, and `Node(["text", "a"])` is one for a checker of types. What is no item
+is refused where it is given:
+
+>>> element("p", [element("b")])
+Traceback (most recent call last):
+    ...
+typst_html_proved.BadInput: bad input: an item is a list of items: give each of them
+
+`mypy --strict` refuses what is refused for its type.
 
 A page that is written can be checked: `check` tells of links within it that lead nowhere, and of ids that come
 twice.
@@ -22,26 +30,41 @@ from __future__ import annotations
 
 import json
 from dataclasses import dataclass
-from typing import Any, Iterable, Sequence, Union
+from typing import Any, Iterable, Iterator, List, Mapping, Sequence, Tuple, Union, ValuesView
 
 from ._library import VERSION, Reply, called
 
 __all__ = [
-    "BREAK", "HOLE", "SPACE", "VERSION", "BadInput", "DeadFragment", "Failure", "Findings", "Info", "Item",
-    "OutOfMemory", "Refused", "RepeatedId", "block", "box", "check", "element", "end", "start", "text", "write",
-    "write_json", "write_tree",
+    "BREAK", "HOLE", "SPACE", "VERSION", "Attrs", "BadInput", "DeadFragment", "Failure", "Findings", "Info", "Item",
+    "Items", "Node", "OtherLibrary", "OutOfMemory", "Refused", "RepeatedId", "Texts", "block", "box", "check", "element",
+    "end", "start", "text", "write", "write_json", "write_tree",
 ]  # fmt: skip
 
-Item = Union[str, Sequence[Any]]
-"""An item: a text, or a list such as `["text", t]` or `["el", tag, [[name, value], ..], [item, ..]]`."""
 
-SPACE: Item = ["space"]
+
+class Node(List[object]):
+    """An item in a list, such as `["text", t]` or `["el", tag, [[name, value], ..], [item, ..]]`."""
+
+
+Item = Union[str, Node]
+"""An item: a text, or a list that spells one."""
+
+Items = Union[Sequence[Item], Iterator[Item], "ValuesView[Item]"]
+"""Items in their order. A `str` is one text."""
+
+Texts = Union[List[str], Tuple[str, ...]]
+"""Texts in their order."""
+
+Attrs = Union[Mapping[str, str], Iterable[Tuple[str, str]]]
+"""Names and values, in their order."""
+
+SPACE: Item = Node(["space"])
 """A space, as between two words."""
 
-BREAK: Item = ["break"]
+BREAK: Item = Node(["break"])
 """A line break."""
 
-HOLE: Item = ["hole"]
+HOLE: Item = Node(["hole"])
 """Something that has no place in HTML, and is left out."""
 
 WORDS = {
@@ -95,10 +118,10 @@ class Refused(Failure):
 
 class BadInput(Failure, ValueError):
     """The input spells nothing that can be written, or nests more than 127 lists; or a page that is checked has
-    another syntax than those that are written."""
+    another syntax than those that are written. It says what is wrong where this package sees it."""
 
     def __str__(self) -> str:
-        return "bad input"
+        return ": ".join(["bad input", *map(str, self.args)])
 
 
 class OutOfMemory(Failure, MemoryError):
@@ -108,14 +131,21 @@ class OutOfMemory(Failure, MemoryError):
         return "out of memory"
 
 
+class OtherLibrary(Failure):
+    """The library replies as none of this version does. (One that tells another version is not imported.)"""
+
+    def __str__(self) -> str:
+        return f"the library replies as none of version {VERSION} does"
+
+
 @dataclass(frozen=True)
 class Info:
     """What is known of a document, for its head."""
 
     title: str | None = None
     description: str | None = None
-    authors: Sequence[str] = ()
-    keywords: Sequence[str] = ()
+    authors: Texts = ()
+    keywords: Texts = ()
     lang: str | None = None
     """The language, as `de`."""
     region: str | None = None
@@ -124,12 +154,12 @@ class Info:
     def members(self) -> dict[str, Any]:
         """What is known as the library reads it."""
         given = {
-            "title": self.title,
-            "description": self.description,
-            "authors": _texts(self.authors),
-            "keywords": _texts(self.keywords),
-            "lang": self.lang,
-            "region": self.region if self.lang is not None else None,
+            "title": _known("a title", self.title),
+            "description": _known("a description", self.description),
+            "authors": _texts("authors", self.authors),
+            "keywords": _texts("keywords", self.keywords),
+            "lang": _known("a language", self.lang),
+            "region": _known("a region", self.region) if self.lang is not None else None,
         }
         return {name: value for name, value in given.items() if value is not None}
 
@@ -165,49 +195,116 @@ class Findings:
         return bool(self.dead_fragments or self.repeated_ids)
 
 
-def _texts(texts: Sequence[str]) -> list[str]:
+KINDS = ("text", "space", "break", "hole", "el", "block", "box", "start", "end")
+
+
+def _told(value: object) -> str:
+    """How a value is told of that is refused."""
+    return "None" if value is None else f"of type {type(value).__name__}"
+
+
+def _str(what: str, value: object) -> str:
+    if not isinstance(value, str):
+        raise BadInput(f"{what} is {_told(value)}, not a str")
+    return value
+
+
+def _known(what: str, value: str | None) -> str | None:
+    return None if value is None else _str(what, value)
+
+
+def _number(what: str, value: object, least: int, most: int) -> int:
+    if not isinstance(value, int) or isinstance(value, bool):
+        raise BadInput(f"{what} is {_told(value)}, not an int")
+    if not least <= value <= most:
+        raise BadInput(f"{what} is {value}, not from {least} to {most}")
+    return value
+
+
+def _iterated(what: str, value: Any) -> Iterator[Any]:
+    try:
+        return iter(value)
+    except TypeError:
+        raise BadInput(f"{what} are {_told(value)}") from None
+
+
+def _texts(what: str, texts: Texts) -> list[str]:
     """A list of texts; one text alone is none, though its characters are texts."""
     if isinstance(texts, str):
-        raise BadInput
-    return list(texts)
+        raise BadInput(f"{what} are one str, not a list of them")
+    return [_str(f"one of the {what}", one) for one in _iterated(what, texts)]
 
 
-def _listed(items: Iterable[Item]) -> list[Any]:
-    return [text(item) if isinstance(item, str) else item for item in items]
+def _item(item: object) -> list[object]:
+    """The item as a list."""
+    if isinstance(item, str):
+        return text(item)
+    if isinstance(item, Node):
+        return item
+    if not isinstance(item, (list, tuple)):
+        raise BadInput(f"an item is {_told(item)}")
+    if not item or not isinstance(item[0], str):
+        raise BadInput("an item is a list of items: give each of them")
+    if item[0] not in KINDS:
+        raise BadInput(f"an item is a list that begins with {item[0]!r}, which is no kind of item")
+    return list(item)
 
 
-def text(of: str) -> list[Any]:
+def _listed(what: str, items: Items) -> list[list[object]]:
+    if isinstance(items, str):
+        return [text(items)]
+    if isinstance(items, Node):
+        raise BadInput(f"{what} are one item, not a list of them")
+    if isinstance(items, Mapping):
+        raise BadInput(f"{what} are {_told(items)}")
+    return [_item(item) for item in _iterated(what, items)]
+
+
+def _pair(pair: object) -> list[str]:
+    if not isinstance(pair, (list, tuple)) or len(pair) != 2:
+        raise BadInput(f"an attribute is {_told(pair)}, not a pair of a name and a value")
+    name, value = pair
+    return [_str("the name of an attribute", name), _str(f"the value of the attribute {name!r}", value)]
+
+
+def text(of: str) -> Node:
     """A text, whatever is in it."""
-    return ["text", of]
+    return Node(["text", _str("a text", of)])
 
 
-def element(tag: str, *body: Item, attrs: Iterable[tuple[str, str]] = ()) -> list[Any]:
-    """An element with that body.
+def element(tag: str, *body: Item, attrs: Attrs = ()) -> Node:
+    """An element with that body. Attributes are a mapping, or pairs of a name and a value.
 
-    >>> element("a", "Home", attrs=[("href", "/")])
+    >>> element("a", "Home", attrs={"href": "/"})
     ['el', 'a', [['href', '/']], [['text', 'Home']]]
+    >>> element("p", attrs=["id"])
+    Traceback (most recent call last):
+        ...
+    typst_html_proved.BadInput: bad input: an attribute is of type str, not a pair of a name and a value
     """
-    return ["el", tag, [[name, value] for name, value in attrs], _listed(body)]
+    pairs = attrs.items() if isinstance(attrs, Mapping) else _iterated("attributes", attrs)
+    return Node(["el", _str("a tag", tag), [_pair(pair) for pair in pairs], [_item(item) for item in body]])
 
 
-def block(*body: Item) -> list[Any]:
+def block(*body: Item) -> Node:
     """What stands in a block of its own."""
-    return ["block", _listed(body)]
+    return Node(["block", [_item(item) for item in body]])
 
 
-def box(*body: Item) -> list[Any]:
+def box(*body: Item) -> Node:
     """What stands in a box within a line."""
-    return ["box", _listed(body)]
+    return Node(["box", [_item(item) for item in body]])
 
 
-def start(location: int, destination: int | None = None) -> list[Any]:
+def start(location: int, destination: int | None = None) -> Node:
     """A location begins, and perhaps leads to another: links get its `href` where `write` resolves them."""
-    return ["start", location] if destination is None else ["start", location, destination]
+    given = (location,) if destination is None else (location, destination)
+    return Node(["start", *(_number("a location", one, 0, (1 << 64) - 1) for one in given)])
 
 
-def end(location: int) -> list[Any]:
+def end(location: int) -> Node:
     """The location ends."""
-    return ["end", location]
+    return Node(["end", _number("a location", location, 0, (1 << 64) - 1)])
 
 
 def _spelled(value: Any) -> bytes:
@@ -215,14 +312,14 @@ def _spelled(value: Any) -> bytes:
     try:
         return json.dumps(value, ensure_ascii=False, separators=(",", ":")).encode()
     except (TypeError, UnicodeEncodeError, RecursionError) as error:
-        raise BadInput from error
+        raise BadInput(error) from error
 
 
 def _bytes(data: bytes | str) -> bytes:
     try:
-        return data.encode() if isinstance(data, str) else bytes(data)
-    except UnicodeEncodeError as error:
-        raise BadInput from error
+        return data.encode() if isinstance(data, str) else memoryview(data).tobytes()
+    except (UnicodeEncodeError, TypeError) as error:
+        raise BadInput(error) from error
 
 
 def _text(made: tuple[Reply, bytes]) -> str:
@@ -231,14 +328,14 @@ def _text(made: tuple[Reply, bytes]) -> str:
         return output.decode()
     if reply.status == 1:
         raise Refused(reply.number, reply.span)
-    raise BadInput if reply.status == 2 else OutOfMemory
+    raise {2: BadInput, 3: OutOfMemory}.get(reply.status, OtherLibrary)
 
 
 def write(
-    items: Iterable[Item],
+    items: Items,
     *,
     info: Info = Info(),
-    footnotes: Iterable[Item] = (),
+    footnotes: Items = (),
     pretty: bool = False,
     links: bool = False,
     limit: int = 50,
@@ -254,10 +351,8 @@ def write(
 
     Raises `Refused`, `BadInput` or `OutOfMemory`.
     """
-    if not 1 <= limit <= 10_000:
-        raise BadInput
-    document = {**info.members(), "items": _listed(items), "footnotes": _listed(footnotes)}
-    numbers = {"layout": int(bool(pretty)), "links": int(bool(links)), "limit": limit}
+    numbers = {"layout": int(bool(pretty)), "links": int(bool(links)), "limit": _number("the limit", limit, 1, 10_000)}
+    document = {**info.members(), "items": _listed("items", items), "footnotes": _listed("footnotes", footnotes)}
     return _text(called("typst_html_document", _spelled(document), **numbers))
 
 
@@ -269,7 +364,7 @@ def write_tree(root: Item, *, pretty: bool = False) -> str:
 
     Raises `Refused`, `BadInput` or `OutOfMemory`.
     """
-    return write_json(_spelled(root), kind="tree", pretty=pretty)
+    return write_json(_spelled(_item(root)), kind="tree", pretty=pretty)
 
 
 def write_json(data: bytes | str, *, kind: str = "items", pretty: bool = False) -> str:
@@ -288,7 +383,7 @@ def write_json(data: bytes | str, *, kind: str = "items", pretty: bool = False) 
         return _text(called("typst_html_document", data, layout=layout, links=0, limit=50))
     kinds = {"tree": 0, "items": 1}
     if kind not in kinds:
-        raise BadInput
+        raise BadInput(f"{kind!r} is no kind: tree, items or document")
     return _text(called("typst_html_write", data, kind=kinds[kind], layout=layout))
 
 
@@ -303,8 +398,7 @@ def check(page: bytes | str, *, limit: int = 50) -> Findings:
 
     Raises `Refused`, `BadInput` or `OutOfMemory`.
     """
-    if not 1 <= limit <= 10_000:
-        raise BadInput
+    limit = _number("the limit", limit, 1, 10_000)
     found = json.loads(_text(called("typst_html_check", _bytes(page), limit=limit)))
     return Findings(
         tuple(DeadFragment(tuple(it["path"]), it["fragment"]) for it in found["dead_fragments"]),
