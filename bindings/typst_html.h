@@ -8,7 +8,9 @@
  *
  * Threads: calls share nothing, so any number may run at once, each with an `output` of its own. A call
  * takes memory by `malloc`, `realloc` and `free`, so it is not for signal handlers, nor for a forked
- * child of a process with threads. It wants 256 KB of stack.
+ * child of a process with threads. It wants 256 KB of stack; typst_html_check with a limit above 1,000
+ * wants 256 bytes more for each level above that (2.5 MB at 10,000). Where there is less, a deep input ends
+ * the process.
  *
  * Linux on x86-64 (x86-64-v2 and later).
  */

@@ -1,4 +1,6 @@
 /* What a caller in C sees of the library. The worked rows are those of crates/tests_rows (rows.h is made). */
+#define _POSIX_C_SOURCE 200809L
+
 #include "typst_html.h"
 
 #include <pthread.h>
@@ -137,6 +139,42 @@ static void *all_rows(void *bad) {
     return NULL;
 }
 
+/* A page of elements in one another, as deep as the limit allows: it is read. */
+static void *deepest_page(void *limit) {
+    const uint32_t deep = *(uint32_t *)limit;
+    const char *doctype = "<!DOCTYPE html>", *start = "<a href=\"#b\" id=\"a\">";
+    char *page = malloc(strlen(doctype) + deep * (strlen(start) + 4) + 1), *end = stpcpy(page, doctype);
+    uint8_t none;
+    for (uint32_t i = 0; i < deep; i++)
+        end = stpcpy(end, start);
+    for (uint32_t i = 0; i < deep; i++)
+        end = stpcpy(end, "</a>");
+    struct typst_html_reply reply =
+        typst_html_check(deep, (const uint8_t *)page, (size_t)(end - page), &none, 0);
+    expect("the deepest page", reply.status == TYPST_HTML_TOO_SHORT);
+    free(page);
+    return NULL;
+}
+
+/* As much stack as the header says: a thread that lacks some ends the process. */
+static void the_stack_is_enough(void) {
+    static uint32_t limits[] = {50, 1000, 1001, 4000, 10000};
+    bool bad = false;
+    pthread_attr_t with;
+    pthread_t thread;
+    pthread_attr_init(&with);
+    for (size_t i = 0; i < sizeof limits / sizeof *limits; i++) {
+        size_t above = limits[i] > 1000 ? limits[i] - 1000 : 0;
+        pthread_attr_setstacksize(&with, (256 << 10) + (256 * above + 4095) / 4096 * 4096);
+        pthread_create(&thread, &with, deepest_page, &limits[i]);
+        pthread_join(thread, NULL);
+    }
+    pthread_attr_setstacksize(&with, 256 << 10);
+    pthread_create(&thread, &with, all_rows, &bad);
+    pthread_join(thread, NULL);
+    expect("rows on a small stack", !bad);
+}
+
 static void eight_threads_agree(void) {
     pthread_t threads[8];
     bool bad[8] = {false}, all = true;
@@ -183,6 +221,7 @@ int main(int count, char **words) {
     wrong_numbers_are_bad_input();
     pages_are_checked();
     if (!is_short) {
+        the_stack_is_enough();
         eight_threads_agree();
         ten_megabytes_are_written();
     }

@@ -19,7 +19,9 @@
 //!
 //! A page that is written can be checked: links within it that lead nowhere, and ids that come twice.
 //!
-//! Calls share nothing, so any number of threads may make them. Each wants 256 KB of stack.
+//! Calls share nothing, so any number of threads may make them. Each wants 256 KB of stack; [`check`]
+//! with a limit above 1,000 wants 256 bytes more for each level above that (2.5 MB at 10,000), and a
+//! thread of Rust's has 2 MB. Where there is less, a deep page ends the process.
 
 #![deny(missing_docs)]
 
