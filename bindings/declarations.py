@@ -33,11 +33,13 @@ OF_PYTHON = {
 CHANGES = [
     ("header", "uint8_t kind, uint8_t layout", "uint8_t layout, uint8_t kind", "calls"),
     ("header", "uint8_t links", "uint32_t links", "calls"),
-    ("source", "document(\n    alloc: Global,\n    layout: u8,\n    links: u8,", "document(\n    alloc: Global,\n    links: u8,\n    layout: u8,", "calls"),
+    ("source", "document(\n    alloc: Global,\n    layout: u8,\n    links: u8,",
+     "document(\n    alloc: Global,\n    links: u8,\n    layout: u8,", "calls"),
     ("source", "    page: &[u8],\n    output: &mut [u8],", "    output: &mut [u8],\n    page: &[u8],", "calls"),
     ("raw", "        layout: u8,\n        links: u8,", "        links: u8,\n        layout: u8,", "calls"),
     ("raw", "page: *const u8", "input: *const u8", "calls"),
-    ("library", '"layout": ctypes.c_uint8, "links": ctypes.c_uint8', '"links": ctypes.c_uint8, "layout": ctypes.c_uint8', "calls"),
+    ("library", '"layout": ctypes.c_uint8, "links": ctypes.c_uint8',
+     '"links": ctypes.c_uint8, "layout": ctypes.c_uint8', "calls"),
     ("library", '"limit": ctypes.c_uint32', '"limit": ctypes.c_uint8', "calls"),
     ("source", "#[repr(C)]\n", "", "reply"),
     ("raw", "#[repr(C)]\n", "", "reply"),
@@ -86,7 +88,8 @@ def of_header(text):
     found = {}
     declared = r"^((?:struct )?\w+) (typst_html_\w+)\(([^)]*)\);"
     for gives, name, takes in re.findall(declared, without_comments(text), re.M):
-        takes = [re.match(r"((?:const |struct )?\w+ \*?)(\w+)$", " ".join(it.split())) for it in parted(takes) if it != "void"]
+        takes = [" ".join(it.split()) for it in parted(takes) if it != "void"]
+        takes = [re.match(r"((?:const |struct )?\w+ \*?)(\w+)$", it) for it in takes]
         found[name] = ([(it[2], OF_C[it[1].strip()]) for it in takes], OF_C[gives])
     return found
 
@@ -117,7 +120,8 @@ def assigned(tree):
 
 def of_python(names):
     calls = plain(names["DECLARED"])
-    return {name: ([(it, OF_PYTHON[kind]) for it, kind in takes.items()], OF_PYTHON[gives]) for name, (gives, takes) in calls.items()}
+    given = lambda takes: [(name, OF_PYTHON[kind]) for name, kind in takes.items()]
+    return {name: (given(takes), OF_PYTHON[gives]) for name, (gives, takes) in calls.items()}
 
 
 def struct_of_python(tree):
@@ -179,7 +183,8 @@ def main():
         print(f"{what} differ:", *found[what], sep="\n  ", file=sys.stderr)
     missed = [] if wrong else list(unseen(texts))
     print(*missed, sep="\n", end="\n" if missed else "", file=sys.stderr)
-    print(f"declarations: {len(found) - len(wrong)} passed, {len(wrong)} failed; {len(missed)} of {len(CHANGES)} changes unseen")
+    seen = f"{len(missed)} of {len(CHANGES)} changes unseen"
+    print(f"declarations: {len(found) - len(wrong)} passed, {len(wrong)} failed; {seen}")
     return 1 if wrong or missed else 0
 
 

@@ -46,6 +46,7 @@ REFUSED: list[tuple[str, Callable[[], object]]] = [
     ("one of the keywords is of type int, not a str", lambda: write([], info=Info(keywords=[3]))),  # type: ignore
     ("a title is of type int, not a str", lambda: write([], info=Info(title=3))),  # type: ignore
     ("an item is None", lambda: write_tree(None)),  # type: ignore
+    ("'trees' is no kind: tree, items or document", lambda: write_json("[]", kind="trees")),  # type: ignore
     ("memoryview: a bytes-like object is required, not 'int'", lambda: write_json(3)),  # type: ignore
     ("memoryview: a bytes-like object is required, not 'NoneType'", lambda: check(None)),  # type: ignore
 ]
@@ -55,7 +56,6 @@ REFUSED += [
     ("a location is -1, not from 0 to 18446744073709551615", lambda: start(-1)),
     ("a location is 18446744073709551616, not from 0 to 18446744073709551615", lambda: end(1 << 64)),
     ("the limit is 0, not from 1 to 10000", lambda: write([], limit=0)),
-    ("'trees' is no kind: tree, items or document", lambda: write_json("[]", kind="trees")),
 ]
 
 

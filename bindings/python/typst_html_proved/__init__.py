@@ -30,33 +30,35 @@ from __future__ import annotations
 
 import json
 from dataclasses import dataclass
-from typing import Any, Iterable, Iterator, List, Mapping, Sequence, Tuple, Union, ValuesView
+from typing import Any, Iterable, Iterator, Literal, Mapping, Sequence, Union, ValuesView
 
 from ._library import VERSION, Reply, called
 
 __all__ = [
     "BREAK", "HOLE", "SPACE", "VERSION", "Attrs", "BadInput", "DeadFragment", "Failure", "Findings", "Info", "Item",
-    "Items", "Node", "OtherLibrary", "OutOfMemory", "Refused", "RepeatedId", "Texts", "block", "box", "check", "element",
-    "end", "start", "text", "write", "write_json", "write_tree",
+    "Items", "Kind", "Node", "OtherLibrary", "OutOfMemory", "Refused", "RepeatedId", "Texts", "block", "box", "check",
+    "element", "end", "start", "text", "write", "write_json", "write_tree",
 ]  # fmt: skip
 
 
-
-class Node(List[object]):
+class Node(list[object]):
     """An item in a list, such as `["text", t]` or `["el", tag, [[name, value], ..], [item, ..]]`."""
 
 
 Item = Union[str, Node]
 """An item: a text, or a list that spells one."""
 
-Items = Union[Sequence[Item], Iterator[Item], "ValuesView[Item]"]
+Items = Union[Sequence[Item], Iterator[Item], ValuesView[Item]]
 """Items in their order. A `str` is one text."""
 
-Texts = Union[List[str], Tuple[str, ...]]
+Texts = Union[list[str], tuple[str, ...]]
 """Texts in their order."""
 
-Attrs = Union[Mapping[str, str], Iterable[Tuple[str, str]]]
+Attrs = Union[Mapping[str, str], Iterable[tuple[str, str]]]
 """Names and values, in their order."""
+
+Kind = Literal["tree", "items", "document"]
+"""What JSON spells."""
 
 SPACE: Item = Node(["space"])
 """A space, as between two words."""
@@ -367,7 +369,7 @@ def write_tree(root: Item, *, pretty: bool = False) -> str:
     return write_json(_spelled(_item(root)), kind="tree", pretty=pretty)
 
 
-def write_json(data: bytes | str, *, kind: str = "items", pretty: bool = False) -> str:
+def write_json(data: bytes | str, *, kind: Kind = "items", pretty: bool = False) -> str:
     """The text of what JSON spells: a `tree`, the `items` of a document, or a `document`, which is an object
     with the members `title`, `description`, `authors`, `keywords`, `lang`, `region`, `items` and `footnotes`, of
     which each may be left out, but for the `lang` of a `region`.
