@@ -58,7 +58,8 @@ where
     let _ = css.to_inline().to_string(alloc)?;
     let css = Properties::build(alloc, ()).with("width", &"1pt")?;
     let _ = css.finish();
-    let _ = ListType::new(alloc, AttrType::Presence, ',', false)?;
+    let of_text = AttrType::Native(NativeType::Str);
+    let _ = ListType::new(alloc, of_text, ',', false)?;
     Ok(())
 }
 
