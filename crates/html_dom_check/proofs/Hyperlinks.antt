@@ -5,8 +5,9 @@ use Rattle.std.proofs.lemmas.Bool.{false≢true}
 use Rattle.html_names.specs.Names.{stands_in}
 use Rattle.html_dom_tree.specs.Attributes.{first}
 use Rattle.html_dom_tree.specs.Tree.{Head, tag_node, text_node, element_node, frame_node, NodesView, none, node}
+use Rattle.html_dom_link.specs.Indicated.{element_places}
 use Rattle.html_dom_check.specs.CheckLaws.{NoHyperlinkNoDeadFragment}
-use Rattle.html_dom_check.specs.Fragments.{dead_among, fragments_at, fragments_of, tree_ids}
+use Rattle.html_dom_check.specs.Fragments.{dead_among, fragments_at, fragments_of}
 use Rattle.html_dom_check.specs.Hyperlinks.{HeadIsNoHyperlink, NodesHaveNoHyperlink}
 use Rattle.html_dom_check.specs.PlacedTexts.{placed_at, node_placed, nodes_placed}
 
@@ -36,7 +37,7 @@ no_links path i (node (frame_node f) ns) free = no_links path (suc i) ns free.1
 pub no_hyperlink_no_dead_fragment : NoHyperlinkNoDeadFragment
 unfolding node_placed
 no_hyperlink_no_dead_fragment e free =
-    let is_id = stands_in (tree_ids e) in
-    ap (λ l. dead_among is_id (placed_at [] l ++ nodes_placed fragments_at [] 0 e.1))
+    let is_place = stands_in (element_places e) in
+    ap (λ l. dead_among is_place (placed_at [] l ++ nodes_placed fragments_at [] 0 e.1))
     (no_fragment e.0 free.0)
-    ∙ ap (dead_among is_id) (no_links [] 0 e.1 free.1)
+    ∙ ap (dead_among is_place) (no_links [] 0 e.1 free.1)

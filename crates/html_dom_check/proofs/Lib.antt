@@ -1,7 +1,6 @@
 pub mod Walks
 pub mod DeadParts
 pub mod PassedIds
-pub mod Hrefs
 pub mod Hyperlinks
 pub mod LinkedChecks
 pub mod NormalForms

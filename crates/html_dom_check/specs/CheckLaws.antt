@@ -5,15 +5,15 @@ use Rattle.html_dom_tree.specs.FrameFree.{ElementIsFrameFree}
 use Rattle.html_dom_tree.specs.PlainTree.{element_normal}
 use Rattle.html_dom_tree.specs.Tree.{ElementView}
 use Rattle.html_dom_document.specs.Documents.{DocumentView, document_root}
-use Rattle.html_dom_link.specs.Answered.{shown_names}
 use Rattle.html_dom_link.specs.Distinct.{IdsAreDistinct, are_distinct}
-use Rattle.html_dom_link.specs.GivenLinks.{AnchorsAreTexts, KnownAnchorsAreShown}
-use Rattle.html_dom_link.specs.Links.{Anchors, document_with_links, root_with_links}
+use Rattle.html_dom_link.specs.GivenLinks.{AnchorsAreTexts, KnownAnchorsAreShown, LeadsTo}
+use Rattle.html_dom_link.specs.Indicated.{element_places}
+use Rattle.html_dom_link.specs.Links.{Hrefs, document_with_links, root_with_links}
 use Rattle.html_dom_link.specs.NewNames.{Name, element_names}
-use Rattle.html_dom_check.specs.Fragments.{dead_fragments, tree_ids}
+use Rattle.html_dom_check.specs.Fragments.{dead_fragments}
 use Rattle.html_dom_check.specs.Hyperlinks.{ElementHasNoHyperlink}
 use Rattle.html_dom_check.specs.PlacedTexts.{Placed}
-use Rattle.html_dom_check.specs.RepeatedIds.{placed_ids, repeated_ids}
+use Rattle.html_dom_check.specs.RepeatedIds.{placed_ids, repeated_ids, tree_ids}
 
 -- what is found, wherever it stands
 abbrev pub texts_of : List Placed → List Name
@@ -28,11 +28,10 @@ abbrev pub DistinctAreNotRepeated : Type 0
 DistinctAreNotRepeated = (e : ElementView) → are_distinct (element_names e) ≡ true →
     repeated_ids e ≡ []
 
--- each anchor is a text, and stands in the tree
-pub record AnchorsStand (anchor : Anchors) (e : ElementView) : Type 0 where
-  pub texts : AnchorsAreTexts anchor
-  pub shown : (location : ℕ) (name : Name) → anchor location ≡ Some name →
-      stands_in (shown_names e.1) name ≡ true
+-- each `href` leads to a name in a tree
+abbrev pub HrefsLead : Hrefs → ElementView → Type 0
+HrefsLead hrefs e = (location : ℕ) (href : List ℕ) → hrefs location ≡ Some href →
+    (name : Name) × LeadsTo (stands_in (element_places e)) href name
 
 -- a tree without hyperlinks has no dead fragment
 abbrev pub NoHyperlinkNoDeadFragment : Type 0
@@ -40,13 +39,13 @@ NoHyperlinkNoDeadFragment = (e : ElementView) → ElementHasNoHyperlink e → de
 
 -- links that are given an `href` add no dead fragment: those of the new tree are those that it had
 abbrev pub LinksAddNoDeadFragment : Type 0
-LinksAddNoDeadFragment = (anchor : Anchors) (e : ElementView) → AnchorsStand anchor e →
-    dead_fragments (root_with_links anchor e) ≡ dead_fragments e
+LinksAddNoDeadFragment = (hrefs : Hrefs) (e : ElementView) → HrefsLead hrefs e →
+    dead_fragments (root_with_links hrefs e) ≡ dead_fragments e
 
 -- and they repeat no id
 abbrev pub LinksRepeatNoId : Type 0
-LinksRepeatNoId = (anchor : Anchors) (e : ElementView) →
-    repeated_ids (root_with_links anchor e) ≡ repeated_ids e
+LinksRepeatNoId = (hrefs : Hrefs) (e : ElementView) →
+    repeated_ids (root_with_links hrefs e) ≡ repeated_ids e
 
 -- once the links of a document are resolved, where the anchors that are known stand in its tree, its
 -- dead fragments are those that it had; no id is repeated that was not, and none where all differ

@@ -12,8 +12,8 @@ use Rattle.html_dom_check.specs.declared.repeated.Walk as repeated
 
 -- the links among these that are dead
 abbrev pub FindsDead : BTreeSet (String Global) → (old new : fragments.Walk) → List Placed → Type 0
-FindsDead ids old new links =
-    dead_view new.dead.items ≡ dead_view old.dead.items ++ dead_among (used_in ids) links
+FindsDead places old new links =
+    dead_view new.dead.items ≡ dead_view old.dead.items ++ dead_among (used_in places) links
 
 -- these ids are passed
 abbrev pub PassesIds : (old new : repeated.Walk) → List Placed → Type 0

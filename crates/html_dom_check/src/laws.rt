@@ -5,8 +5,8 @@ ghost use Rattle.html_dom_document.specs.Views.{document_view};
 
 use html_dom_document::HtmlDocument;
 
-/// The ids that are looked at for repeats are those to which a fragment may lead. Where all names of
-/// a tree differ, as `ids_are_distinct` tells of a document's, none is repeated.
+/// The ids that are looked at for repeats are those of the tree. Where all names of a tree differ, as
+/// `ids_are_distinct` tells of a document's, none is repeated.
 #[tactic(auto, using(crate::proofs::LinkedChecks::placed_ids_are_ids, crate::proofs::LinkedChecks::distinct_are_not_repeated))]
 pub fn repeated()
     ensures ids { PlacedIdsAreIds }
@@ -19,7 +19,7 @@ pub fn no_hyperlink_is_dead()
     ensures { NoHyperlinkNoDeadFragment }
 {}
 
-/// Where each anchor stands in the tree, links that are given an `href`, as `resolve_links` gives
+/// Where each `href` leads to a name in the tree, links that are given one, as `resolve_links` gives
 /// them, add no dead fragment: those of the new tree are exactly those that the old one had, so none
 /// where no link had an `href` of its own. They repeat no id.
 #[tactic(auto, using(crate::proofs::LinkedChecks::links_add_no_dead_fragment, crate::proofs::LinkedChecks::links_repeat_no_id))]

@@ -5,7 +5,7 @@ use Rattle.html_dom_document.specs.Documents.{DocumentView, document_root, eleme
 use Rattle.html_dom_link.specs.Anchors.{element_with_anchors, nodes_with_anchors}
 use Rattle.html_dom_link.specs.Events.{Targets}
 use Rattle.html_dom_link.specs.LinkAnchors.{document_with_new_anchors, document_targets}
-use Rattle.html_dom_link.specs.Links.{Anchors, document_with_links, nodes_with_links, root_with_links}
+use Rattle.html_dom_link.specs.Links.{Hrefs, document_hrefs, document_with_links, nodes_with_links, root_with_links}
 
 -- an element put at a place stands there, unless there is no place
 pub placed : (ns : NodesView) (i : ℕ) (change : ElementView → ElementView)
@@ -16,16 +16,16 @@ placed none i change e = sym e
 placed (node n ns) zero change e = refl
 placed (node n ns) (suc i) change e = placed ns i change e
 
-no_links_in_nothing : (anchor : Anchors) →
-    root_with_links anchor (new_element []) ≡ new_element []
+no_links_in_nothing : (hrefs : Hrefs) →
+    root_with_links hrefs (new_element []) ≡ new_element []
 unfolding nodes_with_links
-no_links_in_nothing anchor = refl
+no_links_in_nothing hrefs = refl
 
 pub root_has_links : (d : DocumentView) →
-    document_root (document_with_links d) ≡ root_with_links d.introspector.anchor (document_root d)
+    document_root (document_with_links d) ≡ root_with_links (document_hrefs d) (document_root d)
 root_has_links d =
-    placed d.output.nodes d.output.root (root_with_links d.introspector.anchor)
-    (no_links_in_nothing d.introspector.anchor)
+    placed d.output.nodes d.output.root (root_with_links (document_hrefs d))
+    (no_links_in_nothing (document_hrefs d))
 
 no_anchors_in_nothing : (x : Targets) → element_with_anchors x (new_element []) ≡ new_element []
 unfolding element_with_anchors nodes_with_anchors

@@ -12,7 +12,7 @@ use Rattle.html_dom_link.specs.Distinct.{are_distinct, occurrences, AnchorsStayD
 use Rattle.html_dom_link.specs.Events.{Start, Targets, start_event, end_tag, text, element, html_frame, frame_starts, events}
 use Rattle.html_dom_link.specs.Fresh.{all_made, names_made}
 use Rattle.html_dom_link.specs.Groups.{is_in_group, first_label, label_of}
-use Rattle.html_dom_link.specs.Links.{Anchors, attrs_with_href, dest_before, head_with_link, name_of, node_with_links, nodes_with_links, open_dest}
+use Rattle.html_dom_link.specs.Links.{Hrefs, attrs_with_href, dest_before, head_with_link, href_of, node_with_links, nodes_with_links, open_dest}
 use Rattle.html_dom_link.specs.Namings.{Naming, made_for, start_pairs, with_made}
 use Rattle.html_dom_link.specs.NewNames.{Name, all_ids, anchor_names, element_names, first_id, frame_names, nodes_names}
 use Rattle.html_dom_link.proofs.Differing.{at_most_one, distinct_once, new_once, occurrences-append, occurrences-none, once_distinct, stands_occurs}
@@ -262,29 +262,29 @@ anchors_stay_distinct x e new distinct =
     ))
 
 -- links change no name
-ids_stay : (anchor : Anchors) (dest : Option ℕ) (h : Head) →
-    all_ids (head_with_link anchor dest h).attrs ≡ all_ids h.attrs
-ids_stay anchor dest h = by (name_of anchor (open_dest h dest))
+ids_stay : (hrefs : Hrefs) (dest : Option ℕ) (h : Head) →
+    all_ids (head_with_link hrefs dest h).attrs ≡ all_ids h.attrs
+ids_stay hrefs dest h = by (href_of hrefs (open_dest h dest))
   where
     by : (name : Option (List ℕ)) → all_ids (attrs_with_href name h.attrs) ≡ all_ids h.attrs
     by None = refl
     by (Some name) = refl
 
-nodes_stay : (anchor : Anchors) (before : List NodeView) (ns : NodesView) →
-    nodes_names (nodes_with_links anchor before ns) ≡ nodes_names ns
+nodes_stay : (hrefs : Hrefs) (before : List NodeView) (ns : NodesView) →
+    nodes_names (nodes_with_links hrefs before ns) ≡ nodes_names ns
 unfolding nodes_with_links node_with_links nodes_names
-nodes_stay anchor before none = refl
-nodes_stay anchor before (node (tag_node t) ns) = nodes_stay anchor (tag_node t ∷ before) ns
-nodes_stay anchor before (node (text_node s span) ns) =
-    nodes_stay anchor (text_node s span ∷ before) ns
-nodes_stay anchor before (node (element_node h kids) ns) =
+nodes_stay hrefs before none = refl
+nodes_stay hrefs before (node (tag_node t) ns) = nodes_stay hrefs (tag_node t ∷ before) ns
+nodes_stay hrefs before (node (text_node s span) ns) =
+    nodes_stay hrefs (text_node s span ∷ before) ns
+nodes_stay hrefs before (node (element_node h kids) ns) =
     rw (
-      ids_stay anchor (dest_before before) h,
-      nodes_stay anchor [] kids,
-      nodes_stay anchor (element_node h kids ∷ before) ns,
+      ids_stay hrefs (dest_before before) h,
+      nodes_stay hrefs [] kids,
+      nodes_stay hrefs (element_node h kids ∷ before) ns,
     ) refl
-nodes_stay anchor before (node (frame_node f) ns) =
-    ap (λ names. frame_names f ++ names) (nodes_stay anchor (frame_node f ∷ before) ns)
+nodes_stay hrefs before (node (frame_node f) ns) =
+    ap (λ names. frame_names f ++ names) (nodes_stay hrefs (frame_node f ∷ before) ns)
 
 pub all_names_stay : AllNamesStay
-all_names_stay anchor e = ap (λ names. all_ids e.0.attrs ++ names) (nodes_stay anchor [] e.1)
+all_names_stay hrefs e = ap (λ names. all_ids e.0.attrs ++ names) (nodes_stay hrefs [] e.1)

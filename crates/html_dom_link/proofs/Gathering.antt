@@ -30,7 +30,7 @@ pub with-one : (n : Name) (used : Name → Bool) → with_names (n ∷ []) used 
 unfolding stands_in
 with-one n used = fun_ext (λ m. or_assoc (bytes_eq n m) false (used m))
 
-stands-append : (as' bs : List Name) (n : Name) →
+pub stands-append : (as' bs : List Name) (n : Name) →
     stands_in (as' ++ bs) n ≡ (stands_in as' n || stands_in bs n)
 unfolding stands_in
 stands-append [] bs n = refl

@@ -1,14 +1,12 @@
 -- Each link that was given an `href` leads to a name of the tree.
-use Rattle.std.proofs.Common.{◌≡◌, ℕ, List, [], ◌∷◌, ◌++◌, All, Bool, true, false, not, ◌&&◌, Option, None, Some, chars, codes, refl, sym, ap, subst, ◌∙◌, arith, String, Global}
+use Rattle.std.proofs.Common.{◌≡◌, ℕ, List, [], ◌∷◌, ◌++◌, All, Bool, true, false, not, ◌&&◌, ◌||◌, Option, None, Some, chars, codes, refl, sym, ap, subst, ◌∙◌, String, Global}
 use Rattle.std.specs.BTreeMap.{BTreeMap, get}
-use Rattle.std.specs.Prelude.{if◌then◌else◌, is_some, option_map}
+use Rattle.std.specs.Prelude.{if◌then◌else◌, is_some, option_map, option_to_list}
 use Rattle.std.proofs.lemmas.Bool.{and_parts}
-use Rattle.std.proofs.lemmas.Bool.Decides.{nat_tests}
+use Rattle.std.proofs.Math.Bool.{or-true}
 use Rattle.std.proofs.lemmas.List.Elements.{All-nil, All-cons, All-append, All-weaker}
-use Rattle.std.proofs.lemmas.Str.{IsUtf8-string_bytes, chars-encodes, encodes-IsAscii}
-use lib.Utf8.{encode, encodes, scalar, scalars}
-use Rattle.percent_encoding.specs.Percent.{percent_decode, percent_encode}
-use Rattle.percent_encoding.proofs.PercentLemmas.{IsAscii-percent_encode, IsByte, round_trip}
+use Rattle.std.proofs.lemmas.Str.{IsUtf8-string_bytes, chars-encodes}
+use lib.Utf8.{scalars}
 use Rattle.html_names.specs.Names.{stands_in}
 use Rattle.html_names.specs.Texts.{text_view}
 use Rattle.html_dom_tree.specs.Attributes.{first, has_name}
@@ -21,50 +19,17 @@ use Rattle.html_dom_document.specs.declared.document.HtmlDocument.{HtmlDocument}
 use Rattle.html_dom_link.specs.Answered.{shown_names}
 use Rattle.html_dom_link.specs.DeadLinks.{dead_links_view}
 use Rattle.html_dom_link.specs.Distinct.{IdsAreDistinct, GivenLinksLeadToOne, LeadsToOne, are_distinct}
-use Rattle.html_dom_link.specs.GivenLinks.{KnownAnchorsAreShown, AnchorsAreTexts, EveryLinkLeads, GivenLinksLead, LeadsAmong, LeadsTo, given_by, given_link, links_without, node_given_links, nodes_given_links}
-use Rattle.html_dom_link.specs.Links.{Anchors, attrs_with_href, dest_before, document_dead_links, document_with_links, head_with_link, href_to, is_open, name_of, node_with_links, nodes_with_links, some_name}
-use Rattle.html_dom_link.specs.NewNames.{Name, element_names}
+use Rattle.html_dom_link.specs.GivenLinks.{KnownAnchorsAreShown, AnchorsAreTexts, EveryLinkLeads, GivenLinksLead, LeadsAmong, given_by, given_link, links_without, node_given_links, nodes_given_links}
+use Rattle.html_dom_link.specs.Indicated.{element_places, link_name, nodes_places, place_names}
+use Rattle.html_dom_link.specs.Links.{Anchors, Hrefs, anchor_hrefs, attrs_with_href, dest_before, document_dead_links, document_hrefs, document_with_links, head_with_link, href_of, is_open, node_with_links, nodes_with_links, some_name}
+use Rattle.html_dom_link.specs.NewNames.{Name, element_names, first_id, frame_names}
+use Rattle.html_dom_link.specs.Spellings.{leading_href}
 use Rattle.html_dom_link.specs.declared.dead.DeadLink.{DeadLink}
-use Rattle.html_dom_link.specs.declared.links.TheConstants.{FRAGMENT}
 use Rattle.html_dom_link.proofs.ChangedRoots.{root_has_links}
 use Rattle.html_dom_link.proofs.Counting.{all_names_stay, shown_once}
+use Rattle.html_dom_link.proofs.Gathering.{stands-append}
 use Rattle.html_dom_link.proofs.LeadingLinks.{left_are_dead, names_stay}
-
--- a character is written in bytes
-char_bytes : (c : ℕ) → scalar c ≡ true → All IsByte (encode c)
-unfolding encode
-char_bytes c s = grind (arith, nat_tests)
-
-text_bytes : (cs : List ℕ) → scalars cs ≡ true → All IsByte (encodes cs)
-text_bytes [] s = All-nil IsByte
-text_bytes (c ∷ cs) s =
-    let both = and_parts (scalar c) (scalars cs) s in
-    All-append IsByte (encode c) (encodes cs) (char_bytes c both.0) (text_bytes cs both.1)
-
-pub href_leads : (name : Name) → scalars name ≡ true → LeadsTo (href_to name) name
-unfolding href_to
-href_leads name s = record {
-  fragment = percent_encode FRAGMENT (encodes name);
-  begins = refl;
-  decodes = round_trip FRAGMENT (encodes name) refl (text_bytes name s);
-}
-
--- the bytes of what stands behind its `#` decode to those of the name
-pub href_spelled : (name : Name) → scalars name ≡ true → (fragment : List ℕ) × record {
-  begins : href_to name ≡ codes "#" ++ fragment;
-  decodes : percent_decode (encodes fragment) ≡ encodes name;
-}
-unfolding href_to
-href_spelled name s =
-    let fragment = percent_encode FRAGMENT (encodes name) in
-    let ascii = IsAscii-percent_encode FRAGMENT (encodes name) in (
-      fragment,
-      record {
-        begins = refl;
-        decodes = ap percent_decode (encodes-IsAscii fragment ascii)
-            ∙ round_trip FRAGMENT (encodes name) refl (text_bytes name s);
-      },
-    )
+use Rattle.html_dom_link.proofs.SpelledNames.{leading_hrefs_lead}
 
 -- what is no empty name is a name
 pub known_name : (known : Option Name) (name : Name) → some_name known ≡ Some name → known ≡ Some name
@@ -81,54 +46,121 @@ no_href is_a attrs e = by (first attrs (codes "href")) (and_parts is_a _ e).1
     by None e = refl
     by (Some href) e = cc
 
-module _ (anchor : Anchors) (names : List Name) (texts : AnchorsAreTexts anchor)
-    (shown : (location : ℕ) (name : Name) → anchor location ≡ Some name →
-    stands_in names name ≡ true) where
+-- an `id` is the name of a place
+
+or_grows : (i l k n k' n' : Bool) → (k ≡ true → k' ≡ true) → (n ≡ true → n' ≡ true) →
+    (i || (k || n)) ≡ true → ((i || l) || (k' || n')) ≡ true
+or_grows true l k n k' n' ks ns e = refl
+or_grows false true k n k' n' ks ns e = refl
+or_grows false false true n k' n' ks ns e = rw (ks refl) refl
+or_grows false false false n k' n' ks ns e = ap (λ b. k' || b) (ns e) ∙ or-true k'
+
+or_passes : (b k k' : Bool) → (k ≡ true → k' ≡ true) → (b || k) ≡ true → (b || k') ≡ true
+or_passes true k k' ks e = refl
+or_passes false k k' ks e = ks e
+
+in_two : (as' bs : List Name) (n : Name) (b : Bool) →
+    (stands_in as' n || stands_in bs n) ≡ b → stands_in (as' ++ bs) n ≡ b
+in_two as' bs n b e = stands-append as' bs n ∙ e
+
+in_three : (as' bs cs : List Name) (n : Name) →
+    stands_in (as' ++ (bs ++ cs)) n ≡ (stands_in as' n || (stands_in bs n || stands_in cs n))
+in_three as' bs cs n =
+    stands-append as' (bs ++ cs) n ∙ ap (λ b. stands_in as' n || b) (stands-append bs cs n)
+
+shown_are_places : (ns : NodesView) (n : Name) → stands_in (shown_names ns) n ≡ true →
+    stands_in (nodes_places ns) n ≡ true
+unfolding shown_names nodes_places
+shown_are_places none n e = e
+shown_are_places (node (tag_node t) ns) n e = shown_are_places ns n e
+shown_are_places (node (text_node s span) ns) n e = shown_are_places ns n e
+shown_are_places (node (element_node h kids) ns) n e =
+    let ids = option_to_list (first_id h) in
+    let own = option_to_list (link_name h.name h.attrs) in
+    in_three (place_names h.name h.attrs) (nodes_places kids) (nodes_places ns) n
+    ∙ (ap (λ b. b || (stands_in (nodes_places kids) n || stands_in (nodes_places ns) n))
+    (stands-append ids own n)
+    ∙ or_grows (stands_in ids n) (stands_in own n) (stands_in (shown_names kids) n)
+    (stands_in (shown_names ns) n) (stands_in (nodes_places kids) n) (stands_in (nodes_places ns) n)
+    (shown_are_places kids n) (shown_are_places ns n)
+    (sym (in_three ids (shown_names kids) (shown_names ns) n) ∙ e))
+shown_are_places (node (frame_node f) ns) n e =
+    let own = stands_in (frame_names f) n in
+    stands-append (frame_names f) (nodes_places ns) n
+    ∙ or_passes own (stands_in (shown_names ns) n) (stands_in (nodes_places ns) n)
+    (shown_are_places ns n)
+    (sym (stands-append (frame_names f) (shown_names ns) n) ∙ e)
+
+pub shown_is_place : (e : ElementView) (n : Name) → stands_in (shown_names e.1) n ≡ true →
+    stands_in (element_places e) n ≡ true
+shown_is_place e n there =
+    in_two (place_names e.0.name e.0.attrs) (nodes_places e.1) n true
+    (ap (λ b. stands_in (place_names e.0.name e.0.attrs) n || b) (shown_are_places e.1 n there)
+    ∙ or-true (stands_in (place_names e.0.name e.0.attrs) n))
+
+module _ (anchor : Anchors) (places ids : List Name) (texts : AnchorsAreTexts anchor)
+    (shown : (location : ℕ) (name : Name) → anchor location ≡ Some name → stands_in ids name ≡ true)
+    (among : (name : Name) → stands_in ids name ≡ true → stands_in places name ≡ true) where
   abbrev Leads : ℕ × List ℕ → Type 0
-  Leads = LeadsAmong anchor names
+  Leads = LeadsAmong anchor places ids
 
-  named_leads : (dest : ℕ) (name : Name) → anchor dest ≡ Some name → Leads (dest, href_to name)
-  named_leads dest name is = record {
-    name = name;
-    leads = href_leads name (texts dest name is);
-    is_anchor = is;
-    stands = shown dest name is;
-  }
+  abbrev hrefs : Hrefs
+  hrefs = anchor_hrefs (stands_in places) anchor
 
-  link_leads : (dest : ℕ) (attrs : List TextPair) → first attrs (codes "href") ≡ None →
-      All Leads (given_by dest (first (attrs_with_href (some_name (anchor dest)) attrs) (codes "href")))
-  link_leads dest attrs none_is = by (some_name (anchor dest)) refl
+  named_leads : (dest : ℕ) (name href : List ℕ) → some_name (anchor dest) ≡ Some name →
+      leading_href (stands_in places) (Some name) ≡ Some href → Leads (dest, href)
+  named_leads dest name href named is =
+      let known = known_name (anchor dest) name named in
+      let there = shown dest name known in
+      record {
+        name = name;
+        leads = leading_hrefs_lead (stands_in places) name href (texts dest name known)
+            (ap some_name (sym known) ∙ named) (among name there) is;
+        is_anchor = known;
+        stands = there;
+      }
+
+  pub location_leads : (dest : ℕ) (href : List ℕ) → hrefs dest ≡ Some href → Leads (dest, href)
+  location_leads dest href = by (some_name (anchor dest)) refl
     where
       by : (name : Option Name) → some_name (anchor dest) ≡ name →
-          All Leads (given_by dest (first (attrs_with_href name attrs) (codes "href")))
+          leading_href (stands_in places) name ≡ Some href → Leads (dest, href)
+      by None named is = cc
+      by (Some name) named is = named_leads dest name href named is
+
+  link_leads : (dest : ℕ) (attrs : List TextPair) → first attrs (codes "href") ≡ None →
+      All Leads (given_by dest (first (attrs_with_href (hrefs dest) attrs) (codes "href")))
+  link_leads dest attrs none_is = by (hrefs dest) refl
+    where
+      by : (href : Option (List ℕ)) → hrefs dest ≡ href →
+          All Leads (given_by dest (first (attrs_with_href href attrs) (codes "href")))
       by None is = rw none_is (All-nil Leads)
-      by (Some name) is =
-          All-cons Leads (dest, href_to name) []
-          (named_leads dest name (known_name (anchor dest) name is)) (All-nil Leads)
+      by (Some href) is =
+          All-cons Leads (dest, href) [] (location_leads dest href is) (All-nil Leads)
 
   head_leads : (dest : Option ℕ) (h : Head) →
-      All Leads (given_link dest h (head_with_link anchor dest h))
+      All Leads (given_link dest h (head_with_link hrefs dest h))
   head_leads None h = All-nil Leads
   head_leads (Some dest) h = by (is_open h) refl
     where
       by : (lacks : Bool) → is_open h ≡ lacks → All Leads (if lacks
           then given_by dest (first
-          (attrs_with_href (name_of anchor (if lacks then Some dest else None)) h.attrs)
+          (attrs_with_href (href_of hrefs (if lacks then Some dest else None)) h.attrs)
           (codes "href"))
           else [])
       by true is = link_leads dest h.attrs (no_href _ h.attrs is)
       by false is = All-nil Leads
 
   pub nodes_lead : (before : List NodeView) (ns : NodesView) →
-      All Leads (nodes_given_links before ns (nodes_with_links anchor before ns))
+      All Leads (nodes_given_links before ns (nodes_with_links hrefs before ns))
   unfolding nodes_given_links node_given_links nodes_with_links node_with_links
   nodes_lead before none = All-nil Leads
   nodes_lead before (node (tag_node t) ns) = nodes_lead (tag_node t ∷ before) ns
   nodes_lead before (node (text_node s span) ns) = nodes_lead (text_node s span ∷ before) ns
   nodes_lead before (node (element_node h kids) ns) =
       let dest = dest_before before in
-      let below = nodes_given_links [] kids (nodes_with_links anchor [] kids) in
-      let own = given_link dest h (head_with_link anchor dest h) in
+      let below = nodes_given_links [] kids (nodes_with_links hrefs [] kids) in
+      let own = given_link dest h (head_with_link hrefs dest h) in
       All-append Leads (own ++ below) _
       (All-append Leads own below (head_leads dest h) (nodes_lead [] kids))
       (nodes_lead (element_node h kids ∷ before) ns)
@@ -150,29 +182,27 @@ texts_in map location name is = by (get location_cmp map (record { 0 = location 
         let same : text_view s ≡ name = cc in
         sym (ap scalars same) ∙ text_is_scalars s
 
--- links change no anchor, so each stands in the tree as before
-pub anchors_stay_shown : (d : DocumentView) → KnownAnchorsAreShown d →
-    KnownAnchorsAreShown (document_with_links d)
-anchors_stay_shown d shown location name is =
-    let anchor = d.introspector.anchor in
-    let root = document_root d in
-    let same : shown_names (document_root (document_with_links d)).1 ≡ shown_names root.1 =
-    ap (λ (e : ElementView). shown_names e.1) (root_has_links d) ∙ (names_stay anchor [] root.1).0 in
-    ap (λ names. stands_in names name) same ∙ shown location name is
-
 -- each link of a document leads that was given an `href`
 pub given_links_lead : (d new : DocumentView) → AnchorsAreTexts d.introspector.anchor →
     new ≡ document_with_links d → KnownAnchorsAreShown d → GivenLinksLead d new
 given_links_lead d new texts is shown =
     let anchor = d.introspector.anchor in
-    let linked = document_with_links d in
-    let names = shown_names (document_root linked).1 in
-    let given : All (LeadsAmong anchor names) (nodes_given_links [] (document_root d).1
-    (nodes_with_links anchor [] (document_root d).1)) =
-    nodes_lead anchor names texts (anchors_stay_shown d shown) [] (document_root d).1 in
+    let root = document_root d in
+    let hrefs = document_hrefs d in
+    let made = nodes_with_links hrefs [] root.1 in
+    let given = nodes_given_links [] root.1 made in
+    let stay = names_stay hrefs [] root.1 in
+    let places : element_places (root.0, made) ≡ element_places root =
+    ap (λ names. place_names root.0.name root.0.attrs ++ names) stay.places in
+    let led : All (LeadsAmong anchor (element_places root) (shown_names root.1)) given =
+    nodes_lead anchor (element_places root) (shown_names root.1) texts shown
+    (shown_is_place root) [] root.1 in
+    let there : All (LeadsAmong anchor (element_places (root.0, made)) (shown_names made)) given =
+    subst (λ names. All (LeadsAmong anchor names (shown_names made)) given) (sym places)
+    (subst (λ names. All (LeadsAmong anchor (element_places root) names) given) (sym stay.shown) led) in
     subst (GivenLinksLead d) (sym is)
-    (subst (λ (e : ElementView). All (LeadsAmong anchor names)
-    (nodes_given_links [] (document_root d).1 e.1)) (sym (root_has_links d)) given)
+    (subst (λ (e : ElementView). All (LeadsAmong anchor (element_places e) (shown_names e.1))
+    (nodes_given_links [] root.1 e.1)) (sym (root_has_links d)) there)
 
 pub document_links_lead : (old : HtmlDocument) (new : DocumentView) →
     new ≡ document_with_links (document_view old) → KnownAnchorsAreShown (document_view old) →
@@ -186,7 +216,7 @@ pub links_stay_distinct : (d new : DocumentView) → new ≡ document_with_links
 links_stay_distinct d new is distinct =
     ap (λ (v : DocumentView). are_distinct (element_names (document_root v))) is
     ∙ (ap (λ (e : ElementView). are_distinct (element_names e)) (root_has_links d)
-    ∙ (ap are_distinct (all_names_stay d.introspector.anchor (document_root d)) ∙ distinct))
+    ∙ (ap are_distinct (all_names_stay (document_hrefs d) (document_root d)) ∙ distinct))
 
 -- and then each link leads to one name
 pub links_lead_to_one : (old : HtmlDocument) (new : DocumentView) →
@@ -197,7 +227,8 @@ links_lead_to_one old new is shown was_distinct =
     let anchor = new.introspector.anchor in
     let names = shown_names root.1 in
     let distinct = links_stay_distinct (document_view old) new is was_distinct in
-    All-weaker (LeadsAmong anchor names) (LeadsToOne anchor names (element_names root))
+    let places = element_places root in
+    All-weaker (LeadsAmong anchor places names) (LeadsToOne anchor places names (element_names root))
     (λ link leads. record { among = leads; once = shown_once leads.name root distinct leads.stands })
     _ (document_links_lead old new is shown)
 
@@ -207,7 +238,7 @@ pub left_in_document : (d new : DocumentView) → new ≡ document_with_links d 
 left_in_document d new is =
     ap (λ v. links_without (document_root v).1) is
     ∙ (ap (λ (e : ElementView). links_without e.1) (root_has_links d)
-    ∙ left_are_dead d.introspector.anchor (document_root d).1)
+    ∙ left_are_dead (document_hrefs d) (document_root d).1)
 
 -- so where nothing is dead each link leads
 pub every_link_leads : (d : HtmlDocument) (dead : List DeadLink) →

@@ -13,12 +13,15 @@ pub mod Linking
 pub mod LocationMaps
 pub mod MovedRoots
 pub mod Numbers
+pub mod PutPlaces
 mod Rows
 pub mod Seeing
 pub mod Serving
 pub mod Showing
+pub mod SpelledNames
 pub mod States
 pub mod Steps
+pub mod TakenFragments
 pub mod UsedNames
 pub mod Walks
 pub mod WholeWalk

@@ -1,24 +1,13 @@
--- Links in a list of nodes, one after the other, and the `href` that leads to a name.
-use Rattle.std.proofs.Common.{◌≡◌, ◌<◌, ℕ, List, [], ◌∷◌, ◌++◌, Option, None, Some, length, chars, codes, IsUtf8, refl, sym, ap, ◌∙◌, append_assoc, arith, lit<}
+-- Links in a list of nodes, one after the other, and names of destinations.
+use Rattle.std.proofs.Common.{◌≡◌, ◌<◌, ℕ, List, [], ◌∷◌, ◌++◌, Bool, Option, None, Some, length, chars, IsUtf8, refl, sym, ap, ◌∙◌, append_assoc, arith}
 use Rattle.std.proofs.lemmas.List.{append-nil}
-use Rattle.std.proofs.lemmas.Str.{chars-IsAscii, chars-nil, encodes-chars}
-use Rattle.std.proofs.lemmas.Str.Ascii.{IsAscii-cons}
+use Rattle.std.proofs.lemmas.Str.{chars-nil, encodes-chars}
 use lib.Utf8.{encodes}
-use Rattle.percent_encoding.specs.Percent.{percent_encode}
-use Rattle.percent_encoding.proofs.PercentLemmas.{IsAscii-percent_encode}
 use Rattle.html_dom_tree.specs.Tree.{TextPair, Head, NodeView, element_node, NodesView, none, node, ElementView}
 use Rattle.html_dom_tree.specs.Views.{nodes_of}
 use Rattle.html_dom_document.specs.Documents.{DocumentView, document_root, given_root, root_of, with_root}
-use Rattle.html_dom_link.specs.Links.{Anchors, DeadLinkView, attrs_with_href, dead_link, dest_before, document_with_links, href_to, name_of, node_dead_links, node_with_links, nodes_dead_links, nodes_with_links, open_dest, root_with_links, some_name}
-use Rattle.html_dom_link.specs.declared.links.TheConstants.{FRAGMENT}
-
--- what is written, byte by byte, is ASCII
-pub href_bytes : (bytes : List ℕ) → IsUtf8 bytes →
-    chars (codes "#" ++ percent_encode FRAGMENT bytes) ≡ href_to (chars bytes)
-unfolding href_to
-href_bytes bytes utf8 =
-    chars-IsAscii _ (IsAscii-cons 35 _ (lit< tt) (IsAscii-percent_encode FRAGMENT bytes))
-    ∙ ap (λ b. codes "#" ++ percent_encode FRAGMENT b) (sym (encodes-chars bytes utf8))
+use Rattle.html_dom_link.specs.Links.{Anchors, DeadLinkView, Hrefs, anchor_hrefs, attrs_with_href, dead_link, dest_before, document_hrefs, document_with_links, href_of, name_of, node_dead_links, node_with_links, nodes_dead_links, nodes_with_links, open_dest, root_with_links, some_name}
+use Rattle.html_dom_link.specs.Spellings.{leading_href}
 
 -- an empty name is none, and any other is one
 pub no_name : (bytes : List ℕ) → length bytes ≡ 0 → some_name (Some (chars bytes)) ≡ None
@@ -39,89 +28,95 @@ pub name_there : (anchor : Anchors) (dest : Option ℕ) (d : ℕ) (name : Option
     dest ≡ Some d → name ≡ anchor d → some_name name ≡ name_of anchor dest
 name_there anchor dest d name dest_is name_is = rw dest_is (ap some_name name_is)
 
+-- the `href` of a destination is that of its name
+pub href_of_name : (is_place : List ℕ → Bool) (anchor : Anchors) (dest : Option ℕ) →
+    leading_href is_place (name_of anchor dest) ≡ href_of (anchor_hrefs is_place anchor) dest
+href_of_name is_place anchor None = refl
+href_of_name is_place anchor (Some d) = refl
+
 -- an element whose attributes and whose children have their links
-pub element_has_links : (anchor : Anchors) (dest : Option ℕ) (h : Head) (attrs : List TextPair)
-    (made kids : NodesView) → attrs ≡ attrs_with_href (name_of anchor (open_dest h dest)) h.attrs →
-    made ≡ nodes_with_links anchor [] kids →
-    element_node (record h { attrs = attrs }) made ≡ node_with_links anchor dest (element_node h kids)
+pub element_has_links : (hrefs : Hrefs) (dest : Option ℕ) (h : Head) (attrs : List TextPair)
+    (made kids : NodesView) → attrs ≡ attrs_with_href (href_of hrefs (open_dest h dest)) h.attrs →
+    made ≡ nodes_with_links hrefs [] kids →
+    element_node (record h { attrs = attrs }) made ≡ node_with_links hrefs dest (element_node h kids)
 unfolding node_with_links
-element_has_links anchor dest h attrs made kids attrs_are made_are =
+element_has_links hrefs dest h attrs made kids attrs_are made_are =
     ap (λ a. element_node (record h { attrs = a }) made) attrs_are
     ∙ ap (element_node (record h {
-      attrs = attrs_with_href (name_of anchor (open_dest h dest)) h.attrs;
+      attrs = attrs_with_href (href_of hrefs (open_dest h dest)) h.attrs;
     })) made_are
 
 -- the nodes of a list, each with those before it
-abbrev pub list_with_links : Anchors → (before ns : List NodeView) → List NodeView
-list_with_links anchor before [] = []
-list_with_links anchor before (n ∷ ns) =
-    node_with_links anchor (dest_before before) n ∷ list_with_links anchor (n ∷ before) ns
+abbrev pub list_with_links : Hrefs → (before ns : List NodeView) → List NodeView
+list_with_links hrefs before [] = []
+list_with_links hrefs before (n ∷ ns) =
+    node_with_links hrefs (dest_before before) n ∷ list_with_links hrefs (n ∷ before) ns
 
-pub nodes_with_links-nodes_of : (anchor : Anchors) (before ns : List NodeView) →
-    nodes_with_links anchor before (nodes_of ns) ≡ nodes_of (list_with_links anchor before ns)
+pub nodes_with_links-nodes_of : (hrefs : Hrefs) (before ns : List NodeView) →
+    nodes_with_links hrefs before (nodes_of ns) ≡ nodes_of (list_with_links hrefs before ns)
 unfolding nodes_with_links
-nodes_with_links-nodes_of anchor before [] = refl
-nodes_with_links-nodes_of anchor before (n ∷ ns) =
-    ap (node (node_with_links anchor (dest_before before) n))
-    (nodes_with_links-nodes_of anchor (n ∷ before) ns)
+nodes_with_links-nodes_of hrefs before [] = refl
+nodes_with_links-nodes_of hrefs before (n ∷ ns) =
+    ap (node (node_with_links hrefs (dest_before before) n))
+    (nodes_with_links-nodes_of hrefs (n ∷ before) ns)
 
 -- one node more is made
-pub one_more_with_links : (anchor : Anchors) (dest : Option ℕ) (before made : List NodeView)
+pub one_more_with_links : (hrefs : Hrefs) (dest : Option ℕ) (before made : List NodeView)
     (n m : NodeView) (left rest whole : List NodeView) → dest ≡ dest_before before →
-    m ≡ node_with_links anchor dest n → left ≡ n ∷ rest →
-    made ++ list_with_links anchor before left ≡ whole →
-    (made ++ m ∷ []) ++ list_with_links anchor (n ∷ before) rest ≡ whole
-one_more_with_links anchor dest before made n m left rest whole behind is left_is told =
-    append_assoc made (m ∷ []) (list_with_links anchor (n ∷ before) rest)
-    ∙ (ap (λ k. made ++ k ∷ list_with_links anchor (n ∷ before) rest)
-    (is ∙ ap (λ d. node_with_links anchor d n) behind)
-    ∙ (ap (λ l. made ++ list_with_links anchor before l) (sym left_is) ∙ told))
+    m ≡ node_with_links hrefs dest n → left ≡ n ∷ rest →
+    made ++ list_with_links hrefs before left ≡ whole →
+    (made ++ m ∷ []) ++ list_with_links hrefs (n ∷ before) rest ≡ whole
+one_more_with_links hrefs dest before made n m left rest whole behind is left_is told =
+    append_assoc made (m ∷ []) (list_with_links hrefs (n ∷ before) rest)
+    ∙ (ap (λ k. made ++ k ∷ list_with_links hrefs (n ∷ before) rest)
+    (is ∙ ap (λ d. node_with_links hrefs d n) behind)
+    ∙ (ap (λ l. made ++ list_with_links hrefs before l) (sym left_is) ∙ told))
 
 -- the document whose root has the new children
-pub links_written : (d new : DocumentView) (anchor : Anchors) (root again last : ElementView)
+pub links_written : (d new : DocumentView) (hrefs : Hrefs) (root again last : ElementView)
     (kids : NodesView) → root_of d.output ≡ Some root → root_of d.output ≡ Some again →
-    anchor ≡ d.introspector.anchor → kids ≡ nodes_with_links anchor [] root.1 →
+    hrefs ≡ document_hrefs d → kids ≡ nodes_with_links hrefs [] root.1 →
     last ≡ (again.0, kids) → new ≡ record d { output = with_root d.output last } →
     new ≡ document_with_links d
-links_written d new anchor root again last kids root_is again_is known made last_is new_is =
+links_written d new hrefs root again last kids root_is again_is known made last_is new_is =
     let top = document_root d in
     let root_top : top ≡ root = ap given_root root_is in
     let again_top : top ≡ again = ap given_root again_is in
-    let whole : last ≡ root_with_links d.introspector.anchor top =
+    let whole : last ≡ root_with_links (document_hrefs d) top =
     last_is
     ∙ (ap (λ (e : ElementView). (e.0, kids)) (sym again_top)
     ∙ (ap (λ k. (top.0, k)) (made
     ∙ (ap (λ a. nodes_with_links a [] root.1) known
-    ∙ ap (λ (e : ElementView). nodes_with_links d.introspector.anchor [] e.1) (sym root_top))))) in
+    ∙ ap (λ (e : ElementView). nodes_with_links (document_hrefs d) [] e.1) (sym root_top))))) in
     new_is ∙ ap (λ e. record d { output = with_root d.output e }) whole
 
 -- the dead links of an element are its own and those below it
-pub element_dead : (anchor : Anchors) (dest own : Option ℕ) (h : Head) (kids : NodesView)
+pub element_dead : (hrefs : Hrefs) (dest own : Option ℕ) (h : Head) (kids : NodesView)
     (old mid new : List DeadLinkView) → own ≡ open_dest h dest →
-    mid ≡ old ++ dead_link anchor own h.span → new ≡ mid ++ nodes_dead_links anchor [] kids →
-    new ≡ old ++ node_dead_links anchor dest (element_node h kids)
+    mid ≡ old ++ dead_link hrefs own h.span → new ≡ mid ++ nodes_dead_links hrefs [] kids →
+    new ≡ old ++ node_dead_links hrefs dest (element_node h kids)
 unfolding node_dead_links
-element_dead anchor dest own h kids old mid new own_is mid_is new_is =
-    let below = nodes_dead_links anchor [] kids in
+element_dead hrefs dest own h kids old mid new own_is mid_is new_is =
+    let below = nodes_dead_links hrefs [] kids in
     new_is
-    ∙ (ap (λ l. l ++ below) (mid_is ∙ ap (λ o. old ++ dead_link anchor o h.span) own_is)
-    ∙ append_assoc old (dead_link anchor (open_dest h dest) h.span) below)
+    ∙ (ap (λ l. l ++ below) (mid_is ∙ ap (λ o. old ++ dead_link hrefs o h.span) own_is)
+    ∙ append_assoc old (dead_link hrefs (open_dest h dest) h.span) below)
 
 -- one node more is looked at
-pub one_more_dead : (anchor : Anchors) (dest : Option ℕ) (before : List NodeView) (n : NodeView)
+pub one_more_dead : (hrefs : Hrefs) (dest : Option ℕ) (before : List NodeView) (n : NodeView)
     (left rest : NodesView) (old new whole : List DeadLinkView) → dest ≡ dest_before before →
-    new ≡ old ++ node_dead_links anchor dest n → left ≡ node n rest →
-    old ++ nodes_dead_links anchor before left ≡ whole →
-    new ++ nodes_dead_links anchor (n ∷ before) rest ≡ whole
+    new ≡ old ++ node_dead_links hrefs dest n → left ≡ node n rest →
+    old ++ nodes_dead_links hrefs before left ≡ whole →
+    new ++ nodes_dead_links hrefs (n ∷ before) rest ≡ whole
 unfolding nodes_dead_links
-one_more_dead anchor dest before n left rest old new whole behind new_is left_is told =
-    let others = nodes_dead_links anchor (n ∷ before) rest in
-    ap (λ l. l ++ others) (new_is ∙ ap (λ d. old ++ node_dead_links anchor d n) behind)
-    ∙ (append_assoc old (node_dead_links anchor (dest_before before) n) others
-    ∙ (ap (λ l. old ++ nodes_dead_links anchor before l) (sym left_is) ∙ told))
+one_more_dead hrefs dest before n left rest old new whole behind new_is left_is told =
+    let others = nodes_dead_links hrefs (n ∷ before) rest in
+    ap (λ l. l ++ others) (new_is ∙ ap (λ d. old ++ node_dead_links hrefs d n) behind)
+    ∙ (append_assoc old (node_dead_links hrefs (dest_before before) n) others
+    ∙ (ap (λ l. old ++ nodes_dead_links hrefs before l) (sym left_is) ∙ told))
 
 -- nothing is left
-pub no_more_dead : (anchor : Anchors) (before : List NodeView) (old whole : List DeadLinkView) →
-    old ++ nodes_dead_links anchor before none ≡ whole → old ≡ whole
+pub no_more_dead : (hrefs : Hrefs) (before : List NodeView) (old whole : List DeadLinkView) →
+    old ++ nodes_dead_links hrefs before none ≡ whole → old ≡ whole
 unfolding nodes_dead_links
-no_more_dead anchor before old whole told = sym (append-nil old) ∙ told
+no_more_dead hrefs before old whole told = sym (append-nil old) ∙ told

@@ -12,7 +12,7 @@ use Rattle.html_dom_link.specs.Anchors.{with_id, text_in_span, span_before, node
 use Rattle.html_dom_link.specs.Events.{Start, FrameStart, end_tag, element, text, html_frame, Targets, start_event, frame_starts, events}
 use Rattle.html_dom_link.specs.Groups.{is_in_group, first_label, label_of}
 use Rattle.html_dom_link.specs.LinkAnchors.{document_targets}
-use Rattle.html_dom_link.specs.Links.{Anchors, dest_before, document_with_links, nodes_with_links, node_with_links}
+use Rattle.html_dom_link.specs.Links.{Hrefs, dest_before, document_hrefs, document_with_links, nodes_with_links, node_with_links}
 use Rattle.html_dom_link.specs.Namings.{Naming, made_for, group_answers, start_pairs, start_answers, with_made, all_answers, last_name}
 use Rattle.html_dom_link.specs.NewNames.{Name, new_name, with_used_name, first_id, element_names}
 use Rattle.html_dom_link.specs.Serving.{AnchorsServe, KnownAnchorsServe, Mark, start_mark, place_mark, inner_marks, marks, name_entries, next_name, paired_marks, served_names, start_marks}
@@ -233,27 +233,27 @@ anchors_serve x e l =
     nothing_waits (s ∷ ss) = nothing_waits ss
 
 -- an `href` more changes nothing of that
-pub marks_stay : (x : Targets) (anchor : Anchors) (before : List NodeView) (ns : NodesView) →
-    marks x (nodes_with_links anchor before ns) ≡ marks x ns
+pub marks_stay : (x : Targets) (hrefs : Hrefs) (before : List NodeView) (ns : NodesView) →
+    marks x (nodes_with_links hrefs before ns) ≡ marks x ns
 unfolding nodes_with_links node_with_links marks
-marks_stay x anchor before none = refl
-marks_stay x anchor before (node (tag_node (starts l label dest)) ns) =
+marks_stay x hrefs before none = refl
+marks_stay x hrefs before (node (tag_node (starts l label dest)) ns) =
     ap (λ ms. start_marks (x.is_target l) l ++ ms)
-    (marks_stay x anchor (tag_node (starts l label dest) ∷ before) ns)
-marks_stay x anchor before (node (tag_node (ends l)) ns) =
-    marks_stay x anchor (tag_node (ends l) ∷ before) ns
-marks_stay x anchor before (node (text_node s span) ns) =
-    ap (λ ms. place_mark None ∷ ms) (marks_stay x anchor (text_node s span ∷ before) ns)
-marks_stay x anchor before (node (element_node h kids) ns) =
+    (marks_stay x hrefs (tag_node (starts l label dest) ∷ before) ns)
+marks_stay x hrefs before (node (tag_node (ends l)) ns) =
+    marks_stay x hrefs (tag_node (ends l) ∷ before) ns
+marks_stay x hrefs before (node (text_node s span) ns) =
+    ap (λ ms. place_mark None ∷ ms) (marks_stay x hrefs (text_node s span ∷ before) ns)
+marks_stay x hrefs before (node (element_node h kids) ns) =
     rw (
-      id_stays anchor (dest_before before) h,
-      marks_stay x anchor [] kids,
-      marks_stay x anchor (element_node h kids ∷ before) ns,
+      id_stays hrefs (dest_before before) h,
+      marks_stay x hrefs [] kids,
+      marks_stay x hrefs (element_node h kids ∷ before) ns,
     )
     refl
-marks_stay x anchor before (node (frame_node f) ns) =
+marks_stay x hrefs before (node (frame_node f) ns) =
     ap (λ ms. place_mark f.id ∷ inner_marks (frame_starts x f.inner) f.anchors ++ ms)
-    (marks_stay x anchor (frame_node f ∷ before) ns)
+    (marks_stay x hrefs (frame_node f ∷ before) ns)
 
 pub still_serves : (d new : DocumentView) → new ≡ document_with_links d → KnownAnchorsServe d →
     KnownAnchorsServe new
@@ -261,6 +261,6 @@ still_serves d new is serves = subst KnownAnchorsServe (sym is) (λ l.
     let x = document_targets d.introspector.is_link_target d in
     serves l
     ∙ (ap (λ ms. last_name (served_names ms) l)
-    (sym (marks_stay x d.introspector.anchor [] (document_root d).1))
+    (sym (marks_stay x (document_hrefs d) [] (document_root d).1))
     ∙ ap (λ (e : ElementView). last_name (served_names (marks x e.1)) l)
     (sym (root_has_links d))))

@@ -13,7 +13,8 @@ use Rattle.html_dom_link.specs.Answered.{shown_names}
 use Rattle.html_dom_link.specs.Events.{Targets}
 use Rattle.html_dom_link.specs.Fresh.{MadeAreNew}
 use Rattle.html_dom_link.specs.GivenLinks.{GivenLink, LeadsAmong, document_given_links}
-use Rattle.html_dom_link.specs.Links.{Anchors, root_with_links}
+use Rattle.html_dom_link.specs.Indicated.{element_places}
+use Rattle.html_dom_link.specs.Links.{Anchors, Hrefs, root_with_links}
 use Rattle.html_dom_link.specs.NewNames.{Name, element_names}
 
 -- no name comes twice
@@ -34,15 +35,16 @@ abbrev pub IdsAreDistinct : DocumentView → Type 0
 IdsAreDistinct d = are_distinct (element_names (document_root d)) ≡ true
 
 -- a link leads to a name that comes once among all
-pub record LeadsToOne (anchor : Anchors) (shown names : List Name) (link : GivenLink) : Type 0 where
-  pub among : LeadsAmong anchor shown link
+pub record LeadsToOne (anchor : Anchors) (places shown names : List Name) (link : GivenLink) : Type 0
+    where
+  pub among : LeadsAmong anchor places shown link
   pub once : occurrences names among.name ≡ 1
 
 -- each link that got an `href` leads to such a name of the new tree
 abbrev pub GivenLinksLeadToOne : (old new : DocumentView) → Type 0
 GivenLinksLeadToOne old new = let root = document_root new in
-    All (LeadsToOne new.introspector.anchor (shown_names root.1) (element_names root))
-    (document_given_links old new)
+    All (LeadsToOne new.introspector.anchor (element_places root) (shown_names root.1)
+    (element_names root)) (document_given_links old new)
 
 -- a tree whose names differ has such names with anchors too, where those that are made are new
 abbrev pub AnchorsStayDistinct : Type 0
@@ -52,5 +54,5 @@ AnchorsStayDistinct = (x : Targets) (e : ElementView) → MadeAreNew x e →
 
 -- links change none of these names
 abbrev pub AllNamesStay : Type 0
-AllNamesStay = (anchor : Anchors) (e : ElementView) →
-    element_names (root_with_links anchor e) ≡ element_names e
+AllNamesStay = (hrefs : Hrefs) (e : ElementView) →
+    element_names (root_with_links hrefs e) ≡ element_names e

@@ -1,13 +1,13 @@
 -- Where links lead: each link that was given an `href` leads to a name that stands in the tree.
-use Rattle.std.specs.Prelude.{◌≡◌, ℕ, true, List, [], ◌∷◌, ◌++◌, All, codes, Option, Some, None, if◌then◌else◌}
-use lib.Utf8.{encodes, scalars}
-use Rattle.percent_encoding.specs.Percent.{percent_decode}
+use Rattle.std.specs.Prelude.{◌≡◌, ℕ, Bool, true, List, [], ◌∷◌, ◌++◌, All, codes, Option, Some, None, if◌then◌else◌}
+use lib.Utf8.{scalars}
 use Rattle.html_names.specs.Names.{stands_in}
 use Rattle.html_dom_tree.specs.Attributes.{first}
 use Rattle.html_dom_tree.specs.Tree.{Head, NodeView, tag_node, text_node, element_node, frame_node, NodesView, none, node}
 use Rattle.html_dom_document.specs.Documents.{DocumentView, document_root}
 use Rattle.html_dom_link.specs.Answered.{shown_names}
 use Rattle.html_dom_link.specs.DocumentNames.{AnchorsAreShown}
+use Rattle.html_dom_link.specs.Indicated.{element_places, fragments_in, indicated_name}
 use Rattle.html_dom_link.specs.Links.{Anchors, DeadLinkView, dest_before, document_with_links, is_open, nodes_dead_links}
 use Rattle.html_dom_link.specs.NewNames.{Name}
 
@@ -47,18 +47,20 @@ unfoldable mutual
 abbrev pub document_given_links : (old new : DocumentView) → List GivenLink
 document_given_links old new = nodes_given_links [] (document_root old).1 (document_root new).1
 
--- an `href` leads to a name: it is `#` and a text that decodes to it
-pub record LeadsTo (href : List ℕ) (name : Name) : Type 0 where
+-- an `href` leads to a name where these are the names of places: a browser takes a fragment from it
+-- which indicates the place of that name
+pub record LeadsTo (is_place : Name → Bool) (href : List ℕ) (name : Name) : Type 0 where
   pub fragment : List ℕ
-  pub begins : href ≡ codes "#" ++ fragment
-  pub decodes : percent_decode fragment ≡ encodes name
+  pub taken : fragments_in href ≡ fragment ∷ []
+  pub indicates : indicated_name is_place fragment ≡ Some name
 
--- a link leads to the anchor of its destination, which is among these names
-pub record LeadsAmong (anchor : Anchors) (names : List Name) (link : GivenLink) : Type 0 where
+-- among places of these names, a link leads to the anchor of its destination, which is one of these
+-- ids
+pub record LeadsAmong (anchor : Anchors) (places ids : List Name) (link : GivenLink) : Type 0 where
   pub name : Name
-  pub leads : LeadsTo link.1 name
+  pub leads : LeadsTo (stands_in places) link.1 name
   pub is_anchor : anchor link.0 ≡ Some name
-  pub stands : stands_in names name ≡ true
+  pub stands : stands_in ids name ≡ true
 
 -- each anchor that the introspector knows stands in the tree
 abbrev pub KnownAnchorsAreShown : DocumentView → Type 0
@@ -70,8 +72,9 @@ AnchorsAreTexts anchor =
 
 -- each link that got an `href` leads to such a name of the new tree
 abbrev pub GivenLinksLead : (old new : DocumentView) → Type 0
-GivenLinksLead old new =
-    All (LeadsAmong new.introspector.anchor (shown_names (document_root new).1)) (document_given_links old new)
+GivenLinksLead old new = let root = document_root new in
+    All (LeadsAmong new.introspector.anchor (element_places root) (shown_names root.1))
+    (document_given_links old new)
 
 -- the links behind a start tag with a destination that have no `href`
 abbrev pub links_without : NodesView → List DeadLinkView

@@ -1,24 +1,39 @@
 -- What holds of links that lead.
-use Rattle.std.specs.Prelude.{◌≡◌, ℕ, ◌<◌, List, [], None, All, drop}
-use lib.Utf8.{encodes}
-use Rattle.percent_encoding.specs.Percent.{percent_decode}
+use Rattle.std.specs.Prelude.{◌≡◌, ℕ, Bool, true, List, [], None, Some}
+use lib.Utf8.{scalars}
 use Rattle.html_dom_tree.specs.Tree.{NodeView, NodesView}
 use Rattle.html_dom_link.specs.Answered.{shown_names, first_ids}
-use Rattle.html_dom_link.specs.Links.{Anchors, href_to, nodes_dead_links, nodes_with_links}
+use Rattle.html_dom_link.specs.GivenLinks.{LeadsTo}
+use Rattle.html_dom_link.specs.Indicated.{nodes_places}
+use Rattle.html_dom_link.specs.Links.{Hrefs, nodes_dead_links, nodes_with_links, some_name}
+use Rattle.html_dom_link.specs.NewNames.{Name}
+use Rattle.html_dom_link.specs.Spellings.{href_to, leading_href, plain_spelling}
 
--- an `href`, without its `#` and decoded, is the name that it leads to
-abbrev pub HrefsDecode : Type 0
-HrefsDecode = (name : List ℕ) → All (λ b. b < 256) (encodes name) →
-    percent_decode (drop 1 (href_to name)) ≡ encodes name
+-- the `href` that is chosen for the name of a place leads to it
+abbrev pub LeadingHrefsLead : Type 0
+LeadingHrefsLead = (is_place : Name → Bool) (name : Name) (href : List ℕ) → scalars name ≡ true →
+    some_name (Some name) ≡ Some name → is_place name ≡ true →
+    leading_href is_place (Some name) ≡ Some href → LeadsTo is_place href name
+
+-- the plain one does wherever no other place has its spelling as its own name
+abbrev pub PlainHrefsLead : Type 0
+PlainHrefsLead = (is_place : Name → Bool) (name : Name) → scalars name ≡ true →
+    some_name (Some name) ≡ Some name → is_place name ≡ true →
+    (is_place (plain_spelling name) ≡ true → plain_spelling name ≡ name) →
+    LeadsTo is_place (href_to name) name
 
 -- no name of the tree changes: each place that a link leads to stays one
-abbrev pub NamesStay : Type 0
-NamesStay = (anchor : Anchors) (before : List NodeView) (ns : NodesView) →
-    (shown_names (nodes_with_links anchor before ns) ≡ shown_names ns)
-    × (first_ids (nodes_with_links anchor before ns) ≡ first_ids ns)
+pub record NamesStayIn (old new : NodesView) : Type 0 where
+  pub shown : shown_names new ≡ shown_names old
+  pub first : first_ids new ≡ first_ids old
+  pub places : nodes_places new ≡ nodes_places old
 
--- the links that have no `href` then are exactly those whose destination has no anchor
+abbrev pub NamesStay : Type 0
+NamesStay = (hrefs : Hrefs) (before : List NodeView) (ns : NodesView) →
+    NamesStayIn ns (nodes_with_links hrefs before ns)
+
+-- the links that have no `href` then are exactly those to whose destination none leads
 abbrev pub LeftAreDead : Type 0
-LeftAreDead = (anchor : Anchors) (ns : NodesView) →
-    nodes_dead_links (λ dest. None) [] (nodes_with_links anchor [] ns)
-    ≡ nodes_dead_links anchor [] ns
+LeftAreDead = (hrefs : Hrefs) (ns : NodesView) →
+    nodes_dead_links (λ dest. None) [] (nodes_with_links hrefs [] ns)
+    ≡ nodes_dead_links hrefs [] ns

@@ -4,13 +4,14 @@ ghost use Rattle.std.specs.Prelude.{◌≡◌, ◌++◌, [], map, option_map, If
 ghost use Rattle.html_dom_tree.specs.Tree.{element_node};
 ghost use Rattle.html_dom_tree.specs.Views.{element_view, node_view, nodes_view};
 ghost use Rattle.html_dom_document.specs.Views.{document_view};
-ghost use Rattle.html_dom_document.specs.Introspectors.{introspector_view};
 ghost use Rattle.html_dom_link.specs.DeadLinks.{dead_links_view};
 ghost use Rattle.html_dom_link.specs.GivenLinks.{EveryLinkLeads};
+ghost use Rattle.html_dom_link.specs.LinkTargets.{hrefs_view};
 ghost use Rattle.html_dom_link.specs.Links.{dead_link, document_dead_links, node_dead_links, nodes_dead_links};
 
-use crate::links::{dest_past, name_of, open_dest};
-use html_dom_document::{HtmlDocument, HtmlIntrospector};
+use crate::links::{LinkTargets, dest_past, open_dest};
+use crate::places::place_names;
+use html_dom_document::HtmlDocument;
 use html_dom_tree::{HtmlElement, HtmlNode, Location, Span};
 use std::alloc::{AllocError, Global};
 
@@ -23,8 +24,10 @@ pub struct DeadLink {
     pub dest: Location,
 }
 
-/// The links of a document that have no `href` and whose destination has no anchor, or an empty one,
-/// in document order: those that [`resolve_links`](crate::resolve_links) leaves as they are. Where
+/// The links of a document that have no `href` and to whose destination none leads, since it has no
+/// anchor, or an empty one, or other places have both encodings of its name as their names
+/// ([`resolve_links`](crate::resolve_links)), in document order: those that `resolve_links` leaves as
+/// they are. Where
 /// there is none, each link that stands behind a start tag with a destination leads, once links are
 /// resolved. It fails only where an allocation does.
 ///
@@ -49,29 +52,31 @@ pub fn dead_links(alloc: Global, document: &HtmlDocument) -> Result<Vec<DeadLink
     ensures leads { IfOk result (λ links.
         links.items ≡ [] → EveryLinkLeads (document_view document.now)) }
 {
+    let places = place_names(alloc, document.root())?;
+    let targets = LinkTargets {
+        known: document.introspector(),
+        places: &places,
+    };
     let mut dead = Vec::new(alloc);
-    add_nodes(
-        &document.root().children,
-        document.introspector(),
-        &mut dead,
-    )?;
+    add_nodes(&document.root().children, alloc, targets, &mut dead)?;
     Ok(dead)
 }
 
-/// Adds a link whose destination has no anchor.
+/// Adds a link to whose destination no `href` leads.
 fn add_link(
-    known: &HtmlIntrospector,
+    alloc: Global,
+    targets: LinkTargets<'_>,
     dest: Option<Location>,
     span: Span,
     dead: &mut Vec<DeadLink>,
 ) -> Result<(), AllocError>
     ensures { OnOk result (dead_links_view dead.new.items ≡ dead_links_view dead.old.items
-        ++ dead_link (introspector_view known.now).anchor (option_map (λ l. l.0) dest) span.0) }
+        ++ dead_link (hrefs_view targets.entry) (option_map (λ l. l.0) dest) span.0) }
 {
     let Some(there) = dest else {
         return Ok(());
     };
-    if name_of(known, dest).is_none() {
+    if targets.href(alloc, dest)?.is_none() {
         dead.push(DeadLink { span, dest: there })?;
     }
     Ok(())
@@ -83,17 +88,19 @@ fn add_link(
 #[cycle(dead)]
 fn add_element(
     element: &HtmlElement,
-    known: &HtmlIntrospector,
+    alloc: Global,
+    targets: LinkTargets<'_>,
     dest: Option<Location>,
     dead: &mut Vec<DeadLink>,
 ) -> Result<(), AllocError>
     ensures { let e = element_view element.now in
         OnOk result (dead_links_view dead.new.items ≡ dead_links_view dead.old.items
-        ++ node_dead_links (introspector_view known.now).anchor (option_map (λ l. l.0) dest)
+        ++ node_dead_links (hrefs_view targets.entry) (option_map (λ l. l.0) dest)
         (element_node e.0 e.1)) }
 {
-    add_link(known, open_dest(element, dest), element.span, dead)?;
-    add_nodes(&element.children, known, dead)?;
+    let open = open_dest(element, dest);
+    add_link(alloc, targets, open, element.span, dead)?;
+    add_nodes(&element.children, alloc, targets, dead)?;
     Ok(())
 }
 
@@ -102,16 +109,17 @@ fn add_element(
 #[tactic(auto, unfolding(crate::specs::Links::node_dead_links))]
 fn add_node(
     child: &HtmlNode,
-    known: &HtmlIntrospector,
+    alloc: Global,
+    targets: LinkTargets<'_>,
     dest: Option<Location>,
     dead: &mut Vec<DeadLink>,
 ) -> Result<(), AllocError>
     ensures { OnOk result (dead_links_view dead.new.items ≡ dead_links_view dead.old.items
-        ++ node_dead_links (introspector_view known.now).anchor (option_map (λ l. l.0) dest)
+        ++ node_dead_links (hrefs_view targets.entry) (option_map (λ l. l.0) dest)
         (node_view child.now)) }
 {
     match child {
-        HtmlNode::Element(element) => add_element(element, known, dest, dead),
+        HtmlNode::Element(element) => add_element(element, alloc, targets, dest, dead),
         HtmlNode::Tag(_) | HtmlNode::Text(_, _) | HtmlNode::Frame(_) => Ok(()),
     }
 }
@@ -120,15 +128,16 @@ fn add_node(
 #[cycle(dead)]
 fn add_nodes(
     nodes: &[HtmlNode],
-    known: &HtmlIntrospector,
+    alloc: Global,
+    targets: LinkTargets<'_>,
     dead: &mut Vec<DeadLink>,
 ) -> Result<(), AllocError>
     ensures { OnOk result (dead_links_view dead.new.items ≡ dead_links_view dead.old.items
-        ++ nodes_dead_links (introspector_view known.now).anchor [] (nodes_view nodes.now)) }
+        ++ nodes_dead_links (hrefs_view targets.entry) [] (nodes_view nodes.now)) }
 {
     let mut dest = None;
     for child in nodes {
-        add_node(child, known, dest, dead)?;
+        add_node(child, alloc, targets, dest, dead)?;
         dest = dest_past(dest, child);
     }
     Ok(())

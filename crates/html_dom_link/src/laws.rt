@@ -3,7 +3,7 @@
 ghost use Rattle.html_dom_link.specs.Answered.{AnswersAreShown, AnswersAreFirstIds, StaysFrameFree, NoTargetNoChange};
 ghost use Rattle.html_dom_link.specs.Distinct.{AnchorsStayDistinct, AllNamesStay};
 ghost use Rattle.html_dom_link.specs.Fresh.{NamesAreNew, IsFirstFree};
-ghost use Rattle.html_dom_link.specs.LinkLaws.{HrefsDecode, LeftAreDead, NamesStay};
+ghost use Rattle.html_dom_link.specs.LinkLaws.{LeadingHrefsLead, LeftAreDead, NamesStay, PlainHrefsLead};
 ghost use Rattle.html_dom_link.specs.Seen.{StaysSeen};
 ghost use Rattle.html_dom_link.specs.Serving.{AnchorsServe};
 ghost use Rattle.html_dom_link.specs.Undone.{ComesBack};
@@ -66,19 +66,20 @@ pub fn no_target_no_change()
     ensures { NoTargetNoChange }
 {}
 
-/// An `href` that is made for a link, without its `#` and decoded, is the name of the anchor.
-#[tactic(auto, using(crate::proofs::LeadingLinks::hrefs_decode))]
-pub fn hrefs_decode()
-    ensures { HrefsDecode }
+/// An `href` that is chosen for the name of a place leads to it; the plain one of
+/// [`href_to`](crate::href_to) does wherever no other place has its spelling as its own name.
+pub fn hrefs_lead()
+    ensures chosen { LeadingHrefsLead }
+    ensures plain { PlainHrefsLead }
 {}
 
 /// Links that are given an `href` change no name of the tree: neither what names are shown, nor the
-/// first `id` of any element.
+/// first `id` of any element, nor the name of any place.
 pub fn names_stay()
     ensures { NamesStay }
 {}
 
-/// The links that are left without an `href` are exactly those whose destination has no anchor, so
+/// The links that are left without an `href` are exactly those to whose destination none leads, so
 /// none is left where no link is dead.
 #[tactic(auto, using(crate::proofs::LeadingLinks::left_are_dead))]
 pub fn left_are_dead()

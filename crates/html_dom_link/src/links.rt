@@ -1,6 +1,6 @@
 //! The `href` of links that have none.
 
-ghost use Rattle.std.specs.Prelude.{◌≡◌, ◌∷◌, [], List, chars, option_map, IfErr, IfOk, OnErr, OnOk};
+ghost use Rattle.std.specs.Prelude.{◌≡◌, ◌∷◌, [], List, option_map, IfErr, IfOk, OnErr, OnOk};
 ghost use Rattle.html_dom_document.specs.Documents.{document_root};
 ghost use Rattle.html_dom_document.specs.Views.{document_view};
 ghost use Rattle.html_dom_tree.specs.Tree.{NodeView, element_node};
@@ -8,41 +8,66 @@ ghost use Rattle.html_dom_tree.specs.Views.{attrs_view, element_view, node_view,
 ghost use Rattle.html_dom_document.specs.Introspectors.{introspector_view};
 ghost use Rattle.html_dom_link.specs.Distinct.{IdsAreDistinct, GivenLinksLeadToOne};
 ghost use Rattle.html_dom_link.specs.GivenLinks.{KnownAnchorsAreShown, GivenLinksLead, links_without};
-ghost use Rattle.html_dom_link.specs.Links.{attrs_with_href, dest_before, document_dead_links, document_with_links, href_to, is_open, name_of, node_with_links, nodes_with_links, open_dest};
+ghost use Rattle.html_dom_link.specs.LinkTargets.{hrefs_view};
+ghost use Rattle.html_dom_link.specs.Links.{attrs_with_href, dest_before, document_dead_links, document_with_links, href_of, is_open, name_of, node_with_links, nodes_with_links, open_dest};
 ghost use Rattle.html_dom_link.specs.Serving.{KnownAnchorsServe};
 
+use crate::places::place_names;
+use crate::spellings::leading_href;
 use html_dom_document::{HtmlDocument, HtmlIntrospector};
 use html_dom_tree::{HtmlAttrs, HtmlElement, HtmlNode, Location, Tag};
 use html_names::{Refused, attr, tag};
-use percent_encoding::{AsciiSet, CONTROLS, ascii_set, utf8_percent_encode};
 use std::alloc::{AllocError, Global};
+use std::collections::BTreeSet;
 
-/// What is percent-encoded in the fragment of an `href`: the fragment percent-encode set of the URL
-/// Standard, and `%`, so that decoding gives the name.
-pub(crate) const FRAGMENT: AsciiSet = ascii_set!(
-    CONTROLS
-        .add(b' ')
-        .add(b'"')
-        .add(b'<')
-        .add(b'>')
-        .add(b'`')
-        .add(b'%')
-);
+/// What links lead to: the anchors that are known, and the names of all places.
+#[derive(Clone, Copy)]
+pub(crate) struct LinkTargets<'a> {
+    pub(crate) known: &'a HtmlIntrospector,
+    pub(crate) places: &'a BTreeSet<String>,
+}
+
+impl LinkTargets<'_> {
+    /// The `href` that leads to a destination, if one does.
+    pub(crate) fn href(
+        self,
+        alloc: Global,
+        dest: Option<Location>,
+    ) -> Result<Option<String>, AllocError>
+        ensures { IfOk result (λ href. option_map text_view href
+            ≡ href_of (hrefs_view self.entry) (option_map (λ l. l.0) dest)) }
+    {
+        match name_of(self.known, dest) {
+            Some(name) => leading_href(alloc, self.places, name.as_str()),
+            None => Ok(None),
+        }
+    }
+}
 
 /// Gives each link of a document that has no `href` one that leads.
 ///
 /// A link is an `a` at any depth below the root that stands directly behind a start tag with a
 /// destination, with only tags between; of several such tags the nearest counts. Where the
 /// document's introspector knows an anchor of that destination, and it is not empty, the link's first
-/// attribute becomes `href`, with `#` and the anchor's name, percent-encoded as a fragment (URL
-/// Standard 1.3), so that decoding gives the name; `%` is encoded too. Links that have an `href`, and
-/// all else, stay. What is left without is told by [`dead_links`].
+/// attribute becomes `href`, with `#` and a spelling of the anchor's name that leads to it. Links that
+/// have an `href`, and all else, stay. What is left without is told by [`dead_links`].
+///
+/// A browser looks for a place whose name is the fragment as it is, and only then for one whose name
+/// is what it decodes to (HTML Standard 7.4.6.3). So the name is spelled as it is, if the fragment
+/// percent-encode set (URL Standard 1.3) leaves it so; else that set and `%` are percent-encoded; else,
+/// where another place of the tree has that text as its name, each byte is. Where one has that text
+/// too, nothing leads to the place, and the link stays without an `href`. A place is an element with
+/// that first `id`, an `a` with that first `name`, a frame, or an anchor of one.
 ///
 /// Each `href` that is given leads: where the anchors that the introspector knows stand in the tree,
-/// as they do in a document of `html_document`, the decoded name is the first `id` of an element below
-/// the root, the `id` of a frame, or one of a frame's anchors; it stays the name of what serves the
-/// destination there. Where all values of `id` differ ([`ids_are_distinct`](crate::ids_are_distinct)),
-/// they still do, and that name stands at one place alone.
+/// as they do in a document of `html_document`, a browser takes from it a fragment that indicates the
+/// anchor's name, which is the first `id` of an element below the root, the `id` of a frame, or one of
+/// a frame's anchors; it stays the name of what serves the destination there. Where all values of `id`
+/// differ ([`ids_are_distinct`](crate::ids_are_distinct)), they still do, and one of them alone is that
+/// name.
+///
+/// Cost: grows with the size of the tree, and for each place and each link with the logarithm of how
+/// many places there are.
 ///
 /// It fails only where an allocation does, and then the document is as it was. The new tree is made
 /// beside the old one.
@@ -80,7 +105,12 @@ pub fn resolve_links(alloc: Global, document: &mut HtmlDocument) -> Result<(), A
     ensures kept { OnErr result (document.new ≡ document.old) }
 {
     let HtmlElement { children, .. } = document.root().try_clone()?;
-    let children = nodes_with_links(children, alloc, document.introspector())?;
+    let places = place_names(alloc, document.root())?;
+    let targets = LinkTargets {
+        known: document.introspector(),
+        places: &places,
+    };
+    let children = nodes_with_links(children, alloc, targets)?;
     document.root_mut().children = children;
     Ok(())
 }
@@ -154,37 +184,14 @@ pub(crate) fn name_of(known: &HtmlIntrospector, dest: Option<Location>) -> Optio
     if name.is_empty() { None } else { Some(name) }
 }
 
-/// The `href` that leads to an anchor of the same page: `#` and the anchor's name, percent-encoded as
-/// [`resolve_links`] encodes it, so that decoding gives the name. Behind the address of another page
-/// it leads to an anchor there. It fails only where an allocation does.
-///
-/// ```
-/// use html_dom::href_to;
-///
-/// let href = href_to(rt.alloc(), "5% salt")?;
-/// assert_eq!(rt; href.as_str(), "#5%25%20salt");
-/// ```
-#[tactic(auto, unfolding(crate::specs::Links::href_to))]
-pub fn href_to(alloc: Global, name: &str) -> Result<String, AllocError>
-    ensures { IfOk result (λ text. text_view text ≡ href_to (chars name.now)) }
-{
-    let mut text = String::from_str(alloc, "#")?;
-    utf8_percent_encode(name, FRAGMENT).append_to(&mut text)?;
-    Ok(text)
-}
-
-/// Attributes, with a new `href` in front where the link leads to a name.
+/// Attributes, with a new `href` in front, if there is one.
 #[tactic(auto, unfolding(html_names::specs::Tables::known_attrs))]
-fn attrs_with_href(
-    alloc: Global,
-    name: Option<&String>,
-    mut attrs: HtmlAttrs,
-) -> Result<HtmlAttrs, AllocError>
-    ensures { IfOk result (λ made. attrs_view made
-        ≡ attrs_with_href (option_map (λ name. text_view name.now) name.entry) (attrs_view attrs)) }
+fn attrs_with_href(href: Option<String>, mut attrs: HtmlAttrs) -> Result<HtmlAttrs, AllocError>
+    ensures { IfOk result (λ made.
+        attrs_view made ≡ attrs_with_href (option_map text_view href) (attrs_view attrs)) }
 {
-    if let Some(name) = name {
-        attrs.push_front(attr::href, href_to(alloc, name.as_str())?)?;
+    if let Some(href) = href {
+        attrs.push_front(attr::href, href)?;
     }
     Ok(attrs)
 }
@@ -196,17 +203,17 @@ fn attrs_with_href(
 fn element_with_links(
     element: HtmlElement,
     alloc: Global,
-    known: &HtmlIntrospector,
+    targets: LinkTargets<'_>,
     dest: Option<Location>,
 ) -> Result<HtmlElement, AllocError>
     ensures { IfOk result (λ made. let e = element_view element in let m = element_view made in
-        element_node m.0 m.1 ≡ node_with_links (introspector_view known.now).anchor
-        (option_map (λ l. l.0) dest) (element_node e.0 e.1)) }
+        element_node m.0 m.1 ≡ node_with_links (hrefs_view targets.entry) (option_map (λ l. l.0) dest)
+        (element_node e.0 e.1)) }
 {
-    let name = name_of(known, open_dest(&element, dest));
+    let href = targets.href(alloc, open_dest(&element, dest))?;
     Ok(HtmlElement {
-        attrs: attrs_with_href(alloc, name, element.attrs)?,
-        children: nodes_with_links(element.children, alloc, known)?,
+        attrs: attrs_with_href(href, element.attrs)?,
+        children: nodes_with_links(element.children, alloc, targets)?,
         ..element
     })
 }
@@ -217,16 +224,15 @@ fn element_with_links(
 fn node_with_links(
     child: HtmlNode,
     alloc: Global,
-    known: &HtmlIntrospector,
+    targets: LinkTargets<'_>,
     dest: Option<Location>,
 ) -> Result<HtmlNode, AllocError>
     ensures { IfOk result (λ made. node_view made
-        ≡ node_with_links (introspector_view known.now).anchor (option_map (λ l. l.0) dest)
-        (node_view child)) }
+        ≡ node_with_links (hrefs_view targets.entry) (option_map (λ l. l.0) dest) (node_view child)) }
 {
     match child {
         HtmlNode::Element(element) => {
-            let linked = element_with_links(element, alloc, known, dest)?;
+            let linked = element_with_links(element, alloc, targets, dest)?;
             Ok(HtmlNode::Element(linked))
         }
         HtmlNode::Tag(_) | HtmlNode::Text(_, _) | HtmlNode::Frame(_) => Ok(child),
@@ -238,16 +244,16 @@ fn node_with_links(
 pub(crate) fn nodes_with_links(
     nodes: Vec<HtmlNode>,
     alloc: Global,
-    known: &HtmlIntrospector,
+    targets: LinkTargets<'_>,
 ) -> Result<Vec<HtmlNode>, AllocError>
-    ensures { IfOk result (λ made. nodes_view made.items
-        ≡ nodes_with_links (introspector_view known.now).anchor [] (nodes_view nodes.items)) }
+    ensures { IfOk result (λ made.
+        nodes_view made.items ≡ nodes_with_links (hrefs_view targets.entry) [] (nodes_view nodes.items)) }
 {
     let mut made = Vec::with_capacity(alloc, nodes.len())?;
     let mut dest = None;
     for child in nodes {
         let past = dest_past(dest, &child);
-        made.push(node_with_links(child, alloc, known, dest)?)?;
+        made.push(node_with_links(child, alloc, targets, dest)?)?;
         dest = past;
     }
     Ok(made)

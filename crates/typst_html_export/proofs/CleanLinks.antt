@@ -1,18 +1,14 @@
--- The `href` that leads to a name holds printable ASCII alone, so it is a clean value, whatever the
--- name is.
-use Rattle.std.proofs.Common.{◌≡◌, ◌<◌, ◌≤◌, ℕ, zero, suc, Bool, true, false, ◌&&◌, ◌||◌, List, [], ◌∷◌, All, inl, inr, refl, sym, subst, arith}
-use Rattle.std.specs.Prelude.{eqb, nat_lt}
+-- The `href` of a link holds printable ASCII alone, so it is a clean value, whatever name it leads to
+-- and whatever places there are.
+use Rattle.std.proofs.Common.{◌≡◌, ◌<◌, ℕ, zero, suc, Bool, true, false, ◌&&◌, ◌||◌, List, [], ◌∷◌, All, Option, None, Some, inl, inr, refl, sym, subst, arith}
+use Rattle.std.specs.Prelude.{eqb, option_map}
 use Rattle.std.proofs.lemmas.Bool.{and_parts, cases_Bool, eqb-true, eqb-false, false≢true}
 use Rattle.std.proofs.lemmas.Bool.Decides.{nat_tests}
 use Rattle.std.proofs.lemmas.List.Elements.{All-head, All-tail}
-use lib.Utf8.{encodes}
-use Rattle.percent_encoding.specs.declared.ascii_set.AsciiSet.{AsciiSet}
-use Rattle.percent_encoding.specs.AsciiSet.{contains, should_percent_encode}
-use Rattle.percent_encoding.specs.Percent.{percent_encode}
-use Rattle.percent_encoding.proofs.AsciiSetLemmas.{ascii_from_kept, outside_from_kept}
-use Rattle.percent_encoding.proofs.PercentLemmas.{IsEscapeByte, All-percent_encode}
 use Rattle.html_names.specs.Characters.{all, is_text_char}
-use Rattle.html_dom_link.specs.Links.{href_to}
+use Rattle.html_dom_link.specs.Links.{Anchors, anchor_hrefs, some_name}
+use Rattle.html_dom_link.specs.Spellings.{href_with, is_in_fragment_set, leading_href, leading_spelling}
+use Rattle.html_dom_link.proofs.SpelledNames.{ArePlain, leading_is_plain}
 use Rattle.typst_html_spaces.specs.CleanNodes.{IsCleanValue}
 
 -- a test of the numbers below a bound
@@ -36,41 +32,34 @@ other_part : (a b : Bool) → (a || b) ≡ true → a ≡ false → b ≡ true
 other_part false b e f = e
 other_part true b e f = absurd (false≢true (sym f))
 
--- the bytes that are written, where all ASCII is escaped but text characters
+-- a character that a browser leaves as it is is a text character
 
-abbrev keeps_text_alone : AsciiSet → Bool
-keeps_text_alone set = all_below (λ b. contains set b || is_text_char b) 128
+within : (c : ℕ) → is_in_fragment_set c ≡ false → c < 127
+within c e = grind (arith, nat_tests)
 
-kept_is_text : (set : AsciiSet) → keeps_text_alone set ≡ true → (b : ℕ) →
-    should_percent_encode set b ≡ false → is_text_char b ≡ true
-kept_is_text set e b kept = other_part (contains set b) (is_text_char b)
-    (holds_below (λ k. contains set k || is_text_char k) 128 e b (ascii_from_kept set b kept))
-    (outside_from_kept set b kept)
+plain_is_text : (c : ℕ) → is_in_fragment_set c ≡ false → is_text_char c ≡ true
+plain_is_text c e =
+    other_part (is_in_fragment_set c) (is_text_char c)
+    (holds_below (λ k. is_in_fragment_set k || is_text_char k) 127 refl c (within c e)) e
 
-escape_is_printable : (b : ℕ) → IsEscapeByte b → (32 ≤ b) × (b < 127)
-escape_is_printable b h = (grind arith, grind arith)
+plain_are_text : (cs : List ℕ) → ArePlain cs → all is_text_char cs ≡ true
+plain_are_text [] each = refl
+plain_are_text (c ∷ cs) each =
+    rw (plain_is_text c (All-head (λ k. is_in_fragment_set k ≡ false) c cs each))
+    (plain_are_text cs (All-tail (λ k. is_in_fragment_set k ≡ false) c cs each))
 
-escape_is_text : (b : ℕ) → IsEscapeByte b → is_text_char b ≡ true
-escape_is_text b h =
-    let within = escape_is_printable b h in
-    other_part (nat_lt b 32) (is_text_char b)
-    (holds_below (λ k. nat_lt k 32 || is_text_char k) 127 refl b within.1)
-    (not_below b within.0)
+pub href_is_clean : (is_place : List ℕ → Bool) (anchor : Anchors) (location : ℕ) (href : List ℕ) →
+    anchor_hrefs is_place anchor location ≡ Some href → IsCleanValue href
+href_is_clean is_place anchor location href = by (some_name (anchor location))
   where
-    not_below : (k : ℕ) → 32 ≤ k → nat_lt k 32 ≡ false
-    not_below k more = grind (arith, nat_tests)
+    spelled : (name : List ℕ) (spelling : Option (List ℕ)) →
+        leading_spelling is_place name ≡ spelling → option_map href_with spelling ≡ Some href →
+        IsCleanValue href
+    spelled name None chosen is = cc
+    spelled name (Some f) chosen is =
+        let same : href_with f ≡ href = cc in
+        subst IsCleanValue same (plain_are_text f (leading_is_plain is_place name f chosen))
 
-all_from_All : (p : ℕ → Bool) (cs : List ℕ) → All (λ c. p c ≡ true) cs → all p cs ≡ true
-all_from_All p [] each = refl
-all_from_All p (c ∷ cs) each =
-    rw (All-head (λ k. p k ≡ true) c cs each)
-    (all_from_All p cs (All-tail (λ k. p k ≡ true) c cs each))
-
-encoded_is_text : (set : AsciiSet) (bs : List ℕ) → keeps_text_alone set ≡ true →
-    all is_text_char (percent_encode set bs) ≡ true
-encoded_is_text set bs e = all_from_All is_text_char (percent_encode set bs)
-    (All-percent_encode (λ b. is_text_char b ≡ true) set bs (kept_is_text set e) escape_is_text)
-
-pub href_is_clean : (name : List ℕ) → IsCleanValue (href_to name)
-unfolding href_to
-href_is_clean name = encoded_is_text _ (encodes name) refl
+    by : (name : Option (List ℕ)) → leading_href is_place name ≡ Some href → IsCleanValue href
+    by None is = cc
+    by (Some name) is = spelled name (leading_spelling is_place name) refl is

@@ -26,7 +26,7 @@ use Rattle.html_dom_link.specs.Anchors.{nodes_size, nodes_with_anchors, element_
 use Rattle.html_dom_link.specs.Events.{Event, Targets, events}
 use Rattle.html_dom_link.specs.Groups.{cuts}
 use Rattle.html_dom_link.specs.Namings.{namings}
-use Rattle.html_dom_link.specs.Links.{Anchors, dest_before, is_open, nodes_with_links, open_dest, root_with_links}
+use Rattle.html_dom_link.specs.Links.{Anchors, Hrefs, anchor_hrefs, dest_before, is_open, nodes_with_links, open_dest, root_with_links}
 use Rattle.html_dom_link.specs.NewNames.{Name, element_names}
 use Rattle.typst_html_spaces.specs.CleanItems.{are_clean_items}
 use Rattle.typst_html_spaces.specs.CleanNodes.{is_clean_text, are_clean_values, are_clean_nodes, IsCleanValue}
@@ -90,18 +90,18 @@ no_dest h dest e = by_test (is_open h)
     by_test true = e
     by_test false = refl
 
-quiet_unlinked : (anchor : Anchors) (ns : NodesView) (before : List NodeView) → AreQuiet ns →
-    dest_before before ≡ None → nodes_with_links anchor before ns ≡ ns
+quiet_unlinked : (hrefs : Hrefs) (ns : NodesView) (before : List NodeView) → AreQuiet ns →
+    dest_before before ≡ None → nodes_with_links hrefs before ns ≡ ns
 unfolding nodes_with_links
-quiet_unlinked anchor none before q e = refl
-quiet_unlinked anchor (node (tag_node t) ns) before q e = absurd q.0
-quiet_unlinked anchor (node (text_node s span) ns) before q e =
-    ap (node (text_node s span)) (quiet_unlinked anchor ns (text_node s span ∷ before) q.1 refl)
-quiet_unlinked anchor (node (element_node h kids) ns) before q e =
-    let inside = quiet_unlinked anchor kids [] q.0 refl in
-    let after = quiet_unlinked anchor ns (element_node h kids ∷ before) q.1 refl in
+quiet_unlinked hrefs none before q e = refl
+quiet_unlinked hrefs (node (tag_node t) ns) before q e = absurd q.0
+quiet_unlinked hrefs (node (text_node s span) ns) before q e =
+    ap (node (text_node s span)) (quiet_unlinked hrefs ns (text_node s span ∷ before) q.1 refl)
+quiet_unlinked hrefs (node (element_node h kids) ns) before q e =
+    let inside = quiet_unlinked hrefs kids [] q.0 refl in
+    let after = quiet_unlinked hrefs ns (element_node h kids ∷ before) q.1 refl in
     rw (no_dest h (dest_before before) e, inside, after) refl
-quiet_unlinked anchor (node (frame_node f) ns) before q e = absurd q.0
+quiet_unlinked hrefs (node (frame_node f) ns) before q e = absurd q.0
 
 -- a root of a quiet head and of a body of clean nodes
 abbrev root_of_both : (top h g : Head) (kids inside : NodesView) → ElementView
@@ -320,17 +320,19 @@ clean_body info items parts plain clean =
     )
 
 -- with the `href` of its links
-body_linked : (info : InfoView) (root : ElementView) (anchor : Anchors) → InfoParts info →
-    HasCleanBody info root → HasCleanBody info (root_with_links anchor root)
+body_linked : (info : InfoView) (root : ElementView) (is_place : List ℕ → Bool) (anchor : Anchors) →
+    InfoParts info → HasCleanBody info root →
+    HasCleanBody info (root_with_links (anchor_hrefs is_place anchor) root)
 unfolding nodes_with_links
-body_linked info root anchor parts b =
+body_linked info root is_place anchor parts b =
     let entries = charset_node ∷ viewport_node ∷ entry_nodes info in
+    let hrefs = anchor_hrefs is_place anchor in
     let quiet = entries_quiet entries (all_entries info parts) in
-    let kept = quiet_unlinked anchor (entries_of info) [] quiet refl in (
-      nodes_with_links anchor [] b.0,
-      ap (root_with_links anchor) b.1 ∙ rw kept refl,
-      anchors_keep_clean_nodes false b.0 (nodes_with_links anchor [] b.0)
-          (links_are_anchored IsCleanValue href_is_clean anchor [] b.0) b.2,
+    let kept = quiet_unlinked hrefs (entries_of info) [] quiet refl in (
+      nodes_with_links hrefs [] b.0,
+      ap (root_with_links hrefs) b.1 ∙ rw kept refl,
+      anchors_keep_clean_nodes false b.0 (nodes_with_links hrefs [] b.0)
+          (links_are_anchored IsCleanValue hrefs (href_is_clean is_place anchor) [] b.0) b.2,
     )
 
 clean_body_written : (frames : Frames) (options : HtmlOptions) (info : InfoView)
@@ -351,11 +353,11 @@ clean_documents_are_written frames options info items plain clean known =
     (clean_body info items parts plain clean)
 
 pub clean_linked_documents_are_written : CleanLinkedDocumentsAreWritten
-clean_linked_documents_are_written frames options info items plain clean known anchor =
+clean_linked_documents_are_written frames options info items plain clean known is_place anchor =
     let parts = info_parts info known in
     let root : ElementView = linked_root info items no_items in
-    clean_body_written frames options info (root_with_links anchor root) parts
-    (body_linked info root anchor parts (clean_body info items parts plain clean))
+    clean_body_written frames options info (root_with_links (anchor_hrefs is_place anchor) root) parts
+    (body_linked info root is_place anchor parts (clean_body info items parts plain clean))
 
 pub clean_exports : (frames : Frames) (options : HtmlOptions) (limit : ℕ) (info : InfoView)
     (items notes : ItemsView) → ArePlainItems limit items notes → are_clean_items items ≡ true →
@@ -366,9 +368,10 @@ clean_exports frames options limit info items notes are clean known =
 
 pub clean_linked_exports : (frames : Frames) (options : HtmlOptions) (limit : ℕ) (info : InfoView)
     (items notes : ItemsView) → ArePlainItems limit items notes → are_clean_items items ≡ true →
-    is_clean_info info ≡ true → (anchor : Anchors) →
-    root_faults frames options (root_with_links anchor (linked_root info items notes)) ≡ []
-clean_linked_exports frames options limit info items notes are clean known anchor =
-    ap (λ n. root_faults frames options (root_with_links anchor (linked_root info items n)))
-    are.alone
-    ∙ clean_linked_documents_are_written frames options info items are.plain clean known anchor
+    is_clean_info info ≡ true → (is_place : List ℕ → Bool) (anchor : Anchors) →
+    root_faults frames options
+    (root_with_links (anchor_hrefs is_place anchor) (linked_root info items notes)) ≡ []
+clean_linked_exports frames options limit info items notes are clean known is_place anchor =
+    ap (λ n. root_faults frames options
+    (root_with_links (anchor_hrefs is_place anchor) (linked_root info items n))) are.alone
+    ∙ clean_linked_documents_are_written frames options info items are.plain clean known is_place anchor

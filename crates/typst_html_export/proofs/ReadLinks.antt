@@ -1,48 +1,77 @@
 -- Links that lead in a tree lead where its text is read.
-use Rattle.std.proofs.Common.{◌≡◌, ℕ, Bool, true, false, List, [], All, Some, refl, ap, sym, subst, ◌∙◌, Result, Ok, Err, IfOk, OnOk, String, Global}
-use Rattle.html_dom_tree.specs.FrameFree.{ElementIsFrameFree}
-use Rattle.html_dom_tree.specs.PlainTree.{nodes_normal, element_normal}
+use Rattle.std.proofs.Common.{◌≡◌, ℕ, Bool, true, false, List, [], ◌++◌, All, Option, Some, refl, ap, sym, subst, ◌∙◌, Result, Ok, Err, IfOk, OnOk, String, Global}
+use Rattle.html_dom_tree.specs.FrameFree.{ElementIsFrameFree, NodeIsFrameFree, NodesAreFrameFree}
+use Rattle.html_dom_tree.specs.PlainTree.{Plain, nodes_normal, element_normal}
 use Rattle.html_dom_tree.specs.Tree.{tag_node, text_node, element_node, frame_node, NodesView, none, node, ElementView}
 use Rattle.html_dom_tree.specs.Views.{text_view}
 use Rattle.html_dom_document.specs.Documents.{DocumentView, document_root}
 use Rattle.html_dom_link.specs.Answered.{first_ids, shown_names}
 use Rattle.html_dom_link.specs.GivenLinks.{GivenLinksLead, LeadsAmong, document_given_links}
+use Rattle.html_dom_link.specs.Indicated.{element_places, nodes_places, place_names}
 use Rattle.html_dom_link.specs.Links.{document_with_links}
 use Rattle.html_dom_link.proofs.Consequences.{shown_first}
 use Rattle.typst_html_encode.specs.Endings.{Gives}
 use Rattle.typst_html_encode.specs.ExportFaults as writing
 use Rattle.typst_html_encode.specs.FrameWriters.{Frames}
 use Rattle.typst_html_encode.specs.Indented.{element_layout, ElementEndsWell}
-use Rattle.typst_html_encode.specs.ReadIds.{plains_ids, read_ids}
+use Rattle.typst_html_encode.specs.ReadIds.{ids_of, plains_texts, read_ids}
 use Rattle.typst_html_encode.specs.Reader.{read}
 use Rattle.typst_html_encode.specs.Text.{document_text}
 use Rattle.typst_html_encode.specs.declared.fault.ExportFault.{ExportFault}
 use Rattle.typst_html_encode.specs.declared.options.HtmlOptions.{HtmlOptions}
-use Rattle.typst_html_encode.proofs.ReadIds.{layout_keeps_ids, past_words}
-use Rattle.typst_html_export.specs.ReadLinks.{GivenLinksLeadWhenRead, DocumentIsReadable}
+use Rattle.typst_html_encode.proofs.ReadIds.{layout_keeps_texts, past_words}
+use Rattle.typst_html_export.specs.ReadLinks.{GivenLinksLeadWhenRead, DocumentIsReadable, read_places}
 
 -- the ids of a tree's normal form
-normal_ids : (ns : NodesView) → plains_ids (nodes_normal ns) ≡ first_ids ns
-unfolding plains_ids nodes_normal first_ids
+normal_ids : (ns : NodesView) → plains_texts ids_of (nodes_normal ns) ≡ first_ids ns
+unfolding plains_texts nodes_normal first_ids
 normal_ids none = refl
 normal_ids (node (tag_node t) ns) = normal_ids ns
-normal_ids (node (text_node s span) ns) = past_words s (nodes_normal ns) ∙ normal_ids ns
+normal_ids (node (text_node s span) ns) = past_words ids_of s (nodes_normal ns) ∙ normal_ids ns
 normal_ids (node (element_node h kids) ns) = rw (normal_ids kids, normal_ids ns) refl
 normal_ids (node (frame_node f) ns) = normal_ids ns
 
--- what is read of a text, plain or pretty
+-- and its places
+normal_places : (ns : NodesView) → NodesAreFrameFree ns →
+    plains_texts place_names (nodes_normal ns) ≡ nodes_places ns
+unfolding plains_texts nodes_normal nodes_places NodesAreFrameFree NodeIsFrameFree
+normal_places none free = refl
+normal_places (node (tag_node t) ns) free = normal_places ns free.1
+normal_places (node (text_node s span) ns) free =
+    past_words place_names s (nodes_normal ns) ∙ normal_places ns free.1
+normal_places (node (element_node h kids) ns) free =
+    rw (normal_places kids free.0, normal_places ns free.1) refl
+normal_places (node (frame_node f) ns) free = absurd free.0
+
+-- what is read of a text has the ids and the places of the tree
+record IsReadOf (root : ElementView) (read : Option Plain) : Type 0 where
+  ids : read_ids read ≡ shown_names root.1
+  places : read_places read ≡ element_places root
+
+-- plain or pretty
 read_by : (frames : Frames) (root : ElementView) (options : HtmlOptions) (text : List ℕ)
     (pretty : Bool) → options.pretty ≡ pretty → ElementIsFrameFree root →
     writing.document_faults frames options root ≡ [] →
     (options.pretty ≡ false → read text ≡ Some (element_normal root)) →
     (options.pretty ≡ true → read text ≡ Some (element_normal (element_layout root))) →
-    read_ids (read text) ≡ shown_names root.1
+    IsReadOf root (read text)
 read_by frames root options text false is free clean plainly prettily =
-    ap read_ids (plainly is) ∙ (normal_ids root.1 ∙ sym (shown_first root.1 free))
+    let own = place_names root.0.name root.0.attrs in
+    record {
+      ids = ap read_ids (plainly is) ∙ (normal_ids root.1 ∙ sym (shown_first root.1 free));
+      places = ap read_places (plainly is)
+          ∙ ap (λ names. own ++ names) (normal_places root.1 free);
+    }
 read_by frames root options text true is free clean plainly prettily =
-    ap read_ids (prettily is)
-    ∙ (layout_keeps_ids frames options root clean
-    ∙ (normal_ids root.1 ∙ sym (shown_first root.1 free)))
+    let own = place_names root.0.name root.0.attrs in
+    record {
+      ids = ap read_ids (prettily is)
+          ∙ (layout_keeps_texts ids_of frames options root clean
+          ∙ (normal_ids root.1 ∙ sym (shown_first root.1 free)));
+      places = ap read_places (prettily is)
+          ∙ ap (λ names. own ++ names) (layout_keeps_texts place_names frames options root clean
+          ∙ normal_places root.1 free);
+    }
 
 -- so links that lead in a tree lead where it is read
 pub links_lead_when_read : (frames : Frames) (options : HtmlOptions) (old new : DocumentView)
@@ -53,9 +82,12 @@ pub links_lead_when_read : (frames : Frames) (options : HtmlOptions) (old new : 
     read text ≡ Some (element_normal (element_layout (document_root new)))) →
     GivenLinksLead old new → GivenLinksLeadWhenRead old new text
 links_lead_when_read frames options old new text free clean plainly prettily lead =
-    subst (λ names. All (LeadsAmong new.introspector.anchor names) (document_given_links old new))
-    (sym (read_by frames (document_root new) options text options.pretty refl free clean plainly
-    prettily)) lead
+    let root = document_root new in
+    let anchor = new.introspector.anchor in
+    let given = document_given_links old new in
+    let same = read_by frames root options text options.pretty refl free clean plainly prettily in
+    subst (λ places. All (LeadsAmong anchor places (read_ids (read text))) given) (sym same.places)
+    (subst (λ ids. All (LeadsAmong anchor (element_places root) ids) given) (sym same.ids) lead)
 
 -- what holds of a document that is made, and of the same once its links are resolved
 pub holds_as : {A : Type 0} (P : DocumentView → DocumentView → Type 0) (r : Result A ExportFault)

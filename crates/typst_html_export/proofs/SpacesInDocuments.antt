@@ -14,7 +14,7 @@ use Rattle.typst_html_encode.specs.ReadingBack.{ElementIsNamed}
 use Rattle.typst_html_encode.specs.Text.{document_text}
 use Rattle.html_dom_document.specs.Documents.{InfoView, DocumentView, document_root}
 use Rattle.html_dom_link.specs.Anchors.{element_with_anchors}
-use Rattle.html_dom_link.specs.Links.{Anchors, nodes_with_links, root_with_links}
+use Rattle.html_dom_link.specs.Links.{Hrefs, nodes_with_links, root_with_links}
 use Rattle.html_flow_convert.specs.Items.{ItemsView, no_items}
 use Rattle.typst_html_encode.proofs.ReadingBack.{reads_back}
 use Rattle.typst_html_spaces.specs.Anchored.{Anchored, IsAny}
@@ -103,10 +103,10 @@ plain_documents_are_read info items e =
     shown_read (linked_root info items no_items) items (linked_shown info items e)
 
 pub plain_linked_documents_are_read : PlainLinkedDocumentsAreRead
-plain_linked_documents_are_read info items e anchor =
+plain_linked_documents_are_read info items e hrefs =
     let old : ElementView = linked_root info items no_items in
-    shown_read (root_with_links anchor old) items
-    (still_shown old.0 old.1 (nodes_with_links anchor [] old.1) items (nodes_linked anchor old.1)
+    shown_read (root_with_links hrefs old) items
+    (still_shown old.0 old.1 (nodes_with_links hrefs [] old.1) items (nodes_linked hrefs old.1)
     (linked_shown info items e))
 
 -- so in the text of such a root exactly the items' text is seen
@@ -126,9 +126,9 @@ plain_documents_are_seen info items e frames options named clean =
     (plain_documents_are_read info items e) named options.pretty clean
 
 pub plain_linked_documents_are_seen : PlainLinkedDocumentsAreSeen
-plain_linked_documents_are_seen info items e anchor frames options named clean =
-    text_is_seen frames (root_with_links anchor (linked_root info items no_items)) items
-    (plain_linked_documents_are_read info items e anchor) named options.pretty clean
+plain_linked_documents_are_seen info items e hrefs frames options named clean =
+    text_is_seen frames (root_with_links hrefs (linked_root info items no_items)) items
+    (plain_linked_documents_are_read info items e hrefs) named options.pretty clean
 
 pub spaces_are_left_without_anchors : (info : InfoView) (items notes : ItemsView)
     (d : DocumentView) → d ≡ assembled_document info items notes → SpacesAreLeft d items notes
@@ -145,10 +145,10 @@ spaces_are_left info items notes d is e alone =
     subst (λ r. IsReadAs (document_root r) items)
     (sym (is ∙ ap (linked_document info items) alone)) (plain_documents_are_read info items e)
 
-pub spaces_are_left_with_links : (info : InfoView) (items notes : ItemsView) (anchor : Anchors)
-    (d : DocumentView) → document_root d ≡ root_with_links anchor (linked_root info items notes) →
+pub spaces_are_left_with_links : (info : InfoView) (items notes : ItemsView) (hrefs : Hrefs)
+    (d : DocumentView) → document_root d ≡ root_with_links hrefs (linked_root info items notes) →
     SpacesAreLeft d items notes
-spaces_are_left_with_links info items notes anchor d is e alone =
+spaces_are_left_with_links info items notes hrefs d is e alone =
     subst (λ r. IsReadAs r items)
-    (sym (is ∙ ap (λ n. root_with_links anchor (linked_root info items n)) alone))
-    (plain_linked_documents_are_read info items e anchor)
+    (sym (is ∙ ap (λ n. root_with_links hrefs (linked_root info items n)) alone))
+    (plain_linked_documents_are_read info items e hrefs)

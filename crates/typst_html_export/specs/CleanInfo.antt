@@ -4,7 +4,7 @@ use Rattle.std.specs.Prelude.{◌≡◌, ℕ, Bool, true, ◌&&◌, List, [], Op
 use Rattle.std.specs.List.{list_all}
 use Rattle.html_names.specs.Characters.{all, is_text_char}
 use Rattle.html_dom_document.specs.Documents.{LocaleView, InfoView}
-use Rattle.html_dom_link.specs.Links.{Anchors, root_with_links}
+use Rattle.html_dom_link.specs.Links.{Anchors, anchor_hrefs, root_with_links}
 use Rattle.typst_html_encode.specs.FrameWriters.{Frames}
 use Rattle.typst_html_encode.specs.declared.options.HtmlOptions.{HtmlOptions}
 use Rattle.html_flow_convert.specs.Items.{ItemsView, no_items}
@@ -31,9 +31,10 @@ CleanDocumentsAreWritten = (frames : Frames) (options : HtmlOptions) (info : Inf
     (items : ItemsView) → is_plain_flow items ≡ true → are_clean_items items ≡ true →
     is_clean_info info ≡ true → root_faults frames options (linked_root info items no_items) ≡ []
 
--- and so it can with the `href` of its links, whatever names they lead to
+-- and so it can with the `href` of its links, whatever names they lead to, among whatever places
 abbrev pub CleanLinkedDocumentsAreWritten : Type 0
 CleanLinkedDocumentsAreWritten = (frames : Frames) (options : HtmlOptions) (info : InfoView)
     (items : ItemsView) → is_plain_flow items ≡ true → are_clean_items items ≡ true →
-    is_clean_info info ≡ true → (anchor : Anchors) →
-    root_faults frames options (root_with_links anchor (linked_root info items no_items)) ≡ []
+    is_clean_info info ≡ true → (is_place : List ℕ → Bool) (anchor : Anchors) →
+    root_faults frames options
+    (root_with_links (anchor_hrefs is_place anchor) (linked_root info items no_items)) ≡ []

@@ -5,7 +5,7 @@ use Rattle.html_dom_tree.specs.PlainTree.{nodes_normal}
 use Rattle.html_dom_tree.specs.Tree.{ElementView}
 use Rattle.html_dom_link.specs.Anchors.{element_with_anchors}
 use Rattle.html_dom_link.specs.Events.{Targets}
-use Rattle.html_dom_link.specs.Links.{Anchors, root_with_links}
+use Rattle.html_dom_link.specs.Links.{Hrefs, root_with_links}
 use Rattle.typst_html_encode.specs.Collapsing.{plains_atoms}
 use Rattle.typst_html_encode.specs.ReadingBack.{ElementIsNamed}
 
@@ -20,14 +20,14 @@ AnchorsKeepAtoms = (x : Targets) (e : ElementView) → HaveSameAtoms (element_wi
 
 -- and so has one with the `href` of its links
 abbrev pub LinksKeepAtoms : Type 0
-LinksKeepAtoms = (anchor : Anchors) (e : ElementView) → HaveSameAtoms (root_with_links anchor e) e
+LinksKeepAtoms = (hrefs : Hrefs) (e : ElementView) → HaveSameAtoms (root_with_links hrefs e) e
 
 -- no frame comes or goes
 abbrev pub LinksKeepFrames : Type 0
-LinksKeepFrames = (anchor : Anchors) (e : ElementView) →
-    (ElementIsFrameFree (root_with_links anchor e) ↔ ElementIsFrameFree e)
+LinksKeepFrames = (hrefs : Hrefs) (e : ElementView) →
+    (ElementIsFrameFree (root_with_links hrefs e) ↔ ElementIsFrameFree e)
 
 -- valid names stay valid
 abbrev pub LinksKeepNames : Type 0
-LinksKeepNames = (anchor : Anchors) (e : ElementView) → ElementIsNamed e →
-    ElementIsNamed (root_with_links anchor e)
+LinksKeepNames = (hrefs : Hrefs) (e : ElementView) → ElementIsNamed e →
+    ElementIsNamed (root_with_links hrefs e)

@@ -10,7 +10,7 @@ use Rattle.typst_html_encode.specs.ReadingBack.{ElementIsNamed}
 use Rattle.typst_html_encode.specs.Text.{document_text}
 use Rattle.typst_html_encode.specs.declared.options.HtmlOptions.{HtmlOptions}
 use Rattle.html_dom_document.specs.Documents.{InfoView, DocumentView, document_root}
-use Rattle.html_dom_link.specs.Links.{Anchors, root_with_links}
+use Rattle.html_dom_link.specs.Links.{Hrefs, root_with_links}
 use Rattle.html_flow_convert.specs.Depth.{items_too_deep}
 use Rattle.html_flow_convert.specs.Items.{ItemsView, no_items}
 use Rattle.typst_html_spaces.specs.ItemText.{items_text}
@@ -42,10 +42,10 @@ abbrev pub PlainDocumentsAreSeen : Type 0
 PlainDocumentsAreSeen = (info : InfoView) (items : ItemsView) → is_plain_flow items ≡ true →
     IsSeenAs (linked_root info items no_items) items
 
--- and with the `href` of its links, whatever names they lead to
+-- and with the `href` of its links, whatever it is
 abbrev pub PlainLinkedDocumentsAreSeen : Type 0
 PlainLinkedDocumentsAreSeen = (info : InfoView) (items : ItemsView) → is_plain_flow items ≡ true →
-    (anchor : Anchors) → IsSeenAs (root_with_links anchor (linked_root info items no_items)) items
+    (hrefs : Hrefs) → IsSeenAs (root_with_links hrefs (linked_root info items no_items)) items
 
 -- a root whose text reads as a tree with a body, in which exactly that text of items is seen: the
 -- plain text, and the pretty one, in which indents stand
@@ -60,10 +60,10 @@ abbrev pub PlainDocumentsAreRead : Type 0
 PlainDocumentsAreRead = (info : InfoView) (items : ItemsView) → is_plain_flow items ≡ true →
     IsReadAs (linked_root info items no_items) items
 
--- and with the `href` of its links, whatever names they lead to
+-- and with the `href` of its links, whatever it is
 abbrev pub PlainLinkedDocumentsAreRead : Type 0
 PlainLinkedDocumentsAreRead = (info : InfoView) (items : ItemsView) → is_plain_flow items ≡ true →
-    (anchor : Anchors) → IsReadAs (root_with_links anchor (linked_root info items no_items)) items
+    (hrefs : Hrefs) → IsReadAs (root_with_links hrefs (linked_root info items no_items)) items
 
 -- where items in plain flow have no footnotes, that is so of a document
 abbrev pub SpacesAreLeft : DocumentView → (items notes : ItemsView) → Type 0

@@ -140,11 +140,11 @@ pub fn export<F: FrameWriter>(
 /// each `a` without an `href` that stands behind a start tag with a destination the `href` of that
 /// destination's anchor, and [`html`] writes it. It fails as [`export`] does.
 ///
-/// Each link that got an `href` leads: its decoded name is that of the anchor of its destination, in
-/// the tree and in the text that is read; where the tree's own ids differ, it stands at one place
-/// alone. A link whose destination is nowhere, or has an empty name,
-/// stays without one, as [`dead_links`](html_dom_link::dead_links) tells of the document. Spaces stay
-/// and clean items are written, as by `export`.
+/// Each link that got an `href` leads: a browser takes from it a fragment that indicates the anchor of
+/// its destination, in the tree and in the text that is read; where the tree's own ids differ, one of
+/// them alone is that name. A link to whose destination nothing leads stays without one, as
+/// [`dead_links`](html_dom_link::dead_links) tells of the document. Spaces stay and clean items are
+/// written, as by `export`.
 ///
 /// ```
 /// use typst_html::{DocumentInfo, HtmlElem, HtmlOptions, Item, Location};

@@ -236,27 +236,35 @@ fn repeated_ids_are_told(rt: HostRuntime) -> Result<(), Fail> {
 }
 
 #[test]
-fn names_are_encoded_in_an_href(rt: HostRuntime) -> Result<(), Fail> {
+fn names_are_spelled_in_an_href(rt: HostRuntime) -> Result<(), Fail> {
     use html_dom::href_to;
 
-    let href = href_to(rt.alloc(), "5% salt")?;
-    assert_eq!(rt; href.as_str(), "#5%25%20salt");
+    let alloc = rt.alloc();
+    assert_eq!(rt; href_to(alloc, "salt")?.as_str(), "#salt");
+    assert_eq!(rt; href_to(alloc, "5% salt")?.as_str(), "#5%25%20salt");
     Ok(())
 }
 
 #[test]
-fn ids_that_stand_twice_are_told(rt: HostRuntime) -> Result<(), Fail> {
-    use typst_html::{DocumentInfo, HtmlElem, Item, Pair, attr, html_document};
-    use typst_html::{ids_are_distinct, tag};
+fn fragments_are_taken_from_an_href(rt: HostRuntime) -> Result<(), Fail> {
+    use html_dom::fragment_in;
 
     let alloc = rt.alloc();
-    let (mut items, info) = (Vec::new(alloc), DocumentInfo::new(alloc));
-    for tag in [tag::h2, tag::p] {
-        let id = String::from_str(alloc, "tides")?;
-        let element = HtmlElem::new(alloc, tag).with_attr(attr::id, id)?;
-        items.push(Pair::from(Item::Element(element)))?;
-    }
-    let document = html_document(alloc, &items, &info, &[], 50)?;
-    assert!(rt; !ids_are_distinct(alloc, &document)?);
+    let fragment = fragment_in(alloc, " #a\n b ")?;
+    assert!(rt; fragment.is_some_and(|fragment| fragment.as_str() == "a b"));
+    assert!(rt; fragment_in(alloc, "other.html#a")?.is_none());
+    Ok(())
+}
+
+#[test]
+fn fragments_lead_to_places(rt: HostRuntime) -> Result<(), Fail> {
+    use typst_html::{HtmlElement, attr, fragment_leads, place_names, tag};
+
+    let alloc = rt.alloc();
+    let id = String::from_str(alloc, "a b")?;
+    let root = HtmlElement::new(alloc, tag::p).with_attr(attr::id, id)?;
+    let places = place_names(alloc, &root)?;
+    assert!(rt; fragment_leads(alloc, &places, "a%20b")?);
+    assert!(rt; !fragment_leads(alloc, &places, "b")?);
     Ok(())
 }

@@ -16,24 +16,24 @@ pub add_element-returns-clause-dead : goal.add_element-returns-clause-dead
 unfolding node_placed
 add_element-returns-clause-dead t c =
     let e = element_view c.args.element.now in
-    let ids = used_in c.args.ids.now in
+    let places = used_in c.args.places.now in
     let path = c.args.walk.now.path.items in
     let old = dead_view c.args.walk.now.dead.items in
     let mid = dead_view c.add_link.new.walk.dead.items in
-    both_dead ids old mid _ (placed_at path (fragments_at (element_node e.0 e.1)))
+    both_dead places old mid _ (placed_at path (fragments_at (element_node e.0 e.1)))
     (nodes_placed fragments_at path 0 e.1)
     (c.in_ok-add_link.ensures.dead
-    ∙ ap (λ texts. old ++ dead_among ids (placed_at path texts)) c.fragment_at.ensures)
+    ∙ ap (λ texts. old ++ dead_among places (placed_at path texts)) c.in_ok-fragment_at.ensures)
     (c.in_ok-add_nodes.ensures.dead
-    ∙ (ap (λ p. mid ++ dead_among ids (nodes_placed fragments_at p 0 (nodes_view c.deref.result.now)))
+    ∙ (ap (λ p. mid ++ dead_among places (nodes_placed fragments_at p 0 (nodes_view c.deref.result.now)))
     c.in_ok-add_link.ensures.path
-    ∙ ap (λ ns. mid ++ dead_among ids (nodes_placed fragments_at path 0 (nodes_view ns)))
+    ∙ ap (λ ns. mid ++ dead_among places (nodes_placed fragments_at path 0 (nodes_view ns)))
     c.deref.ensures.value))
 
 pub add_nodes-loop-index-preserved : goal.add_nodes-loop-index-preserved
 add_nodes-loop-index-preserved t c =
     let held = c.loop-index.invariant in
-    let ids = used_in c.args.ids.now in
+    let places = used_in c.args.places.now in
     let parent = c.args.walk.now.path.items in
     let child = c.index-nodes-index.result in
     let old = dead_view c.loop-index.walk.dead.items in
@@ -41,10 +41,10 @@ add_nodes-loop-index-preserved t c =
     c.in_ok-push.ensures.items ∙ ap (λ p. p ++ c.loop-index.index ∷ []) held.path in
     record {
       path = c.leave.ensures parent c.loop-index.index (c.in_ok-add_node.ensures.path ∙ there);
-      told = one_more_dead ids parent c.args.nodes.now c.loop-index.index child old _ _
+      told = one_more_dead places parent c.args.nodes.now c.loop-index.index child old _ _
           c.loop-index-test.true c.index-nodes-index.is held.told
           (c.in_ok-add_node.ensures.dead
-          ∙ ap (λ p. old ++ dead_among ids (node_placed fragments_at p (node_view child))) there);
+          ∙ ap (λ p. old ++ dead_among places (node_placed fragments_at p (node_view child))) there);
     }
 
 pub add_nodes-returns-clause-path : goal.add_nodes-returns-clause-path
@@ -52,5 +52,5 @@ add_nodes-returns-clause-path t c = c.loop-index.invariant.path
 
 pub add_nodes-returns-clause-dead : goal.add_nodes-returns-clause-dead
 add_nodes-returns-clause-dead t c =
-    no_more_dead (used_in c.args.ids.now) c.args.walk.now.path.items c.args.nodes.now
+    no_more_dead (used_in c.args.places.now) c.args.walk.now.path.items c.args.nodes.now
     c.loop-index.index _ _ c.loop-index-test.false c.loop-index.invariant.told

@@ -9,11 +9,11 @@ use Rattle.html_dom_check.proofs.fragments.+fragments.Given as goal
 abbrev pub invariant-add_nodes-loop-index : goal.invariant-add_nodes-loop-index
 invariant-add_nodes-loop-index l =
     let parent = l.fn.walk.path.items in
-    let ids = used_in l.ids in
+    let places = used_in l.places in
     let placed = nodes_placed fragments_at parent in
     record {
       path : l.walk.path.items ≡ parent;
       told : dead_view l.walk.dead.items
-          ++ dead_among ids (placed l.index (nodes_view (drop l.index l.nodes)))
-          ≡ dead_view l.fn.walk.dead.items ++ dead_among ids (placed 0 (nodes_view l.nodes));
+          ++ dead_among places (placed l.index (nodes_view (drop l.index l.nodes)))
+          ≡ dead_view l.fn.walk.dead.items ++ dead_among places (placed 0 (nodes_view l.nodes));
     }

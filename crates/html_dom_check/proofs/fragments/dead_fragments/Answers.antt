@@ -10,11 +10,11 @@ use Rattle.html_dom_check.proofs.fragments.dead_fragments.Goals as goal
 pub returns : goal.returns
 returns c =
     let e = element_view c.args.root.now in
-    let ids = used_in c.in_ok-ids.ids in
+    let places = used_in c.in_ok-places.places in
     c.in_ok-add_element.ensures.dead
     ∙ (ap (λ items. dead_view items
-    ++ dead_among ids (node_placed fragments_at c.new.result.items (element_node e.0 e.1)))
+    ++ dead_among places (node_placed fragments_at c.new.result.items (element_node e.0 e.1)))
     c.new-2.ensures.items
-    ∙ (ap (λ path. dead_among ids (node_placed fragments_at path (element_node e.0 e.1)))
+    ∙ (ap (λ path. dead_among places (node_placed fragments_at path (element_node e.0 e.1)))
     c.new.ensures.items
-    ∙ ap (λ is_id. dead_among is_id (fragment_links e)) c.in_ok-ids.ensures))
+    ∙ ap (λ is_place. dead_among is_place (fragment_links e)) c.in_ok-places.ensures))

@@ -2,17 +2,17 @@ use Rattle.std.proofs.Common.{◌≡◌, ◌++◌, List, [], drop}
 use Rattle.std.specs.Prelude.{option_map}
 use Rattle.html_dom_tree.specs.Tree.{NodeView}
 use Rattle.html_dom_tree.specs.Views.{nodes_view}
-use Rattle.html_dom_document.specs.Introspectors.{introspector_view}
 use Rattle.html_dom_link.specs.DeadLinks.{dead_links_view}
+use Rattle.html_dom_link.specs.LinkTargets.{hrefs_view}
 use Rattle.html_dom_link.specs.Links.{dest_before, nodes_dead_links}
 use Rattle.html_dom_link.proofs.dead.+dead.Given as goal
 
 abbrev pub invariant-add_nodes-loop-child : goal.invariant-add_nodes-loop-child
 invariant-add_nodes-loop-child l =
-    let anchor = (introspector_view l.known).anchor in
+    let hrefs = hrefs_view l.targets in
     (before : List NodeView) × record {
       behind : option_map (λ d. d.0) l.dest ≡ dest_before before;
       told : dead_links_view l.dead.items
-          ++ nodes_dead_links anchor before (nodes_view (drop l.child-index l.nodes))
-          ≡ dead_links_view l.fn.dead.items ++ nodes_dead_links anchor [] (nodes_view l.nodes);
+          ++ nodes_dead_links hrefs before (nodes_view (drop l.child-index l.nodes))
+          ≡ dead_links_view l.fn.dead.items ++ nodes_dead_links hrefs [] (nodes_view l.nodes);
     }

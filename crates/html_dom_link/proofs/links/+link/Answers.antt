@@ -4,24 +4,25 @@ use Rattle.std.proofs.lemmas.List.{append-nil, map-append, nil_from_length}
 use Rattle.std.specs.Prelude.{option_map}
 use Rattle.std.specs.Vec.Iter.{into_iter_items}
 use Rattle.html_dom_tree.specs.Views.{attrs_view, head_of, node_view, nodes_of, nodes_view}
-use Rattle.html_dom_document.specs.Introspectors.{introspector_view}
-use Rattle.html_dom_link.specs.Links.{attrs_with_href, name_of}
+use Rattle.html_dom_link.specs.LinkTargets.{hrefs_view}
+use Rattle.html_dom_link.specs.Links.{attrs_with_href, href_of}
 use Rattle.html_dom_link.proofs.Linking.{element_has_links, list_with_links, nodes_with_links-nodes_of, one_more_with_links}
 use Rattle.html_dom_link.proofs.links.+link.Goals as goal
 
 pub element_with_links-returns : goal.element_with_links-returns
 element_with_links-returns t c =
-    let anchor = (introspector_view c.args.known.now).anchor in
+    let hrefs = hrefs_view c.args.targets in
     let attrs = attrs_view c.args.element.attrs in
-    element_has_links anchor (option_map (λ l. l.0) c.args.dest) (head_of c.args.element) _ _
+    element_has_links hrefs (option_map (λ l. l.0) c.args.dest) (head_of c.args.element) _ _
     (nodes_view c.args.element.children.items)
     (c.in_ok-attrs_with_href.ensures
-    ∙ ap (λ n. attrs_with_href n attrs) (c.name_of-name.ensures ∙ ap (name_of anchor) c.open_dest.ensures))
+    ∙ ap (λ href. attrs_with_href href attrs)
+    (c.in_ok-href.ensures ∙ ap (href_of hrefs) c.open_dest.ensures))
     c.in_ok-nodes_with_links.ensures
 
 pub nodes_with_links-loop-child-preserved : goal.nodes_with_links-loop-child-preserved
 nodes_with_links-loop-child-preserved t c =
-    let anchor = (introspector_view c.args.known.now).anchor in
+    let hrefs = hrefs_view c.args.targets in
     let held = c.loop-child.invariant in
     let n = node_view c.in-Some.child in
     let m = node_view c.in_ok-node_with_links.field-0 in
@@ -33,9 +34,9 @@ nodes_with_links-loop-child-preserved t c =
       record {
         behind = c.dest_past-past.ensures held.0 held.1.behind;
         told =
-            ap (λ l. l ++ list_with_links anchor (n ∷ held.0)
+            ap (λ l. l ++ list_with_links hrefs (n ∷ held.0)
             (map node_view (into_iter_items c.next.new.self))) pushed
-            ∙ one_more_with_links anchor _ held.0 made n m _ _ _ held.1.behind c.in_ok-node_with_links.ensures
+            ∙ one_more_with_links hrefs _ held.0 made n m _ _ _ held.1.behind c.in_ok-node_with_links.ensures
             (ap (map node_view) c.in-Some.ensures.steps.0) held.1.told;
         long = grind (arith, common_steps, c.in-Some.ensures.steps.0, c.in-Some.ensures.steps.1, held.1.long);
       },
@@ -43,14 +44,14 @@ nodes_with_links-loop-child-preserved t c =
 
 pub nodes_with_links-returns : goal.nodes_with_links-returns
 nodes_with_links-returns t c =
-    let anchor = (introspector_view c.args.known.now).anchor in
+    let hrefs = hrefs_view c.args.targets in
     let held = c.loop-child.invariant in
     let made = map node_view c.loop-child.made.items in
     let none_left = nil_from_length (into_iter_items c.loop-child.child-iterator)
     (sym held.1.long ∙ c.in-None.ensures.steps.0) in
     let whole =
     sym (append-nil made)
-    ∙ (ap (λ ns. made ++ list_with_links anchor held.0 (map node_view ns)) (sym none_left)
+    ∙ (ap (λ ns. made ++ list_with_links hrefs held.0 (map node_view ns)) (sym none_left)
     ∙ held.1.told) in
     ap nodes_of whole
-    ∙ sym (nodes_with_links-nodes_of anchor [] (map node_view c.args.nodes.items))
+    ∙ sym (nodes_with_links-nodes_of hrefs [] (map node_view c.args.nodes.items))

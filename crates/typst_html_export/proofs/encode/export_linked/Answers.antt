@@ -3,7 +3,9 @@ use Rattle.html_dom_document.specs.Documents.{DocumentView, document_root}
 use Rattle.html_dom_document.specs.Views.{document_view, info_view}
 use Rattle.html_dom_link.specs.Distinct.{GivenLinksLeadToOne, IdsAreDistinct}
 use Rattle.html_dom_link.specs.GivenLinks.{AnchorsAreTexts, GivenLinksLead}
-use Rattle.html_dom_link.specs.Links.{document_with_links}
+use Rattle.html_names.specs.Names.{stands_in}
+use Rattle.html_dom_link.specs.Indicated.{element_places}
+use Rattle.html_dom_link.specs.Links.{document_hrefs, document_with_links}
 use Rattle.html_dom_link.proofs.ChangedRoots.{root_has_links}
 use Rattle.html_dom_link.proofs.GivenLinks.{texts_in}
 use Rattle.html_flow_convert.specs.Views.{items_view}
@@ -47,7 +49,7 @@ returns-clause-clean g c = λ are clean known.
     let d : DocumentView = linked_document info items notes in
     let none = ap (root_faults frames options) (root_has_links d)
     ∙ clean_linked_exports frames options c.args.limit info items notes are clean known
-    d.introspector.anchor in
+    (stands_in (element_places (document_root d))) d.introspector.anchor in
     fails_by_memory_alone c.html_of_made.result (root_faults frames options (resolved_root info items notes))
     none (returns-clause-plain g c are)
 
@@ -63,7 +65,7 @@ returns-clause-spaces g c =
     spaces_are_seen (document_root (document_view c.in_ok-document.document)) items
     c.args.options.now.pretty c.html_of_made.result notes c.html_of_made.ensures.reads_back
     c.html_of_made.ensures.reads_indented
-    (spaces_are_left_with_links info items notes d.introspector.anchor
+    (spaces_are_left_with_links info items notes (document_hrefs d)
     (document_view c.in_ok-document.document) is)
 
 pub returns-clause-leads : goal.returns-clause-leads

@@ -1,0 +1,110 @@
+-- What an `href` to a fragment of its own page leads to in a browser: the URL Standard takes it apart
+-- (4.4, URL parsing), and the HTML Standard finds the place (7.4.6.3, scrolling to a fragment).
+use Rattle.std.specs.Char.{to_ascii_lowercase}
+use Rattle.std.specs.List.{filter}
+use Rattle.std.specs.Prelude.{ℕ, Bool, not, ◌||◌, ◌==◌, nat_lt, List, [], ◌∷◌, ◌++◌, map, chars, codes, bytes_eq, if◌then◌else◌, Option, Some, None, option_to_list}
+use Rattle.std.specs.Str.Lossy.{utf8_lossy}
+use Rattle.percent_encoding.specs.Percent.{percent_decode}
+use Rattle.html_dom_tree.specs.Attributes.{first}
+use Rattle.html_dom_tree.specs.Tree.{TextPair, tag_node, text_node, element_node, frame_node, NodesView, none, node, ElementView}
+use Rattle.html_dom_link.specs.NewNames.{Name, first_id, frame_names}
+use Rattle.html_dom_link.specs.Spellings.{encoding, is_in_fragment_set}
+
+-- the names of places
+
+-- the first `name` of an `a`
+abbrev pub link_name : (name : List ℕ) → (attrs : List TextPair) → Option Name
+link_name name attrs = if bytes_eq name (codes "a") then first attrs (codes "name") else None
+
+-- an element is a place by its first `id`, and an `a` by its first `name` too
+abbrev pub place_names : (name : List ℕ) → (attrs : List TextPair) → List Name
+place_names name attrs =
+    option_to_list (first attrs (codes "id")) ++ option_to_list (link_name name attrs)
+
+-- those of all elements, and the ids and anchors of frames
+unfoldable pub nodes_places : NodesView → List Name
+nodes_places none = []
+nodes_places (node (tag_node t) ns) = nodes_places ns
+nodes_places (node (text_node s span) ns) = nodes_places ns
+nodes_places (node (element_node h kids) ns) =
+    place_names h.name h.attrs ++ (nodes_places kids ++ nodes_places ns)
+nodes_places (node (frame_node f) ns) = frame_names f ++ nodes_places ns
+
+-- those of a whole tree, the root among them
+abbrev pub element_places : ElementView → List Name
+element_places e = place_names e.0.name e.0.attrs ++ nodes_places e.1
+
+-- the fragment of an `href`
+
+-- a control or a space: it counts for nothing at the ends of a URL
+abbrev pub is_blank : ℕ → Bool
+is_blank c = nat_lt c 33
+
+-- a tab, a line feed or a carriage return: it counts for nothing in a URL
+abbrev pub is_dropped : ℕ → Bool
+is_dropped c = (c == 9) || (c == 10) || (c == 13)
+
+abbrev pub is_kept : ℕ → Bool
+is_kept c = not (is_dropped c)
+
+abbrev pub before_end : ℕ → List ℕ → List ℕ
+before_end c [] = if is_blank c then [] else c ∷ []
+before_end c (d ∷ ds) = c ∷ d ∷ ds
+
+abbrev pub without_end_blanks : List ℕ → List ℕ
+without_end_blanks [] = []
+without_end_blanks (c ∷ cs) = before_end c (without_end_blanks cs)
+
+abbrev pub unless_empty : List ℕ → List (List ℕ)
+unless_empty [] = []
+unless_empty (c ∷ cs) = (c ∷ cs) ∷ []
+
+-- what stands behind the `#` with which an `href` begins, past blanks
+abbrev pub behind_hash : (href : List ℕ) → Option (List ℕ)
+behind_hash [] = None
+behind_hash (c ∷ cs) = if c == 35 then Some cs else (if is_blank c then behind_hash cs else None)
+
+-- the end of a URL as it is taken
+abbrev pub url_end : List ℕ → List ℕ
+url_end cs = without_end_blanks (filter is_kept cs)
+
+abbrev pub fragments_behind : Option (List ℕ) → List (List ℕ)
+fragments_behind None = []
+fragments_behind (Some cs) = unless_empty (url_end cs)
+
+-- the fragment of an `href` that begins with `#`, unless it is empty: `#` alone leads to the top of
+-- the page
+abbrev pub fragments_in : (href : List ℕ) → List (List ℕ)
+fragments_in href = fragments_behind (behind_hash href)
+
+-- the place that it leads to
+
+-- a fragment as a URL has it
+abbrev pub url_fragment : (fragment : List ℕ) → List ℕ
+url_fragment fragment = encoding is_in_fragment_set fragment
+
+-- percent-decoded, and read as UTF-8, with U+FFFD for what is none
+unfoldable pub decoding : (url_fragment : List ℕ) → List ℕ
+decoding f = utf8_lossy (percent_decode f)
+
+-- the name of the place: the fragment as the URL has it, or else the text that it decodes to
+abbrev pub indicated_by : (is_place : Name → Bool) → (as_it_is decoded : Name) → Option Name
+indicated_by is_place as_it_is decoded = if is_place as_it_is then Some as_it_is
+    else (if is_place decoded then Some decoded else None)
+
+unfoldable pub indicated_name : (is_place : Name → Bool) → (fragment : List ℕ) → Option Name
+indicated_name is_place fragment = let f = url_fragment fragment in
+    indicated_by is_place f (chars (decoding f))
+
+-- these bytes lead to the top of the page
+abbrev pub is_top : List ℕ → Bool
+is_top bytes = bytes_eq (map to_ascii_lowercase bytes) (codes "top")
+
+-- this text, in UTF-8, is the name of a place, or leads to the top
+abbrev pub text_leads : (is_place : Name → Bool) → (bytes : List ℕ) → Bool
+text_leads is_place bytes = is_place (chars bytes) || is_top bytes
+
+-- whether a fragment leads to a place or to the top of the page
+unfoldable pub leads : (is_place : Name → Bool) → (fragment : List ℕ) → Bool
+leads is_place fragment = let f = url_fragment fragment in
+    is_place f || text_leads is_place (decoding f)

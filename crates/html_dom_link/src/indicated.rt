@@ -1,0 +1,165 @@
+//! What an `href` to a fragment of its own page leads to in a browser.
+
+ghost use Rattle.std.specs.Prelude.{◌≡◌, chars, option_map, option_to_list, IfOk};
+ghost use Rattle.html_names.specs.Texts.{text_view};
+ghost use Rattle.html_dom_link.specs.Indicated.{behind_hash, decoding, fragments_in, is_blank, is_dropped, is_top, leads, text_leads, unless_empty, url_end, url_fragment};
+ghost use Rattle.html_dom_link.specs.UsedNames.{used_in};
+
+use crate::spellings::{FRAGMENT, encoding};
+use html_names::output::Output;
+use percent_encoding::percent_decode;
+use std::alloc::{AllocError, Global};
+use std::collections::BTreeSet;
+
+/// The fragment of an `href` to its own page, as a browser takes it (URL Standard 4.4): what stands
+/// behind the `#` with which it begins. Controls and spaces at both ends count for nothing, nor do
+/// tabs, line feeds and carriage returns anywhere. `#` alone, which leads to the top of the page, has
+/// none. It fails only where an allocation does.
+///
+/// ```
+/// use html_dom::fragment_in;
+///
+/// let alloc = rt.alloc();
+/// let fragment = fragment_in(alloc, " #a\n b ")?;
+/// assert!(rt; fragment.is_some_and(|fragment| fragment.as_str() == "a b"));
+/// assert!(rt; fragment_in(alloc, "other.html#a")?.is_none());
+/// ```
+pub fn fragment_in(alloc: Global, href: &str) -> Result<Option<String>, AllocError>
+    ensures { IfOk result (λ fragment.
+        option_to_list (option_map text_view fragment) ≡ fragments_in (chars href.now)) }
+{
+    let Some(fragment) = behind_hash(href) else {
+        return Ok(None);
+    };
+    Ok(unless_empty(url_end(alloc, fragment)?))
+}
+
+/// Whether a fragment leads to a place of its page or to the top, as a browser finds it (HTML Standard
+/// 7.4.6.3), where these are the names of the places. The URL encodes the fragment by the fragment
+/// percent-encode set; then a place is looked for whose name is that text as it is, or else the text
+/// to which it decodes, with U+FFFD for what is no UTF-8. `top`, in any ASCII case, leads to the top
+/// of the page where no place has that name. It fails only where an allocation does.
+///
+/// ```
+/// use typst_html::{HtmlElement, attr, fragment_leads, place_names, tag};
+///
+/// let alloc = rt.alloc();
+/// let id = String::from_str(alloc, "a b")?;
+/// let root = HtmlElement::new(alloc, tag::p).with_attr(attr::id, id)?;
+/// let places = place_names(alloc, &root)?;
+/// assert!(rt; fragment_leads(alloc, &places, "a%20b")?);
+/// assert!(rt; !fragment_leads(alloc, &places, "b")?);
+/// ```
+pub fn fragment_leads(
+    alloc: Global,
+    places: &BTreeSet<String>,
+    fragment: &str,
+) -> Result<bool, AllocError>
+    ensures { IfOk result (λ leading. leading ≡ leads (used_in places.now) (chars fragment.now)) }
+{
+    let as_it_is = url_fragment(alloc, fragment)?;
+    if is_place(places, as_it_is.as_str()) {
+        return Ok(true);
+    }
+    leads_decoded(alloc, places, as_it_is.as_str())
+}
+
+/// A control or a space.
+fn is_blank(c: char) -> bool
+    ensures { result ≡ is_blank c }
+{
+    c <= ' '
+}
+
+/// What counts for nothing in a URL.
+fn is_dropped(c: char) -> bool
+    ensures { result ≡ is_dropped c }
+{
+    matches!(c, '\t' | '\n' | '\r')
+}
+
+/// What stands behind the `#` with which a text begins, past blanks.
+fn behind_hash(href: &str) -> Option<&str>
+    ensures { option_map (λ text. chars text.now) result ≡ behind_hash (chars href.now) }
+{
+    let mut left = href.chars();
+    while let Some(c) = left.next() {
+        if c == '#' {
+            return Some(left.as_str());
+        }
+        if !is_blank(c) {
+            return None;
+        }
+    }
+    None
+}
+
+/// The end of a URL as it is taken.
+fn url_end(alloc: Global, text: &str) -> Result<Output, AllocError>
+    ensures { IfOk result (λ end. end ≡ url_end (chars text.now)) }
+{
+    let mut end = Output::new(alloc);
+    let mut blanks = Output::new(alloc);
+    for c in text.chars() {
+        if is_dropped(c) {
+            continue;
+        }
+        if is_blank(c) {
+            blanks.push(c)?;
+        } else {
+            end.push_str(blanks.as_str())?;
+            end.push(c)?;
+            blanks = Output::new(alloc);
+        }
+    }
+    Ok(end)
+}
+
+/// The text, unless it is empty.
+fn unless_empty(text: Output) -> Option<String>
+    ensures { option_to_list (option_map text_view result) ≡ unless_empty text }
+{
+    let text = text.into_string();
+    if text.is_empty() { None } else { Some(text) }
+}
+
+/// A fragment as a URL has it.
+fn url_fragment(alloc: Global, fragment: &str) -> Result<String, AllocError>
+    ensures { IfOk result (λ text. text_view text ≡ url_fragment (chars fragment.now)) }
+{
+    encoding(alloc, fragment, FRAGMENT)
+}
+
+/// Whether what a fragment of a URL decodes to leads to a place or to the top.
+fn leads_decoded(
+    alloc: Global,
+    places: &BTreeSet<String>,
+    fragment: &str,
+) -> Result<bool, AllocError>
+    ensures { IfOk result (λ leading.
+        leading ≡ text_leads (used_in places.now) (decoding fragment.now)) }
+{
+    let decoded = percent_decode(fragment.as_bytes()).decode_utf8_lossy(alloc)?;
+    Ok(text_leads(places, &decoded))
+}
+
+/// Whether a text is the name of a place, or leads to the top of the page.
+fn text_leads(places: &BTreeSet<String>, text: &str) -> bool
+    ensures { result ≡ text_leads (used_in places.now) text.now }
+{
+    is_place(places, text) || is_top(text)
+}
+
+/// Whether a text is the name of a place.
+fn is_place(places: &BTreeSet<String>, text: &str) -> bool
+    ensures { result ≡ used_in places.now (chars text.now) }
+{
+    places.contains(text)
+}
+
+/// Whether a text leads to the top of the page.
+fn is_top(text: &str) -> bool
+    ensures { result ≡ is_top text.now }
+{
+    text.eq_ignore_ascii_case("top")
+}

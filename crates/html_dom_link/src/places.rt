@@ -1,0 +1,132 @@
+//! The names of the places of a tree.
+
+ghost use Rattle.std.specs.Prelude.{◌≡◌, [], ◌∷◌, IfOk, OnOk, option_map, option_to_list};
+ghost use Rattle.html_names.specs.Names.{stands_in};
+ghost use Rattle.html_names.specs.Texts.{text_view};
+ghost use Rattle.html_dom_tree.specs.FrameViews.{anchors_view, html_frame_view};
+ghost use Rattle.html_dom_tree.specs.Tree.{element_node, frame_node, node, none};
+ghost use Rattle.html_dom_tree.specs.Views.{element_view, node_view, nodes_view};
+ghost use Rattle.html_dom_link.specs.Indicated.{element_places, link_name, nodes_places};
+ghost use Rattle.html_dom_link.specs.NewNames.{anchor_names, first_id};
+ghost use Rattle.html_dom_link.specs.UsedNames.{used_in, with_names};
+
+use crate::names::put_in_use;
+use html_dom_tree::{HtmlElement, HtmlFrame, HtmlNode, Point};
+use html_names::{attr, tag};
+use std::alloc::{AllocError, Global};
+use std::collections::BTreeSet;
+
+/// The names of the places of a tree, to which fragments lead (HTML Standard 7.4.6.3): the first `id`
+/// of each element, the root among them, the first `name` of each `a`, and the ids and anchors of
+/// frames. It takes time for each by the logarithm of how many there are, and fails only where an
+/// allocation does.
+pub fn place_names(alloc: Global, root: &HtmlElement) -> Result<BTreeSet<String>, AllocError>
+    ensures { IfOk result (λ names.
+        used_in names ≡ stands_in (element_places (element_view root.now))) }
+{
+    let mut names = BTreeSet::new(alloc);
+    add_element(root, &mut names)?;
+    Ok(names)
+}
+
+/// The first `id` of an element.
+#[tactic(auto, unfolding(html_names::specs::Tables::known_attrs))]
+fn first_id(element: &HtmlElement) -> Option<&String>
+    ensures { option_map (λ id. text_view id.now) result ≡ first_id (element_view element.now).0 }
+{
+    element.attrs.get(&attr::id)
+}
+
+/// The first `name` of an `a`.
+#[tactic(auto, unfolding(html_names::specs::Tables::known_tags, html_names::specs::Tables::known_attrs))]
+fn link_name(element: &HtmlElement) -> Option<&String>
+    ensures { let h = (element_view element.now).0 in
+        option_map (λ name. text_view name.now) result ≡ link_name h.name h.attrs }
+{
+    if element.tag == tag::a {
+        element.attrs.get(&attr::name)
+    } else {
+        None
+    }
+}
+
+/// Adds a name.
+fn add_name(name: &String, names: &mut BTreeSet<String>) -> Result<(), AllocError>
+    ensures { OnOk result
+        (used_in names.new ≡ with_names (text_view name.now ∷ []) (used_in names.old)) }
+{
+    put_in_use(names, name.clone()?)?;
+    Ok(())
+}
+
+/// Adds a name, if there is one.
+fn add_optional(name: Option<&String>, names: &mut BTreeSet<String>) -> Result<(), AllocError>
+    ensures { OnOk result (used_in names.new ≡ with_names
+        (option_to_list (option_map (λ name. text_view name.now) name.entry)) (used_in names.old)) }
+{
+    match name {
+        Some(name) => add_name(name, names),
+        None => Ok(()),
+    }
+}
+
+/// Adds the names of anchors.
+fn add_anchors(anchors: &[(Point, String)], names: &mut BTreeSet<String>) -> Result<(), AllocError>
+    ensures { OnOk result (used_in names.new
+        ≡ with_names (anchor_names (anchors_view anchors.now)) (used_in names.old)) }
+{
+    for anchor in anchors {
+        add_name(&anchor.1, names)?;
+    }
+    Ok(())
+}
+
+/// Adds the id of a frame and the names of its anchors.
+fn add_frame(frame: &HtmlFrame, names: &mut BTreeSet<String>) -> Result<(), AllocError>
+    ensures { OnOk result (used_in names.new ≡ with_names
+        (nodes_places (node (frame_node (html_frame_view frame.now)) none)) (used_in names.old)) }
+{
+    add_optional(frame.id.as_ref(), names)?;
+    add_anchors(&frame.anchors, names)?;
+    Ok(())
+}
+
+// Each node stands first among the parameters: its depth shows that the calls end.
+
+/// Adds the names of an element and of all below it.
+#[cycle(places)]
+fn add_element(element: &HtmlElement, names: &mut BTreeSet<String>) -> Result<(), AllocError>
+    ensures { let e = element_view element.now in OnOk result (used_in names.new
+        ≡ with_names (nodes_places (node (element_node e.0 e.1) none)) (used_in names.old)) }
+{
+    add_optional(first_id(element), names)?;
+    add_optional(link_name(element), names)?;
+    add_nodes(&element.children, names)?;
+    Ok(())
+}
+
+/// Adds the names of a node and of all below it.
+#[cycle(places)]
+fn add_node(child: &HtmlNode, names: &mut BTreeSet<String>) -> Result<(), AllocError>
+    ensures { OnOk result (used_in names.new
+        ≡ with_names (nodes_places (node (node_view child.now) none)) (used_in names.old)) }
+{
+    match child {
+        HtmlNode::Tag(_) => Ok(()),
+        HtmlNode::Text(_, _) => Ok(()),
+        HtmlNode::Element(element) => add_element(element, names),
+        HtmlNode::Frame(frame) => add_frame(frame, names),
+    }
+}
+
+/// Adds the names of nodes and of all below them.
+#[cycle(places)]
+fn add_nodes(nodes: &[HtmlNode], names: &mut BTreeSet<String>) -> Result<(), AllocError>
+    ensures { OnOk result (used_in names.new
+        ≡ with_names (nodes_places (nodes_view nodes.now)) (used_in names.old)) }
+{
+    for child in nodes {
+        add_node(child, names)?;
+    }
+    Ok(())
+}

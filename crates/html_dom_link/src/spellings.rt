@@ -1,0 +1,164 @@
+//! How a name is spelled behind the `#` of an `href`.
+
+ghost use Rattle.std.specs.Prelude.{◌≡◌, chars, option_map, None, IfOk};
+ghost use Rattle.percent_encoding.specs.Percent.{percent_encode};
+ghost use Rattle.html_names.specs.Texts.{text_view};
+ghost use Rattle.html_dom_link.specs.Spellings.{encoding, href_to, href_with, is_any, is_in_fragment_set, is_in_name_set, is_left, leading_spelling, plain_spelling, unless_place};
+ghost use Rattle.html_dom_link.specs.UsedNames.{used_in};
+
+use crate::names::is_used;
+use html_names::output::Output;
+use percent_encoding::{AsciiSet, CONTROLS, ascii_set, utf8_percent_encode};
+use std::alloc::{AllocError, Global};
+use std::collections::BTreeSet;
+
+/// The fragment percent-encode set (URL Standard 1.3): a browser encodes what it has.
+pub(crate) const FRAGMENT: AsciiSet = ascii_set!(
+    CONTROLS
+        .add(b' ')
+        .add(b'"')
+        .add(b'<')
+        .add(b'>')
+        .add(b'`')
+);
+
+/// That set and `%`, so that decoding gives what was encoded.
+pub(crate) const NAME: AsciiSet = ascii_set!(FRAGMENT.add(b'%'));
+
+/// Each byte.
+pub(crate) const ANY: AsciiSet = AsciiSet { mask: !0 };
+
+/// The `href` that leads to a place of the same page by its name, wherever no other place has that
+/// spelling as its own name: `#`, and the name as it is, if a browser leaves it so, or else
+/// percent-encoded. What is encoded is the fragment percent-encode set of the URL Standard (1.3), and
+/// `%`. Behind the address of another page it leads to a place there. It fails only where an
+/// allocation does.
+///
+/// It sees no tree: where one place is named `a b` and another `a%20b`, `#a%20b` leads to the other,
+/// since a browser looks for a fragment as it is before it decodes it (HTML Standard 7.4.6.3).
+/// [`resolve_links`](crate::resolve_links), which sees the tree, then chooses another spelling.
+///
+/// ```
+/// use html_dom::href_to;
+///
+/// let alloc = rt.alloc();
+/// assert_eq!(rt; href_to(alloc, "salt")?.as_str(), "#salt");
+/// assert_eq!(rt; href_to(alloc, "5% salt")?.as_str(), "#5%25%20salt");
+/// ```
+pub fn href_to(alloc: Global, name: &str) -> Result<String, AllocError>
+    ensures { IfOk result (λ text. text_view text ≡ href_to (chars name.now)) }
+{
+    let spelling = plain_spelling(alloc, name)?;
+    href_with(alloc, spelling.as_str())
+}
+
+/// The `href` that leads to a name where these are the names of places, if one does.
+pub(crate) fn leading_href(
+    alloc: Global,
+    places: &BTreeSet<String>,
+    name: &str,
+) -> Result<Option<String>, AllocError>
+    ensures { IfOk result (λ href. option_map text_view href
+        ≡ option_map href_with (leading_spelling (used_in places.now) (chars name.now))) }
+{
+    match leading_spelling(alloc, places, name)? {
+        Some(spelling) => Ok(Some(href_with(alloc, spelling.as_str())?)),
+        None => Ok(None),
+    }
+}
+
+/// `#` and a fragment.
+fn href_with(alloc: Global, fragment: &str) -> Result<String, AllocError>
+    ensures { IfOk result (λ href. text_view href ≡ href_with (chars fragment.now)) }
+{
+    let mut href = Output::new(alloc);
+    href.push('#')?;
+    href.push_str(fragment)?;
+    Ok(href.into_string())
+}
+
+/// Whether a browser encodes a character.
+fn is_in_fragment_set(c: char) -> bool
+    ensures { result ≡ is_in_fragment_set c }
+{
+    c > '~' || FRAGMENT.contains(c as u8)
+}
+
+/// Whether a browser leaves a name as it is.
+fn is_left(name: &str) -> bool
+    ensures { result ≡ is_left (chars name.now) }
+{
+    for c in name.chars() {
+        if is_in_fragment_set(c) {
+            return false;
+        }
+    }
+    true
+}
+
+/// A text, with `%` and two hexadecimal digits for each byte that is in the set or no ASCII.
+pub(crate) fn encoding(alloc: Global, text: &str, set: AsciiSet) -> Result<String, AllocError>
+    ensures { IfOk result (λ made. text_view made ≡ percent_encode set text.now) }
+{
+    let mut made = String::new(alloc);
+    utf8_percent_encode(text, set).append_to(&mut made)?;
+    Ok(made)
+}
+
+/// A name, with what is not left as it is, and `%`, encoded.
+fn name_encoding(alloc: Global, name: &str) -> Result<String, AllocError>
+    ensures { IfOk result (λ made. text_view made ≡ encoding is_in_name_set (chars name.now)) }
+{
+    encoding(alloc, name, NAME)
+}
+
+/// A name with each byte encoded.
+fn full_encoding(alloc: Global, name: &str) -> Result<String, AllocError>
+    ensures { IfOk result (λ made. text_view made ≡ encoding is_any (chars name.now)) }
+{
+    encoding(alloc, name, ANY)
+}
+
+/// The plainest spelling of a name.
+#[tactic(auto, unfolding(crate::specs::Spellings::plain_spelling))]
+fn plain_spelling(alloc: Global, name: &str) -> Result<String, AllocError>
+    ensures { IfOk result (λ made. text_view made ≡ plain_spelling (chars name.now)) }
+{
+    if is_left(name) {
+        String::from_str(alloc, name)
+    } else {
+        name_encoding(alloc, name)
+    }
+}
+
+/// A spelling that none of the places has as its name.
+fn unless_place(places: &BTreeSet<String>, spelling: String) -> Option<String>
+    ensures { option_map text_view result
+        ≡ unless_place (used_in places.now) (text_view spelling) None }
+{
+    if is_used(places, &spelling) {
+        None
+    } else {
+        Some(spelling)
+    }
+}
+
+/// The spelling of a name that leads to it where these are the names of places, if one does.
+#[tactic(auto, unfolding(crate::specs::Spellings::leading_spelling))]
+fn leading_spelling(
+    alloc: Global,
+    places: &BTreeSet<String>,
+    name: &str,
+) -> Result<Option<String>, AllocError>
+    ensures { IfOk result (λ made. option_map text_view made
+        ≡ leading_spelling (used_in places.now) (chars name.now)) }
+{
+    if is_left(name) {
+        return Ok(Some(String::from_str(alloc, name)?));
+    }
+    let spelling = name_encoding(alloc, name)?;
+    if !is_used(places, &spelling) {
+        return Ok(Some(spelling));
+    }
+    Ok(unless_place(places, full_encoding(alloc, name)?))
+}
