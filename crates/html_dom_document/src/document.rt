@@ -29,8 +29,10 @@ impl HtmlDocument {
     /// nodes stand, and where links lead; there are no anchors yet. Where an allocation fails, both
     /// come back.
     ///
-    /// Where the root is an `html` element with no frame, empty text or further `html` element below
-    /// it, the positions of the tags below it lead to the elements that hold them.
+    /// Where the root is an `html` element with no frame, empty text or further `html` element
+    /// below it, the position of each location that starts below it and not before it leads to the
+    /// element that holds its first start tag: by the path without its last number, which is the
+    /// tag's own, from child to child of the root's normal form.
     pub fn new(
         alloc: Global,
         output: HtmlOutput,

@@ -5,7 +5,8 @@ use crate::cursor::Cursor;
 use html_dom_tree::HtmlNode;
 
 /// Nodes of one list with their DOM indices: the numbers that they have among their siblings in a
-/// browser's tree, in which neighbouring texts are one node and tags are none.
+/// browser's tree (DOM), in which neighbouring texts are one node and tags are none. An empty text
+/// counts as a text here, and is none there.
 pub trait HtmlSliceExt<'a> {
     ghost use Rattle.std.specs.Prelude.{◌≡◌, List};
     ghost use Rattle.std.specs.List.{zip};

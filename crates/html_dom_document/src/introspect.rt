@@ -59,7 +59,7 @@ impl HtmlIntrospector {
         })
     }
 
-    /// Where a location's first start tag stands, in document order.
+    /// Where a location's first start tag stands, in document order, if it has one.
     pub fn position(&self, location: Location) -> Option<&HtmlPosition>
         ensures { option_map (λ position. position_view position.now) result
             ≡ (introspector_view self.now).position location.0 }
@@ -67,8 +67,8 @@ impl HtmlIntrospector {
         self.positions.get(&location)
     }
 
-    /// The locations to which start tags, in frames too, and links in frames lead. It fails only
-    /// where an allocation does.
+    /// The locations to which start tags, those in frames too, and links in frames lead. It fails
+    /// only where an allocation does.
     pub fn link_targets(&self) -> Result<BTreeSet<Location>, AllocError>
         ensures { IfOk result (λ targets.
             has_location targets ≡ (introspector_view self.now).is_link_target) }
@@ -93,7 +93,7 @@ impl HtmlIntrospector {
         self.anchors = anchors;
     }
 
-    /// The anchor of a location.
+    /// The anchor of a location, if it has one.
     pub fn anchor(&self, location: Location) -> Option<&String>
         ensures { option_map (λ anchor. text_view anchor.now) result
             ≡ (introspector_view self.now).anchor location.0 }

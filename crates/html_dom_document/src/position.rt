@@ -29,7 +29,7 @@ impl HtmlPosition {
         &self.path
     }
 
-    /// The point of a tag in a frame.
+    /// The point of a tag in a frame; a tag that stands elsewhere has none.
     pub fn point(&self) -> Option<Point>
         ensures { option_map point_view result ≡ (position_view self.now).point }
     {

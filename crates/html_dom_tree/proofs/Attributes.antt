@@ -1,8 +1,9 @@
--- The first pair of a name: where it stands, what it holds, and what a write to it changes.
-use Rattle.std.proofs.Common.{◌≡◌, ℕ, ◌+◌, ◌<◌, ◌≤◌, Bool, true, false, List, [], ◌∷◌, length, map, get_or, set, bytes_eq, Option, Some, None, String, Global, refl, ap, arith, add-one}
-use Rattle.std.specs.Prelude.{if◌then◌else◌}
+-- The first pair of a name: where it stands, what it holds, and what a write to it and setting it
+-- change.
+use Rattle.std.proofs.Common.{◌≡◌, ℕ, ◌+◌, ◌<◌, ◌≤◌, Bool, true, false, List, [], ◌∷◌, ◌++◌, length, map, get_or, set, bytes_eq, Option, Some, None, String, Global, refl, ap, sym, arith, add-one}
+use Rattle.std.specs.Prelude.{if◌then◌else◌, is_some}
 use Rattle.html_names.specs.declared.html_attr.HtmlAttr.{HtmlAttr}
-use Rattle.html_dom_tree.specs.Attributes.{first, place, with_value}
+use Rattle.html_dom_tree.specs.Attributes.{first, place, with_set, with_value}
 use Rattle.html_dom_tree.specs.Tree.{TextPair}
 use Rattle.html_dom_tree.specs.Views.{text_view, pair_view}
 
@@ -69,3 +70,15 @@ module _ (name : List ℕ) where
   first_past [] past = refl
   first_past (p ∷ ps) past =
       past_by (bytes_eq p.0 name) p ps (place (map pair_view ps) name) (first_past ps) past
+
+-- what is set, where the name is there and where it is not
+
+pub set_there : (ps : List TextPair) (p : TextPair) (value : List ℕ) → first ps p.0 ≡ Some value →
+    with_value ps p.0 p.1 ≡ with_set ps p
+set_there ps p value e =
+    ap (λ o. if is_some o then with_value ps p.0 p.1 else ps ++ p ∷ []) (sym e)
+
+pub set_new : (ps : List TextPair) (p : TextPair) → first ps p.0 ≡ None →
+    ps ++ p ∷ [] ≡ with_set ps p
+set_new ps p e =
+    ap (λ o. if is_some o then with_value ps p.0 p.1 else ps ++ p ∷ []) (sym e)

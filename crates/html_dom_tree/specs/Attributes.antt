@@ -1,6 +1,6 @@
 -- Lists of attributes, in which a name may come more than once.
 use Rattle.std.specs.Prelude.{◌≡◌, ℕ, ◌+◌, Bool, true, not, ◌&&◌, List, [], ◌∷◌, ◌++◌, bytes_eq, if◌then◌else◌, Option, Some, None, is_some}
-use Rattle.html_dom_tree.specs.Tree.{TextPair}
+use Rattle.html_names.specs.Texts.{TextPair}
 
 -- the value of the first pair of that name
 abbrev pub first : List TextPair → List ℕ → Option (List ℕ)
@@ -25,6 +25,10 @@ has_name ps name = is_some (first ps name)
 -- with a pair at the end, unless one of its name is there
 abbrev pub with_new : List TextPair → TextPair → List TextPair
 with_new ps p = if has_name ps p.0 then ps else ps ++ p ∷ []
+
+-- with that value in the first pair of its name, or with the pair at the end where there is none
+abbrev pub with_set : List TextPair → TextPair → List TextPair
+with_set ps p = if has_name ps p.0 then with_value ps p.0 p.1 else ps ++ p ∷ []
 
 -- the inner pairs, and then the first pair of each name of the outer ones that is not among them
 abbrev pub union : (inner outer : List TextPair) → List TextPair

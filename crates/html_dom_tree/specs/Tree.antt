@@ -3,6 +3,7 @@ use Rattle.std.specs.Prelude.{ℕ, List, [], ◌∷◌, ◌++◌, Bool, false, O
 -- an attribute is a pair: its name and its value
 pub use Rattle.html_names.specs.Texts.{TextPair}
 pub use Rattle.html_dom_tree.specs.Tags.{TagView, TagView-discrete, starts, ends}
+use Rattle.html_dom_tree.specs.Attributes.{with_set}
 use Rattle.html_dom_tree.specs.Frames.{HtmlFrameView}
 
 -- an element apart from its children
@@ -39,6 +40,10 @@ new_element name =
 -- an element with a pair added as its last attribute
 abbrev pub with_pair : TextPair → ElementView → ElementView
 with_pair pair e = (record e.0 { attrs = e.0.attrs ++ pair ∷ [] }, e.1)
+
+-- an element with that value in its first attribute of that name, or with the pair as its last
+abbrev pub with_set_pair : TextPair → ElementView → ElementView
+with_set_pair pair e = (record e.0 { attrs = with_set e.0.attrs pair }, e.1)
 
 -- nodes, and one more behind them
 abbrev pub with_last : NodesView → NodeView → NodesView

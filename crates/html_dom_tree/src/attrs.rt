@@ -1,6 +1,6 @@
 ghost use Rattle.std.specs.Prelude.{◌≡◌, ◌↔◌, ◌++◌, ◌∷◌, [], IsTrue, OnOk, OnErr, IfErr, IfOk, map, option_map, is_some};
 ghost use Rattle.html_dom_tree.specs.Views.{text_view, pair_view, attrs_view};
-ghost use Rattle.html_dom_tree.specs.Attributes.{first, has_name, place, union};
+ghost use Rattle.html_dom_tree.specs.Attributes.{first, has_name, place, union, with_set};
 
 use crate::text::same_text;
 use html_names::{HtmlAttr, Refused};
@@ -58,7 +58,38 @@ impl HtmlAttrs {
         }
     }
 
-    /// The value of the first pair of that name.
+    /// Gives the first pair of that name this value, or adds a pair at the end where there is none.
+    /// Further pairs of the name stay. Where an allocation fails, the list stays and the pair comes
+    /// back; a value that takes the place of another needs none.
+    ///
+    /// ```
+    /// use html_dom::HtmlAttrs;
+    /// use html_names::attr;
+    ///
+    /// let alloc = rt.alloc();
+    /// let mut attrs = HtmlAttrs::new(alloc);
+    /// attrs.set(attr::id, String::from_str(alloc, "salt")?)?;
+    /// attrs.set(attr::id, String::from_str(alloc, "vinegar")?)?;
+    /// assert_eq!(rt; attrs.0.len(), 1);
+    /// let id = attrs.get(&attr::id).expect(&rt, "an id");
+    /// assert_eq!(rt; id.as_str(), "vinegar");
+    /// ```
+    pub fn set(&mut self, attr: HtmlAttr, value: String) -> Result<(), Refused<(HtmlAttr, String)>>
+        ensures ok { OnOk result
+            (attrs_view self.new ≡ with_set (attrs_view self.old) (attr, text_view value)) }
+        ensures kept { OnErr result (attrs_view self.new ≡ attrs_view self.old) }
+        ensures back { IfErr result (λ refused. refused.back ≡ (attr, value)) }
+    {
+        match self.get_mut(&attr) {
+            Some(held) => {
+                *held = value;
+                Ok(())
+            }
+            None => self.push(attr, value),
+        }
+    }
+
+    /// The value of the first pair of that name, if there is one.
     pub fn get(&self, attr: &HtmlAttr) -> Option<&String>
         ensures { option_map (λ value. text_view value.now) result
             ≡ first (attrs_view self.now) attr.now }
@@ -71,8 +102,8 @@ impl HtmlAttrs {
         None
     }
 
-    /// The value of the first pair of that name, to be changed. The pair keeps its name, and the
-    /// others stay.
+    /// The value of the first pair of that name, if there is one, to be changed. The pair keeps its
+    /// name, and the others stay.
     pub fn get_mut(&mut self, attr: &HtmlAttr) -> Option<&mut String>
         ensures* writes_back { sem 𝓛 (LendsSo the_row text_row self.entry result
             (λ attrs value. OnSome result

@@ -1,5 +1,5 @@
-ghost use Rattle.std.specs.Prelude.{◌≡◌, ◌↔◌, ◌++◌, ◌∷◌, [], IsTrue, IfOk, IfErr, chars};
-ghost use Rattle.html_dom_tree.specs.Tree.{new_element, with_node, with_pair, node_span, text_node, tag_node, element_node, frame_node};
+ghost use Rattle.std.specs.Prelude.{◌≡◌, ◌↔◌, ◌++◌, ◌∷◌, [], IsTrue, OnOk, OnErr, IfOk, IfErr, chars};
+ghost use Rattle.html_dom_tree.specs.Tree.{new_element, with_node, with_pair, with_set_pair, node_span, text_node, tag_node, element_node, frame_node};
 ghost use Rattle.html_dom_tree.specs.FrameViews.{html_frame_view};
 ghost use Rattle.html_dom_tree.specs.Views.{text_view, tag_view, node_view, element_view, nodes_view};
 
@@ -47,7 +47,8 @@ pub struct HtmlElement {
     /// Where the element comes from.
     pub span: Span,
     /// Whether each character of the texts directly in this element is written as a character
-    /// reference, so that no white space in them is collapsed.
+    /// reference, as in the `span`s that keep blanks. In `script`, `style`, `textarea` and `title`
+    /// it says nothing.
     pub pre_span: bool,
 }
 
@@ -201,7 +202,9 @@ impl HtmlElement {
         self
     }
 
-    /// The element with a pair added as its last attribute. Where an allocation fails, all that
+    /// The element with a pair added as its last attribute, also where one of that name is there:
+    /// then both are written, and a browser takes the first (HTML Standard, duplicate-attribute parse
+    /// error). [`set_attr`](HtmlElement::set_attr) leaves one. Where an allocation fails, all that
     /// went in comes back.
     pub fn with_attr(
         mut self,
@@ -222,6 +225,33 @@ impl HtmlElement {
                 })
             }
         }
+    }
+
+    /// Gives the first attribute of that name this value, or adds a last attribute where there is
+    /// none. Further ones of the name stay. Where an allocation fails, the element stays, and name and
+    /// value come back.
+    ///
+    /// ```
+    /// use html_dom::HtmlElement;
+    /// use html_names::{attr, tag};
+    ///
+    /// let alloc = rt.alloc();
+    /// let mut link = HtmlElement::new(alloc, tag::a)
+    ///     .with_attr(attr::href, String::from_str(alloc, "/tides")?)?;
+    /// link.set_attr(attr::href, String::from_str(alloc, "/moon")?)?;
+    /// assert_eq!(rt; link.attrs.0.len(), 1);
+    /// ```
+    pub fn set_attr(
+        &mut self,
+        attr: HtmlAttr,
+        value: String,
+    ) -> Result<(), Refused<(HtmlAttr, String)>>
+        ensures ok { OnOk result (element_view self.new
+            ≡ with_set_pair (attr, text_view value) (element_view self.old)) }
+        ensures kept { OnErr result (element_view self.new ≡ element_view self.old) }
+        ensures back { IfErr result (λ refused. refused.back ≡ (attr, value)) }
+    {
+        self.attrs.set(attr, value)
     }
 
     /// The element with that span.

@@ -17,7 +17,8 @@ use std::alloc::{AllocError, Global};
 /// Elements keep their css, so a second call would write it once more. A document that was made of
 /// items has been through this call.
 ///
-/// The new tree is made beside the old one. [`with_inline_styles`] takes a tree, and copies nothing.
+/// The new tree is made beside the old one. [`with_inline_styles`], which html_dom does not pass
+/// on, takes a tree and copies no node.
 ///
 /// ```
 /// use html_dom::{HtmlElement, resolve_inline_styles};

@@ -4,7 +4,8 @@
 ///
 /// `Span(0)` means nowhere. New elements have it until `spanned` gives them another; tags and holes
 /// always have it, and so does what is made beside the nodes of items, such as a document's head. A
-/// node that is made of an item has the item's span.
+/// node that is made of an item has the item's span, and a `span` that keeps a run of blanks the
+/// first of those in it that is not 0.
 ///
 /// A refusal tells where it lies by a span (`ExportFault::span`). Where several things are wrong with
 /// a tree, that is the first in the order of the document. The span is
@@ -17,7 +18,10 @@
 /// - of a body that stands too deep: that of the item that has the body, or the one that a fragment
 ///   was handed;
 /// - of footnotes beside an `html` or `body` of the document's own: that of the first footnote;
-/// - of arguments that construct no element: that of the first argument that is wrong.
+/// - of arguments that construct no element: that of the first one that can't be cast, else that of
+///   the body;
+/// - of an element that stands too deep in a text that is read, where the fault becomes an
+///   `ExportFault`: its place in the text.
 ///
 /// Want of memory, and a name or a value that is refused by itself, have the span 0.
 #[derive(Clone, Copy, Debug, PartialEq, Eq, PartialOrd, Ord, Hash)]

@@ -21,11 +21,12 @@ use std::alloc::{AllocError, Global};
 
 /// The element that arguments construct.
 ///
-/// Each argument with a name that the element knows is cast to the type of that attribute; a text
-/// becomes an attribute, in the arguments' order, and nothing is omitted. Unless the element is
-/// void, the first argument without a name is its body: of a raw element a text, of another items,
-/// a text, or none, which is an empty body. What was used is taken out of the arguments, the others
-/// stay in order.
+/// Each argument with a name that the element knows is cast to the type of that attribute; where
+/// the cast gives a text, that becomes an attribute, in the arguments' order, and where it gives
+/// nothing there is none. A name that comes twice becomes two attributes. Unless the element is
+/// void, the first argument without a name is its body: of a raw element (`script`, `style`) a
+/// text, of another items, a text, or none, which is an empty body. What was used is taken out of
+/// the arguments, the others stay in order.
 ///
 /// Refused with all faults of casts (`Casts`, items in place of a value are of the wrong kind),
 /// else with `BodyKind`. After a refusal all arguments are as they were.

@@ -1,6 +1,7 @@
 -- What a document flows: items as pure values, in which texts are lists of characters.
 use Rattle.std.specs.Prelude.{ℕ, ℤ, List, [], ◌∷◌, ◌++◌, Option, None, Some}
 use Rattle.html_names.specs.Texts.{TextPair}
+use Rattle.html_dom_tree.specs.Attributes.{with_set}
 use Rattle.html_dom_tree.specs.Tags.{TagView, starts, ends}
 use Rattle.html_dom_tree.specs.Frames.{FrameView}
 
@@ -52,6 +53,10 @@ ElemView = ElemHead × BodyView
 -- an element of that name and nothing else
 abbrev pub new_head : List ℕ → ElemHead
 new_head name = record { name = name; attrs = []; css = []; parent = None; span = 0 }
+
+-- with that value in its first attribute of that name, or with the pair as its last
+abbrev pub with_set_pair : TextPair → ElemView → ElemView
+with_set_pair pair e = (record e.0 { attrs = with_set e.0.attrs pair }, e.1)
 
 -- with a pair as its last, or as it was
 abbrev pub with_pair : TextPair → ElemView → ElemView

@@ -67,10 +67,10 @@ fn next_place(node: &FlatNode, look: Look, place: usize) -> usize
 /// stands right after it is visible.
 ///
 /// An element with `display: block` in its css or with lines of its own by default is a border, and
-/// so is `br`; a replaced element or a frame is visible; an element whose texts are written as
-/// character references counts for nothing. None of these is looked into. Any other element counts
-/// as what stands in it, and any other text is visible if one of its characters is shown by default.
-/// It fails only where an allocation does.
+/// so is `br`; else a replaced element is visible, as a frame is; else an element whose texts are
+/// written as character references counts for nothing. None of these is looked into. Any other
+/// element counts as what stands in it. Any other text is visible if one of its characters is shown
+/// by default, else it counts for nothing, as a tag does. It fails only where an allocation does.
 ///
 /// Cost: grows with `turns`, which is at most the number of nodes at all depths.
 ///

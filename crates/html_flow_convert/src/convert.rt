@@ -60,19 +60,26 @@ pub fn is_depth_limit(limit: usize) -> bool
 /// The nodes that items become, in order.
 ///
 /// An element item becomes an element of that tag, with these attributes, css and parent, and with
-/// the nodes of its body as children; a tag its node; a space the text of one space; a hole nothing;
-/// a line break a `br`, or a line feed where white space stays; a frame a frame with the css
-/// `display: block`; a box or block the one element or frame in it, whose css then says how it is
-/// displayed, or else a `span` or `div` around its nodes. Each node that is made has its item's span.
+/// the nodes of its body as children; a tag its node; a space the text of one space; a hole
+/// nothing; a line break a `br`, or a line feed where white space stays; a frame a frame with the
+/// css `display: block`; a box or block the one element or frame that stands in it, tags at both
+/// ends aside, whose css then says how it is displayed, if that can stand for it, or else a `span`
+/// or `div` around its nodes. Each node has its item's span, and a `span` that keeps a run of
+/// blanks the first of those in it that is not 0.
 ///
-/// Where white space collapses, a text is cut at line breaks and around blanks, runs of blanks
-/// stand in a `span` that keeps them, and at block level so does each lone space that is not bare
-/// (see [`bare_spaces`](crate::bare_spaces)). The role is that of the list: an element item other
-/// than `p` takes it as its last attribute `role`.
+/// White space stays in `pre`, `script`, `style`, `textarea` and `title` and in all that stands in
+/// them. Where it collapses, a text is cut at line breaks and around blanks and characters that are
+/// not shown by default, but not at a space between two other characters; runs of two blanks or
+/// more, or of one tab, stand in a `span` that keeps them, and at block level so does each lone
+/// space that is not bare (see [`bare_spaces`](crate::bare_spaces)).
 ///
-/// `depth` is that of the list, a body in it is one deeper. It fails where an allocation does, and
-/// with the span of the first item, in document order, that has a body, even an empty one, deeper
-/// than `limit`.
+/// `role` is that of the list, and an item may have its own in its place. An element takes it as
+/// its last attribute `role`, and what stands in it has none; a `p`, a box or a block takes none
+/// and passes it on.
+///
+/// `depth` is that of the list, a body in it is one deeper; it is at most `limit`, which is from 1
+/// to 10,000 (see [`is_depth_limit`]). It fails where an allocation does, and with the span of the
+/// first item, in document order, that has a body, even an empty one, deeper than `limit`.
 ///
 /// Cost: grows with the number of items at all depths and the length of their texts. Where an element
 /// alone, tags aside, stands in boxes and blocks that stand in one another, what is in it is looked

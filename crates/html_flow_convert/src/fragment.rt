@@ -15,7 +15,8 @@ use html_dom_tree::{HtmlNode, Span};
 use std::alloc::Global;
 
 /// The nodes of items on lines of their own, in something of that span. It fails with this span if
-/// `depth` is above `limit`, and else as [`convert_to_nodes`] does at block level.
+/// `depth` is above `limit`, which is from 1 to 10,000, and else as [`convert_to_nodes`] does at
+/// block level.
 pub fn html_block_fragment(
     alloc: Global,
     items: &[Pair],
@@ -46,7 +47,7 @@ pub fn html_block_fragment(
 }
 
 /// The nodes of items in a line, in something of that span. It fails with this span if `depth` is
-/// above `limit`, and else as [`convert_to_nodes`] does at inline level.
+/// above `limit`, which is from 1 to 10,000, and else as [`convert_to_nodes`] does at inline level.
 pub fn html_inline_fragment(
     alloc: Global,
     items: &[Pair],

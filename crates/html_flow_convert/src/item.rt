@@ -1,6 +1,6 @@
 ghost use Rattle.std.specs.Prelude.{◌≡◌, ◌+◌, ◌<◌, ◌≤◌, ◌++◌, ◌∷◌, [], IfOk, IfErr, OnOk, OnErr, option_map, vec_len, vec_capacity, chars};
 ghost use Rattle.html_names.specs.Texts.{text_view};
-ghost use Rattle.html_flow_convert.specs.Items.{absent, inheriting, item_span, located_item, new_head, text_item, with_items, with_last_item, with_optional_pair, with_pair, with_properties, with_span};
+ghost use Rattle.html_flow_convert.specs.Items.{absent, inheriting, item_span, located_item, new_head, text_item, with_items, with_last_item, with_optional_pair, with_pair, with_properties, with_set_pair, with_span};
 ghost use Rattle.html_flow_convert.specs.Views.{body_view, elem_view, item_view, items_view, pair_view, pairs_view, frame_elem_view, role_view};
 ghost use Rattle.html_dom_tree.specs.Views.{optional_text_view};
 
@@ -38,7 +38,7 @@ pub enum Item {
     Tag(Tag),
     /// An element of HTML.
     Element(HtmlElem),
-    /// White space between other items.
+    /// White space between other items: one space.
     Space(Span),
     /// A text.
     Text(String, Span),
@@ -383,8 +383,8 @@ impl HtmlElem {
         }
     }
 
-    /// The element with these css properties in place of its own. They become the attribute `style`
-    /// in a document that is made of the element.
+    /// The element with these css properties in place of its own. In a document that is made of the
+    /// element they stand in the attribute `style`, before a value that is there.
     pub fn with_css(mut self, css: Properties) -> HtmlElem
         ensures { elem_view result ≡ with_properties css (elem_view self) }
     {
@@ -400,8 +400,9 @@ impl HtmlElem {
         self
     }
 
-    /// The element with a pair added as its last attribute. Where an allocation fails, all comes
-    /// back.
+    /// The element with a pair added as its last attribute, also where one of that name is there:
+    /// then both are written, and a browser takes the first (HTML Standard, duplicate-attribute parse
+    /// error). [`set_attr`](HtmlElem::set_attr) leaves one. Where an allocation fails, all comes back.
     pub fn with_attr(
         mut self,
         attr: HtmlAttr,
@@ -423,8 +424,35 @@ impl HtmlElem {
         }
     }
 
-    /// The element with a pair added as its last attribute where there is a value, else as it was.
-    /// Where an allocation fails, all comes back.
+    /// Gives the first attribute of that name this value, or adds a last attribute where there is
+    /// none. Further ones of the name stay. Where an allocation fails, the element stays, and name and
+    /// value come back.
+    ///
+    /// ```
+    /// use html_flow::HtmlElem;
+    /// use html_names::{attr, tag};
+    ///
+    /// let alloc = rt.alloc();
+    /// let mut link = HtmlElem::new(alloc, tag::a)
+    ///     .with_attr(attr::href, String::from_str(alloc, "/tides")?)?;
+    /// link.set_attr(attr::href, String::from_str(alloc, "/moon")?)?;
+    /// assert_eq!(rt; link.attrs.0.len(), 1);
+    /// ```
+    pub fn set_attr(
+        &mut self,
+        attr: HtmlAttr,
+        value: String,
+    ) -> Result<(), Refused<(HtmlAttr, String)>>
+        ensures ok { OnOk result (elem_view self.new
+            ≡ with_set_pair (attr, text_view value) (elem_view self.old)) }
+        ensures kept { OnErr result (elem_view self.new ≡ elem_view self.old) }
+        ensures back { IfErr result (λ refused. refused.back ≡ (attr, value)) }
+    {
+        self.attrs.set(attr, value)
+    }
+
+    /// The element with a pair added as its last attribute, as by `with_attr`, where there is a value,
+    /// else as it was. Where an allocation fails, all comes back.
     pub fn with_optional_attr(
         self,
         attr: HtmlAttr,

@@ -11,11 +11,11 @@ use typst_html::{
     ElementInfo, ExportFault, FlatTree, FlowFault, Frame, FrameFault, HtmlAttr, HtmlAttrs,
     HtmlDocument, HtmlElem, HtmlElement, HtmlFrame, HtmlNode, HtmlOptions, HtmlOutput, HtmlTag,
     IntoAttr, Item, ListType, Location, Moment, NameFault, NameTable, NativeType, Pair, Properties,
-    PropertiesBuilder, Refused, Span, Value, Whitespace, YesNoBool, attr, bare_spaces, construct,
+    PropertiesBuilder, ReadFault, Refused, Span, Value, Whitespace, YesNoBool, attr, bare_spaces, construct,
     convert_to_nodes, create_link_anchors, dead_fragments, dead_links, export, export_linked,
     href_to, html, html_block_fragment, html_document, html_document_for_bundle, html_in_bundle,
-    ids_are_distinct, page_text, push_located, repeated_ids, resolve_inline_styles, resolve_links,
-    tag, with_resolved_links,
+    ids_are_distinct, page_text, push_located, read_html, repeated_ids, resolve_inline_styles,
+    resolve_links, tag, with_resolved_links,
 };
 
 /// A fault that each fault of this project becomes by `?`. What a refused call gives back differs from
@@ -26,7 +26,8 @@ trait Fault: From<AllocError>
     + From<ExportFault>
     + From<FlowFault>
     + From<FrameFault>
-    + From<NameFault> {}
+    + From<NameFault>
+    + From<ReadFault> {}
 
 impl Fault for ExportFault {}
 
@@ -75,11 +76,13 @@ where
     let mut attrs = HtmlAttrs::new(alloc);
     attrs.push(attr::id, String::from_str(alloc, "x")?)?;
     attrs.push_front(attr::lang, String::from_str(alloc, "en")?)?;
+    attrs.set(attr::id, String::from_str(alloc, "y")?)?;
     let _ = attrs.fold(HtmlAttrs::new(alloc))?;
     let mut element = HtmlElement::new(alloc, tag::p)
         .with_attr(attr::id, String::from_str(alloc, "x")?)?
         .with_child(HtmlNode::from(HtmlElement::new(alloc, tag::br)))?
         .with_text(alloc, "b")?;
+    element.set_attr(attr::id, String::from_str(alloc, "y")?)?;
     resolve_inline_styles(alloc, &mut element)?;
     let tree = FlatTree::from_element(alloc, &element)?;
     let _ = bare_spaces(alloc, &tree)?;
@@ -119,7 +122,8 @@ fn check_pages<E: Fault>(alloc: Global) -> Result<(), E> {
     let _ = repeated_ids(alloc, document.root())?;
     let _ = page_text(alloc, document.root())?;
     let _ = html(alloc, &document, &options, &())?;
-    let _ = html_in_bundle(alloc, document.root(), &options, &())?;
+    let page = html_in_bundle(alloc, document.root(), &options, &())?;
+    let _ = read_html(alloc, page.as_str(), 50)?;
     Ok(())
 }
 
@@ -128,16 +132,18 @@ where
     E: Fault
         + From<AllocFailed<Pair>>
         + From<Refused<HtmlElem>>
+        + From<Refused<(HtmlAttr, String)>>
         + From<Refused<(HtmlElem, HtmlAttr, Option<String>)>>
         + From<Refused<(HtmlElem, HtmlAttr, String)>>
         + From<Refused<(HtmlElem, Pair)>>
         + From<Refused<(Option<String>, Item)>>,
 {
-    let element = HtmlElem::new(alloc, tag::p)
+    let mut element = HtmlElem::new(alloc, tag::p)
         .with_attr(attr::id, String::from_str(alloc, "x")?)?
         .with_optional_attr(attr::lang, None)?
         .with_text(alloc, "a")?
         .with_item(alloc, Pair::from(Item::Hole))?;
+    element.set_attr(attr::id, String::from_str(alloc, "y")?)?;
     let mut items = Vec::new(alloc);
     items.push(Pair::from(element))?;
     push_located(&mut items, Location(1), None, None, Item::Hole)?;

@@ -1,7 +1,7 @@
 //! Numbers, spans and texts of faults, and what `?` makes of those of the layers below.
 
 use crate::asserts::assert_text;
-use html_tool_run::WriteFailed;
+use html_tool_run::{Fault, WriteFailed};
 use std::alloc::{AllocError, AllocFailed};
 use std::test::Fail;
 use typst_html::{
@@ -12,6 +12,7 @@ use typst_html::{
 /// What is made of faults of the layers below: numbers, spans and texts.
 const MADE: &str = "\
     8 at 7: items are nested too deeply\n\
+    8 at 3: items are nested too deeply\n\
     15 at 0: a frame was refused by its writer\n\
     1 at 0: tag name must not be empty\n\
     23 at 0: the year is out of range\n\
@@ -24,6 +25,7 @@ fn faults_of_the_layers_below(rt: HostRuntime) -> Result<(), Fail> {
     let casts = vec![in rt.alloc(); (CastFault::NumberRange, Span(5))]?;
     let faults = [
         ExportFault::from(FlowFault::TooDeep { span }),
+        ExportFault::from(ReadFault::TooDeep { place: 3 }),
         ExportFault::from(FrameFault::Refused),
         ExportFault::from(NameFault::EmptyTag),
         ExportFault::from(CastFault::YearRange),
@@ -52,10 +54,14 @@ fn want_of_memory_is_one_fault(rt: HostRuntime) {
         ExportFault::from(FlowFault::OutOfMemory),
         ExportFault::from(ConstructFault::OutOfMemory),
         ExportFault::from(FrameFault::OutOfMemory),
+        ExportFault::from(ReadFault::from(AllocError)),
+        ExportFault::from(ReadFault::from(AllocFailed { value: 1u8 })),
+        ExportFault::from(ReadFault::from(Refused { back: 1u8 })),
     ];
     for fault in &faults {
         assert!(rt; *fault == ExportFault::OutOfMemory);
     }
+    assert!(rt; Fault::from(Refused { back: 1u8 }) == Fault::OutOfMemory);
 }
 
 /// Faults with texts of their own, and their numbers.

@@ -66,7 +66,8 @@ mod all_calls {
         attr, bare_spaces, charsets, civil, construct, convert_to_nodes, create_link_anchors,
         dead_fragments, dead_links, export, export_linked, fragment_in, fragment_leads, href_to, html, html_block_fragment,
         html_document, html_document_for_bundle, html_in_bundle, html_inline_fragment,
-        html_math_fragment, ids_are_distinct, is_depth_limit, laws, page_text, place_names, property,
+        html_math_fragment, ids_are_distinct, is_depth_limit, laws, output, page_text, place_names,
+        property,
         push_located, read_html, repeated_ids, resolve_inline_styles, resolve_links, tag,
         with_resolved_links,
     };

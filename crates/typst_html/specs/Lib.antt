@@ -20,6 +20,7 @@ pub use Rattle.typst_html_read.specs.LimitedReading
 pub use Rattle.typst_html_page.specs.PageLaws
 pub use Rattle.typst_html_page.specs.PageTexts
 pub use Rattle.typst_html_page.specs.PageViews
+pub use Rattle.typst_html_page.specs.Parts
 pub use Rattle.typst_html_spaces.specs.CleanItems
 pub use Rattle.typst_html_spaces.specs.ItemText
 pub use Rattle.typst_html_spaces.specs.PlainFlow

@@ -87,6 +87,7 @@ pub use html_names::NameTable;
 pub use html_names::Refused;
 pub use html_names::attr;
 pub use html_names::charsets;
+pub use html_names::output;
 pub use html_names::property;
 pub use html_names::tag;
 pub use html_values::Abs;

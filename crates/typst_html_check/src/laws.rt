@@ -6,21 +6,22 @@ ghost use Rattle.typst_html_check.specs.SoundLinks.{ExportedLinksAreSound, MadeL
 
 use html_dom_document::HtmlDocument;
 
-/// Where no `a` among items and footnotes, at any depth, has an `href`, none in their document has
-/// one, with styles and with anchors: conversion, the head and the body that are made, css that
-/// becomes a `style`, and anchors bring none.
+/// Where no `a` among items and footnotes, at any depth, has an `href`, none in the tree of their
+/// document has one, with its styles and its anchors.
 pub fn no_hyperlink_is_made()
     ensures { NoHyperlinkIsMade }
 {}
 
-/// So, once links are resolved, as `export_linked` writes it, their document has no dead fragment:
-/// each link in it was given its `href`, and leads. Where all names of the tree differ, as `distinct`
-/// of `export_linked` says, no id is repeated. The anchors have to be texts, as its `texts` says.
+/// So, once links are resolved, as `export_linked` writes it, the tree of their document has no
+/// dead fragment, where its anchors are texts, as `texts` of `export_linked` says: links that were
+/// given no `href` lead to no fragment, and `dead_links` tells them. Where all names of that
+/// document differ, as `distinct` of `export_linked` says, no id is repeated.
 pub fn exported_links_are_sound()
     ensures { ExportedLinksAreSound }
 {}
 
-/// So it is of each document that `html_document` makes of items: its anchors are texts.
+/// So it is, once links are resolved, of items of which this is the document, as `html_document`
+/// makes it: its anchors are texts.
 pub fn made_links_are_sound(document: &HtmlDocument)
     ensures { MadeLinksAreSound (document_view document.now) }
 {

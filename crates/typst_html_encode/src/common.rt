@@ -37,8 +37,8 @@ fn are_common(bytes: &[u8], at: usize) -> bool
 }
 
 /// The text from its first byte on that is no common character: visible ASCII or the space, but no
-/// `"`, `&` or `<`. Whether read or written, such a character stands as it is in a text and in a
-/// value.
+/// `"`, `&` or `<`. Whether read or written, such a character stands as it is in a value, and in a
+/// text that is not written as character references alone.
 ///
 /// Cost: grows with what is passed. Four bytes are tested at a time.
 pub fn past_common(text: &str) -> &str

@@ -24,17 +24,18 @@ use std::alloc::Global;
 
 /// The HTML text of a tree: the document type and the element, plain or pretty.
 ///
-/// It succeeds exactly where nothing is wrong with the tree, and answers the first fault otherwise;
-/// out of memory may come before that. Frames are written by their writer, which is told whether
-/// pretty writing is on where the frame stands.
+/// It succeeds exactly where nothing is wrong with the tree, and answers the first fault otherwise,
+/// in the order of the document; out of memory may come before either. Frames are written by their
+/// writer, which is told whether pretty writing is on where the frame stands.
 ///
 /// The css of elements is not written. Where it is wanted, `resolve_inline_styles` comes first, and
 /// puts it into the attribute `style`, as below.
 ///
 /// The plain text of a tree without frames reads back, by HTML Standard 13.1 without a browser's
-/// repairs, as the tree with its tags dropped and neighbouring texts joined. So does the pretty
-/// text, with texts where indents stand, unless a raw text on lines of its own ends in a closing
-/// tag that lacks its last character.
+/// repairs, as the tree's normal form: its names, attributes and texts, with tags dropped,
+/// neighbouring texts joined and none empty. So does the pretty text, with texts where indents
+/// stand and with raw texts on lines of their own as they are laid out, unless one of these ends in
+/// a closing tag that lacks its last character.
 ///
 /// # Example
 ///

@@ -14,16 +14,16 @@ use thiserror::Error;
 /// Why items or a tree have no HTML text. Writing a tree answers the kinds from `Unencodable` to
 /// `FrameRefused`, making a document of items those from `TooDeep` to `Footnotes`. The last three kinds
 /// are faults of calls below; no call here answers them, but a function that makes items and writes
-/// them can hand all its faults on by `?`.
+/// them can hand all its faults on by `?`, those of reading too.
 #[derive(Debug, Drop, Error)]
 pub enum ExportFault {
     /// An allocation failed.
     #[error("out of memory")]
     OutOfMemory,
-    /// A body of items stands deeper than the limit.
+    /// A body of items stands deeper than the limit, or an element of a text that is read.
     #[error("items are nested too deeply")]
     TooDeep {
-        /// The span of the item that has the body.
+        /// The span of the item that has the body, or the place of the element in the text.
         span: Span,
     },
     /// An `html` or `body` stands among other nodes of a document.

@@ -29,8 +29,8 @@ pub fn same_text_same_form()
     ensures { SameTextSameForm }
 {}
 
-/// Values stand in double quotes, end tags are exact, and there is one element with nothing but
-/// blanks around it.
+/// Texts that are read, and texts that are not: values in double quotes or not, end tags that are
+/// exact or not, and one element with nothing but blanks around it or more.
 pub fn reads_exact_syntax()
     ensures quotes { read (codes "<!DOCTYPE html><p title='x'></p>") ≡ None }
     ensures case { read (codes "<!DOCTYPE html><p></P>") ≡ None }
@@ -48,7 +48,8 @@ pub fn reads_exact_syntax()
         ≡ Some (branch (codes "p") [] no_plains) }
 {}
 
-/// A reference is one of five names, or the one spelling of a scalar value in lower hexadecimal.
+/// References that are read, and that are not: by another name than the five, or by another
+/// spelling than the one in small hexadecimal digits.
 pub fn reads_references()
     ensures entity { read (codes "<!DOCTYPE html><p>&nbsp;</p>") ≡ None }
     ensures reference { read (codes "<!DOCTYPE html><p>&#x41;</p>")
@@ -62,8 +63,8 @@ pub fn reads_references()
     ensures too_large { read (codes "<!DOCTYPE html><p>&#x110000;</p>") ≡ None }
 {}
 
-/// Raw text ends before its closing tag, escapable raw text holds no element, and after the start
-/// tag of `pre` and `textarea` one line feed is dropped.
+/// Texts with a raw text that ends before its closing tag, an escapable raw text with and without
+/// an element, and a line feed behind the start tag of `pre`, which is dropped, and of `p`.
 pub fn reads_raw_text()
     ensures script { read (codes "<!DOCTYPE html><script></script</script>")
         ≡ Some (paragraph_of (codes "script") (codes "</script")) }

@@ -44,8 +44,8 @@ use typst_html_encode::ExportFault;
 /// frames then get anchors as by [`create_link_anchors`], where they stand in the tree; the
 /// document's introspector knows them: each is the name of what serves its location in the tree. The
 /// positions that it knows stay those of the tree without anchors. Where all ids of the tree without
-/// anchors differ, those of the answered one do. Anchors are not seen: what is seen of the document's
-/// nodes once white space has collapsed is what is seen of them without anchors. It fails as
+/// anchors differ, those of the answered one do. Anchors are not seen: what is seen below the root
+/// once white space has collapsed is what is seen there without anchors. It fails as
 /// `html_document_for_bundle` does.
 ///
 /// Of items in plain flow, without footnotes and none too deep, a document is always made, out of
@@ -122,11 +122,13 @@ fn with_anchors(alloc: Global, mut document: HtmlDocument) -> Result<HtmlDocumen
 /// footnotes. The root that is made has the language and a head of what is known. At last the css of
 /// all elements is written into their attributes `style`.
 ///
-/// It fails where an allocation does, and by the first of these: items too deep for the limit; an
-/// `html` or `body` among other nodes; footnotes beside an `html` or `body` of the document's own;
-/// footnotes too deep.
+/// It fails where an allocation does, and by the first of these: items too deep for the limit,
+/// which is from 1 to 10,000 (`is_depth_limit`); an `html` or `body` among other nodes; footnotes
+/// beside an `html` or `body` of the document's own; footnotes too deep.
 ///
-/// The positions of tags lead to the elements that hold them, as in [`HtmlDocument::new`].
+/// Where [`HtmlDocument::new`] says so, positions lead to the elements that hold the tags. Of items
+/// in plain flow, without footnotes, exactly their text is seen in the body once white space has
+/// collapsed.
 ///
 /// ```
 /// use typst_html::{DocumentInfo, HtmlElem, Item, Pair, html_document_for_bundle, tag};

@@ -40,7 +40,7 @@ use typst_html_encode::{ExportFault, FrameWriter, HtmlOptions, html_in_bundle, h
 /// The HTML text of a document: that of its root, as [`html_in_bundle`] writes it.
 ///
 /// It succeeds exactly where nothing is wrong with the root, and answers the first fault otherwise;
-/// out of memory may come before that.
+/// out of memory may come before either. What the text reads as is said at [`html_in_bundle`].
 ///
 /// ```
 /// use typst_html::{DocumentInfo, HtmlElem, HtmlOptions, Item, Pair};
@@ -79,8 +79,9 @@ pub fn html<F: FrameWriter>(
 /// The HTML text of items, with what is known of their document and with footnotes: that of their
 /// document with anchors.
 ///
-/// It is made by [`html_document`] and written by [`html`]. It fails where an allocation does, and
-/// else by the first fault of making the document or, where there is none, of writing its tree.
+/// It is made by [`html_document`] and written by [`html`]. `limit` is from 1 to 10,000. It fails
+/// where an allocation does, and else by the first fault of making the document or, where there is
+/// none, of writing its tree.
 ///
 /// For items in plain flow, without footnotes and none too deep, the document is always made, out of
 /// memory aside, and once white space has collapsed exactly their text is seen in the body that is
@@ -141,10 +142,10 @@ pub fn export<F: FrameWriter>(
 /// destination's anchor, and [`html`] writes it. It fails as [`export`] does.
 ///
 /// Each link that got an `href` leads: a browser takes from it a fragment that indicates the anchor of
-/// its destination, in the tree and in the text that is read; where the tree's own ids differ, one of
-/// them alone is that name. A link to whose destination nothing leads stays without one, as
-/// [`dead_links`](html_dom_link::dead_links) tells of the document. Spaces stay and clean items are
-/// written, as by `export`.
+/// its destination, in the tree and, where the text reads back as [`html_in_bundle`] says, in the text
+/// as it is read; where the tree's own ids differ, one of them alone is that name. A link to whose
+/// destination nothing leads stays without one, as [`dead_links`](html_dom_link::dead_links) tells of
+/// the document. Spaces stay and clean items are written, as by `export`.
 ///
 /// ```
 /// use typst_html::{DocumentInfo, HtmlElem, HtmlOptions, Item, Location};

@@ -1,14 +1,13 @@
--- One pass over the atoms gathers what is seen by the definition.
+-- One pass over the atoms gathers the parts of what is seen by the definition.
 use Rattle.std.proofs.Common.{◌≡◌, ℕ, Bool, true, false, List, [], ◌∷◌, ◌++◌, map, chars, length, eqb, refl, ap, ◌∙◌, sym, append_assoc}
 use Rattle.std.proofs.lemmas.List.{append-nil, map-append}
-use Rattle.std.proofs.lemmas.Bool.{false≢true}
-use Rattle.std.proofs.lemmas.Str.{encodes-chars}
 use Rattle.std.specs.Str.{IsUtf8}
-use lib.Utf8.{encodes}
 use Rattle.html_dom_tree.specs.Tree.{NodeView, NodesView, none, node}
 use Rattle.typst_html_encode.specs.Collapsing.{Atom, visible, ignorable, collapsible, kept, object, break, border, Piece, char, thing, line, edge, is_supported_by, atom_pieces, atoms_pieces, merged_edges, collapsed_pieces}
 use Rattle.typst_html_encode.proofs.NodeAtoms.{node_atoms, nodes_atoms, normal_atoms}
-use Rattle.typst_html_page.specs.Gathering.{Page, with_piece, with_pieces, Before, bare, support, blank, released, seen_at, past, Seen, nothing_seen, step, run, final, past_nodes}
+use Rattle.typst_html_page.specs.Gathering.{Page, ended_parts, with_piece, with_pieces, Before, bare, support, blank, released, seen_at, past, Seen, nothing_seen, step, run, final, past_nodes}
+use Rattle.typst_html_page.specs.Parts.{Part, object_part, line_part, edge_part, put_text, joined_parts, begins_with_text}
+use Rattle.typst_html_page.proofs.Parts.{some_chars, put_twice, put_before}
 
 -- pieces one after the other
 
@@ -21,42 +20,56 @@ unfolding with_pieces
 with_pieces-append p [] ys = refl
 with_pieces-append p (x ∷ xs) ys = with_pieces-append (with_piece p x) xs ys
 
-abbrev pub page_of : List Piece → Bool → Page
-page_of ps b = record { pieces = ps; after_edge = b }
+abbrev pub page_of : List Part → List ℕ → Bool → Page
+page_of ps t b = record { parts = ps; text = t; after_edge = b }
 
-pieces_merged : (ps : List Piece) (b : Bool) (xs : List Piece) →
-    (with_pieces (page_of ps b) xs).pieces ≡ ps ++ merged_edges b xs
+pub page_is : (p q : List Part) (t u : List ℕ) (a b : Bool) → p ≡ q → t ≡ u → a ≡ b →
+    page_of p t a ≡ page_of q u b
+page_is p q t u a b e f g =
+    ap (λ l. page_of l t a) e ∙ (ap (λ l. page_of q l a) f ∙ ap (page_of q u) g)
+
+-- a part that is no text, behind what was shown
+part_shown : (ps : List Part) (t : List ℕ) (x : Part) (qs rs : List Part) →
+    begins_with_text (x ∷ rs) ≡ false → qs ≡ ((ps ++ put_text t []) ++ x ∷ []) ++ rs →
+    qs ≡ ps ++ put_text t (x ∷ rs)
+part_shown ps t x qs rs e f =
+    f ∙ (ap (λ l. l ++ rs) (append_assoc ps (put_text t []) (x ∷ []))
+    ∙ (append_assoc ps (put_text t [] ++ x ∷ []) rs ∙ ap (λ l. ps ++ l) (put_before t x rs e)))
+
+-- what was shown, and the parts of what is added
+pieces_shown : (ps : List Part) (t : List ℕ) (b : Bool) (xs : List Piece) →
+    ended_parts (with_pieces (page_of ps t b) xs)
+    ≡ ps ++ put_text t (joined_parts (merged_edges b xs))
 unfolding with_pieces
-pieces_merged ps b [] = sym (append-nil ps)
-pieces_merged ps b (char c ∷ xs) = pieces_merged (ps ++ char c ∷ []) false xs
-    ∙ append_assoc ps (char c ∷ []) (merged_edges false xs)
-pieces_merged ps b (thing name ∷ xs) = pieces_merged (ps ++ thing name ∷ []) false xs
-    ∙ append_assoc ps (thing name ∷ []) (merged_edges false xs)
-pieces_merged ps b (line ∷ xs) = pieces_merged (ps ++ line ∷ []) false xs
-    ∙ append_assoc ps (line ∷ []) (merged_edges false xs)
-pieces_merged ps true (edge ∷ xs) = pieces_merged ps true xs
-pieces_merged ps false (edge ∷ xs) = pieces_merged (ps ++ edge ∷ []) true xs
-    ∙ append_assoc ps (edge ∷ []) (merged_edges true xs)
+pieces_shown ps t b [] = refl
+pieces_shown ps t b (char c ∷ xs) =
+    pieces_shown ps (t ++ c ∷ []) false xs
+    ∙ ap (λ l. ps ++ l) (put_twice t (c ∷ []) (joined_parts (merged_edges false xs)))
+pieces_shown ps t b (thing name ∷ xs) =
+    part_shown ps t (object_part name) _ (joined_parts (merged_edges false xs)) refl
+    (pieces_shown ((ps ++ put_text t []) ++ object_part name ∷ []) [] false xs)
+pieces_shown ps t b (line ∷ xs) =
+    part_shown ps t line_part _ (joined_parts (merged_edges false xs)) refl
+    (pieces_shown ((ps ++ put_text t []) ++ line_part ∷ []) [] false xs)
+pieces_shown ps t true (edge ∷ xs) = pieces_shown ps t true xs
+pieces_shown ps t false (edge ∷ xs) =
+    part_shown ps t edge_part _ (joined_parts (merged_edges true xs)) refl
+    (pieces_shown ((ps ++ put_text t []) ++ edge_part ∷ []) [] true xs)
 
 -- characters alone
 
-chars_added : (ps : List Piece) (b : Bool) (c : ℕ) (cs : List ℕ) →
-    with_pieces (page_of ps b) (char c ∷ map char cs) ≡ page_of (ps ++ char c ∷ map char cs) false
+chars_added : (ps : List Part) (t : List ℕ) (b : Bool) (c : ℕ) (cs : List ℕ) →
+    with_pieces (page_of ps t b) (char c ∷ map char cs) ≡ page_of ps (t ++ c ∷ cs) false
 unfolding with_pieces
-chars_added ps b c [] = refl
-chars_added ps b c (d ∷ ds) =
-    chars_added (ps ++ char c ∷ []) false d ds
-    ∙ ap (λ l. page_of l false) (append_assoc ps (char c ∷ []) (char d ∷ map char ds))
+chars_added ps t b c [] = refl
+chars_added ps t b c (d ∷ ds) =
+    chars_added ps (t ++ c ∷ []) false d ds
+    ∙ ap (λ l. page_of ps l false) (append_assoc t (c ∷ []) (d ∷ ds))
 
-text_by : (p : Page) (bs cs : List ℕ) → chars bs ≡ cs → IsUtf8 bs → eqb (length bs) 0 ≡ false →
-    with_pieces p (map char cs) ≡ page_of (p.pieces ++ map char cs) false
-text_by p bs [] e u h =
-    absurd (false≢true (sym h ∙ ap (λ l. eqb (length l) 0) (sym (encodes-chars bs u) ∙ ap encodes e)))
-text_by p bs (c ∷ cs) e u h = chars_added p.pieces p.after_edge c cs
-
-pub text_added : (p : Page) (bs : List ℕ) → IsUtf8 bs → eqb (length bs) 0 ≡ false →
-    with_pieces p (map char (chars bs)) ≡ page_of (p.pieces ++ map char (chars bs)) false
-text_added p bs u h = text_by p bs (chars bs) refl u h
+pub text_added : (p : Page) (bs cs : List ℕ) → chars bs ≡ cs → IsUtf8 bs →
+    eqb (length bs) 0 ≡ false → with_pieces p (map char cs) ≡ page_of p.parts (p.text ++ cs) false
+text_added p bs [] e u h = absurd (some_chars bs e u h)
+text_added p bs (c ∷ cs) e u h = chars_added p.parts p.text p.after_edge c cs
 
 -- one piece behind others
 pub one_behind : (p q r : Page) (xs : List Piece) (x : Piece) → q ≡ with_pieces p xs →
@@ -72,11 +85,11 @@ remaining b [] = released false b
 remaining b (a ∷ as') = seen_at b a ++ remaining (past b a) as'
 
 final_of_run : (s : Seen) (as' : List Atom) →
-    final (run s as') ≡ (with_pieces s.page (remaining s.before as')).pieces
+    final (run s as') ≡ ended_parts (with_pieces s.page (remaining s.before as'))
 unfolding run
 final_of_run s [] = refl
 final_of_run s (a ∷ as') =
-    final_of_run (step s a) as' ∙ ap (λ p. p.pieces)
+    final_of_run (step s a) as' ∙ ap ended_parts
     (sym (with_pieces-append s.page (seen_at s.before a) (remaining (past s.before a) as')))
 
 -- the same by the definition
@@ -154,10 +167,11 @@ gathered (blank later) (collapsible c ∷ as') =
 pub seen_is : (p q : Page) (a b : Before) → p ≡ q → a ≡ b → seen_of p a ≡ seen_of q b
 seen_is p q a b e f = ap (λ l. seen_of l a) e ∙ ap (seen_of q) f
 
-pub gathered_is_seen : (as' : List Atom) → final (run nothing_seen as') ≡ collapsed_pieces as'
+pub gathered_is_seen : (as' : List Atom) →
+    final (run nothing_seen as') ≡ joined_parts (collapsed_pieces as')
 gathered_is_seen as' =
-    final_of_run nothing_seen as' ∙ (pieces_merged [] false (remaining bare as')
-    ∙ ap (merged_edges false) (gathered bare as'))
+    final_of_run nothing_seen as' ∙ (pieces_shown [] [] false (remaining bare as')
+    ∙ ap (λ l. joined_parts (merged_edges false l)) (gathered bare as'))
 
 -- nodes one after the other
 

@@ -1,3 +1,4 @@
+pub mod Apart
 pub mod Gathering
 pub mod Held
 pub mod PageLaws

@@ -11,6 +11,7 @@ use Rattle.typst_html_encode.proofs.IndentsCollapse.{past_words}
 use Rattle.typst_html_encode.proofs.NodeAtoms.{normal_atoms}
 use Rattle.typst_html_spaces.specs.SeenBody.{seen_body}
 use Rattle.typst_html_page.specs.Gathering.{Seen, nothing_seen, step, run, border_atoms, final, past_node, past_nodes, with_pieces}
+use Rattle.typst_html_page.specs.Parts.{Part, joined_parts}
 use Rattle.typst_html_page.proofs.Gathering.{gathered_is_seen, run-append, past_one}
 
 -- one node
@@ -91,18 +92,22 @@ body_in_normal (node (frame_node b) ns) = body_in_normal ns
 abbrev pub seen_in : NodesView → List Piece
 seen_in ns = unwrap_or (seen_body (body_in (nodes_normal ns))) []
 
+abbrev pub parts_in : NodesView → List Part
+parts_in ns = joined_parts (seen_in ns)
+
 seen_by : (ns : NodesView) (o : Option NodesView) → body_children ns ≡ o →
     seen_in ns ≡ unwrap_or (seen_body (option_map nodes_normal o)) []
 seen_by ns o e =
     ap (λ l. unwrap_or (seen_body l) []) (body_in_normal ns ∙ ap (option_map nodes_normal) e)
 
 pub body_seen : (ns body : NodesView) (s t : Seen) → body_children ns ≡ Some body → s ≡ nothing_seen →
-    t ≡ past_nodes false s body → final t ≡ seen_in ns
+    t ≡ past_nodes false s body → final t ≡ parts_in ns
 body_seen ns body s t is e f =
     ap final (f ∙ ap (λ l. past_nodes false l body) e)
-    ∙ (gathered_is_seen (plains_atoms false (nodes_normal body)) ∙ sym (seen_by ns (Some body) is))
+    ∙ (gathered_is_seen (plains_atoms false (nodes_normal body))
+    ∙ ap joined_parts (sym (seen_by ns (Some body) is)))
 
 pub nothing_in : (ns : NodesView) (s : Seen) → body_children ns ≡ None → s ≡ nothing_seen →
-    final s ≡ seen_in ns
+    final s ≡ parts_in ns
 unfolding with_pieces
-nothing_in ns s is e = ap final e ∙ sym (seen_by ns None is)
+nothing_in ns s is e = ap final e ∙ ap joined_parts (sym (seen_by ns None is))

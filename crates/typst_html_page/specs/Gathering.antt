@@ -4,21 +4,33 @@ use Rattle.std.specs.Prelude.{ℕ, Bool, true, false, ◌||◌, List, [], ◌∷
 use Rattle.html_dom_tree.specs.PlainTree.{nodes_normal}
 use Rattle.html_dom_tree.specs.Tree.{NodeView, tag_node, text_node, element_node, frame_node, NodesView}
 use Rattle.typst_html_encode.specs.Collapsing.{Atom, visible, ignorable, collapsible, kept, object, break, border, Piece, char, thing, line, edge, text_atoms, preserves, element_atoms, plains_atoms}
+use Rattle.typst_html_page.specs.Parts.{Part, object_part, line_part, edge_part, put_text}
 
--- pieces in which neighbouring edges are one, and whether an edge stands last
+-- parts that are complete, in which neighbouring edges are one, the text behind them, and whether an
+-- edge stands last
 pub record Page : Type 0 where
-  pub pieces : List Piece
+  pub parts : List Part
+  pub text : List ℕ
   pub after_edge : Bool
 
 abbrev pub empty_page : Page
-empty_page = record { pieces = []; after_edge = false }
+empty_page = record { parts = []; text = []; after_edge = false }
+
+-- all parts, where no more follows
+abbrev pub ended_parts : Page → List Part
+ended_parts p = p.parts ++ put_text p.text []
+
+-- with a part that is no text
+abbrev pub with_part : Page → Part → (after_edge : Bool) → Page
+with_part p x after_edge =
+    record { parts = ended_parts p ++ x ∷ []; text = []; after_edge = after_edge }
 
 abbrev pub with_piece : Page → Piece → Page
-with_piece p (char c) = record { pieces = p.pieces ++ char c ∷ []; after_edge = false }
-with_piece p (thing name) = record { pieces = p.pieces ++ thing name ∷ []; after_edge = false }
-with_piece p line = record { pieces = p.pieces ++ line ∷ []; after_edge = false }
-with_piece p edge = if p.after_edge then p
-    else record { pieces = p.pieces ++ edge ∷ []; after_edge = true }
+with_piece p (char c) =
+    record { parts = p.parts; text = p.text ++ c ∷ []; after_edge = false }
+with_piece p (thing name) = with_part p (object_part name) false
+with_piece p line = with_part p line_part false
+with_piece p edge = if p.after_edge then p else with_part p edge_part true
 
 unfoldable pub with_pieces : Page → List Piece → Page
 with_pieces p [] = p
@@ -96,8 +108,8 @@ abbrev pub border_atoms : Bool → List Atom
 border_atoms b = if b then border ∷ [] else []
 
 -- no support follows the last atom
-abbrev pub final : Seen → List Piece
-final s = (with_pieces s.page (released false s.before)).pieces
+abbrev pub final : Seen → List Part
+final s = ended_parts (with_pieces s.page (released false s.before))
 
 -- past a node
 abbrev pub past_node : (preserved : Bool) → Seen → NodeView → Seen

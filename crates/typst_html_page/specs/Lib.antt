@@ -2,4 +2,5 @@ pub mod Gathering
 pub mod PageLaws
 pub mod PageTexts
 pub mod PageViews
+pub mod Parts
 pub mod PlainTexts

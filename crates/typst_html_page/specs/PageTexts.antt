@@ -4,7 +4,12 @@ use Rattle.html_dom_tree.specs.PlainTree.{element_normal}
 use Rattle.html_dom_tree.specs.Tree.{ElementView}
 use Rattle.typst_html_encode.specs.Collapsing.{Piece}
 use Rattle.typst_html_spaces.specs.SeenBody.{seen_tree}
+use Rattle.typst_html_page.specs.Parts.{Part, joined_parts}
 
 -- what is seen of the body of a root's normal form; a root without a body shows nothing
 abbrev pub page_pieces : ElementView → List Piece
 page_pieces root = unwrap_or (seen_tree (Some (element_normal root))) []
+
+-- the same as parts
+abbrev pub page_parts : ElementView → List Part
+page_parts root = joined_parts (page_pieces root)

@@ -1,8 +1,8 @@
 -- The program's parts and states as those of the definitions.
-use Rattle.std.specs.Prelude.{List, [], ◌∷◌, ◌++◌, map}
+use Rattle.std.specs.Prelude.{List, map}
 use Rattle.html_dom_tree.specs.Views.{text_view}
-use Rattle.typst_html_encode.specs.Collapsing.{Piece, char, thing, line, edge}
 use Rattle.typst_html_page.specs.Gathering as gathering
+use Rattle.typst_html_page.specs.Parts.{Part, text_part, object_part, line_part, edge_part}
 use Rattle.typst_html_page.specs.declared.page.Page.{Page}
 use Rattle.typst_html_page.specs.declared.seen.Before.{Before}
 use Rattle.typst_html_page.specs.declared.seen.Before.TheVariants.{Bare, Support, Blank}
@@ -12,24 +12,20 @@ use Rattle.typst_html_page.specs.declared.shown.Shown.{Shown}
 use Rattle.typst_html_page.specs.declared.shown.Shown.TheVariants.{Text, Object, LineBreak, Edge}
 
 -- a text is its characters
-abbrev pub shown_pieces : Shown → List Piece
-shown_pieces (Text text) = map char (text_view text)
-shown_pieces (Object tag) = thing tag ∷ []
-shown_pieces LineBreak = line ∷ []
-shown_pieces Edge = edge ∷ []
+abbrev pub part_view : Shown → Part
+part_view (Text text) = text_part (text_view text)
+part_view (Object tag) = object_part tag
+part_view LineBreak = line_part
+part_view Edge = edge_part
 
-unfoldable pub parts_view : List Shown → List Piece
-parts_view [] = []
-parts_view (p ∷ ps) = shown_pieces p ++ parts_view ps
+abbrev pub parts_view : List Shown → List Part
+parts_view ps = map part_view ps
 
-abbrev pub page_text_view : PageText → List Piece
+abbrev pub page_text_view : PageText → List Part
 page_text_view t = parts_view t.parts.items
 
 abbrev pub page_view : Page → gathering.Page
-page_view p = record {
-  pieces = parts_view p.parts.items ++ map char p.text;
-  after_edge = p.after_edge;
-}
+page_view p = record { parts = parts_view p.parts.items; text = p.text; after_edge = p.after_edge }
 
 abbrev pub before_view : Before → gathering.Before
 before_view Bare = gathering.bare

@@ -1,9 +1,9 @@
 //! A page while it is gathered.
 
-ghost use Rattle.std.specs.Prelude.{◌≡◌, ◌++◌, [], OnOk, IfOk, map};
+ghost use Rattle.std.specs.Prelude.{◌≡◌, [], OnOk, IfOk, map};
 ghost use Rattle.typst_html_encode.specs.Collapsing.{char, thing, line, edge};
-ghost use Rattle.typst_html_page.specs.Gathering.{empty_page, with_piece, with_pieces};
-ghost use Rattle.typst_html_page.specs.PageViews.{page_text_view, page_view, parts_view, shown_pieces};
+ghost use Rattle.typst_html_page.specs.Gathering.{empty_page, ended_parts, with_part, with_piece, with_pieces};
+ghost use Rattle.typst_html_page.specs.PageViews.{page_text_view, page_view, part_view, parts_view};
 
 use crate::shown::{PageText, Shown};
 use html_names::HtmlTag;
@@ -87,21 +87,22 @@ impl Page {
         Ok(())
     }
 
-    /// Adds a part that is no text.
+    /// Adds a part that is no text, behind the text that has begun.
     fn push_part(&mut self, part: Shown) -> Result<(), AllocError>
-        ensures { OnOk result ((page_view self.new).pieces
-            ≡ (page_view self.old).pieces ++ shown_pieces part) }
+        ensures { OnOk result (page_view self.new
+            ≡ with_part (page_view self.old) (part_view part) self.old.after_edge) }
     {
         self.end_text()?;
         self.parts.push(part)?;
         Ok(())
     }
 
-    /// Ends the text, where one has begun.
+    /// Ends the text, where one has begun: an empty one is no part.
     fn end_text(&mut self) -> Result<(), AllocError>
         ensures ended { OnOk result (self.new.text ≡ []) }
-        ensures same { OnOk result (parts_view self.new.parts.items
-            ≡ (page_view self.old).pieces) }
+        ensures parts { OnOk result (parts_view self.new.parts.items
+            ≡ ended_parts (page_view self.old)) }
+        ensures same { self.new.after_edge ≡ self.old.after_edge }
     {
         if self.text.as_str().is_empty() {
             return Ok(());
@@ -113,7 +114,7 @@ impl Page {
 
     /// All that was added.
     pub(crate) fn into_page_text(mut self) -> Result<PageText, AllocError>
-        ensures { IfOk result (λ text. page_text_view text ≡ (page_view self).pieces) }
+        ensures { IfOk result (λ text. page_text_view text ≡ ended_parts (page_view self)) }
     {
         self.end_text()?;
         Ok(PageText { parts: self.parts })

@@ -10,7 +10,7 @@ use std::fmt;
 /// A part of what is shown of a page.
 #[derive(Debug, PartialEq, Eq, Drop)]
 pub enum Shown {
-    /// Characters that stand side by side.
+    /// Characters that stand side by side, at least one and as many as there are.
     Text(String),
     /// A replaced element, by its name: CSS sees one object in its place.
     Object(HtmlTag),

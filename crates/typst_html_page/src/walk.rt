@@ -1,12 +1,13 @@
 //! The walk over a page's nodes.
 
-ghost use Rattle.std.specs.Prelude.{◌≡◌, OnOk, IfOk, option_map};
+ghost use Rattle.std.specs.Prelude.{◌≡◌, IsTrue, OnOk, IfOk, option_map};
 ghost use Rattle.html_dom_tree.specs.Tree.{element_node, node, none};
 ghost use Rattle.html_dom_tree.specs.Views.{element_view, node_view, nodes_view};
 ghost use Rattle.typst_html_encode.specs.IndentsCollapse.{body_children};
 ghost use Rattle.typst_html_page.specs.Gathering.{past_node, past_nodes};
-ghost use Rattle.typst_html_page.specs.PageTexts.{page_pieces};
+ghost use Rattle.typst_html_page.specs.PageTexts.{page_parts};
 ghost use Rattle.typst_html_page.specs.PageViews.{page_text_view, seen_view};
+ghost use Rattle.typst_html_page.specs.Parts.{stand_apart};
 
 use crate::seen::Seen;
 use crate::shown::PageText;
@@ -25,14 +26,19 @@ use std::alloc::{AllocError, Global};
 /// ends of the body do not. Characters that are not shown by default do not count here, and are
 /// shown as they are.
 ///
-/// Blanks in `pre`, and where `style` says exactly `white-space: pre-wrap` or
-/// `display: block; white-space: pre-wrap`, are preserved: they are shown as they are. An edge
-/// stands where a block, a list item, a table or a part of one begins and ends, and where `style`
-/// says exactly `display: block` or the latter of the two. Neighbouring edges are one. No other css
-/// counts, nor whether an element is hidden, as `script` is.
+/// Blanks at any depth in `pre`, or in an element whose first `style` is exactly
+/// `white-space: pre-wrap` or `display: block; white-space: pre-wrap`, are preserved: they are shown
+/// as they are. An edge stands where a block, a list item, a table or a caption, row group, row or
+/// cell of one begins and ends, by default, and so where the first `style` is exactly
+/// `display: block` or the latter of the two. Neighbouring edges are one. A replaced element is one
+/// object, whatever is in it, and a `br` a line break alone. No other css counts, nor whether an
+/// element is hidden, as `script` is.
+///
+/// All characters that are shown side by side are one text, also those of several nodes, so no text
+/// is empty, and neither two texts nor two edges stand side by side.
 ///
 /// Items in plain flow are shown as they are: of what is read of the text that `export` makes of
-/// them, plain or pretty, the page text is exactly the items' text.
+/// them without footnotes, plain or pretty, the page text is exactly the items' text.
 ///
 /// Cost: grows with the size of the tree.
 ///
@@ -48,7 +54,8 @@ use std::alloc::{AllocError, Global};
 /// assert_eq!(rt; shown.as_str(), "Salt & vinegar");
 /// ```
 pub fn page_text(alloc: Global, root: &HtmlElement) -> Result<PageText, AllocError>
-    ensures { IfOk result (λ text. page_text_view text ≡ page_pieces (element_view root.now)) }
+    ensures parts { IfOk result (λ text. page_text_view text ≡ page_parts (element_view root.now)) }
+    ensures apart { IfOk result (λ text. IsTrue (stand_apart (page_text_view text))) }
 {
     let mut seen = Seen::new(alloc);
     if let Some(body) = body_of(&root.children) {

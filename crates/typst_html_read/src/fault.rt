@@ -1,8 +1,11 @@
 ghost use Rattle.std.specs.Prelude.{◌≡◌};
 ghost use Rattle.typst_html_read.specs.ReadFaults.{number_of};
 
+use html_dom_tree::Span;
+use html_names::Refused;
 use std::alloc::{AllocError, AllocFailed};
 use thiserror::Error;
+use typst_html_encode::ExportFault;
 
 /// Why a text was not read.
 #[derive(Clone, Copy, Debug, PartialEq, Eq, Error)]
@@ -47,5 +50,31 @@ impl<T: Drop> From<AllocFailed<T>> for ReadFault {
 
     fn from(_refused: AllocFailed<T>) -> ReadFault {
         ReadFault::OutOfMemory
+    }
+}
+
+impl<T: Drop> From<Refused<T>> for ReadFault {
+    ghost use Rattle.typst_html_read.specs.declared.fault.ReadFault.TheVariants.{OutOfMemory};
+
+    ghost from_gives = { λ _ e. e ≡ OutOfMemory };
+
+    fn from(_refused: Refused<T>) -> ReadFault {
+        ReadFault::OutOfMemory
+    }
+}
+
+/// Of an element that stands too deep the span is its place in the text.
+impl From<ReadFault> for ExportFault {
+    ghost use Rattle.typst_html_read.specs.ReadFaults.{of_read};
+
+    ghost from_gives = { λ fault made. made ≡ of_read fault };
+
+    fn from(fault: ReadFault) -> ExportFault {
+        match fault {
+            ReadFault::OutOfMemory => ExportFault::OutOfMemory,
+            ReadFault::TooDeep { place } => ExportFault::TooDeep {
+                span: Span(place as u64),
+            },
+        }
     }
 }

@@ -38,15 +38,15 @@ pub fn rows_are_seen()
     ensures others { AreNotPlain others }
 {}
 
-/// Spaces stay: what is seen of the nodes of items in plain flow, once white space has collapsed, is
-/// exactly the items' text.
+/// Spaces stay: what is seen of the nodes that items in plain flow become at block level, with
+/// their css in `style`, once white space has collapsed, is exactly the items' text.
 #[tactic(auto, using(crate::proofs::SpacesStay::spaces_stay))]
 pub fn spaces_stay()
     ensures { SpacesStay }
 {}
 
-/// Spaces of items in plain flow stay as pretty writing lays their nodes out too: its indents are
-/// not seen.
+/// Spaces of items in plain flow stay as pretty writing lays their nodes out too, in an element
+/// that is no raw one: its indents are not seen.
 #[tactic(auto, using(crate::proofs::SpacesStay::pretty_spaces_stay))]
 pub fn pretty_spaces_stay()
     ensures { PrettySpacesStay }
@@ -61,16 +61,16 @@ pub fn documents_are_seen()
 {}
 
 /// Items in plain flow become elements of plain names alone and no frame, in which what has indents
-/// is a border. So they can be read back, and none is a document's root or its body.
+/// is a border. So they can be read back, and none is a document's root, its body or a raw element.
 pub fn plain_flow_makes_plain_nodes()
     ensures made { PlainFlowMakesPlainNodes }
     ensures read { PlainNodesCanBeRead }
     ensures inside { PlainNamesAreInside }
 {}
 
-/// Items in plain flow whose texts, values, roles and labels hold text characters alone, and of
-/// which no void element has a body, become nodes without a fault. They stay so with anchors and
-/// with an `href` of links, of text characters alone.
+/// Items in plain flow whose texts, values, roles and labels hold text characters alone, as does
+/// the role of their list, and of which no void element has a body, become nodes without a fault.
+/// They stay so with anchors and with an `href` of links, of text characters alone.
 pub fn clean_items_are_written()
     ensures made { CleanItemsMakeCleanNodes }
     ensures written { CleanNodesAreWritten }
@@ -80,7 +80,8 @@ pub fn clean_items_are_written()
 /// Anchors are not seen, nor is where links lead: neither an `id` or an `href` in front of an
 /// element's attributes nor a `span` with nothing but an `id`, after a tag or around a text. What
 /// has indents stays a border, plain nodes stay plain, no frame comes or goes, there is no new raw
-/// element, and the first `body` stays the first.
+/// element, and the first `body` stays the first. Nodes without a raw element and without a frame
+/// can be read back.
 pub fn anchors_are_unseen()
     ensures seen { AnchorsAreUnseen }
     ensures edges { AnchorsKeepEdges }

@@ -41,6 +41,34 @@ fn texts_are_added(rt: HostRuntime) -> Result<(), Fail> {
 }
 
 #[test]
+fn attributes_are_set(rt: HostRuntime) -> Result<(), Fail> {
+    use html_dom::HtmlAttrs;
+    use html_names::attr;
+
+    let alloc = rt.alloc();
+    let mut attrs = HtmlAttrs::new(alloc);
+    attrs.set(attr::id, String::from_str(alloc, "salt")?)?;
+    attrs.set(attr::id, String::from_str(alloc, "vinegar")?)?;
+    assert_eq!(rt; attrs.0.len(), 1);
+    let id = attrs.get(&attr::id).expect(&rt, "an id");
+    assert_eq!(rt; id.as_str(), "vinegar");
+    Ok(())
+}
+
+#[test]
+fn attributes_of_elements_are_set(rt: HostRuntime) -> Result<(), Fail> {
+    use html_dom::HtmlElement;
+    use html_names::{attr, tag};
+
+    let alloc = rt.alloc();
+    let mut link = HtmlElement::new(alloc, tag::a)
+        .with_attr(attr::href, String::from_str(alloc, "/tides")?)?;
+    link.set_attr(attr::href, String::from_str(alloc, "/moon")?)?;
+    assert_eq!(rt; link.attrs.0.len(), 1);
+    Ok(())
+}
+
+#[test]
 fn css_becomes_a_style(rt: HostRuntime) -> Result<(), Fail> {
     use html_dom::{HtmlElement, resolve_inline_styles};
     use html_names::{attr, tag};

@@ -40,6 +40,19 @@ fn elements_get_texts(rt: HostRuntime) -> Result<(), Fail> {
 }
 
 #[test]
+fn attributes_are_set(rt: HostRuntime) -> Result<(), Fail> {
+    use html_flow::HtmlElem;
+    use html_names::{attr, tag};
+
+    let alloc = rt.alloc();
+    let mut link = HtmlElem::new(alloc, tag::a)
+        .with_attr(attr::href, String::from_str(alloc, "/tides")?)?;
+    link.set_attr(attr::href, String::from_str(alloc, "/moon")?)?;
+    assert_eq!(rt; link.attrs.0.len(), 1);
+    Ok(())
+}
+
+#[test]
 fn elements_have_css_and_a_body(rt: HostRuntime) -> Result<(), Fail> {
     use typst_html::{DocumentInfo, HtmlElem, HtmlOptions, Item, Pair, Properties, Span};
     use typst_html::{export, tag};

@@ -7,7 +7,7 @@ use html_flow::{
     Pair, Whitespace, construct, convert_to_nodes, html_block_fragment, html_inline_fragment,
     html_math_fragment, push_located,
 };
-use html_names::{Refused, attr, tag};
+use html_names::{HtmlAttr, Refused, attr, tag};
 use html_values::{AttrType, ListType, NativeType, Value};
 use std::alloc::{AllocError, Global};
 use tests_growth::{TestResult, refuses_given, refuses_lent};
@@ -54,6 +54,17 @@ fn fragments(rt: HostRuntime) -> TestResult {
     )
 }
 
+/// An element, and a pair that it is given.
+type Given = (HtmlElem, HtmlAttr, String);
+
+fn set_in((mut element, name, value): Given) -> Result<(), Refused<Given>> {
+    element.set_attr(name, value).map_err(|Refused {
+        back: (name, value),
+    }| Refused {
+        back: (element, name, value),
+    })
+}
+
 /// A value is added to elements.
 #[test]
 fn changed_attributes(rt: HostRuntime) -> TestResult {
@@ -66,6 +77,12 @@ fn changed_attributes(rt: HostRuntime) -> TestResult {
     refuses_given(alloc, given, |(element, name, value)| {
         element.with_attr(name, value).map(|_| ())
     })?;
+    let given = (
+        elem_of(alloc, tag::p)?,
+        attr::class,
+        String::from_str(alloc, "held")?,
+    );
+    refuses_given(alloc, given, set_in)?;
     let value = Some(String::from_str(alloc, "held")?);
     let given = (elem_of(alloc, tag::p)?, attr::class, value);
     refuses_given(alloc, given, |(element, name, value)| {

@@ -25,6 +25,14 @@ fn pushed_front((mut list, name, value): Addition) -> Result<(), Refused<Additio
     })
 }
 
+fn set((mut list, name, value): Addition) -> Result<(), Refused<Addition>> {
+    list.set(name, value).map_err(|Refused {
+        back: (name, value),
+    }| Refused {
+        back: (list, name, value),
+    })
+}
+
 /// A list with a pair, and a further one.
 fn addition_of(alloc: Global) -> Result<Addition, AllocError> {
     Ok((
@@ -39,8 +47,20 @@ fn changed_attributes(rt: HostRuntime) -> TestResult {
     let alloc = rt.alloc();
     refuses_given(alloc, addition_of(alloc)?, pushed)?;
     refuses_given(alloc, addition_of(alloc)?, pushed_front)?;
+    refuses_given(alloc, addition_of(alloc)?, set)?;
     let lists = (id_of(alloc, "inner")?, id_of(alloc, "outer")?);
     refuses_given(alloc, lists, |(inner, outer)| inner.fold(outer).map(|_| ()))
+}
+
+/// An element, and a pair that it is given.
+type Given = (HtmlElement, HtmlAttr, String);
+
+fn set_in((mut element, name, value): Given) -> Result<(), Refused<Given>> {
+    element.set_attr(name, value).map_err(|Refused {
+        back: (name, value),
+    }| Refused {
+        back: (element, name, value),
+    })
 }
 
 /// Whether a child is the only one.
@@ -59,6 +79,12 @@ fn changed_elements(rt: HostRuntime) -> TestResult {
     refuses_given(alloc, given, |(element, name, value)| {
         element.with_attr(name, value).map(|_| ())
     })?;
+    let given = (
+        inner_of(alloc)?,
+        attr::class,
+        String::from_str(alloc, "held")?,
+    );
+    refuses_given(alloc, given, set_in)?;
     let given = (
         HtmlElement::new(alloc, tag::p),
         text_node_of(alloc, "held", 7)?,

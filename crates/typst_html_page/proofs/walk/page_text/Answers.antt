@@ -1,10 +1,13 @@
 use Rattle.std.proofs.Common.{◌≡◌, false, Some, None, ap, sym, subst, ◌∙◌}
 use Rattle.std.specs.Prelude.{option_map, IfOk}
+use Rattle.std.proofs.lemmas.Result.{IfOk-weaker}
 use Rattle.html_dom_tree.specs.Views.{element_view, nodes_view}
 use Rattle.typst_html_encode.specs.IndentsCollapse.{body_children}
 use Rattle.typst_html_page.specs.Gathering.{nothing_seen, final, past_nodes}
-use Rattle.typst_html_page.specs.PageTexts.{page_pieces}
+use Rattle.typst_html_page.specs.PageTexts.{page_parts}
 use Rattle.typst_html_page.specs.PageViews.{page_text_view, seen_view}
+use Rattle.typst_html_page.specs.Parts.{stand_apart}
+use Rattle.typst_html_page.proofs.Apart.{parts_stand_apart}
 use Rattle.typst_html_page.proofs.Walks.{body_seen, nothing_in}
 use Rattle.typst_html_page.proofs.walk.page_text.Goals as goal
 use Rattle.typst_html_page.proofs.walk.page_text.Goals.{in-Some+in_ok-add_nodes, in_default}
@@ -18,7 +21,7 @@ returns c =
     let found : option_map (λ b. (element_view b.now).1) c.body_of.result ≡ body_children ns =
     c.body_of.ensures ∙ ap (λ l. body_children (nodes_view l)) c.deref.ensures.value in
     let start : s ≡ nothing_seen = c.new-seen.ensures in
-    let whole : final u ≡ page_pieces (element_view root) = elim c.match-body_of.branch [
+    let whole : final u ≡ page_parts (element_view root) = elim c.match-body_of.branch [
       | in-Some+in_ok-add_nodes w ↦
           let body = nodes_view w.in-Some.body.now.children.items in
           let is : body_children ns ≡ Some body =
@@ -34,5 +37,11 @@ returns c =
           let here : u ≡ nothing_seen = cc (start, w.seen-is) in
           nothing_in ns u is here
     ] in
+    let told : IfOk c.into_page_text.result (λ t. page_text_view t ≡ page_parts (element_view root)) =
     subst (λ x. IfOk c.into_page_text.result (λ t. page_text_view t ≡ x)) whole
-    c.into_page_text.ensures
+    c.into_page_text.ensures in
+    record {
+      parts = told;
+      apart = IfOk-weaker c.into_page_text.result _ _
+          (λ t is. ap stand_apart is ∙ parts_stand_apart (element_view root)) told;
+    }

@@ -1,14 +1,12 @@
-use Rattle.std.proofs.Common.{◌++◌, sym, ap, ◌∙◌}
-use Rattle.typst_html_page.specs.PageViews.{shown_pieces, parts_view}
-use Rattle.typst_html_page.proofs.Parts.{one_part, no_text}
-use Rattle.std.proofs.Common.{refl}
+use Rattle.std.proofs.Common.{[], ◌∷◌, ◌++◌, refl, ap, ◌∙◌}
+use Rattle.typst_html_page.specs.PageViews.{part_view}
+use Rattle.typst_html_page.proofs.Gathering.{page_is}
+use Rattle.typst_html_page.proofs.Parts.{one_part}
 use Rattle.typst_html_page.proofs.page.Page.push_part.Goals as goal
 
 pub returns : goal.returns
 returns c =
-    let xs = shown_pieces c.args.part in
-    sym (no_text (parts_view c.push.new.self.items) c.end_text.new.self.text
-    c.in_ok-end_text.ensures.ended)
-    ∙ (one_part c.end_text.new.self.parts.items c.push.new.self.items c.args.part xs
-    c.in_ok-push.ensures.items refl
-    ∙ ap (λ l. l ++ xs) c.in_ok-end_text.ensures.same)
+    let part = part_view c.args.part in
+    page_is _ _ _ _ _ _ (one_part c.end_text.new.self.parts.items c.push.new.self.items c.args.part
+    part c.in_ok-push.ensures.items refl ∙ ap (λ l. l ++ part ∷ []) c.in_ok-end_text.ensures.parts)
+    c.in_ok-end_text.ensures.ended c.in_ok-end_text.ensures.same

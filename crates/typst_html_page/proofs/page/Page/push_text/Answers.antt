@@ -1,11 +1,10 @@
-use Rattle.std.proofs.Common.{◌≡◌, [], false, true, chars, eqb, length, ◌++◌, map, sym, ap, ◌∙◌}
+use Rattle.std.proofs.Common.{◌≡◌, [], false, true, eqb, length, ◌++◌, map, sym, ap, ◌∙◌}
 use Rattle.std.proofs.StrCases.{chars_of_empty}
 use Rattle.std.proofs.lemmas.Bool.{eqb-true}
 use Rattle.typst_html_encode.specs.Collapsing.{char}
 use Rattle.typst_html_page.specs.Gathering.{with_pieces}
-use Rattle.typst_html_page.specs.PageViews.{page_view, parts_view}
+use Rattle.typst_html_page.specs.PageViews.{page_view}
 use Rattle.typst_html_page.proofs.Gathering.{page_of, text_added}
-use Rattle.typst_html_page.proofs.Parts.{more_text}
 use Rattle.typst_html_page.proofs.page.Page.push_text.Goals as goal
 
 pub returns-then-is_empty : goal.returns-then-is_empty
@@ -20,13 +19,8 @@ returns-then-is_empty c =
 pub returns : goal.returns
 returns c =
     let p = page_view c.args.self.now in
-    let bs = c.as_str-2.result.now in
-    let is : chars bs ≡ c.args.text.now = c.as_str-2.ensures in
     let long : eqb (length c.as_str.result.now) 0 ≡ false =
     sym c.is_empty.ensures ∙ c.if-is_empty.false in
-    ap (λ l. page_of l false) (more_text (parts_view c.args.self.now.parts.items)
-    c.args.self.now.text c.push_str.new.self c.args.text.now
-    (c.in_ok-push_str.ensures.added ∙ ap (λ l. c.args.self.now.text ++ l) is))
-    ∙ (ap (λ l. page_of (p.pieces ++ map char l) false) (sym c.as_str.ensures)
-    ∙ (sym (text_added p c.as_str.result.now c.as_str.utf8 long)
-    ∙ ap (λ l. with_pieces p (map char l)) c.as_str.ensures))
+    ap (λ l. page_of p.parts l false)
+    (c.in_ok-push_str.ensures.added ∙ ap (λ l. p.text ++ l) c.as_str-2.ensures)
+    ∙ sym (text_added p c.as_str.result.now c.args.text.now c.as_str.ensures c.as_str.utf8 long)
