@@ -58,12 +58,15 @@ class Row(NamedTuple):
 
 
 class Answer(NamedTuple):
-    """The exit status of a run, what it writes, and the number and the span of a refusal."""
+    """The exit status of a run, what it writes, the number and the span of a refusal, and where an input is bad:
+    the list in which the form is left is its span, and what is no JSON has a line and a column."""
 
     status: int
     text: str
     number: int = 0
     span: int = 0
+    line: int = 0
+    column: int = 0
 
 
 def answer(row: Row) -> Answer:
@@ -71,8 +74,11 @@ def answer(row: Row) -> Answer:
     if refusal := re.fullmatch(r"refused (\d+) at (\d+)", row.output):
         number, span = map(int, refusal.groups())
         return Answer(1, f"refused: {number} at {span}\n", number, span)
-    if row.output in ("bad input", "wrong words"):
+    if row.output == "wrong words":
         return Answer(2, "bad input\n")
+    if bad := re.fullmatch(r"bad input at (?:(\d+)|line (\d+) column (\d+))", row.output):
+        span, line, column = (int(number or 0) for number in bad.groups())
+        return Answer(2, f"{row.output}\n", 0, span, line, column)
     if row.output.startswith("<!DOCTYPE html>"):
         return Answer(0, row.output)
     before, behind = FRAMES[row.words]

@@ -32,6 +32,8 @@ class Row(NamedTuple):
     status: int
     number: int
     span: int
+    line: int
+    column: int
     text: bytes
 
 
@@ -75,7 +77,8 @@ def rows(most: int | None = None) -> list[Row]:
             continue
         text = answer.text.encode() if answer.status == 0 else b""
         if given is not None and (most is None or max(len(given), len(text)) <= most):
-            found.append(Row(KINDS[word], layout, links, limit, given, answer.status, answer.number, answer.span, text))
+            status, _, *place = answer
+            found.append(Row(KINDS[word], layout, links, limit, given, status, *place, text))
     return found
 
 
@@ -93,12 +96,13 @@ def quoted(data: bytes) -> str:
 def as_c(found: list[Row]) -> str:
     """The rows as an array of C."""
     lines = [
-        f"    {{{r.kind}, {r.layout}, {r.links}, {r.limit}, {r.status}, {r.number}, {r.span}, "
+        f"    {{{r.kind}, {r.layout}, {r.links}, {r.limit}, {r.status}, {r.number}, {r.span}, {r.line}, {r.column}, "
         f"{len(r.input)}, {len(r.text)}, {quoted(r.input)}, {quoted(r.text)}}},"
         for r in found
     ]
     fields = (
-        "uint8_t kind, layout, links; uint32_t limit; uint8_t status, number; uint64_t span; size_t length, text_length; "
+        "uint8_t kind, layout, links; uint32_t limit; uint8_t status, number; uint64_t span; "
+        "size_t line, column, length, text_length; "
         "const char *input, *text;"
     )
     return "\n".join(

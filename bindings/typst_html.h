@@ -25,13 +25,14 @@ extern "C" {
 #endif
 
 /* The version of these calls: compare it with typst_html_version(). */
-#define TYPST_HTML_VERSION 2
+#define TYPST_HTML_VERSION 3
 
 /* How a call ended. In all but TYPST_HTML_DONE `output` is as it was. */
 enum typst_html_status {
     TYPST_HTML_DONE = 0,          /* the first `length` bytes of `output` are the text, in UTF-8 */
     TYPST_HTML_REFUSED = 1,       /* the input is refused: `number` says why, `span` where */
-    TYPST_HTML_BAD_INPUT = 2,     /* the JSON spells nothing, the page is none that is read, either is no
+    TYPST_HTML_BAD_INPUT = 2,     /* the input is no JSON (`line` and `column` say where) or spells nothing
+                                     (`span` says where), the page is none that is read, either is no
                                      UTF-8, or a number is none below */
     TYPST_HTML_OUT_OF_MEMORY = 3, /* an allocation failed */
     TYPST_HTML_TOO_SHORT = 4,     /* `output` is too short: the text takes `length` bytes */
@@ -41,7 +42,11 @@ struct typst_html_reply {
     size_t length;  /* statuses 0 and 4: how many bytes the text has; else 0 */
     uint64_t span;  /* status 1: the number of the list of a node or item in the JSON, counted from 1 by
                        their opening brackets, where the refusal is; 0 where it has no place. Of a
-                       page: how many characters stand before what is refused */
+                       page: how many characters stand before what is refused. Status 2: how many of
+                       these lists are opened up to the first value that is not what the form wants */
+    size_t line;    /* status 2, where the input is no JSON: the line, from 1 on; else 0 */
+    size_t column;  /* the column there, in bytes from 1 on; where the input ends too soon, how long its
+                       last line is */
     uint8_t status; /* enum typst_html_status */
     uint8_t number; /* status 1: which refusal, as below; else 0 */
 };

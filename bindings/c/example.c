@@ -88,7 +88,10 @@ int main(int count, char **words) {
         fprintf(stderr, "refused: %u at %llu\n", reply.number, (unsigned long long)reply.span);
         break;
     case TYPST_HTML_BAD_INPUT:
-        fputs("bad input\n", stderr);
+        if (reply.line > 0)
+            fprintf(stderr, "bad input at line %zu column %zu\n", reply.line, reply.column);
+        else
+            fprintf(stderr, "bad input at %llu\n", (unsigned long long)reply.span);
         break;
     }
     free(text.at);

@@ -37,7 +37,8 @@ static bool is_as_wanted(const struct row *row) {
     size_t length = row->text_length, room = length + BEHIND;
     memset(output, '.', room);
     struct typst_html_reply reply = of_row(row, output, room);
-    if (reply.status != row->status || reply.number != row->number || reply.span != row->span)
+    if (reply.status != row->status || reply.number != row->number || reply.span != row->span ||
+        reply.line != row->line || reply.column != row->column)
         return false;
     for (size_t i = length; i < room; i++)
         if (output[i] != '.')

@@ -35,14 +35,28 @@ def outcome(call, *words, **more):
         return type(failure)
 
 
+def place(call, *words, **more):
+    """Where an input is bad, or else the outcome."""
+    try:
+        return call(*words, **more)
+    except html.BadInput as bad:
+        return bad.span, bad.line, bad.column
+    except Refused as refused:
+        return refused.number, refused.span
+
+
 def wanted(row):
     return [row.text.decode(), (row.number, row.span), html.BadInput][row.status]
+
+
+def wanted_place(row):
+    return (row.span, row.line, row.column) if row.status == 2 else wanted(row)
 
 
 def of_row(row):
     pretty = bool(row.layout)
     if row.kind < 2:
-        return outcome(html.write_json, row.input, kind=KINDS[row.kind], pretty=pretty)
+        return place(html.write_json, row.input, kind=KINDS[row.kind], pretty=pretty)
     known = json.loads(row.input)
     items, footnotes = known.pop("items", []), known.pop("footnotes", [])
     settings = {"pretty": pretty, "links": bool(row.links), "limit": row.limit}
@@ -54,7 +68,7 @@ class Calls(unittest.TestCase):
         self.assertGreater(len(ROWS), 3000)
         for row in ROWS:
             with self.subTest(row.input):
-                self.assertEqual(of_row(row), wanted(row))
+                self.assertEqual(of_row(row), wanted_place(row))
 
     def test_documents_without_information_are_their_items(self):
         for row in ROWS:
@@ -111,6 +125,10 @@ class Calls(unittest.TestCase):
             self.assertIs(outcome(html.write, [], limit=limit), html.BadInput)
         self.assertIs(outcome(html.write_json, "[]", kind="trees"), html.BadInput)
         self.assertIs(outcome(html.write_tree, html.block()), html.BadInput)
+        for data, words in (('[["space"],["text",1]]', "at 2"), ("[\n{}", "at line 2 column 2")):
+            with self.assertRaises(html.BadInput) as caught:
+                html.write_json(data)
+            self.assertEqual(str(caught.exception), f"bad input {words}")
         deep = []
         for _ in range(100_000):
             deep = ["el", "b", [], [deep]]
@@ -179,7 +197,7 @@ class Calls(unittest.TestCase):
     def test_eight_threads_agree(self):
         with ThreadPoolExecutor(8) as threads:
             for row, found in zip(ROWS, threads.map(of_row, ROWS)):
-                self.assertEqual(found, wanted(row))
+                self.assertEqual(found, wanted_place(row))
 
     def test_ten_megabytes(self):
         one = element("p", "A paragraph of a long document, with a < b and an & in it.", attrs=[("class", "long")])

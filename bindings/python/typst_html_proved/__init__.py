@@ -120,10 +120,26 @@ class Refused(Failure):
 
 class BadInput(Failure, ValueError):
     """The input spells nothing that can be written, or nests more than 127 lists; or a page that is checked has
-    another syntax than those that are written. It says what is wrong where this package sees it."""
+    another syntax than those that are written. It says what is wrong where this package sees it, and else where
+    the library does, if it says so."""
+
+    span: int
+    """Where the form is left: how many lists of items are opened in the JSON up to the first value that is not
+    what the form wants, counted as those of a refusal; 0 before the first, and where there is no such place."""
+
+    line: int
+    """The line in the JSON, from 1 on, where it is none; else 0."""
+
+    column: int
+    """The column there, in bytes from 1 on; where the JSON ends too soon, how long its last line is."""
+
+    def __init__(self, *words: object, span: int = 0, line: int = 0, column: int = 0) -> None:
+        super().__init__(*words)
+        self.span, self.line, self.column = span, line, column
 
     def __str__(self) -> str:
-        return ": ".join(["bad input", *map(str, self.args)])
+        place = f" at line {self.line} column {self.column}" if self.line else f" at {self.span}" if self.span else ""
+        return ": ".join(["bad input" + place, *map(str, self.args)])
 
 
 class OutOfMemory(Failure, MemoryError):
@@ -330,7 +346,9 @@ def _text(made: tuple[Reply, bytes]) -> str:
         return output.decode()
     if reply.status == 1:
         raise Refused(reply.number, reply.span)
-    raise {2: BadInput, 3: OutOfMemory}.get(reply.status, OtherLibrary)
+    if reply.status == 2:
+        raise BadInput(span=reply.span, line=reply.line, column=reply.column)
+    raise OutOfMemory if reply.status == 3 else OtherLibrary
 
 
 def write(

@@ -9,7 +9,7 @@ from typing import Any
 
 NAME = "libtypst_html.so"
 
-VERSION = 2
+VERSION = 3
 """The version of the library's calls that this package was made for."""
 
 
@@ -19,6 +19,8 @@ class Reply(ctypes.Structure):
     _fields_ = [
         ("length", ctypes.c_size_t),
         ("span", ctypes.c_uint64),
+        ("line", ctypes.c_size_t),
+        ("column", ctypes.c_size_t),
         ("status", ctypes.c_uint8),
         ("number", ctypes.c_uint8),
     ]

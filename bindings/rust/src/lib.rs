@@ -35,7 +35,7 @@ pub use findings::{DeadFragment, Findings, RepeatedId};
 pub use refusal::Refusal;
 
 /// The version of the library's calls that this crate was made for.
-pub const VERSION: u32 = 2;
+pub const VERSION: u32 = 3;
 
 /// How a document is written.
 #[derive(Clone, Copy, Debug, PartialEq, Eq)]
@@ -93,7 +93,8 @@ pub fn write_tree(root: &Element, pretty: bool) -> Result<String, Refusal> {
 ///
 /// let text = write_json(Kind::Tree, br#"["el","p",[],[["text","a < b"]]]"#, false)?;
 /// assert_eq!(text, "<!DOCTYPE html><p>a &lt; b</p>");
-/// assert_eq!(write_json(Kind::Items, b"{}", false), Err(Refusal::BadInput));
+/// let refusal = write_json(Kind::Items, br#"[["space"],["text"]]"#, false).unwrap_err();
+/// assert_eq!(refusal.to_string(), "bad input at 2");
 /// # Ok::<(), Refusal>(())
 /// ```
 pub fn write_json(kind: Kind, json: &[u8], pretty: bool) -> Result<String, Refusal> {
@@ -141,5 +142,5 @@ pub fn check(page: &str, limit: u32) -> Result<Findings, Refusal> {
 /// The JSON by which the library is told. Texts, numbers, lists and maps of texts are JSON; only what
 /// is deeper than it is read is not spelled.
 fn spelled(value: &impl serde::Serialize) -> Result<Vec<u8>, Refusal> {
-    serde_json::to_vec(value).map_err(|_| Refusal::BadInput)
+    serde_json::to_vec(value).map_err(|_| Refusal::BAD_INPUT)
 }

@@ -7,6 +7,8 @@ use crate::{Kind, Options, Refusal, VERSION};
 struct Reply {
     length: usize,
     span: u64,
+    line: usize,
+    column: usize,
     status: u8,
     number: u8,
 }
@@ -126,7 +128,13 @@ fn text_by(length: usize, call: impl Fn(&mut [u8]) -> Reply) -> Result<String, R
                     span: reply.span,
                 })
             }
-            2 => return Err(Refusal::BadInput),
+            2 => {
+                return Err(Refusal::BadInput {
+                    span: reply.span,
+                    line: reply.line,
+                    column: reply.column,
+                })
+            }
             3 => return Err(Refusal::OutOfMemory),
             4 if reply.length > output.len() => output.resize(reply.length, 0),
             _ => return Err(Refusal::OtherLibrary),

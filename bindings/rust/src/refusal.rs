@@ -20,8 +20,17 @@ pub enum Refusal {
     },
     /// The input spells nothing that can be written, or nests more than 127 levels of JSON; or a page
     /// that is checked has another syntax than those that are written.
-    #[error("bad input")]
-    BadInput,
+    #[error("bad input{}", place(.span, .line, .column))]
+    BadInput {
+        /// Where the form is left: how many lists of nodes or items are opened up to the first value that
+        /// is not what the form wants, counted as those of a refusal; 0 before the first, and where
+        /// there is no such place.
+        span: u64,
+        /// The line in the JSON, from 1 on, where it is none; else 0.
+        line: usize,
+        /// The column there, in bytes from 1 on; where the JSON ends too soon, how long its last line is.
+        column: usize,
+    },
     /// An allocation failed.
     #[error("out of memory")]
     OutOfMemory,
@@ -32,19 +41,26 @@ pub enum Refusal {
 }
 
 impl Refusal {
+    /// An input that is bad, with no place.
+    pub const BAD_INPUT: Refusal = Refusal::BadInput {
+        span: 0,
+        line: 0,
+        column: 0,
+    };
+
     /// The number of the refusal; 0 where there is none.
     pub fn number(&self) -> u8 {
         match self {
             Refusal::Refused { number, .. } => *number,
-            Refusal::BadInput | Refusal::OutOfMemory | Refusal::OtherLibrary => 0,
+            Refusal::BadInput { .. } | Refusal::OutOfMemory | Refusal::OtherLibrary => 0,
         }
     }
 
-    /// Where the refusal is; 0 where it has no place.
+    /// Where the refusal is, or where the form is left; 0 where there is no such place.
     pub fn span(&self) -> u64 {
         match self {
-            Refusal::Refused { span, .. } => *span,
-            Refusal::BadInput | Refusal::OutOfMemory | Refusal::OtherLibrary => 0,
+            Refusal::Refused { span, .. } | Refusal::BadInput { span, .. } => *span,
+            Refusal::OutOfMemory | Refusal::OtherLibrary => 0,
         }
     }
 
@@ -52,10 +68,19 @@ impl Refusal {
     pub fn words(&self) -> &'static str {
         match self {
             Refusal::Refused { number, .. } => words(number),
-            Refusal::BadInput => "bad input",
+            Refusal::BadInput { .. } => "bad input",
             Refusal::OutOfMemory => "out of memory",
             Refusal::OtherLibrary => OTHER_LIBRARY,
         }
+    }
+}
+
+/// Where an input is bad, behind these words.
+fn place(span: &u64, line: &usize, column: &usize) -> String {
+    match (span, line) {
+        (0, 0) => String::new(),
+        (_, 0) => format!(" at {span}"),
+        _ => format!(" at line {line} column {column}"),
     }
 }
 

@@ -45,7 +45,11 @@ fn row(value: &Value) -> Row {
                 number: number("number") as u8,
                 span: number("span"),
             }),
-            _ => Err(Refusal::BadInput),
+            _ => Err(Refusal::BadInput {
+                span: number("span"),
+                line: number("line") as usize,
+                column: number("column") as usize,
+            }),
         },
     }
 }
@@ -81,7 +85,14 @@ fn documents_without_information_are_their_items() {
     for row in rows() {
         if row.kind == Some(Kind::Items) && !row.input.ends_with(&DEEPEST) {
             let input = document_around(&row.input);
-            assert_eq!(write_document_json(&input, row.options), row.wanted);
+            let written = write_document_json(&input, row.options);
+            match row.wanted {
+                // What is no JSON ends elsewhere, or not at all.
+                Err(Refusal::BadInput { line: 1.., .. }) => {
+                    assert!(matches!(written, Err(Refusal::BadInput { .. })));
+                }
+                wanted => assert_eq!(written, wanted),
+            }
         }
     }
 }
@@ -98,7 +109,7 @@ fn types_go_between_threads() {
     is_sent::<Element>();
     is_sent::<Options>();
     is_sent::<Refusal>();
-    let _error: Box<dyn std::error::Error + Send + Sync> = Refusal::BadInput.into();
+    let _error: Box<dyn std::error::Error + Send + Sync> = Refusal::BAD_INPUT.into();
 }
 
 #[test]
@@ -191,7 +202,10 @@ fn refusals_have_numbers_spans_and_words() {
     );
     let message = "a character is not valid in an attribute name (refusal 7 at 2)";
     assert_eq!(refusal.to_string(), message);
-    assert_eq!(Refusal::BadInput.to_string(), "bad input");
+    assert_eq!(Refusal::BAD_INPUT.to_string(), "bad input");
+    let told = |json| write_json(Kind::Items, json, false).unwrap_err().to_string();
+    assert_eq!(told(br#"[["space"],["text",1]]"#), "bad input at 2");
+    assert_eq!(told(b"[\n{}"), "bad input at line 2 column 2");
 }
 
 /// So many elements in one another, the inmost without a body.
@@ -207,13 +221,14 @@ fn items_of_any_depth_are_refused_or_written() {
         assert!(write_tree(&nested(63), false).is_ok());
         for count in [64, 65, 2_000, 100_000] {
             let root = nested(count);
-            assert_eq!(write_tree(&root, false), Err(Refusal::BadInput));
+            let refusal = write_tree(&root, false).unwrap_err();
+            assert_eq!(refusal.words(), "bad input");
             let document = Document::new().item(root);
             let options = Options {
                 limit: 10_000,
                 ..Options::default()
             };
-            assert_eq!(write(&document, options), Err(Refusal::BadInput));
+            assert_eq!(write(&document, options).unwrap_err().words(), "bad input");
         }
         for around in [Item::Block, Item::Box] {
             let block = (0..100_000).fold(Item::Hole, |inner, _| around(vec![inner]));
@@ -227,7 +242,7 @@ fn items_of_any_depth_are_refused_or_written() {
 #[test]
 fn a_tree_with_a_block_is_bad_input() {
     let tree = Element::new("p").child(Item::Block(vec![]));
-    assert_eq!(write_tree(&tree, true), Err(Refusal::BadInput));
+    assert_eq!(write_tree(&tree, true).unwrap_err().span(), 2);
 }
 
 #[test]
@@ -277,9 +292,9 @@ fn pages_that_are_not_read_are_told() {
     };
     assert_eq!(check(page, 1), Err(deep));
     for limit in [0, 10_001] {
-        assert_eq!(check(page, limit), Err(Refusal::BadInput));
+        assert_eq!(check(page, limit), Err(Refusal::BAD_INPUT));
     }
-    assert_eq!(check("<p>", 50), Err(Refusal::BadInput));
+    assert_eq!(check("<p>", 50), Err(Refusal::BAD_INPUT));
 }
 
 /// Each dead link has a path as long as it is deep, so the first buffer is too short.

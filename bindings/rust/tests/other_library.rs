@@ -10,6 +10,8 @@ use typst_html_proved::*;
 pub struct Reply {
     length: usize,
     span: u64,
+    line: usize,
+    column: usize,
     status: u8,
     number: u8,
 }
@@ -25,6 +27,8 @@ fn reply(status: u8) -> Reply {
     Reply {
         length: 7,
         span: 0,
+        line: 0,
+        column: 0,
         status,
         number: 0,
     }

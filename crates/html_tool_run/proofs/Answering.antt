@@ -1,21 +1,26 @@
 -- What a text or a fault answers.
-use Rattle.std.proofs.Common.{◌≡◌, List, [], ◌++◌, ℕ, Option, Some, None, Result, Ok, Err, string_bytes, String, refl, sym, ap, ◌∙◌}
+use Rattle.std.proofs.Common.{◌≡◌, List, [], ◌++◌, ℕ, Option, Some, Result, Ok, Err, string_bytes, String, refl, sym, ap, ◌∙◌}
 use Rattle.std.specs.declared.alloc.Global.{Global}
 use Rattle.std.proofs.lemmas.Str.{encodes-chars, IsUtf8-string_bytes}
 use lib.Utf8.{encodes}
+use Rattle.serde_json.specs.Data.{Data}
 use Rattle.html_dom_tree.specs.Views.{text_view}
-use Rattle.html_tool_run.specs.Answers.{first_refusal_or_text, answer_if}
-use Rattle.html_tool_run.specs.Replies.{GivesAnswer, Says}
+use Rattle.html_tool_run.specs.Answers.{Answer, TextPlace, in_text, bad_input, first_refusal_or_text, answer_if, answer_to}
+use Rattle.html_tool_run.specs.LeftForms.{Left, IsLeft, IsInText}
+use Rattle.html_tool_run.specs.Reading.{IsNoJson}
+use Rattle.html_tool_run.specs.Replies.{GivesAnswer, GivesAnswerAt, Says}
 use Rattle.html_tool_run.specs.NameRefusals.{Refusal}
 use Rattle.html_tool_run.specs.Refusals.{Gives, IsFirst}
 use Rattle.html_tool_run.specs.Spelling.{IsTold}
 use Rattle.html_tool_run.specs.declared.fault.Fault.{Fault}
 use Rattle.html_tool_run.specs.declared.fault.Fault.TheVariants.{OutOfMemory, BadInput, Refused}
+use Rattle.html_tool_run.specs.declared.fault.Place.{Place}
+use Rattle.html_tool_run.specs.declared.fault.Place.TheVariants.{Unknown, Text, Form}
 
 first_said : (refusals : List Refusal) (text : List ℕ) (f : Fault) → IsFirst f refusals
     → Says (first_refusal_or_text refusals text) f
 first_said refusals text OutOfMemory h = tt
-first_said refusals text BadInput h = absurd h
+first_said refusals text (BadInput place) h = absurd h
 first_said refusals text (Refused number span) h = rw h.1 refl
 
 -- the text or its first refusal is answered where no name is refused
@@ -29,10 +34,36 @@ text_said names others text (Ok s) named given =
 text_said names others text (Err f) named given = rw named (first_said others text f given.fault)
 
 -- and else what is wrong with the spelling
+left_said : {A : Type 0} (answer : A → Answer) (wanted : Left A) (place : Place)
+    → IsLeft wanted place → answer_to answer wanted ≡ bad_input place
+left_said answer wanted Unknown h = absurd h
+left_said answer wanted (Text line column) h = absurd h
+left_said answer wanted (Form n) h = rw h refl
+
 pub name_said : {A : Type 0} (names others : A → List Refusal) (text : A → List ℕ)
-    (wanted : Option A) (f : Fault) → IsTold names wanted f
-    → Says (answer_if (λ a. first_refusal_or_text (names a ++ others a) (text a)) wanted) f
+    (wanted : Left A) (f : Fault) → IsTold names wanted f
+    → Says (answer_to (λ a. first_refusal_or_text (names a ++ others a) (text a)) wanted) f
 name_said names others text wanted OutOfMemory h = tt
-name_said names others text wanted BadInput h = rw h refl
-name_said names others text None (Refused number span) h = absurd h
-name_said names others text (Some a) (Refused number span) h = rw h.1 refl
+name_said names others text wanted (BadInput place) h = left_said _ wanted place h
+name_said names others text (Err n) (Refused number span) h = absurd h
+name_said names others text (Ok a) (Refused number span) h = rw h.1 refl
+
+-- and where the input is no JSON
+text_place : (place : Place) → IsInText place → (at : TextPlace) × (in_text at ≡ place)
+text_place Unknown h = absurd h
+text_place (Text line column) h = ((line, column), refl)
+text_place (Form n) h = absurd h
+
+pub no_json_said : (answer : Data → Answer) (wanted : Option Data) (f : Fault)
+    → IsNoJson wanted f → (at : TextPlace) × Says (answer_if (in_text at) answer wanted) f
+no_json_said answer wanted OutOfMemory h = ((0, 0), tt)
+no_json_said answer wanted (BadInput place) h =
+    let told = text_place place h.0 in
+    (told.0, rw h.1 (ap bad_input told.1))
+no_json_said answer wanted (Refused number span) h = absurd h
+
+-- the answer to the value of an input is that to the input
+pub json_said : (answer : Data → Answer) (wanted : Option Data) (d : Data)
+    (r : Result (String Global) Fault) → wanted ≡ Some d → GivesAnswer r (answer d)
+    → GivesAnswerAt r (λ at. answer_if (in_text at) answer wanted)
+json_said answer wanted d r is given = ((0, 0), rw is given)

@@ -1,5 +1,5 @@
 -- The forms of a value, by the length of its list.
-use Rattle.std.proofs.Common.{◌≡◌, ◌≢◌, ℕ, ◌+◌, ◌≤◌, List, [], ◌∷◌, length, get_or, drop, Some, None, refl, arith}
+use Rattle.std.proofs.Common.{◌≡◌, ◌≢◌, ℕ, ◌≤◌, List, [], ◌∷◌, length, get_or, drop, Some, None, Err, refl, arith}
 use Rattle.serde_json.specs.declared.value.Value.{Value}
 use Rattle.serde_json.specs.View.{view, items_view}
 use Rattle.html_tool_run.specs.Fields.{text_at, pairs_at, pair_form, text_form, no_fields, start_form, end_form, element_from}
@@ -38,7 +38,7 @@ pair_form-other (v ∷ w ∷ []) h = absurd (h refl)
 pair_form-other vs h = refl
 
 pub element_form-other : (vs : List Value) (n : ℕ) → length vs ≢ 4
-    → element_form (items_view (drop 1 vs)) n ≡ None
+    → element_form (items_view (drop 1 vs)) n ≡ Err n
 element_form-other (u ∷ v ∷ w ∷ x ∷ []) n h = absurd (h refl)
 element_form-other vs n h = refl
 
@@ -46,8 +46,7 @@ element_form-other vs n h = refl
 pub element_form-four : (vs : List Value) (a b d : Value) (n : ℕ) → length vs ≡ 4
     → a ≡ get_or vs 1 a → b ≡ get_or vs 2 b → d ≡ get_or vs 3 d
     → element_form (items_view (drop 1 vs)) n
-    ≡ element_from (element_made n) (text_at (view a)) (pairs_at (view b))
-    (list_at (view d) (n + 1))
+    ≡ element_from (element_made n) n (text_at (view a)) (pairs_at (view b)) (list_at (view d) n)
 element_form-four (u ∷ v ∷ w ∷ x ∷ []) a b d n h p q r = rw (p, q, r) refl
 element_form-four vs a b d n h p q r = absurd (omega (arith, h))
 

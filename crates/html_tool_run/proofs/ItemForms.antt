@@ -1,5 +1,5 @@
 -- The forms of an item, by the length of its list.
-use Rattle.std.proofs.Common.{◌≡◌, ◌≢◌, ℕ, ◌+◌, List, [], ◌∷◌, length, get_or, drop, Some, None, refl, rules, arith, String, Vec}
+use Rattle.std.proofs.Common.{◌≡◌, ◌≢◌, ℕ, List, [], ◌∷◌, length, get_or, drop, Some, Err, refl, rules, arith, String, Vec}
 use Rattle.std.specs.declared.alloc.Global.{Global}
 use Rattle.serde_json.specs.declared.value.Value.{Value}
 use Rattle.serde_json.specs.View.{view, items_view}
@@ -19,7 +19,7 @@ use Rattle.html_tool_run.specs.Fields.{text_at, pairs_at, element_from}
 use Rattle.html_tool_run.specs.SpelledItems.{element_made, element_form, body_form, list_at}
 
 pub element_form-other : (vs : List Value) (n : ℕ) → length vs ≢ 4
-    → element_form (items_view (drop 1 vs)) n ≡ None
+    → element_form (items_view (drop 1 vs)) n ≡ Err n
 element_form-other (u ∷ v ∷ w ∷ x ∷ []) n h = absurd (h refl)
 element_form-other vs n h = refl
 
@@ -27,8 +27,7 @@ element_form-other vs n h = refl
 pub element_form-four : (vs : List Value) (a b d : Value) (n : ℕ) → length vs ≡ 4
     → a ≡ get_or vs 1 a → b ≡ get_or vs 2 b → d ≡ get_or vs 3 d
     → element_form (items_view (drop 1 vs)) n
-    ≡ element_from (element_made n) (text_at (view a)) (pairs_at (view b))
-    (list_at (view d) (n + 1))
+    ≡ element_from (element_made n) n (text_at (view a)) (pairs_at (view b)) (list_at (view d) n)
 element_form-four (u ∷ v ∷ w ∷ x ∷ []) a b d n h p q r = rw (p, q, r) refl
 element_form-four vs a b d n h p q r = absurd (omega (arith, h))
 
@@ -39,7 +38,7 @@ body_form-two (v ∷ w ∷ []) d n h p = rw p refl
 body_form-two vs d n h p = absurd (omega (arith, h))
 
 pub body_form-other : (vs : List Value) (n : ℕ) → length vs ≢ 2
-    → body_form (items_view (drop 1 vs)) n ≡ None
+    → body_form (items_view (drop 1 vs)) n ≡ Err n
 body_form-other (v ∷ w ∷ []) n h = absurd (h refl)
 body_form-other vs n h = refl
 

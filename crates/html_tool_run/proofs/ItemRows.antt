@@ -1,5 +1,6 @@
 -- Items in a row, each with the role of its list, and the items at the root.
-use Rattle.std.proofs.Common.{◌≡◌, ℕ, List, [], ◌∷◌, ◌++◌, Option, Some, None, IsSomeAnd, option_map, refl, ap}
+use Rattle.std.proofs.Common.{◌≡◌, ℕ, List, [], ◌∷◌, ◌++◌, Some, None, Ok, Err, refl, ap}
+use Rattle.std.specs.Prelude.{IsOkAnd}
 use Rattle.serde_json.specs.Data.{Data}
 use Rattle.html_dom_tree.specs.declared.span.Span.{Span}
 use Rattle.html_flow_convert.specs.Items as flow
@@ -8,6 +9,7 @@ use Rattle.html_flow_convert.specs.Views.{items_of}
 use Rattle.html_tool_run.proofs.Readings.{IsOwnFirst, refused_whole}
 use Rattle.html_tool_run.proofs.Rows.{Row, joined}
 use Rattle.html_tool_run.specs.Fields.{row_from}
+use Rattle.html_tool_run.specs.LeftForms.{Left, mapped}
 use Rattle.html_tool_run.specs.NameRefusals.{item_refusals, items_refusals}
 use Rattle.html_tool_run.specs.Reading.{IsRead}
 use Rattle.html_tool_run.specs.Refusals.{IsFirst}
@@ -24,8 +26,8 @@ inner i = (i, flow.inherits)
 abbrev pub with_part : Part → ItemsView → ItemsView
 with_part p items = flow.item p.0 p.1 items
 
-abbrev pub part_spelled : Data → ℕ → Option (Part × ℕ)
-part_spelled d n = option_map (λ p. (inner p.0, p.1)) (spelled_item d n)
+abbrev pub part_spelled : Data → ℕ → Left (Part × ℕ)
+part_spelled d n = mapped (λ p. (inner p.0, p.1)) (spelled_item d n)
 
 pub none_clean : items_refusals flow.no_items ≡ []
 unfolding items_refusals
@@ -36,11 +38,11 @@ pub one_more : (p : Part) (items : ItemsView)
 unfolding items_refusals
 one_more p items = refl
 
-pub parts_step : (first : Option (ItemView × ℕ)) (rest : ℕ → Option (ItemsView × ℕ))
+pub parts_step : (first : Left (ItemView × ℕ)) (rest : ℕ → Left (ItemsView × ℕ))
     → row_from with_item first rest
-    ≡ row_from with_part (option_map (λ p. (inner p.0, p.1)) first) rest
-parts_step None rest = refl
-parts_step (Some p) rest = refl
+    ≡ row_from with_part (mapped (λ p. (inner p.0, p.1)) first) rest
+parts_step (Err n) rest = refl
+parts_step (Ok p) rest = refl
 
 abbrev pub items_row : Row Part ItemsView
 items_row = record {
@@ -75,9 +77,9 @@ unfolding item_refusals
 box_same span items = refl
 
 pub told_items : (d : Data) (made : ItemsView) (before after : Reader) (code : ℕ) (span : Span)
-    → before.next ≡ 1 → before.refused ≡ None → after.refused ≡ Some (code, span)
-    → IsRead items_refusals made (list_at d before.next) before after
-    → IsSomeAnd (spelled_items d) (λ items. IsFirst (Refused code span) (items_refusals items))
+    → before.lists ≡ 0 → before.refused ≡ None → after.refused ≡ Some (code, span)
+    → IsRead items_refusals made (list_at d before.lists) before after
+    → IsOkAnd (spelled_items d) (λ items. IsFirst (Refused code span) (items_refusals items))
 told_items d made before after code span first clear is r =
     rw (← first, r.spelled)
-    (refused_whole items_refusals made (list_at d before.next) before after code span clear is r)
+    (refused_whole items_refusals made (list_at d before.lists) before after code span clear is r)

@@ -6,64 +6,64 @@ use Rattle.serde_json.specs.Data.{Items}
 use Rattle.serde_json.specs.View.{view, items_view}
 use Rattle.serde_json.specs.Find.{as_str}
 use Rattle.html_tool_run.specs.FormKinds.{named_kind, list_kind, node_of_kind, item_of_kind}
+use Rattle.html_tool_run.specs.LeftForms.{Left, from_part}
 use Rattle.html_tool_run.specs.Spelled as tree
 use Rattle.html_tool_run.specs.SpelledItems as flow
 use Rattle.html_tool_run.specs.SpelledItems.{leaf_form}
 
-and_then-if : {A B : Type 0} (f : A → Option B) (b : Bool) (x y : Option A)
-    → option_and_then f (if b then x else y)
-    ≡ (if b then option_and_then f x else option_and_then f y)
-and_then-if f true x y = refl
-and_then-if f false x y = refl
+from_part-if : {A B : Type 0} (n : ℕ) (f : A → Left B) (b : Bool) (x y : Option A)
+    → from_part n f (if b then x else y) ≡ (if b then from_part n f x else from_part n f y)
+from_part-if n f true x y = refl
+from_part-if n f false x y = refl
 
 if-same : {A : Type 0} (b : Bool) (x : A) → (if b then x else x) ≡ x
 if-same true x = refl
 if-same false x = refl
 
 item_kinds : (k : List ℕ) (fields : Items) (n : ℕ) → flow.kind_form k fields n
-    ≡ option_and_then (λ kind. item_of_kind kind fields n) (named_kind k)
+    ≡ from_part n (λ kind. item_of_kind kind fields n) (named_kind k)
 unfolding named_kind leaf_form
 item_kinds k fields n = by (bytes_eq k (codes "text")) refl
   where
     by : (b : Bool) → bytes_eq k (codes "text") ≡ b → flow.kind_form k fields n
-        ≡ option_and_then (λ kind. item_of_kind kind fields n) (named_kind k)
+        ≡ from_part n (λ kind. item_of_kind kind fields n) (named_kind k)
     by true p = rw ((bytes_eq-Decides k (codes "text")).0 p) refl
-    by false p = rw p (simp and_then-if refl)
+    by false p = rw p (simp from_part-if refl)
 
 node_kinds : (k : List ℕ) (fields : Items) (n : ℕ) → tree.kind_form k fields n
-    ≡ option_and_then (λ kind. node_of_kind kind fields n) (named_kind k)
+    ≡ from_part n (λ kind. node_of_kind kind fields n) (named_kind k)
 unfolding named_kind
 node_kinds k fields n = by (bytes_eq k (codes "block")) refl (bytes_eq k (codes "box")) refl
   where
     by : (a : Bool) → bytes_eq k (codes "block") ≡ a → (b : Bool) → bytes_eq k (codes "box") ≡ b
         → tree.kind_form k fields n
-        ≡ option_and_then (λ kind. node_of_kind kind fields n) (named_kind k)
+        ≡ from_part n (λ kind. node_of_kind kind fields n) (named_kind k)
     by true p b q = rw ((bytes_eq-Decides k (codes "block")).0 p) refl
     by false p true q = rw ((bytes_eq-Decides k (codes "box")).0 q) refl
-    by false p false q = rw (p, q) (simp (and_then-if, if-same) refl)
+    by false p false q = rw (p, q) (simp (from_part-if, if-same) refl)
 
 -- the item of a list, by its kind
 pub item_form-kind : (vs : List Value) (n : ℕ) → flow.item_form (items_view vs) n
-    ≡ option_and_then (λ kind. item_of_kind kind (items_view (drop 1 vs)) n)
+    ≡ from_part n (λ kind. item_of_kind kind (items_view (drop 1 vs)) n)
     (list_kind (items_view vs))
 item_form-kind [] n = refl
 item_form-kind (v ∷ vs) n = by (as_str (view v))
   where
-    by : (o : Option (List ℕ)) → option_and_then (λ k. flow.kind_form k (items_view vs) n) o
-        ≡ option_and_then (λ kind. item_of_kind kind (items_view vs) n)
+    by : (o : Option (List ℕ)) → from_part n (λ k. flow.kind_form k (items_view vs) n) o
+        ≡ from_part n (λ kind. item_of_kind kind (items_view vs) n)
         (option_and_then named_kind o)
     by None = refl
     by (Some k) = item_kinds k (items_view vs) n
 
 -- the node of a list, by its kind
 pub form-kind : (vs : List Value) (n : ℕ) → tree.form (items_view vs) n
-    ≡ option_and_then (λ kind. node_of_kind kind (items_view (drop 1 vs)) n)
+    ≡ from_part n (λ kind. node_of_kind kind (items_view (drop 1 vs)) n)
     (list_kind (items_view vs))
 form-kind [] n = refl
 form-kind (v ∷ vs) n = by (as_str (view v))
   where
-    by : (o : Option (List ℕ)) → option_and_then (λ k. tree.kind_form k (items_view vs) n) o
-        ≡ option_and_then (λ kind. node_of_kind kind (items_view vs) n)
+    by : (o : Option (List ℕ)) → from_part n (λ k. tree.kind_form k (items_view vs) n) o
+        ≡ from_part n (λ kind. node_of_kind kind (items_view vs) n)
         (option_and_then named_kind o)
     by None = refl
     by (Some k) = node_kinds k (items_view vs) n

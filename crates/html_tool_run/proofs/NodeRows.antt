@@ -1,15 +1,20 @@
 -- Nodes in a row, and the element at the root.
-use Rattle.std.proofs.Common.{◌≡◌, ℕ, List, [], ◌∷◌, ◌++◌, Some, None, IsSomeAnd, refl, ap}
+use Rattle.std.proofs.Common.{◌≡◌, ℕ, List, [], ◌∷◌, ◌++◌, Some, None, Result, Ok, Err, Vec, refl, ap}
+use Rattle.std.specs.declared.alloc.Global.{Global}
+use Rattle.std.specs.Prelude.{IsOkAnd}
 use Rattle.serde_json.specs.Data.{Data}
-use Rattle.html_dom_tree.specs.Tree.{NodeView, tag_node, text_node, element_node, frame_node, NodesView, none, node}
-use Rattle.html_dom_tree.specs.Views.{nodes_of}
+use Rattle.html_dom_tree.specs.Tree.{NodeView, element_node, NodesView, none, node}
+use Rattle.html_dom_tree.specs.Views.{node_view, nodes_of}
+use Rattle.html_dom_tree.specs.declared.node.HtmlNode.{HtmlNode}
 use Rattle.html_dom_tree.specs.declared.span.Span.{Span}
-use Rattle.html_tool_run.proofs.Readings.{IsOwnFirst, refused_whole}
+use Rattle.html_tool_run.proofs.Readings.{IsOwnFirst, read_from, refused_whole}
 use Rattle.html_tool_run.proofs.Rows.{Row, joined}
+use Rattle.html_tool_run.specs.LeftForms.{Left}
 use Rattle.html_tool_run.specs.NameRefusals.{name_refusals, all_name_refusals, element_refusals}
-use Rattle.html_tool_run.specs.Reading.{IsRead}
+use Rattle.html_tool_run.specs.Reading.{IsRead, AddsNode}
 use Rattle.html_tool_run.specs.Refusals.{IsFirst}
 use Rattle.html_tool_run.specs.Spelled.{element_made, spelled_node, spelled_all, element_of, spelled_element}
+use Rattle.html_tool_run.specs.declared.fault.Fault.{Fault}
 use Rattle.html_tool_run.specs.declared.fault.Fault.TheVariants.{Refused}
 use Rattle.html_tool_run.specs.declared.reader.Reader.{Reader}
 
@@ -47,16 +52,29 @@ own_first span tag pairs kids = refl
 -- what is refused in a node is refused in an element
 told_node : (w : NodeView) (n code : ℕ) (span : Span)
     → IsFirst (Refused code span) (name_refusals w)
-    → IsSomeAnd (element_of (w, n)) (λ e. IsFirst (Refused code span) (element_refusals e))
+    → IsOkAnd (element_of (w, n)) (λ e. IsFirst (Refused code span) (element_refusals e))
 unfolding name_refusals
 told_node (element_node head kids) n code span h = h
 told_node x n code span h = absurd (cc (h.1))
 
 pub told_element : (d : Data) (made : NodeView) (before after : Reader) (code : ℕ) (span : Span)
-    → before.next ≡ 1 → before.refused ≡ None → after.refused ≡ Some (code, span)
-    → IsRead name_refusals made (spelled_node d before.next) before after
-    → IsSomeAnd (spelled_element d) (λ e. IsFirst (Refused code span) (element_refusals e))
+    → before.lists ≡ 0 → before.refused ≡ None → after.refused ≡ Some (code, span)
+    → IsRead name_refusals made (spelled_node d before.lists) before after
+    → IsOkAnd (spelled_element d) (λ e. IsFirst (Refused code span) (element_refusals e))
 told_element d made before after code span first clear is r =
     rw (← first, r.spelled)
-    (told_node r.whole after.next code span
-    (refused_whole name_refusals made (spelled_node d before.next) before after code span clear is r))
+    (told_node r.whole after.lists code span
+    (refused_whole name_refusals made (spelled_node d before.lists) before after code span clear is r))
+
+-- a node of a list that was just opened
+pub added_from : (r : Result (Unit {0}) Fault) (wanted : Left (NodeView × ℕ))
+    (old new : Vec HtmlNode Global) (before since after : Reader) → since.refused ≡ before.refused
+    → AddsNode r wanted old new since after → AddsNode r wanted old new before after
+added_from (Ok done) wanted old new before since after kept h = record {
+  made = h.made;
+  added = h.added;
+  count = h.count;
+  room = h.room;
+  read = read_from name_refusals (node_view h.made) wanted before since after kept h.read;
+}
+added_from (Err e) wanted old new before since after kept h = h

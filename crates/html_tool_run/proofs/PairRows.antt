@@ -5,11 +5,11 @@ use Rattle.html_dom_tree.specs.Tree.{TextPair}
 use Rattle.html_tool_run.proofs.Rows.{Row, joined}
 use Rattle.html_tool_run.specs.Fields.{pair_at, pairs_of, row_from}
 use Rattle.html_tool_run.specs.NameRefusals.{refusals, pairs_refusals}
-use Rattle.html_tool_run.specs.Reading.{with_next}
+use Rattle.html_tool_run.specs.Reading.{with_lists}
 
 pub pairs_step : (n : ℕ) (pair : Option TextPair) (pairs : Option (List TextPair))
-    → with_next n (option_and_then (λ p. option_map (λ ps. p ∷ ps) pairs) pair)
-    ≡ row_from (λ p ps. p ∷ ps) (with_next n pair) (λ m. with_next m pairs)
+    → with_lists n (option_and_then (λ p. option_map (λ ps. p ∷ ps) pairs) pair)
+    ≡ row_from (λ p ps. p ∷ ps) (with_lists n pair) (λ m. with_lists m pairs)
 pairs_step n None pairs = refl
 pairs_step n (Some p) None = refl
 pairs_step n (Some p) (Some ps) = refl
@@ -18,8 +18,8 @@ abbrev pub pairs_row : (span : ℕ) → Row TextPair (List TextPair)
 pairs_row span = record {
   add = λ p ps. p ∷ ps;
   nothing = [];
-  one = λ d n. with_next n (pair_at d);
-  all = λ ds n. with_next n (pairs_of ds);
+  one = λ d n. with_lists n (pair_at d);
+  all = λ ds n. with_lists n (pairs_of ds);
   ones = λ p. refusals span (attr_fault p.0);
   alls = pairs_refusals span;
   ends = λ n. refl;

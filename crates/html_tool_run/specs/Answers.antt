@@ -1,5 +1,5 @@
 -- What a run answers, and what it does to its reader and its writer.
-use Rattle.std.specs.Prelude.{◌≡◌, ℕ, List, [], ◌∷◌, ◌++◌, map, Option, Some, None, IfSome, ◌⊎◌, codes, Bool}
+use Rattle.std.specs.Prelude.{◌≡◌, ℕ, List, [], ◌∷◌, ◌++◌, map, Option, Some, None, IfSome, ◌⊎◌, Ok, Err, codes, Bool}
 use Rattle.std.specs.Io.KnownBytes.{Appends, Keeps}
 use Rattle.std.specs.Fmt.{decimal}
 use lib.Utf8.{encodes}
@@ -17,11 +17,14 @@ use Rattle.typst_html_encode.specs.declared.options.HtmlOptions.{HtmlOptions}
 use Rattle.html_flow_convert.specs.Items.{ItemsView, no_items}
 use Rattle.typst_html_export.specs.Exported.{root_faults, export_faults, export_text}
 use Rattle.html_tool_run.specs.Json.{json_of}
+use Rattle.html_tool_run.specs.LeftForms.{Left}
 use Rattle.html_tool_run.specs.NameRefusals.{Refusal, element_refusals, items_refusals}
 use Rattle.html_tool_run.specs.Spelled.{spelled_element}
 use Rattle.html_tool_run.specs.SpelledItems.{spelled_items}
 use Rattle.html_tool_run.specs.Words.{wanted_task}
 use Rattle.html_tool_run.specs.Writing.{AppendsBeginning}
+use Rattle.html_tool_run.specs.declared.fault.Place.{Place}
+use Rattle.html_tool_run.specs.declared.fault.Place.TheVariants.{Unknown, Text, Form}
 use Rattle.html_tool_run.specs.declared.recorded.LastCall.{LastCall}
 use Rattle.html_tool_run.specs.declared.recorded.LastCall.TheVariants as last_call
 use Rattle.html_tool_run.specs.declared.status.Status.{Status}
@@ -40,8 +43,14 @@ pub record Answer : Type 0 where
   pub status : Status
   pub line : List ℕ
 
-abbrev pub bad_input : Answer
-bad_input = record { status = BadInput; line = codes "bad input\n" }
+abbrev pub bad_input_line : Place → List ℕ
+bad_input_line Unknown = codes "bad input\n"
+bad_input_line (Text line column) = codes "bad input at line "
+    ++ (decimal line ++ (codes " column " ++ (decimal column ++ codes "\n")))
+bad_input_line (Form n) = codes "bad input at " ++ (decimal n ++ codes "\n")
+
+abbrev pub bad_input : Place → Answer
+bad_input place = record { status = BadInput; line = bad_input_line place }
 
 -- the first of several spans, 0 if there is none
 abbrev pub first_span : List ℕ → ℕ
@@ -113,23 +122,37 @@ unfoldable pub doc_answer : (pretty : Bool) → ItemsView → Answer
 doc_answer pretty items =
     first_refusal_or_text (items_refusals items ++ doc_refusals pretty items) (doc_text pretty items)
 
--- the answer to something, or bad input where there is nothing
-abbrev pub answer_if : {A : Type 0} → (answer : A → Answer) → Option A → Answer
-answer_if answer None = bad_input
-answer_if answer (Some a) = answer a
+-- the answer to what is spelled, or bad input where the form is left
+abbrev pub answer_to : {A : Type 0} → (answer : A → Answer) → Left A → Answer
+answer_to answer (Ok a) = answer a
+answer_to answer (Err n) = bad_input (Form n)
 
 abbrev pub value_answer : Task → (pretty : Bool) → Data → Answer
-value_answer Tree pretty d = answer_if (tree_answer pretty) (spelled_element d)
-value_answer Doc pretty d = answer_if (doc_answer pretty) (spelled_items d)
+value_answer Tree pretty d = answer_to (tree_answer pretty) (spelled_element d)
+value_answer Doc pretty d = answer_to (doc_answer pretty) (spelled_items d)
 
-unfoldable pub input_answer : Task → (pretty : Bool) (input : List ℕ) → Answer
-input_answer task pretty input = answer_if (value_answer task pretty) (json_of input)
+-- the answer to something, or bad input at that place where there is nothing
+abbrev pub answer_if : {A : Type 0} → Place → (answer : A → Answer) → Option A → Answer
+answer_if place answer None = bad_input place
+answer_if place answer (Some a) = answer a
 
-abbrev pub task_answer : (input : List ℕ) → Task × Bool → Answer
-task_answer input wanted = input_answer wanted.0 wanted.1 input
+-- a place in a text: its line and its column. Where an input is no JSON is what `serde_json` tells, and
+-- no definition says: so an answer to an input is one for some place.
+abbrev pub TextPlace : Type 0
+TextPlace = ℕ × ℕ
 
-abbrev pub words_answer : (words : List (List ℕ)) (input : List ℕ) → Answer
-words_answer words input = answer_if (task_answer input) (wanted_task words)
+abbrev pub in_text : TextPlace → Place
+in_text at = Text at.0 at.1
+
+unfoldable pub input_answer : Task → (pretty : Bool) (input : List ℕ) → TextPlace → Answer
+input_answer task pretty input at =
+    answer_if (in_text at) (value_answer task pretty) (json_of input)
+
+abbrev pub task_answer : (input : List ℕ) → TextPlace → Task × Bool → Answer
+task_answer input at wanted = input_answer wanted.0 wanted.1 input at
+
+abbrev pub words_answer : (words : List (List ℕ)) (input : List ℕ) → TextPlace → Answer
+words_answer words input at = answer_if Unknown (task_answer input at) (wanted_task words)
 
 -- how a run ends that owes this answer: with the answer's status, and then all of its bytes were
 -- written and flushed; or with a failure, and then nothing was written, unless the last call on the
@@ -140,24 +163,23 @@ EndsAs answer status old new last =
     ⊎ ((status ≡ Failed) × (Keeps old new ⊎
     ((last ≡ last_call.Failed) × AppendsBeginning old new answer.line)))
 
--- the same of a writer that remembers nothing: with the answer's status, and then all of its bytes
--- were added; or with a failure, and then a beginning of them was, perhaps none
-abbrev pub AddsAnswer : Answer → Status → (old new : Option (List ℕ)) → Type 0
-AddsAnswer answer status old new =
-    ((status ≡ answer.status) × Appends old new answer.line)
-    ⊎ ((status ≡ Failed) × AppendsBeginning old new answer.line)
+-- so it ends for some end of the last call, where nothing tells how that ended
+abbrev pub RunsAs : Answer → Status → (old new : Option (List ℕ)) → Type 0
+RunsAs answer status old new = (last : LastCall) × EndsAs answer status old new last
 
 -- all that a reader has left, where that is known
 abbrev pub IsAll : (input : List ℕ) (remaining : Option (List ℕ)) → Type 0
 IsAll input remaining = IfSome remaining (λ bytes. input ≡ bytes)
 
--- the run ends as one that owes the answer to some input, which is all that the reader has
+-- the run ends as one that owes the answer to some input, which is all that the reader has, and for
+-- some place in it
 abbrev pub EndsOn : (words : List (List ℕ)) (remaining : Option (List ℕ)) → Status
     → (old new : Option (List ℕ)) → LastCall → Type 0
 EndsOn words remaining status old new last =
-    (input : List ℕ) × IsAll input remaining × EndsAs (words_answer words input) status old new last
+    (input : List ℕ) × IsAll input remaining
+    × ((at : TextPlace) × EndsAs (words_answer words input at) status old new last)
 
-abbrev pub AddsAnswerOn : (words : List (List ℕ)) (remaining : Option (List ℕ)) → Status
+abbrev pub RunsOn : (words : List (List ℕ)) (remaining : Option (List ℕ)) → Status
     → (old new : Option (List ℕ)) → Type 0
-AddsAnswerOn words remaining status old new = (input : List ℕ) × IsAll input remaining
-    × AddsAnswer (words_answer words input) status old new
+RunsOn words remaining status old new =
+    (last : LastCall) × EndsOn words remaining status old new last

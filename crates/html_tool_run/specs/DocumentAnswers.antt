@@ -3,7 +3,7 @@ use Rattle.std.specs.Prelude.{ℕ, List, ◌++◌, map, if◌then◌else◌}
 use Rattle.typst_html_encode.specs.FaultViews.{ExportFaultView}
 use Rattle.typst_html_encode.specs.FrameWriters.{no_frames}
 use Rattle.typst_html_export.specs.Exported.{export_faults, export_text, export_linked_faults, export_linked_text}
-use Rattle.html_tool_run.specs.Answers.{Answer, answer_if, fault_refusal, first_refusal_or_text, options_of}
+use Rattle.html_tool_run.specs.Answers.{Answer, TextPlace, in_text, answer_if, answer_to, fault_refusal, first_refusal_or_text, options_of}
 use Rattle.html_tool_run.specs.Json.{json_of}
 use Rattle.html_tool_run.specs.NameRefusals.{Refusal}
 use Rattle.html_tool_run.specs.SpelledDocuments.{Spelling, names_refusals, spelled_document}
@@ -29,6 +29,6 @@ unfoldable pub document_answer : Settings → Spelling → Answer
 document_answer w s =
     first_refusal_or_text (names_refusals s ++ document_refusals w s) (document_text w s)
 
-unfoldable pub document_input_answer : Settings → (input : List ℕ) → Answer
-document_input_answer w input =
-    answer_if (λ d. answer_if (document_answer w) (spelled_document d)) (json_of input)
+unfoldable pub document_input_answer : Settings → (input : List ℕ) → TextPlace → Answer
+document_input_answer w input at =
+    answer_if (in_text at) (λ d. answer_to (document_answer w) (spelled_document d)) (json_of input)

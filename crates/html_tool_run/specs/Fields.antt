@@ -1,9 +1,10 @@
 -- The parts of what a JSON value spells, whether it spells a tree or items: texts, numbers and
 -- attributes, and the fields of texts and of tags.
-use Rattle.std.specs.Prelude.{ℕ, ◌+◌, List, [], ◌∷◌, chars, Option, Some, None, option_map, option_and_then}
+use Rattle.std.specs.Prelude.{ℕ, List, [], ◌∷◌, chars, Option, Some, None, option_map, option_and_then, Ok}
 use Rattle.serde_json.specs.Data.{Data, Items, no_items, item}
 use Rattle.serde_json.specs.Find.{as_str, as_array, as_number, as_u64}
 use Rattle.html_dom_tree.specs.Tree.{TextPair, TagView, starts, ends}
+use Rattle.html_tool_run.specs.LeftForms.{Left, mapped, and_then, from_part}
 
 -- a text's characters
 abbrev pub text_at : Data → Option (List ℕ)
@@ -52,19 +53,17 @@ abbrev pub no_fields : Items → Option (Unit {0})
 no_fields no_items = Some tt
 no_fields (item d ds) = None
 
--- what holds no other list that is numbered, and the number of the next list
-abbrev pub leaf : {A B : Type 0} → (made : A → B) → Option A → (n : ℕ) → Option (B × ℕ)
-leaf made fields n = option_map (λ a. (made a, n + 1)) fields
+-- what holds no other list that is numbered; its own is number n
+abbrev pub leaf : {A B : Type 0} → (made : A → B) → Option A → (n : ℕ) → Left (B × ℕ)
+leaf made fields n = from_part n (λ a. Ok (made a, n)) fields
 
--- an element, made of its tag, its attributes and what it holds
-abbrev pub element_from : {A B : Type 0} → (made : List ℕ → List TextPair → A → B)
-    → (tag : Option (List ℕ)) (pairs : Option (List TextPair)) (inside : Option (A × ℕ))
-    → Option (B × ℕ)
-element_from made tag pairs inside = option_and_then (λ t. option_and_then (λ ps.
-    option_map (λ c. (made t ps c.0, c.1)) inside) pairs) tag
+-- an element of number n, made of its tag, its attributes and what it holds
+abbrev pub element_from : {A B : Type 0} → (made : List ℕ → List TextPair → A → B) → (n : ℕ)
+    → (tag : Option (List ℕ)) (pairs : Option (List TextPair)) (inside : Left (A × ℕ)) → Left (B × ℕ)
+element_from made n tag pairs inside = from_part n (λ t. from_part n (λ ps.
+    mapped (λ c. (made t ps c.0, c.1)) inside) pairs) tag
 
 -- the first of a row, and then the rest
-abbrev pub row_from : {A B : Type 0} → (add : A → B → B) → (first : Option (A × ℕ))
-    → (rest : ℕ → Option (B × ℕ)) → Option (B × ℕ)
-row_from add first rest =
-    option_and_then (λ p. option_map (λ q. (add p.0 q.0, q.1)) (rest p.1)) first
+abbrev pub row_from : {A B : Type 0} → (add : A → B → B) → (first : Left (A × ℕ))
+    → (rest : ℕ → Left (B × ℕ)) → Left (B × ℕ)
+row_from add first rest = and_then (λ p. mapped (λ q. (add p.0 q.0, q.1)) (rest p.1)) first

@@ -1,10 +1,11 @@
 -- The kinds of the lists that spell nodes and items.
-use Rattle.std.specs.Prelude.{ℕ, List, codes, bytes_eq, Option, Some, None, option_and_then, if◌then◌else◌}
+use Rattle.std.specs.Prelude.{ℕ, List, codes, bytes_eq, Option, Some, None, option_and_then, Err, if◌then◌else◌}
 use Rattle.serde_json.specs.Data.{Items, no_items, item}
 use Rattle.serde_json.specs.Find.{as_str}
 use Rattle.html_dom_tree.specs.Tree.{NodeView, tag_node}
 use Rattle.html_flow_convert.specs.Items.{ItemView, tag_item, space_item, break_item, hole_item}
 use Rattle.html_tool_run.specs.Fields.{leaf, start_form, end_form}
+use Rattle.html_tool_run.specs.LeftForms.{Left}
 use Rattle.html_tool_run.specs.Spelled as tree
 use Rattle.html_tool_run.specs.SpelledItems as flow
 use Rattle.html_tool_run.specs.declared.kind.Kind.{Kind}
@@ -27,20 +28,20 @@ abbrev pub list_kind : Items → Option Kind
 list_kind no_items = None
 list_kind (item kind fields) = option_and_then named_kind (as_str kind)
 
--- the node of a list of that kind
-abbrev pub node_of_kind : Kind → Items → (n : ℕ) → Option (NodeView × ℕ)
+-- the node of the list of number n, which is of that kind
+abbrev pub node_of_kind : Kind → Items → (n : ℕ) → Left (NodeView × ℕ)
 node_of_kind Text fields n = tree.spelled_text fields n
 node_of_kind Element fields n = tree.element_form fields n
-node_of_kind Block fields n = None
-node_of_kind Box fields n = None
+node_of_kind Block fields n = Err n
+node_of_kind Box fields n = Err n
 node_of_kind Start fields n = leaf tag_node (start_form fields) n
 node_of_kind End fields n = leaf tag_node (end_form fields) n
-node_of_kind Space fields n = None
-node_of_kind Break fields n = None
-node_of_kind Hole fields n = None
+node_of_kind Space fields n = Err n
+node_of_kind Break fields n = Err n
+node_of_kind Hole fields n = Err n
 
--- the item of a list of that kind
-abbrev pub item_of_kind : Kind → Items → (n : ℕ) → Option (ItemView × ℕ)
+-- the item of the list of number n, which is of that kind
+abbrev pub item_of_kind : Kind → Items → (n : ℕ) → Left (ItemView × ℕ)
 item_of_kind Text fields n = flow.spelled_text fields n
 item_of_kind Element fields n = flow.element_form fields n
 item_of_kind Block fields n = flow.block_form fields n

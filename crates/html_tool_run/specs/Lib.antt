@@ -4,6 +4,7 @@ pub mod ExportRefusals
 pub mod Fields
 pub mod Json
 pub mod FormKinds
+pub mod LeftForms
 pub mod NameRefusals
 pub mod Reading
 pub mod Refusals

@@ -1,7 +1,10 @@
 -- How calls end that read a part of a JSON value: those before a name was refused make what the part
--- spells, and the others only see that it spells something.
-use Rattle.std.specs.Prelude.{◌≡◌, ◌≢◌, ℕ, ◌+◌, List, [], ◌∷◌, ◌++◌, Option, Some, None, option_map, Result, MatchResult, String, Vec, vec_len, vec_capacity}
+-- spells, and the others only see that it spells something, or where the form is left.
+use Rattle.std.specs.Prelude.{◌≡◌, ◌≢◌, ℕ, ◌+◌, List, [], ◌∷◌, ◌++◌, Option, Some, None, Result, Ok, MatchResult, String, Vec, vec_len, vec_capacity}
 use Rattle.std.specs.declared.alloc.Global.{Global}
+use Rattle.serde_json.specs.Data.{Data}
+use Rattle.serde_json.specs.View.{view}
+use Rattle.serde_json.specs.declared.value.Value.{Value}
 use Rattle.html_names.specs.Names.{attr_fault}
 use Rattle.html_names.specs.declared.fault.NameFault.{NameFault}
 use Rattle.html_names.specs.declared.html_attr.HtmlAttr.{HtmlAttr}
@@ -14,9 +17,11 @@ use Rattle.html_flow_convert.specs.Items.{ItemView, ItemsView}
 use Rattle.html_flow_convert.specs.Views.{item_view, items_view}
 use Rattle.html_flow_convert.specs.declared.item.Item.{Item}
 use Rattle.html_flow_convert.specs.declared.item.Pair.{Pair}
+use Rattle.html_tool_run.specs.LeftForms.{Left, IsLeft, IsInText, from_part}
 use Rattle.html_tool_run.specs.NameRefusals.{Refusal, refusals, pairs_refusals, name_refusals, all_name_refusals, item_refusals, items_refusals}
 use Rattle.html_tool_run.specs.declared.fault.Fault.{Fault}
 use Rattle.html_tool_run.specs.declared.fault.Fault.TheVariants.{OutOfMemory, BadInput, Refused}
+use Rattle.html_tool_run.specs.declared.fault.Place.TheVariants.{Form}
 use Rattle.html_tool_run.specs.declared.reader.Reader.{Reader}
 
 -- the first refusal, of what was refused before and then these
@@ -28,15 +33,30 @@ first_of None (r ∷ rs) = Some (r.0, record { 0 = r.1 })
 abbrev pub IsWant : Fault → Type 0
 IsWant fault = fault ≡ OutOfMemory
 
--- nothing is spelled; memory aside
-abbrev pub IsWrong : {A : Type 0} → Option A → Fault → Type 0
+-- the form is left there; memory aside
+abbrev pub IsWrong : {A : Type 0} → Left A → Fault → Type 0
 IsWrong wanted OutOfMemory = Unit {0}
-IsWrong wanted BadInput = wanted ≡ None
+IsWrong wanted (BadInput place) = IsLeft wanted place
 IsWrong wanted (Refused number span) = ⊥
 
--- a part without names
+-- there is no such part, and so the form is left before the first list; memory aside
+abbrev pub IsMissing : {A : Type 0} → Option A → Fault → Type 0
+IsMissing wanted OutOfMemory = Unit {0}
+IsMissing wanted (BadInput place) = (wanted ≡ None) × (place ≡ Form 0)
+IsMissing wanted (Refused number span) = ⊥
+
+-- a part without names, which stands before the first list
 abbrev pub ReadsField : {A B : Type 0} → (view : A → B) → Result A Fault → Option B → Type 0
-ReadsField view r wanted = MatchResult r (λ a. wanted ≡ Some (view a)) (IsWrong wanted)
+ReadsField view r wanted = MatchResult r (λ a. wanted ≡ Some (view a)) (IsMissing wanted)
+
+-- the JSON value of a text was read, or there is none, and a place in the text is told; memory aside
+abbrev pub IsNoJson : Option Data → Fault → Type 0
+IsNoJson wanted OutOfMemory = Unit {0}
+IsNoJson wanted (BadInput place) = IsInText place × (wanted ≡ None)
+IsNoJson wanted (Refused number span) = ⊥
+
+abbrev pub ReadsJson : Result Value Fault → Option Data → Type 0
+ReadsJson r wanted = MatchResult r (λ value. wanted ≡ Some (view value)) (IsNoJson wanted)
 
 -- the fault of a name was remembered
 abbrev pub Notes : (number : ℕ) → Span → Result (Unit {0}) Fault → (before after : Reader) → Type 0
@@ -44,25 +64,25 @@ Notes number span r before after = MatchResult r (λ _. (number ≢ 0) × (after
     ≡ record before { refused = first_of before.refused ((number, span.0) ∷ []) })) IsWant
 
 -- something is spelled, and its first refusal is remembered; it was made where nothing is refused
-pub record IsRead {B : Type 0} (refusals : B → List Refusal) (made : B) (wanted : Option (B × ℕ))
+pub record IsRead {B : Type 0} (refusals : B → List Refusal) (made : B) (wanted : Left (B × ℕ))
     (before after : Reader) : Type 0 where
   pub whole : B
-  pub spelled : wanted ≡ Some (whole, after.next)
+  pub spelled : wanted ≡ Ok (whole, after.lists)
   pub noted : after.refused ≡ first_of before.refused (refusals whole)
   pub same : after.refused ≡ None → made ≡ whole
 
--- a part was read, or it spells nothing
+-- a part was read, or the form is left in it
 abbrev pub Reads : {A B : Type 0} → (view : A → B) → (refusals : B → List Refusal)
-    → Result A Fault → Option (B × ℕ) → (before after : Reader) → Type 0
+    → Result A Fault → Left (B × ℕ) → (before after : Reader) → Type 0
 Reads view refusals r wanted before after =
     MatchResult r (λ a. IsRead refusals (view a) wanted before after) (IsWrong wanted)
 
-abbrev pub ReadsNode : Result HtmlNode Fault → Option (NodeView × ℕ) → (before after : Reader)
+abbrev pub ReadsNode : Result HtmlNode Fault → Left (NodeView × ℕ) → (before after : Reader)
     → Type 0
 ReadsNode = Reads node_view name_refusals
 
 -- a node was read and added to others, of which there may be as many as before
-pub record IsAdded (wanted : Option (NodeView × ℕ)) (old new : Vec HtmlNode Global)
+pub record IsAdded (wanted : Left (NodeView × ℕ)) (old new : Vec HtmlNode Global)
     (before after : Reader) : Type 0 where
   pub made : HtmlNode
   pub added : new.items ≡ old.items ++ made ∷ []
@@ -70,38 +90,38 @@ pub record IsAdded (wanted : Option (NodeView × ℕ)) (old new : Vec HtmlNode G
   pub room : vec_capacity new ≡ vec_capacity old
   pub read : IsRead name_refusals (node_view made) wanted before after
 
--- a part was read as a node that was added to others, or it spells none
-abbrev pub AddsNode : Result (Unit {0}) Fault → Option (NodeView × ℕ)
+-- a part was read as a node that was added to others, or the form is left in it
+abbrev pub AddsNode : Result (Unit {0}) Fault → Left (NodeView × ℕ)
     → (old new : Vec HtmlNode Global) → (before after : Reader) → Type 0
 AddsNode r wanted old new before after =
     MatchResult r (λ _. IsAdded wanted old new before after) (IsWrong wanted)
 
-abbrev pub ReadsNodes : Result (Vec HtmlNode Global) Fault → Option (NodesView × ℕ)
+abbrev pub ReadsNodes : Result (Vec HtmlNode Global) Fault → Left (NodesView × ℕ)
     → (before after : Reader) → Type 0
 ReadsNodes = Reads (λ nodes. nodes_view nodes.items) all_name_refusals
 
-abbrev pub ReadsItem : Result Item Fault → Option (ItemView × ℕ) → (before after : Reader) → Type 0
+abbrev pub ReadsItem : Result Item Fault → Left (ItemView × ℕ) → (before after : Reader) → Type 0
 ReadsItem = Reads item_view item_refusals
 
-abbrev pub ReadsItems : Result (Vec Pair Global) Fault → Option (ItemsView × ℕ)
+abbrev pub ReadsItems : Result (Vec Pair Global) Fault → Left (ItemsView × ℕ)
     → (before after : Reader) → Type 0
 ReadsItems = Reads (λ pairs. items_view pairs.items) items_refusals
 
--- what has no list that is numbered
-abbrev pub with_next : {A : Type 0} → (next : ℕ) → Option A → Option (A × ℕ)
-with_next next = option_map (λ a. (a, next))
+-- what has no list that is numbered, behind so many
+abbrev pub with_lists : {A : Type 0} → (lists : ℕ) → Option A → Left (A × ℕ)
+with_lists lists = from_part lists (λ a. Ok (a, lists))
 
 abbrev pub ReadsName : (fault : List ℕ → Option NameFault) → Span → Result (List ℕ) Fault
     → (text : List ℕ) → (before after : Reader) → Type 0
 ReadsName fault span r text before = Reads (λ name. name) (λ t. refusals span.0 (fault t)) r
-    (Some (text, before.next)) before
+    (Ok (text, before.lists)) before
 
 abbrev pub ReadsPair : Span → Result (HtmlAttr × String Global) Fault → Option TextPair
     → (before after : Reader) → Type 0
 ReadsPair span r wanted before = Reads pair_view (λ p. refusals span.0 (attr_fault p.0)) r
-    (with_next before.next wanted) before
+    (with_lists before.lists wanted) before
 
 abbrev pub ReadsPairs : Span → Result HtmlAttrs Fault → Option (List TextPair)
     → (before after : Reader) → Type 0
 ReadsPairs span r wanted before =
-    Reads attrs_view (pairs_refusals span.0) r (with_next before.next wanted) before
+    Reads attrs_view (pairs_refusals span.0) r (with_lists before.lists wanted) before

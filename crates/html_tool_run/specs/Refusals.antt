@@ -13,7 +13,7 @@ numbered_fault number span = if number == 0 then OutOfMemory else Refused number
 -- a fault is the first of the list, unless memory ran out
 abbrev pub IsFirst : Fault → List Refusal → Type 0
 IsFirst OutOfMemory rs = Unit {0}
-IsFirst BadInput rs = ⊥
+IsFirst (BadInput place) rs = ⊥
 IsFirst (Refused number span) rs = (rest : List Refusal) × (rs ≡ (number, span.0) ∷ rest)
 
 -- how a call that makes a value ends: with that value and no refusal, or with the first refusal;

@@ -1,7 +1,7 @@
 -- A text, or why there is none, and a reply as an answer.
 use Rattle.std.specs.Prelude.{◌≡◌, ℕ, List, Option, Result, MatchResult, String, string_bytes}
 use Rattle.std.specs.declared.alloc.Global.{Global}
-use Rattle.html_tool_run.specs.Answers.{Answer, IsAll, bad_input, refused_answer, words_answer}
+use Rattle.html_tool_run.specs.Answers.{Answer, TextPlace, IsAll, bad_input, refused_answer, words_answer}
 use Rattle.html_tool_run.specs.declared.program.Reply.{Reply}
 use Rattle.html_tool_run.specs.declared.fault.Fault.{Fault}
 use Rattle.html_tool_run.specs.declared.fault.Fault.TheVariants.{OutOfMemory, BadInput, Refused}
@@ -16,7 +16,7 @@ IsReply r a = reply_answer r ≡ a
 -- why there is no text is what the answer says, unless memory ran out
 abbrev pub Says : Answer → Fault → Type 0
 Says a OutOfMemory = Unit {0}
-Says a BadInput = a ≡ bad_input
+Says a (BadInput place) = a ≡ bad_input place
 Says a (Refused number span) = a ≡ refused_answer (number, span.0)
 
 -- a text is the whole answer, or why there is none is
@@ -24,8 +24,12 @@ abbrev pub GivesAnswer : Result (String Global) Fault → Answer → Type 0
 GivesAnswer r a =
     MatchResult r (λ text. a ≡ record { status = Done; line = string_bytes text }) (Says a)
 
--- so it is of the answer to some input, which is all that the reader has
+-- so it is of an answer for some place in the input
+abbrev pub GivesAnswerAt : Result (String Global) Fault → (TextPlace → Answer) → Type 0
+GivesAnswerAt r answer = (at : TextPlace) × GivesAnswer r (answer at)
+
+-- and of the answer to some input, which is all that the reader has
 abbrev pub GivesAnswerOn : (words : List (List ℕ)) (remaining : Option (List ℕ))
     → Result (String Global) Fault → Type 0
 GivesAnswerOn words remaining r =
-    (input : List ℕ) × IsAll input remaining × GivesAnswer r (words_answer words input)
+    (input : List ℕ) × IsAll input remaining × GivesAnswerAt r (words_answer words input)

@@ -3,13 +3,15 @@
 --      "items": [item, ..], "footnotes": [item, ..]}
 -- Each member may be left out; a region stands only beside a language. An object with another member
 -- spells nothing. Names of items are not judged here. The spans are the numbers of the lists of items,
--- from 1 on, those of the footnotes after those of the items.
+-- from 1 on, those of the footnotes after those of the items. Where the object is wrong, or there is
+-- none, the form is left before the first list.
 use Rattle.std.specs.Prelude.{ℕ, List, [], ◌∷◌, ◌++◌, codes, bytes_eq, Option, Some, None, option_map, option_and_then, if◌then◌else◌}
 use Rattle.serde_json.specs.Data.{Data, array, Items, no_items, item, Members, no_members, member}
 use Rattle.serde_json.specs.Find.{as_array, as_object}
 use Rattle.html_dom_document.specs.Documents.{InfoView, LocaleView, locale_of, no_info}
 use Rattle.html_flow_convert.specs.Items.{ItemsView}
 use Rattle.html_tool_run.specs.Fields.{text_at}
+use Rattle.html_tool_run.specs.LeftForms.{Left, mapped, and_then, from_part}
 use Rattle.html_tool_run.specs.NameRefusals.{Refusal, items_refusals}
 use Rattle.html_tool_run.specs.SpelledItems.{list_at}
 use Rattle.html_tool_run.specs.declared.field.Field.{Field}
@@ -79,9 +81,9 @@ abbrev pub told_at : Data → Option ToldView
 told_at d = option_and_then (with_members nothing_told) (as_object d)
 
 -- the items and the footnotes, whose lists are numbered on
-abbrev pub bodies_at : (items notes : Data) → Option (ItemsView × ItemsView)
-bodies_at items notes = option_and_then
-    (λ p. option_map (λ q. (p.0, q.0)) (list_at notes p.1)) (list_at items 1)
+abbrev pub bodies_at : (items notes : Data) → Left (ItemsView × ItemsView)
+bodies_at items notes =
+    and_then (λ p. mapped (λ q. (p.0, q.0)) (list_at notes p.1)) (list_at items 0)
 
 -- what is known, the items and the footnotes
 abbrev pub Spelling : Type 0
@@ -91,10 +93,9 @@ Spelling = InfoView × (ItemsView × ItemsView)
 abbrev pub names_refusals : Spelling → List Refusal
 names_refusals s = items_refusals s.1.0 ++ items_refusals s.1.1
 
-abbrev pub spelling_from : ToldView → Option Spelling
-spelling_from told =
-    option_map (λ bodies. (told.info, bodies)) (bodies_at told.items told.footnotes)
+abbrev pub spelling_from : ToldView → Left Spelling
+spelling_from told = mapped (λ bodies. (told.info, bodies)) (bodies_at told.items told.footnotes)
 
 -- the document that a value spells
-abbrev pub spelled_document : Data → Option Spelling
-spelled_document d = option_and_then spelling_from (told_at d)
+abbrev pub spelled_document : Data → Left Spelling
+spelled_document d = from_part 0 spelling_from (told_at d)

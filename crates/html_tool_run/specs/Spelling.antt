@@ -1,5 +1,5 @@
 -- How calls end that make something of what a JSON value spells.
-use Rattle.std.specs.Prelude.{◌≡◌, List, [], Option, Some, None, IsSomeAnd, Result, MatchResult, Vec}
+use Rattle.std.specs.Prelude.{◌≡◌, List, [], Result, Ok, IsOkAnd, MatchResult, Vec}
 use Rattle.std.specs.declared.alloc.Global.{Global}
 use Rattle.serde_json.specs.View.{view}
 use Rattle.html_dom_tree.specs.Tree.{ElementView}
@@ -9,6 +9,7 @@ use Rattle.html_dom_document.specs.Views.{info_view}
 use Rattle.html_flow_convert.specs.Items.{ItemsView}
 use Rattle.html_flow_convert.specs.Views.{items_view}
 use Rattle.html_flow_convert.specs.declared.item.Pair.{Pair}
+use Rattle.html_tool_run.specs.LeftForms.{Left, IsLeft}
 use Rattle.html_tool_run.specs.NameRefusals.{Refusal, element_refusals, items_refusals}
 use Rattle.html_tool_run.specs.Refusals.{IsFirst}
 use Rattle.html_tool_run.specs.SpelledDocuments.{Spelling, ToldView, names_refusals}
@@ -17,24 +18,24 @@ use Rattle.html_tool_run.specs.declared.documents.Told.{Told}
 use Rattle.html_tool_run.specs.declared.fault.Fault.{Fault}
 use Rattle.html_tool_run.specs.declared.fault.Fault.TheVariants.{OutOfMemory, BadInput, Refused}
 
--- nothing is spelled, or it is spelled and its first name that is none is told; memory aside
-abbrev pub IsTold : {B : Type 0} → (refusals : B → List Refusal) → Option B → Fault → Type 0
+-- the form is left, or something is spelled and its first name that is none is told; memory aside
+abbrev pub IsTold : {B : Type 0} → (refusals : B → List Refusal) → Left B → Fault → Type 0
 IsTold refusals wanted OutOfMemory = Unit {0}
-IsTold refusals wanted BadInput = wanted ≡ None
+IsTold refusals wanted (BadInput place) = IsLeft wanted place
 IsTold refusals wanted (Refused number span) =
-    IsSomeAnd wanted (λ b. IsFirst (Refused number span) (refusals b))
+    IsOkAnd wanted (λ b. IsFirst (Refused number span) (refusals b))
 
 -- what is spelled was made, and no name in it is refused, or the fault is right
 abbrev pub GivesSpelled : {A B : Type 0} → (view : A → B) → (refusals : B → List Refusal)
-    → Result A Fault → Option B → Type 0
+    → Result A Fault → Left B → Type 0
 GivesSpelled view refusals r wanted =
-    MatchResult r (λ a. (wanted ≡ Some (view a)) × (refusals (view a) ≡ []))
+    MatchResult r (λ a. (wanted ≡ Ok (view a)) × (refusals (view a) ≡ []))
     (IsTold refusals wanted)
 
-abbrev pub GivesElement : Result HtmlElement Fault → Option ElementView → Type 0
+abbrev pub GivesElement : Result HtmlElement Fault → Left ElementView → Type 0
 GivesElement = GivesSpelled element_view element_refusals
 
-abbrev pub GivesItems : Result (Vec Pair Global) Fault → Option ItemsView → Type 0
+abbrev pub GivesItems : Result (Vec Pair Global) Fault → Left ItemsView → Type 0
 GivesItems = GivesSpelled (λ pairs. items_view pairs.items) items_refusals
 
 abbrev pub told_view : Told → ToldView
@@ -47,5 +48,5 @@ told_view told = record {
 abbrev pub spelling_view : SpelledDocument → Spelling
 spelling_view d = (info_view d.info, (items_view d.items.items, items_view d.footnotes.items))
 
-abbrev pub GivesSpelledDocument : Result SpelledDocument Fault → Option Spelling → Type 0
+abbrev pub GivesSpelledDocument : Result SpelledDocument Fault → Left Spelling → Type 0
 GivesSpelledDocument = GivesSpelled spelling_view names_refusals

@@ -9,12 +9,6 @@ use Rattle.html_tool_run.specs.declared.recorded.WriteFailed.{WriteFailed}
 abbrev pub AppendsBeginning : (old new : Option (List ℕ)) → (bytes : List ℕ) → Type 0
 AppendsBeginning old new bytes = (n : ℕ) × Appends old new (take n bytes)
 
--- all of the bytes were written; or a write or the flush failed, after a beginning of the bytes
-abbrev pub AddsAll : Result (Unit {0}) WriteFailed → (bytes : List ℕ) →
-    (old new : Option (List ℕ)) → Type 0
-AddsAll r bytes old new =
-    MatchResult r (λ _. Appends old new bytes) (λ _. AppendsBeginning old new bytes)
-
 -- all of the bytes were written, and the last call was a flush that succeeded;
 -- or the last call failed, after a beginning of the bytes
 abbrev pub WritesAll : Result (Unit {0}) WriteFailed → (bytes : List ℕ) →

@@ -6,19 +6,19 @@ ghost use Rattle.html_dom_document.specs.Views.{info_view};
 ghost use Rattle.html_flow_convert.specs.Views.{items_view};
 ghost use Rattle.typst_html_encode.specs.FrameWriters.{no_frames};
 ghost use Rattle.html_dom_tree.specs.Views.{text_view};
-ghost use Rattle.html_tool_run.specs.Answers.{answer_if};
+ghost use Rattle.html_tool_run.specs.Answers.{answer_to};
 ghost use Rattle.html_tool_run.specs.DocumentAnswers.{document_answer, document_input_answer};
 ghost use Rattle.html_tool_run.specs.DocumentAnswers.{document_faults, document_refusals, document_text};
 ghost use Rattle.typst_html_export.specs.Assembles.{GivesDocument};
 ghost use Rattle.typst_html_export.specs.Exported.{export_linked_faults, export_linked_text};
 ghost use Rattle.html_tool_run.specs.Refusals.{Gives};
-ghost use Rattle.html_tool_run.specs.Replies.{GivesAnswer};
+ghost use Rattle.html_tool_run.specs.Replies.{GivesAnswer, GivesAnswerAt};
 ghost use Rattle.html_tool_run.specs.Reading.{ReadsField};
 ghost use Rattle.html_tool_run.specs.SpelledDocuments.{nothing_told, spelled_document, spelling_from};
 ghost use Rattle.html_tool_run.specs.SpelledDocuments.{told_at, with_known, with_member};
 ghost use Rattle.html_tool_run.specs.Spelling.{GivesSpelledDocument, spelling_view, told_view};
 
-use crate::fault::Fault;
+use crate::fault::{Fault, Place};
 use crate::field::{named_field, with_field};
 use crate::items::list_of;
 use crate::json::parse;
@@ -71,7 +71,7 @@ fn told_at(alloc: Global, value: Value) -> Result<Told, Fault>
     ensures { ReadsField told_view result (told_at (view value)) }
 {
     let Value::Object(members) = value else {
-        return Err(Fault::BadInput);
+        return Err(Fault::BadInput(Place::Form(0)));
     };
     let mut told = Told::new(alloc);
     for (name, value) in members {
@@ -101,7 +101,7 @@ fn with_member(alloc: Global, told: Told, name: &str, value: Value) -> Result<To
 fn with_known(alloc: Global, told: Told, name: &str, value: Value) -> Result<Told, Fault>
     ensures { ReadsField told_view result (with_known (told_view told) name.now (view value)) }
 {
-    let field = named_field(name).ok_or(Fault::BadInput)?;
+    let field = named_field(name).ok_or(Fault::BadInput(Place::Form(0)))?;
     let info = with_field(alloc, told.info, field, value)?;
     Ok(Told { info, ..told })
 }
@@ -215,7 +215,7 @@ fn spelled_text(alloc: Global, value: Value, settings: &Settings) -> Result<Stri
     requires some_limit { 1 ≤ settings.now.limit }
     requires low_limit { settings.now.limit ≤ 10000 }
     ensures { GivesAnswer result
-        (answer_if (document_answer settings.now) (spelled_document (view value))) }
+        (answer_to (document_answer settings.now) (spelled_document (view value))) }
 {
     let document = document_in(alloc, value)?;
     document_text(alloc, document, settings)
@@ -226,8 +226,9 @@ fn spelled_text(alloc: Global, value: Value, settings: &Settings) -> Result<Stri
 /// Its members are the texts `title`, `description`, `lang` and `region`, the lists of texts `authors`
 /// and `keywords`, and the lists `items` and `footnotes`, which are those of a run. Each may be left
 /// out, but for the `lang` of a `region`. An input that spells something else, another member too, is
-/// bad. The lists of items are numbered from 1 on, those of the footnotes after those of the items,
-/// wherever these members stand. Of two members of one name the last counts.
+/// bad: before the first list where the object is wrong. The lists of items are numbered from 1 on,
+/// those of the footnotes after those of the items, wherever these members stand. Of two members of one
+/// name the last counts.
 ///
 /// The text is that of [`export`](typst_html_export::export), or of
 /// [`export_linked`](typst_html_export::export_linked) where links are wanted; names are refused
@@ -244,11 +245,10 @@ fn spelled_text(alloc: Global, value: Value, settings: &Settings) -> Result<Stri
 /// assert!(rt; text.as_str().contains("<title>Tides</title>"));
 /// assert!(rt; text.as_str().ends_with("<body>Ebbe</body></html>"));
 /// ```
-#[tactic(auto, unfolding(crate::specs::DocumentAnswers::document_input_answer))]
 pub fn text_of_document(alloc: Global, input: &[u8], settings: &Settings) -> Result<String, Fault>
     requires some_limit { 1 ≤ settings.now.limit }
     requires low_limit { settings.now.limit ≤ 10000 }
-    ensures { GivesAnswer result (document_input_answer settings.now input.now) }
+    ensures { GivesAnswerAt result (document_input_answer settings.now input.now) }
 {
     let value = parse(alloc, input)?;
     spelled_text(alloc, value, settings)

@@ -5,10 +5,11 @@ ghost use Rattle.serde_json.specs.View.{view};
 ghost use Rattle.html_dom_tree.specs.Views.{text_view};
 ghost use Rattle.html_dom_document.specs.Views.{info_view, locale_view};
 ghost use Rattle.html_names.specs.Texts.{texts_view};
+ghost use Rattle.html_tool_run.specs.Fields.{text_at};
 ghost use Rattle.html_tool_run.specs.Reading.{ReadsField};
 ghost use Rattle.html_tool_run.specs.SpelledDocuments.{named_field, texts_at, with_field, with_region};
 
-use crate::fault::Fault;
+use crate::fault::{Fault, Place};
 use crate::fields::text_at;
 use html_dom_document::{DocumentInfo, Locale};
 use serde_json::Value;
@@ -56,14 +57,21 @@ pub(crate) fn with_field(
     ensures { ReadsField info_view result (with_field (info_view info) field (view value)) }
 {
     match field {
-        Field::Title => info.title = Some(text_at(value)?),
-        Field::Description => info.description = Some(text_at(value)?),
+        Field::Title => info.title = Some(known_text(value)?),
+        Field::Description => info.description = Some(known_text(value)?),
         Field::Authors => info.author = texts_at(alloc, value)?,
         Field::Keywords => info.keywords = texts_at(alloc, value)?,
-        Field::Lang => info.locale = Some(Locale::new(text_at(value)?)),
-        Field::Region => info.locale = Some(with_region(info.locale, text_at(value)?)?),
+        Field::Lang => info.locale = Some(Locale::new(known_text(value)?)),
+        Field::Region => info.locale = Some(with_region(info.locale, known_text(value)?)?),
     }
     Ok(info)
+}
+
+/// The text that a value is.
+fn known_text(value: Value) -> Result<String, Fault>
+    ensures { ReadsField text_view result (text_at (view value)) }
+{
+    text_at(value).ok_or(Fault::BadInput(Place::Form(0)))
 }
 
 /// The texts that a value is a list of.
@@ -71,11 +79,11 @@ fn texts_at(alloc: Global, value: Value) -> Result<Vec<String>, Fault>
     ensures { ReadsField (λ texts. texts_view texts.items) result (texts_at (view value)) }
 {
     let Value::Array(values) = value else {
-        return Err(Fault::BadInput);
+        return Err(Fault::BadInput(Place::Form(0)));
     };
     let mut texts = Vec::with_capacity(alloc, values.len())?;
     for value in values {
-        texts.push(text_at(value)?)?;
+        texts.push(known_text(value)?)?;
     }
     Ok(texts)
 }
@@ -90,6 +98,6 @@ fn with_region(given: Option<Locale>, region: String) -> Result<Locale, Fault>
             lang,
             region: Some(region),
         }),
-        None => Err(Fault::BadInput),
+        None => Err(Fault::BadInput(Place::Form(0))),
     }
 }

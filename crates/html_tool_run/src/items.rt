@@ -1,13 +1,13 @@
 //! The items that a JSON value spells.
 
-ghost use Rattle.std.specs.Prelude.{◌≡◌, ◌+◌, drop, option_map};
+ghost use Rattle.std.specs.Prelude.{◌≡◌, drop, option_map};
 ghost use Rattle.serde_json.specs.View.{view, items_view};
 ghost use Rattle.html_dom_tree.specs.Views.{tag_view};
 ghost use Rattle.html_flow_convert.specs.Items.{tag_item, space_item, break_item, hole_item};
 ghost use Rattle.html_tool_run.specs.Fields.{leaf, text_at, pairs_at, element_from};
 ghost use Rattle.html_tool_run.specs.FormKinds.{item_of_kind};
 ghost use Rattle.html_tool_run.specs.Reading.{ReadsItem, ReadsItems};
-ghost use Rattle.html_tool_run.specs.SpelledItems.{spelled_items, spelled_item, spelled_text, lone};
+ghost use Rattle.html_tool_run.specs.SpelledItems.{spelled_items, spelled_item, item_form, spelled_text, lone};
 ghost use Rattle.html_tool_run.specs.SpelledItems.{element_form, block_form, box_form};
 ghost use Rattle.html_tool_run.specs.SpelledItems.{body_form, list_at, element_made};
 ghost use Rattle.html_tool_run.specs.Spelling.{GivesItems};
@@ -22,11 +22,17 @@ use html_values_css::Properties;
 use serde_json::Value;
 use std::alloc::Global;
 
-/// The items that a value spells, where no name in them is refused. Their texts are those of the
-/// value.
+/// The items that a value spells, where no name in them is refused. The value is copied once.
 ///
 /// A value that spells none is bad input, whatever its names are.
-pub fn items_in(alloc: Global, value: Value) -> Result<Vec<Pair>, Fault>
+pub fn items_in(alloc: Global, value: &Value) -> Result<Vec<Pair>, Fault>
+    ensures { GivesItems result (spelled_items (view value.now)) }
+{
+    into_items(alloc, value.clone()?)
+}
+
+/// The same, made of the texts of a value, which is gone where nothing is made.
+pub(crate) fn into_items(alloc: Global, value: Value) -> Result<Vec<Pair>, Fault>
     ensures { GivesItems result (spelled_items (view value)) }
 {
     let mut reader = Reader::new(alloc);
@@ -40,21 +46,31 @@ pub fn items_in(alloc: Global, value: Value) -> Result<Vec<Pair>, Fault>
 /// The item that a value spells.
 #[cycle(spell)]
 fn item_of(reader: &mut Reader, value: Value) -> Result<Item, Fault>
-    ensures { ReadsItem result (spelled_item (view value) reader.old.next) reader.old reader.new }
+    ensures { ReadsItem result (spelled_item (view value) reader.old.lists) reader.old reader.new }
 {
     let Value::Array(list) = value else {
-        return Err(Fault::BadInput);
+        return Err(reader.left());
     };
+    reader.open()?;
+    opened_item(reader, list)
+}
+
+/// The item of the list that was opened last.
+#[cycle(spell)]
+fn opened_item(reader: &mut Reader, list: Vec<Value>) -> Result<Item, Fault>
+    ensures { ReadsItem result (item_form (items_view list.items) reader.old.lists)
+        reader.old reader.new }
+{
     match list_kind(&list) {
         Some(kind) => form_of(reader, kind, list),
-        None => Err(Fault::BadInput),
+        None => Err(reader.left()),
     }
 }
 
-/// The item of a list of that kind.
+/// The item of that list, which is of that kind.
 #[cycle(spell)]
 fn form_of(reader: &mut Reader, kind: Kind, list: Vec<Value>) -> Result<Item, Fault>
-    ensures { ReadsItem result (item_of_kind kind (items_view (drop 1 list.items)) reader.old.next)
+    ensures { ReadsItem result (item_of_kind kind (items_view (drop 1 list.items)) reader.old.lists)
         reader.old reader.new }
 {
     match kind {
@@ -70,67 +86,83 @@ fn form_of(reader: &mut Reader, kind: Kind, list: Vec<Value>) -> Result<Item, Fa
     }
 }
 
-fn space_of(reader: &mut Reader, list: Vec<Value>) -> Result<Item, Fault>
-    ensures { ReadsItem result (lone (space_item reader.old.next) (items_view (drop 1 list.items))
-        reader.old.next) reader.old reader.new }
+fn space_of(reader: &Reader, list: Vec<Value>) -> Result<Item, Fault>
+    ensures { ReadsItem result (lone (space_item reader.now.lists) (items_view (drop 1 list.items))
+        reader.now.lists) reader.now reader.now }
 {
-    nothing_in(list)?;
-    Ok(Item::Space(reader.span()?))
+    match nothing_in(list) {
+        Some(()) => Ok(Item::Space(reader.here())),
+        None => Err(reader.left()),
+    }
 }
 
-fn break_of(reader: &mut Reader, list: Vec<Value>) -> Result<Item, Fault>
-    ensures { ReadsItem result (lone (break_item reader.old.next) (items_view (drop 1 list.items))
-        reader.old.next) reader.old reader.new }
+fn break_of(reader: &Reader, list: Vec<Value>) -> Result<Item, Fault>
+    ensures { ReadsItem result (lone (break_item reader.now.lists) (items_view (drop 1 list.items))
+        reader.now.lists) reader.now reader.now }
 {
-    nothing_in(list)?;
-    Ok(Item::LineBreak(reader.span()?))
+    match nothing_in(list) {
+        Some(()) => Ok(Item::LineBreak(reader.here())),
+        None => Err(reader.left()),
+    }
 }
 
-fn hole_of(reader: &mut Reader, list: Vec<Value>) -> Result<Item, Fault>
-    ensures { ReadsItem result (lone hole_item (items_view (drop 1 list.items)) reader.old.next)
-        reader.old reader.new }
+fn hole_of(reader: &Reader, list: Vec<Value>) -> Result<Item, Fault>
+    ensures { ReadsItem result (lone hole_item (items_view (drop 1 list.items)) reader.now.lists)
+        reader.now reader.now }
 {
-    nothing_in(list)?;
-    let _span = reader.span()?;
-    Ok(Item::Hole)
+    match nothing_in(list) {
+        Some(()) => Ok(Item::Hole),
+        None => Err(reader.left()),
+    }
 }
 
-fn text_of(reader: &mut Reader, list: Vec<Value>) -> Result<Item, Fault>
-    ensures { ReadsItem result (spelled_text (items_view (drop 1 list.items)) reader.old.next)
-        reader.old reader.new }
+fn text_of(reader: &Reader, list: Vec<Value>) -> Result<Item, Fault>
+    ensures { ReadsItem result (spelled_text (items_view (drop 1 list.items)) reader.now.lists)
+        reader.now reader.now }
 {
-    let text = text_in(list)?;
-    Ok(Item::Text(text, reader.span()?))
+    match text_in(list) {
+        Some(text) => Ok(Item::Text(text, reader.here())),
+        None => Err(reader.left()),
+    }
 }
 
-fn tag_of(reader: &mut Reader, tag: Option<Tag>) -> Result<Item, Fault>
-    ensures { ReadsItem result (leaf tag_item (option_map tag_view tag) reader.old.next)
-        reader.old reader.new }
+fn tag_of(reader: &Reader, tag: Option<Tag>) -> Result<Item, Fault>
+    ensures { ReadsItem result (leaf tag_item (option_map tag_view tag) reader.now.lists)
+        reader.now reader.now }
 {
-    let tag = tag.ok_or(Fault::BadInput)?;
-    let _span = reader.span()?;
-    Ok(Item::Tag(tag))
+    match tag {
+        Some(tag) => Ok(Item::Tag(tag)),
+        None => Err(reader.left()),
+    }
 }
 
 #[cycle(spell)]
 #[tactic(auto, using(crate::proofs::ItemForms::item_forms))]
 fn element_of(reader: &mut Reader, list: Vec<Value>) -> Result<Item, Fault>
-    ensures { ReadsItem result (element_form (items_view (drop 1 list.items)) reader.old.next)
+    ensures { ReadsItem result (element_form (items_view (drop 1 list.items)) reader.old.lists)
         reader.old reader.new }
 {
-    let [_, name, pairs, list] = parts_of::<4>(list)?;
-    element_with(reader, name, pairs, list)
+    match parts_of::<4>(list) {
+        Some(parts) => {
+            let [_, name, pairs, list] = parts;
+            element_with(reader, name, pairs, list)
+        }
+        None => Err(reader.left()),
+    }
 }
 
 /// The element of that name, those attributes and that list of items.
 #[cycle(spell)]
 fn element_with(reader: &mut Reader, name: Value, pairs: Value, list: Value) -> Result<Item, Fault>
-    ensures { ReadsItem result (element_from (element_made reader.old.next)
-        (text_at (view name)) (pairs_at (view pairs))
-        (list_at (view list) (reader.old.next + 1))) reader.old reader.new }
+    ensures { ReadsItem result (element_from (element_made reader.old.lists) reader.old.lists
+        (text_at (view name)) (pairs_at (view pairs)) (list_at (view list) reader.old.lists))
+        reader.old reader.new }
 {
-    let span = reader.span()?;
-    let tag = reader.tag(&text_at(name)?, span)?;
+    let Some(name) = text_at(name) else {
+        return Err(reader.left());
+    };
+    let span = reader.here();
+    let tag = reader.tag(&name, span)?;
     let attrs = reader.pairs(pairs, span)?;
     let body = list_of(reader, list)?;
     Ok(Item::Element(HtmlElem {
@@ -145,19 +177,19 @@ fn element_with(reader: &mut Reader, name: Value, pairs: Value, list: Value) -> 
 
 #[cycle(spell)]
 fn block_of(reader: &mut Reader, list: Vec<Value>) -> Result<Item, Fault>
-    ensures { ReadsItem result (block_form (items_view (drop 1 list.items)) reader.old.next)
+    ensures { ReadsItem result (block_form (items_view (drop 1 list.items)) reader.old.lists)
         reader.old reader.new }
 {
-    let span = reader.span()?;
+    let span = reader.here();
     Ok(Item::Block(Some(body_of(reader, list)?), span))
 }
 
 #[cycle(spell)]
 fn box_of(reader: &mut Reader, list: Vec<Value>) -> Result<Item, Fault>
-    ensures { ReadsItem result (box_form (items_view (drop 1 list.items)) reader.old.next)
+    ensures { ReadsItem result (box_form (items_view (drop 1 list.items)) reader.old.lists)
         reader.old reader.new }
 {
-    let span = reader.span()?;
+    let span = reader.here();
     Ok(Item::Box(Some(body_of(reader, list)?), span))
 }
 
@@ -165,20 +197,25 @@ fn box_of(reader: &mut Reader, list: Vec<Value>) -> Result<Item, Fault>
 #[cycle(spell)]
 #[tactic(auto, using(crate::proofs::ItemForms::item_forms))]
 fn body_of(reader: &mut Reader, list: Vec<Value>) -> Result<Vec<Pair>, Fault>
-    ensures { ReadsItems result (body_form (items_view (drop 1 list.items)) reader.old.next)
+    ensures { ReadsItems result (body_form (items_view (drop 1 list.items)) reader.old.lists)
         reader.old reader.new }
 {
-    let [_, body] = parts_of::<2>(list)?;
-    list_of(reader, body)
+    match parts_of::<2>(list) {
+        Some(parts) => {
+            let [_, body] = parts;
+            list_of(reader, body)
+        }
+        None => Err(reader.left()),
+    }
 }
 
 /// The items that a list spells.
 #[cycle(spell)]
 pub(crate) fn list_of(reader: &mut Reader, value: Value) -> Result<Vec<Pair>, Fault>
-    ensures { ReadsItems result (list_at (view value) reader.old.next) reader.old reader.new }
+    ensures { ReadsItems result (list_at (view value) reader.old.lists) reader.old reader.new }
 {
     let Value::Array(values) = value else {
-        return Err(Fault::BadInput);
+        return Err(reader.left());
     };
     let mut items = Vec::with_capacity(reader.alloc(), values.len())?;
     for value in values {

@@ -26,7 +26,7 @@ mod whole;
 mod words;
 
 pub use documents::{Settings, text_of_document};
-pub use fault::Fault;
+pub use fault::{Fault, Place};
 pub use items::items_in;
 pub use nodes::element_in;
 pub use program::{run, run_recorded, text_of_input};

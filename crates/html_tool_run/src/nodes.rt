@@ -1,17 +1,17 @@
 //! The tree that a JSON value spells.
 
-ghost use Rattle.std.specs.Prelude.{◌≡◌, ◌+◌, ◌<◌, drop, option_map, vec_len, vec_capacity};
+ghost use Rattle.std.specs.Prelude.{◌≡◌, ◌<◌, drop, option_map, vec_len, vec_capacity};
 ghost use Rattle.serde_json.specs.View.{view, items_view};
 ghost use Rattle.html_dom_tree.specs.Tree.{tag_node};
 ghost use Rattle.html_dom_tree.specs.Views.{tag_view};
 ghost use Rattle.html_tool_run.specs.Fields.{leaf, text_at, pairs_at, element_from};
 ghost use Rattle.html_tool_run.specs.FormKinds.{node_of_kind};
 ghost use Rattle.html_tool_run.specs.Reading.{AddsNode, ReadsNode, ReadsNodes};
-ghost use Rattle.html_tool_run.specs.Spelled.{spelled_element, spelled_node, spelled_text};
+ghost use Rattle.html_tool_run.specs.Spelled.{spelled_element, spelled_node, form, spelled_text};
 ghost use Rattle.html_tool_run.specs.Spelled.{element_form, element_made, list_at};
 ghost use Rattle.html_tool_run.specs.Spelling.{GivesElement};
 
-use crate::fault::Fault;
+use crate::fault::{Fault, Place};
 use crate::fields::{end_in, parts_of, start_in, text_at, text_in};
 use crate::kind::{Kind, list_kind};
 use crate::reader::Reader;
@@ -20,10 +20,17 @@ use html_values_css::Properties;
 use serde_json::Value;
 use std::alloc::Global;
 
-/// The element that a value spells, where no name in it is refused. Its texts are those of the value.
+/// The element that a value spells, where no name in it is refused. The value is copied once.
 ///
 /// A value that spells none is bad input, whatever its names are.
-pub fn element_in(alloc: Global, value: Value) -> Result<HtmlElement, Fault>
+pub fn element_in(alloc: Global, value: &Value) -> Result<HtmlElement, Fault>
+    ensures { GivesElement result (spelled_element (view value.now)) }
+{
+    into_element(alloc, value.clone()?)
+}
+
+/// The same, made of the texts of a value, which is gone where nothing is made.
+pub(crate) fn into_element(alloc: Global, value: Value) -> Result<HtmlElement, Fault>
     ensures { GivesElement result (spelled_element (view value)) }
 {
     let mut reader = Reader::new(alloc);
@@ -33,13 +40,15 @@ pub fn element_in(alloc: Global, value: Value) -> Result<HtmlElement, Fault>
     }
     match node {
         HtmlNode::Element(element) => Ok(element),
-        HtmlNode::Tag(_) | HtmlNode::Text(_, _) | HtmlNode::Frame(_) => Err(Fault::BadInput),
+        HtmlNode::Tag(_) | HtmlNode::Text(_, _) | HtmlNode::Frame(_) => {
+            Err(Fault::BadInput(Place::Form(1)))
+        }
     }
 }
 
 /// The node that a value spells.
 fn node_in(reader: &mut Reader, value: Value) -> Result<HtmlNode, Fault>
-    ensures { ReadsNode result (spelled_node (view value) reader.old.next) reader.old reader.new }
+    ensures { ReadsNode result (spelled_node (view value) reader.old.lists) reader.old reader.new }
 {
     let mut nodes = Vec::with_capacity(reader.alloc(), 1)?;
     push_node(reader, &mut nodes, value)?;
@@ -50,19 +59,30 @@ fn node_in(reader: &mut Reader, value: Value) -> Result<HtmlNode, Fault>
 #[cycle(spell)]
 fn push_node(reader: &mut Reader, nodes: &mut Vec<HtmlNode>, value: Value) -> Result<(), Fault>
     requires { vec_len nodes.old < vec_capacity nodes.old }
-    ensures { AddsNode result (spelled_node (view value) reader.old.next)
+    ensures { AddsNode result (spelled_node (view value) reader.old.lists)
         nodes.old nodes.new reader.old reader.new }
 {
     let Value::Array(list) = value else {
-        return Err(Fault::BadInput);
+        return Err(reader.left());
     };
+    reader.open()?;
+    push_list(reader, nodes, list)
+}
+
+/// Adds the node of the list that was opened last.
+#[cycle(spell)]
+fn push_list(reader: &mut Reader, nodes: &mut Vec<HtmlNode>, list: Vec<Value>) -> Result<(), Fault>
+    requires { vec_len nodes.old < vec_capacity nodes.old }
+    ensures { AddsNode result (form (items_view list.items) reader.old.lists)
+        nodes.old nodes.new reader.old reader.new }
+{
     match list_kind(&list) {
         Some(kind) => push_form(reader, nodes, kind, list),
-        None => Err(Fault::BadInput),
+        None => Err(reader.left()),
     }
 }
 
-/// Adds the node of a list of that kind.
+/// Adds the node of that list, which is of that kind.
 #[cycle(spell)]
 fn push_form(
     reader: &mut Reader,
@@ -71,7 +91,7 @@ fn push_form(
     list: Vec<Value>,
 ) -> Result<(), Fault>
     requires { vec_len nodes.old < vec_capacity nodes.old }
-    ensures { AddsNode result (node_of_kind kind (items_view (drop 1 list.items)) reader.old.next)
+    ensures { AddsNode result (node_of_kind kind (items_view (drop 1 list.items)) reader.old.lists)
         nodes.old nodes.new reader.old reader.new }
 {
     match kind {
@@ -79,30 +99,36 @@ fn push_form(
         Kind::Element => push_element(reader, nodes, list),
         Kind::Start => push_tag(reader, nodes, start_in(list)),
         Kind::End => push_tag(reader, nodes, end_in(list)),
-        Kind::Block | Kind::Box | Kind::Space | Kind::Break | Kind::Hole => Err(Fault::BadInput),
+        Kind::Block | Kind::Box | Kind::Space | Kind::Break | Kind::Hole => Err(reader.left()),
     }
 }
 
-fn push_text(reader: &mut Reader, nodes: &mut Vec<HtmlNode>, list: Vec<Value>) -> Result<(), Fault>
+fn push_text(reader: &Reader, nodes: &mut Vec<HtmlNode>, list: Vec<Value>) -> Result<(), Fault>
     requires { vec_len nodes.old < vec_capacity nodes.old }
-    ensures { AddsNode result (spelled_text (items_view (drop 1 list.items)) reader.old.next)
-        nodes.old nodes.new reader.old reader.new }
+    ensures { AddsNode result (spelled_text (items_view (drop 1 list.items)) reader.now.lists)
+        nodes.old nodes.new reader.now reader.now }
 {
-    let text = text_in(list)?;
-    let span = reader.span()?;
-    nodes.push_reserved(HtmlNode::Text(text, span));
-    Ok(())
+    match text_in(list) {
+        Some(text) => {
+            nodes.push_reserved(HtmlNode::Text(text, reader.here()));
+            Ok(())
+        }
+        None => Err(reader.left()),
+    }
 }
 
-fn push_tag(reader: &mut Reader, nodes: &mut Vec<HtmlNode>, tag: Option<Tag>) -> Result<(), Fault>
+fn push_tag(reader: &Reader, nodes: &mut Vec<HtmlNode>, tag: Option<Tag>) -> Result<(), Fault>
     requires { vec_len nodes.old < vec_capacity nodes.old }
-    ensures { AddsNode result (leaf tag_node (option_map tag_view tag) reader.old.next)
-        nodes.old nodes.new reader.old reader.new }
+    ensures { AddsNode result (leaf tag_node (option_map tag_view tag) reader.now.lists)
+        nodes.old nodes.new reader.now reader.now }
 {
-    let tag = tag.ok_or(Fault::BadInput)?;
-    let _span = reader.span()?;
-    nodes.push_reserved(HtmlNode::Tag(tag));
-    Ok(())
+    match tag {
+        Some(tag) => {
+            nodes.push_reserved(HtmlNode::Tag(tag));
+            Ok(())
+        }
+        None => Err(reader.left()),
+    }
 }
 
 #[cycle(spell)]
@@ -113,11 +139,16 @@ fn push_element(
     list: Vec<Value>,
 ) -> Result<(), Fault>
     requires { vec_len nodes.old < vec_capacity nodes.old }
-    ensures { AddsNode result (element_form (items_view (drop 1 list.items)) reader.old.next)
+    ensures { AddsNode result (element_form (items_view (drop 1 list.items)) reader.old.lists)
         nodes.old nodes.new reader.old reader.new }
 {
-    let [_, name, pairs, list] = parts_of::<4>(list)?;
-    push_element_with(reader, nodes, name, pairs, list)
+    match parts_of::<4>(list) {
+        Some(parts) => {
+            let [_, name, pairs, list] = parts;
+            push_element_with(reader, nodes, name, pairs, list)
+        }
+        None => Err(reader.left()),
+    }
 }
 
 /// Adds the element of that name, those attributes and that list of children.
@@ -130,13 +161,15 @@ fn push_element_with(
     list: Value,
 ) -> Result<(), Fault>
     requires { vec_len nodes.old < vec_capacity nodes.old }
-    ensures { AddsNode result (element_from (element_made reader.old.next)
-        (text_at (view name)) (pairs_at (view pairs))
-        (list_at (view list) (reader.old.next + 1)))
+    ensures { AddsNode result (element_from (element_made reader.old.lists) reader.old.lists
+        (text_at (view name)) (pairs_at (view pairs)) (list_at (view list) reader.old.lists))
         nodes.old nodes.new reader.old reader.new }
 {
-    let span = reader.span()?;
-    let tag = reader.tag(&text_at(name)?, span)?;
+    let Some(name) = text_at(name) else {
+        return Err(reader.left());
+    };
+    let span = reader.here();
+    let tag = reader.tag(&name, span)?;
     let attrs = reader.pairs(pairs, span)?;
     let children = list_of(reader, list)?;
     nodes.push_reserved(HtmlNode::Element(HtmlElement {
@@ -154,10 +187,10 @@ fn push_element_with(
 /// The nodes that a list spells.
 #[cycle(spell)]
 fn list_of(reader: &mut Reader, value: Value) -> Result<Vec<HtmlNode>, Fault>
-    ensures { ReadsNodes result (list_at (view value) reader.old.next) reader.old reader.new }
+    ensures { ReadsNodes result (list_at (view value) reader.old.lists) reader.old reader.new }
 {
     let Value::Array(values) = value else {
-        return Err(Fault::BadInput);
+        return Err(reader.left());
     };
     let mut nodes = Vec::with_capacity(reader.alloc(), values.len())?;
     for value in values {

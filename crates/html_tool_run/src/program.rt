@@ -4,22 +4,25 @@ ghost use Rattle.std.specs.Prelude.{◌≡◌, None, IfSome, IfOk};
 ghost use Rattle.html_dom_tree.specs.Views.{text_view, element_view};
 ghost use Rattle.html_flow_convert.specs.Views.{items_view};
 ghost use Rattle.serde_json.specs.View.{view};
-ghost use Rattle.html_tool_run.specs.Answers.{Answer, AddsAnswer, AddsAnswerOn, EndsAs, EndsOn, answer_if, bad_input, input_answer};
+ghost use Rattle.html_tool_run.specs.Answers.{Answer, EndsAs, EndsOn, RunsAs, RunsOn, answer_to, bad_input, input_answer};
 ghost use Rattle.html_tool_run.specs.Answers.{doc_answer, doc_refusals, doc_text, refused_answer};
 ghost use Rattle.html_tool_run.specs.Answers.{tree_answer, tree_refusals, tree_text, value_answer};
 ghost use Rattle.html_tool_run.specs.Refusals.{Gives};
 ghost use Rattle.html_tool_run.specs.ExportRefusals.{export_refusal};
-ghost use Rattle.html_tool_run.specs.Replies.{GivesAnswer, GivesAnswerOn, IsReply, reply_answer};
+ghost use Rattle.html_tool_run.specs.Replies.{GivesAnswer, GivesAnswerAt, GivesAnswerOn, IsReply, reply_answer};
 ghost use Rattle.html_tool_run.specs.Spelled.{spelled_element};
 ghost use Rattle.html_tool_run.specs.SpelledItems.{spelled_items};
 ghost use Rattle.html_tool_run.specs.Words.{texts_of, wanted_task};
+ghost use Rattle.html_tool_run.specs.declared.fault.Place.TheVariants.{Unknown};
 
+use crate::fault::{Fault, Place};
+use crate::items::into_items;
 use crate::json::parse;
-use crate::recorded::{Recorded, WriteFailed};
+use crate::nodes::into_element;
+use crate::recorded::{LastCall, Recorded, WriteFailed};
 use crate::status::Status;
 use crate::whole::write_whole;
 use crate::words::{Task, wanted_task};
-use crate::{Fault, element_in, items_in};
 use html_dom_document::DocumentInfo;
 use html_dom_tree::{HtmlElement, Span};
 use html_flow_convert::Pair;
@@ -73,10 +76,20 @@ fn make_reply(alloc: Global, status: Status, text: &[u8]) -> Result<Reply, Alloc
     Ok(Reply { status, text })
 }
 
-fn bad_input(alloc: Global) -> Result<Reply, AllocError>
-    ensures { IfOk result (λ reply. IsReply reply bad_input) }
+fn bad_input(alloc: Global, place: Place) -> Result<Reply, AllocError>
+    ensures { IfOk result (λ reply. IsReply reply (bad_input place)) }
 {
-    make_reply(alloc, Status::BadInput, b"bad input\n")
+    match place {
+        Place::Unknown => make_reply(alloc, Status::BadInput, b"bad input\n"),
+        Place::Text(line, column) => {
+            let told = format!(in alloc; "bad input at line {line} column {column}\n")?;
+            make_reply(alloc, Status::BadInput, told.as_bytes())
+        }
+        Place::Form(number) => {
+            let told = format!(in alloc; "bad input at {number}\n")?;
+            make_reply(alloc, Status::BadInput, told.as_bytes())
+        }
+    }
 }
 
 fn refused(alloc: Global, number: u8, span: Span) -> Result<Reply, AllocError>
@@ -97,7 +110,7 @@ fn reply_of(alloc: Global, text: Result<String, Fault>) -> Result<Reply, AllocEr
             text: text.into_bytes(),
         }),
         Err(Fault::Refused(number, span)) => refused(alloc, number, span),
-        Err(Fault::BadInput) => bad_input(alloc),
+        Err(Fault::BadInput(place)) => bad_input(alloc, place),
         Err(Fault::OutOfMemory) => Err(AllocError),
     }
 }
@@ -141,17 +154,17 @@ fn items_text(alloc: Global, items: Vec<Pair>, pretty: bool) -> Result<String, F
 
 /// The text of the tree that a value spells.
 fn spelled_tree(alloc: Global, value: Value, pretty: bool) -> Result<String, Fault>
-    ensures { GivesAnswer result (answer_if (tree_answer pretty) (spelled_element (view value))) }
+    ensures { GivesAnswer result (answer_to (tree_answer pretty) (spelled_element (view value))) }
 {
-    let element = element_in(alloc, value)?;
+    let element = into_element(alloc, value)?;
     element_text(alloc, element, pretty)
 }
 
 /// The text of the items that a value spells.
 fn spelled_doc(alloc: Global, value: Value, pretty: bool) -> Result<String, Fault>
-    ensures { GivesAnswer result (answer_if (doc_answer pretty) (spelled_items (view value))) }
+    ensures { GivesAnswer result (answer_to (doc_answer pretty) (spelled_items (view value))) }
 {
-    let items = items_in(alloc, value)?;
+    let items = into_items(alloc, value)?;
     items_text(alloc, items, pretty)
 }
 
@@ -169,12 +182,12 @@ fn value_text(alloc: Global, value: Value, task: Task, pretty: bool) -> Result<S
 /// it, or why it writes none.
 ///
 /// Where an allocation fails, that is the fault, whatever the input is. Else an input that is no UTF-8
-/// or no JSON value, or that spells no tree or no items, is bad, and what it spells is refused by the
-/// first refusal, with the span of what is refused: the number of its list in the input, from 1 on.
-/// The cost is that of a run.
+/// or no JSON value, or that spells no tree or no items, is bad, with the [`Place`]; and what it spells
+/// is refused by the first refusal, with the span of what is refused: the number of its list in the
+/// input, from 1 on. The cost is that of a run.
 ///
 /// ```
-/// use html_tool_run::{Fault, Task, text_of_input};
+/// use html_tool_run::{Fault, Place, Task, text_of_input};
 /// use typst_html::Span;
 ///
 /// let alloc = rt.alloc();
@@ -182,19 +195,21 @@ fn value_text(alloc: Global, value: Value, task: Task, pretty: bool) -> Result<S
 /// assert_eq!(rt; text.as_str(), "<!DOCTYPE html><p>a &lt; b</p>");
 /// let fault = text_of_input(alloc, br#"["el","P Q",[],[]]"#, Task::Tree, false);
 /// assert!(rt; fault == Err(Fault::Refused(2, Span(1)))); // no tag has a name with a space
+/// let fault = text_of_input(alloc, br#"["el","p",[],[["text",7]]]"#, Task::Tree, false);
+/// assert!(rt; fault == Err(Fault::BadInput(Place::Form(2)))); // the second list is no text
+/// let fault = text_of_input(alloc, br#"["el","p",[],[]"#, Task::Tree, false);
+/// assert!(rt; fault == Err(Fault::BadInput(Place::Text(1, 15)))); // a bracket is missing
 /// ```
-#[tactic(auto, unfolding(crate::specs::Answers::input_answer))]
 pub fn text_of_input(alloc: Global, input: &[u8], task: Task, pretty: bool) -> Result<String, Fault>
-    ensures { GivesAnswer result (input_answer task pretty input.now) }
+    ensures { GivesAnswerAt result (input_answer task pretty input.now) }
 {
     let value = parse(alloc, input)?;
     value_text(alloc, value, task, pretty)
 }
 
 /// The text of what an input spells. The input is gone before anything is made of its value.
-#[tactic(auto, unfolding(crate::specs::Answers::input_answer))]
 fn answer(alloc: Global, input: Vec<u8>, task: Task, pretty: bool) -> Result<String, Fault>
-    ensures { GivesAnswer result (input_answer task pretty input.items) }
+    ensures { GivesAnswerAt result (input_answer task pretty input.items) }
 {
     let value = parse(alloc, &input)?;
     drop(input);
@@ -204,11 +219,12 @@ fn answer(alloc: Global, input: Vec<u8>, task: Task, pretty: bool) -> Result<Str
 /// The text that is wanted. A reader that fails counts as want of memory.
 fn wanted<R: Read>(alloc: Global, reader: &mut R, words: &[String]) -> Result<String, Fault>
     ensures answers { GivesAnswerOn (texts_of words.now) (R.remaining reader.old) result }
-    ensures wrong_words { wanted_task (texts_of words.now) ≡ None → GivesAnswer result bad_input }
+    ensures wrong_words { wanted_task (texts_of words.now) ≡ None
+        → GivesAnswer result (bad_input Unknown) }
     ensures unread { wanted_task (texts_of words.now) ≡ None → reader.new ≡ reader.old }
 {
     let Some((task, pretty)) = wanted_task(words) else {
-        return Err(Fault::BadInput);
+        return Err(Fault::BadInput(Place::Unknown));
     };
     match read_all(alloc, reader) {
         Some(input) => answer(alloc, input, task, pretty),
@@ -217,24 +233,33 @@ fn wanted<R: Read>(alloc: Global, reader: &mut R, words: &[String]) -> Result<St
 }
 
 /// Writes the reply, and says how that ended.
-fn tell<W: Write>(writer: &mut W, reply: &Reply) -> Status
-    ensures { AddsAnswer (reply_answer reply.now) result
-        (W.contents writer.old) (W.contents writer.new) }
+fn tell<W: Write>(writer: &mut W, last: &mut LastCall, reply: &Reply) -> Status
+    ensures { EndsAs (reply_answer reply.now) result
+        (W.contents writer.old) (W.contents writer.new) last.new }
 {
-    if write_whole(writer, &reply.text).is_err() {
-        return Status::Failed;
-    }
-    reply.status
-}
-
-/// The same to a writer that remembers how its last call ended.
-fn tell_recorded<W: Write>(writer: &mut Recorded<W>, reply: &Reply) -> Status
-    ensures { EndsAs (reply_answer reply.now) result (W.contents writer.old.writer)
-        (W.contents writer.new.writer) writer.new.last }
-{
-    match writer.write_all(&reply.text) {
+    match write_whole(writer, last, &reply.text) {
         Ok(()) => reply.status,
         Err(WriteFailed) => Status::Failed,
+    }
+}
+
+/// The run, which leaves how the last call on the writer ended.
+fn run_on<R: Read, W: Write>(
+    alloc: Global,
+    reader: &mut R,
+    writer: &mut W,
+    last: &mut LastCall,
+    words: &[String],
+) -> Status
+    ensures answers { EndsOn (texts_of words.now) (R.remaining reader.old) result
+        (W.contents writer.old) (W.contents writer.new) last.new }
+    ensures wrong_words { wanted_task (texts_of words.now) ≡ None
+        → EndsAs (bad_input Unknown) result (W.contents writer.old) (W.contents writer.new) last.new }
+    ensures unread { wanted_task (texts_of words.now) ≡ None → reader.new ≡ reader.old }
+{
+    match reply_of(alloc, wanted(alloc, reader, words)) {
+        Ok(reply) => tell(writer, last, &reply),
+        Err(AllocError) => Status::Failed,
     }
 }
 
@@ -248,7 +273,11 @@ fn tell_recorded<W: Write>(writer: &mut Recorded<W>, reply: &Reply) -> Status
 ///
 /// Where the status is `Failed`, memory ran out or a read failed, and nothing was written, or a write
 /// or the flush after the last one failed, and a beginning of the answer was. With any other status
-/// the whole answer was. [`run_recorded`] tells these two failures apart.
+/// the whole answer was written and flushed.
+///
+/// A writer tells by contract which bytes it holds, but not that a call on it failed, nor that it was
+/// flushed. So the contract says this for some end of the last call. [`run_recorded`], which makes the
+/// same run, says it for the end that its writer remembers.
 ///
 /// ```
 /// use html_tool_run::{Status, run};
@@ -267,18 +296,16 @@ pub fn run<R: Read, W: Write>(
     writer: &mut W,
     words: &[String],
 ) -> Status
-    ensures answers { AddsAnswerOn (texts_of words.now) (R.remaining reader.old) result
+    ensures answers { RunsOn (texts_of words.now) (R.remaining reader.old) result
         (W.contents writer.old) (W.contents writer.new) }
 
     // Wrong words.
     ensures wrong_words { wanted_task (texts_of words.now) ≡ None
-        → AddsAnswer bad_input result (W.contents writer.old) (W.contents writer.new) }
+        → RunsAs (bad_input Unknown) result (W.contents writer.old) (W.contents writer.new) }
     ensures unread { wanted_task (texts_of words.now) ≡ None → reader.new ≡ reader.old }
 {
-    match reply_of(alloc, wanted(alloc, reader, words)) {
-        Ok(reply) => tell(writer, &reply),
-        Err(AllocError) => Status::Failed,
-    }
+    let mut last = LastCall::NoCall;
+    run_on(alloc, reader, writer, &mut last, words)
 }
 
 /// The run that [`run`] makes, to a writer that remembers how its last call ended: so where the status
@@ -295,12 +322,9 @@ pub fn run_recorded<R: Read, W: Write>(
 
     // Wrong words.
     ensures wrong_words { wanted_task (texts_of words.now) ≡ None
-        → EndsAs bad_input result (W.contents writer.old.writer) (W.contents writer.new.writer)
+        → EndsAs (bad_input Unknown) result (W.contents writer.old.writer) (W.contents writer.new.writer)
         writer.new.last }
     ensures unread { wanted_task (texts_of words.now) ≡ None → reader.new ≡ reader.old }
 {
-    match reply_of(alloc, wanted(alloc, reader, words)) {
-        Ok(reply) => tell_recorded(writer, &reply),
-        Err(AllocError) => Status::Failed,
-    }
+    run_on(alloc, reader, &mut writer.writer, &mut writer.last, words)
 }

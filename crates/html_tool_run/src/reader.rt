@@ -1,13 +1,15 @@
 //! What a reader of a JSON value remembers, and how it reads names.
 
-ghost use Rattle.std.specs.Prelude.{◌≡◌, ◌+◌, None, IfOk, OnOk, IfErr, chars};
+ghost use Rattle.std.specs.Prelude.{◌≡◌, ◌+◌, None, OnOk, IfErr, chars};
 ghost use Rattle.serde_json.specs.View.{view};
 ghost use Rattle.html_names.specs.NameFaults.{number_of};
 ghost use Rattle.html_names.specs.Names.{tag_fault, attr_fault};
 ghost use Rattle.html_tool_run.specs.Fields.{pairs_at, pair_at};
 ghost use Rattle.html_tool_run.specs.Reading.{IsWant, Notes, ReadsName, ReadsPair, ReadsPairs};
+ghost use Rattle.html_tool_run.specs.declared.fault.Fault.TheVariants.{BadInput};
+ghost use Rattle.html_tool_run.specs.declared.fault.Place.TheVariants.{Form};
 
-use crate::fault::Fault;
+use crate::fault::{Fault, Place};
 use crate::fields::pair_in;
 use html_dom_tree::{HtmlAttrs, Span};
 use html_names::{HtmlAttr, HtmlTag, NameFault, attr, tag};
@@ -20,8 +22,8 @@ use std::alloc::Global;
 #[derive(Drop)]
 pub(crate) struct Reader {
     alloc: Global,
-    /// The number of the next list.
-    next: u64,
+    /// How many lists of nodes or items were opened.
+    lists: u64,
     /// The first name that was refused: the number of its fault, and the span.
     refused: Option<(u8, Span)>,
 }
@@ -29,12 +31,12 @@ pub(crate) struct Reader {
 impl Reader {
     /// The reader before anything is read.
     pub(crate) fn new(alloc: Global) -> Reader
-        ensures next { result.next ≡ 1 }
+        ensures lists { result.lists ≡ 0 }
         ensures refused { result.refused ≡ None }
     {
         Reader {
             alloc,
-            next: 1,
+            lists: 0,
             refused: None,
         }
     }
@@ -51,23 +53,28 @@ impl Reader {
         self.refused
     }
 
-    /// The span of the next list.
-    pub(crate) fn here(&self) -> Span
-        ensures { result.0 ≡ self.now.next }
-    {
-        Span(self.next)
-    }
-
-    /// The span of the next list, which is read.
-    pub(crate) fn span(&mut self) -> Result<Span, Fault>
-        ensures span { IfOk result (λ span. span.0 ≡ self.old.next) }
-        ensures next { OnOk result (self.new.next ≡ self.old.next + 1) }
+    /// Opens the next list.
+    pub(crate) fn open(&mut self) -> Result<(), Fault>
+        ensures lists { OnOk result (self.new.lists ≡ self.old.lists + 1) }
         ensures refused { self.new.refused ≡ self.old.refused }
         ensures fault { IfErr result IsWant }
     {
-        let span = self.here();
-        self.next = self.next.checked_add(1).ok_or(Fault::OutOfMemory)?;
-        Ok(span)
+        self.lists = self.lists.checked_add(1).ok_or(Fault::OutOfMemory)?;
+        Ok(())
+    }
+
+    /// The span of the list that was opened last.
+    pub(crate) fn here(&self) -> Span
+        ensures { result.0 ≡ self.now.lists }
+    {
+        Span(self.lists)
+    }
+
+    /// The form is left in the list that was opened last, or before the first.
+    pub(crate) fn left(&self) -> Fault
+        ensures { result ≡ BadInput (Form self.now.lists) }
+    {
+        Fault::BadInput(Place::Form(self.lists))
     }
 
     /// Remembers the fault of a name of the element with that span, unless another was before it.
@@ -116,7 +123,7 @@ impl Reader {
         ensures { ReadsPairs span result (pairs_at (view value)) self.old self.new }
     {
         let Value::Array(values) = value else {
-            return Err(Fault::BadInput);
+            return Err(self.left());
         };
         let mut pairs = Vec::with_capacity(self.alloc, values.len())?;
         for value in values {
@@ -129,7 +136,9 @@ impl Reader {
     fn pair(&mut self, value: Value, span: Span) -> Result<(HtmlAttr, String), Fault>
         ensures { ReadsPair span result (pair_at (view value)) self.old self.new }
     {
-        let (name, value) = pair_in(value)?;
-        Ok((self.attr(&name, span)?, value))
+        match pair_in(value) {
+            Some((name, value)) => Ok((self.attr(&name, span)?, value)),
+            None => Err(self.left()),
+        }
     }
 }

@@ -4,6 +4,7 @@ ghost use Rattle.std.specs.Prelude.{◌≡◌, ◌<◌, ◌≤◌, length, take,
 ghost use Rattle.std.specs.Io.KnownBytes.{Appends, Keeps};
 ghost use Rattle.html_tool_run.specs.Writing.{WritesAll};
 
+use crate::whole::{flush, write_some, write_whole};
 use std::io::Write;
 use thiserror::Error;
 
@@ -30,8 +31,8 @@ pub struct WriteFailed;
 /// Contracts tell by this record whether a write failed, which no writer says of itself.
 #[derive(Drop)]
 pub struct Recorded<W> {
-    writer: W,
-    last: LastCall,
+    pub(crate) writer: W,
+    pub(crate) last: LastCall,
 }
 
 impl<W: Write> Recorded<W> {
@@ -69,16 +70,7 @@ impl<W: Write> Recorded<W> {
         ensures failed { OnErr result ((self.new.last ≡ LastCall.Failed)
             × Keeps (W.contents self.old.writer) (W.contents self.new.writer)) }
     {
-        match self.writer.write(bytes) {
-            Ok(n) if n > 0 => {
-                self.last = LastCall::Wrote;
-                Ok(n)
-            }
-            _ => {
-                self.last = LastCall::Failed;
-                Err(WriteFailed)
-            }
-        }
+        write_some(&mut self.writer, &mut self.last, bytes)
     }
 
     /// Flushes the writer.
@@ -87,16 +79,7 @@ impl<W: Write> Recorded<W> {
         ensures failed { OnErr result (self.new.last ≡ LastCall.Failed) }
         ensures kept { Keeps (W.contents self.old.writer) (W.contents self.new.writer) }
     {
-        match self.writer.flush() {
-            Ok(()) => {
-                self.last = LastCall::Flushed;
-                Ok(())
-            }
-            Err(_) => {
-                self.last = LastCall::Failed;
-                Err(WriteFailed)
-            }
-        }
+        flush(&mut self.writer, &mut self.last)
     }
 
     /// Writes all of the bytes, and flushes after the last of them. Nothing is tried again.
@@ -104,10 +87,6 @@ impl<W: Write> Recorded<W> {
         ensures { WritesAll result bytes.now
             (W.contents self.old.writer) (W.contents self.new.writer) self.new.last }
     {
-        let mut at = 0;
-        while at < bytes.len() {
-            at += self.write(&bytes[at..])?;
-        }
-        self.flush()
+        write_whole(&mut self.writer, &mut self.last, bytes)
     }
 }

@@ -1,24 +1,66 @@
-//! Writing to a writer that remembers nothing.
+//! Writing, with how the last call ended.
 
-ghost use Rattle.html_tool_run.specs.Writing.{AddsAll};
+ghost use Rattle.std.specs.Prelude.{◌≡◌, ◌<◌, ◌≤◌, length, take, IfOk, OnErr};
+ghost use Rattle.std.specs.Io.KnownBytes.{Appends, Keeps};
+ghost use Rattle.html_tool_run.specs.Writing.{WritesAll};
 
-use crate::recorded::WriteFailed;
+use crate::recorded::{LastCall, WriteFailed};
 use std::io::Write;
 
-/// Writes all of the bytes, and flushes after the last of them. Nothing is tried again, and a write
-/// that takes no byte has failed.
-pub(crate) fn write_whole<W: Write>(writer: &mut W, bytes: &[u8]) -> Result<(), WriteFailed>
-    ensures { AddsAll result bytes.now (W.contents writer.old) (W.contents writer.new) }
+/// Writes some of the bytes, at least one, and answers how many.
+pub(crate) fn write_some<W: Write>(
+    writer: &mut W,
+    last: &mut LastCall,
+    bytes: &[u8],
+) -> Result<usize, WriteFailed>
+    requires { 0 < length bytes.now }
+    ensures count { IfOk result (λ n. (0 < n) × (n ≤ length bytes.now)) }
+    ensures taken { IfOk result (λ n. (last.new ≡ LastCall.Wrote) × Appends
+        (W.contents writer.old) (W.contents writer.new) (take n bytes.now)) }
+    ensures failed { OnErr result ((last.new ≡ LastCall.Failed)
+        × Keeps (W.contents writer.old) (W.contents writer.new)) }
+{
+    match writer.write(bytes) {
+        Ok(n) if n > 0 => {
+            *last = LastCall::Wrote;
+            Ok(n)
+        }
+        _ => {
+            *last = LastCall::Failed;
+            Err(WriteFailed)
+        }
+    }
+}
+
+/// Flushes the writer.
+pub(crate) fn flush<W: Write>(writer: &mut W, last: &mut LastCall) -> Result<(), WriteFailed>
+    ensures flushed { IfOk result (λ _. last.new ≡ LastCall.Flushed) }
+    ensures failed { OnErr result (last.new ≡ LastCall.Failed) }
+    ensures kept { Keeps (W.contents writer.old) (W.contents writer.new) }
+{
+    match writer.flush() {
+        Ok(()) => {
+            *last = LastCall::Flushed;
+            Ok(())
+        }
+        Err(_) => {
+            *last = LastCall::Failed;
+            Err(WriteFailed)
+        }
+    }
+}
+
+/// Writes all of the bytes, and flushes after the last of them. Nothing is tried again.
+pub(crate) fn write_whole<W: Write>(
+    writer: &mut W,
+    last: &mut LastCall,
+    bytes: &[u8],
+) -> Result<(), WriteFailed>
+    ensures { WritesAll result bytes.now (W.contents writer.old) (W.contents writer.new) last.new }
 {
     let mut at = 0;
     while at < bytes.len() {
-        match writer.write(&bytes[at..]) {
-            Ok(n) if n > 0 => at += n,
-            _ => return Err(WriteFailed),
-        }
+        at += write_some(writer, last, &bytes[at..])?;
     }
-    match writer.flush() {
-        Ok(()) => Ok(()),
-        Err(_) => Err(WriteFailed),
-    }
+    flush(writer, last)
 }

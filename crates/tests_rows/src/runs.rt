@@ -3,7 +3,8 @@
 //! The output of a run is
 //!
 //! - `refused 12 at 4` where the number and the span of a refusal are written,
-//! - `bad input`, or `wrong words` where the words are wrong and nothing is read,
+//! - `bad input at 2` where the form is left, `bad input at line 1 column 5` where the input is no
+//!   JSON, or `wrong words` where the words are wrong and nothing is read,
 //! - else the text: of a tree all behind the document type; of items what stands in the body, if all
 //!   around it is as it is where nothing is known of a document, else the whole text. The line feeds
 //!   that `--pretty` writes at the beginning and at the end are left away too.
@@ -101,10 +102,10 @@ fn is_read_back(alloc: Global, row: &Row<'_>, text: &str) -> Result<bool> {
     let options = HtmlOptions { pretty };
     let value = Value::from_slice(alloc, &row.input)?;
     if row.words.first() == Some(&"tree") {
-        let root = element_in(alloc, value).ok().context("no tree")?;
+        let root = element_in(alloc, &value).ok().context("no tree")?;
         return Ok(reads_back(alloc, &root, &options, text));
     }
-    let items = items_in(alloc, value).ok().context("no items")?;
+    let items = items_in(alloc, &value).ok().context("no items")?;
     let info = DocumentInfo::new(alloc);
     let document = html_document(alloc, &items, &info, &[], DEPTH_LIMIT)?;
     Ok(reads_back(alloc, document.root(), &options, text))

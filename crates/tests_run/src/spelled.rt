@@ -1,9 +1,10 @@
 //! What JSON values spell, apart from a run.
 
-use html_tool_run::{element_in, items_in};
+use html_tool_run::{Fault, Place, element_in, items_in};
 use serde_json::Value;
 use std::alloc::Global;
 use std::process::Abort;
+use typst_html::Span;
 
 fn value_of(rt: &impl Abort, alloc: Global, text: &str) -> Value {
     Value::from_str(alloc, text).expect(rt, "a value")
@@ -14,9 +15,23 @@ fn value_of(rt: &impl Abort, alloc: Global, text: &str) -> Value {
 fn elements_and_items_are_spelled(rt: HostRuntime) {
     let alloc = rt.alloc();
     let value = value_of(&rt, alloc, r#"["el","p",[],[["text","a"]]]"#);
-    let paragraph = element_in(alloc, value).expect(&rt, "a paragraph");
+    let paragraph = element_in(alloc, &value).expect(&rt, "a paragraph");
     assert_eq!(rt; paragraph.children.len(), 1);
     let value = value_of(&rt, alloc, r#"[["text","a"],["space"],["text","b"]]"#);
-    let items = items_in(alloc, value).expect(&rt, "items");
+    let items = items_in(alloc, &value).expect(&rt, "items");
     assert_eq!(rt; items.len(), 3);
+}
+
+/// A value that is refused is as it was, and spells the same again.
+#[test]
+fn a_refused_value_stays(rt: HostRuntime) {
+    let alloc = rt.alloc();
+    let text = r#"[["text","a"],["el","P Q",[],[]]]"#;
+    let value = value_of(&rt, alloc, text);
+    for _ in 0..2 {
+        let refused = Some(Fault::Refused(2, Span(2)));
+        assert!(rt; items_in(alloc, &value).err() == refused);
+        assert!(rt; element_in(alloc, &value).err() == Some(Fault::BadInput(Place::Form(1))));
+    }
+    assert!(rt; value == value_of(&rt, alloc, text));
 }

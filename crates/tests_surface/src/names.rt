@@ -38,8 +38,8 @@ mod values {
 /// The program, in html_tool_run.
 mod program {
     use html_tool_run::{
-        Fault, LastCall, Recorded, Settings, Status, Task, WriteFailed, element_in, items_in, run,
-        run_recorded, text_of_document, text_of_input, wanted_task, words_of,
+        Fault, LastCall, Place, Recorded, Settings, Status, Task, WriteFailed, element_in,
+        items_in, run, run_recorded, text_of_document, text_of_input, wanted_task, words_of,
     };
 }
 

@@ -10,5 +10,5 @@ use Rattle.typst_html_c.specs.declared.reply.Reply.{Reply}
 pub fault_said : (a : Answer) (old : List ℕ) (reply : Reply) (new : List ℕ) (f : Fault) → Says a f
     → reply ≡ fault_reply f → new ≡ old → Replies a old reply new
 fault_said a old reply new OutOfMemory said is kept = failed is kept
-fault_said a old reply new BadInput said is kept = bad said is kept
+fault_said a old reply new (BadInput place) said is kept = bad place said is kept
 fault_said a old reply new (Refused number span) said is kept = refused number span.0 said is kept

@@ -13,6 +13,7 @@ use Rattle.html_dom_tree.specs.Views.{element_view, text_view}
 use Rattle.html_dom_tree.specs.declared.node.HtmlElement.{HtmlElement}
 use Rattle.html_tool_run.specs.Answers.{answer_if, bad_input}
 use Rattle.html_tool_run.specs.Replies.{Says}
+use Rattle.html_tool_run.specs.declared.fault.Place.TheVariants.{Unknown}
 use Rattle.typst_html_encode.specs.Reader.{read}
 use Rattle.typst_html_read.specs.Endings.{Gives}
 use Rattle.typst_html_read.specs.LimitedReading.{too_deep}
@@ -41,7 +42,7 @@ no_float e = rw (
 -- a page that is read, or that is none, and one that is not read
 pub read_said : (limit : ℕ) (text : List ℕ) (page : Option HtmlElement)
     → Gives (Ok page) (accepted (read text)) (too_deep limit text)
-    → text_answer limit text ≡ answer_if findings_answer (option_map element_view page)
+    → text_answer limit text ≡ answer_if Unknown findings_answer (option_map element_view page)
 unfolding text_answer
 read_said limit text page g = rw (g.clean, ← g.made) refl
 
@@ -57,12 +58,12 @@ pub text_page : (limit : ℕ) (page : List ℕ) → IsUtf8 page
 text_page limit page text = rw (is_utf8-from_IsUtf8 page text)
 
 by_test : (limit : ℕ) (page : List ℕ) (b : Bool) → is_utf8 page ≡ b → (IsUtf8 page → ⊥)
-    → page_answer page limit ≡ bad_input
+    → page_answer page limit ≡ bad_input Unknown
 by_test limit page true is no_text = absurd (no_text (IsUtf8-from_is_utf8 page is))
 by_test limit page false is no_text = rw is
 
 pub no_text_page : (limit : ℕ) (page : List ℕ) → (IsUtf8 page → ⊥)
-    → page_answer page limit ≡ bad_input
+    → page_answer page limit ≡ bad_input Unknown
 no_text_page limit page no_text = by_test limit page _ refl no_text
 
 pub ruleset pages = (text_page, no_text_page)

@@ -1,10 +1,12 @@
 -- What a call replies, and what it leaves in the caller's buffer.
 use Rattle.std.specs.Prelude.{◌≡◌, ◌==◌, ◌&&◌, ℕ, Bool, true, false, List, ◌++◌, length, drop, nat_le, Option, Some, None, option_map, option_and_then, if◌then◌else◌}
-use Rattle.html_tool_run.specs.Answers.{Answer, bad_input, refused_answer, answer_if, task_answer}
+use Rattle.html_tool_run.specs.Answers.{Answer, TextPlace, bad_input, refused_answer, answer_if, task_answer}
 use Rattle.html_tool_run.specs.DocumentAnswers.{document_input_answer}
 use Rattle.html_tool_run.specs.declared.documents.Settings.{Settings}
 use Rattle.html_tool_run.specs.declared.fault.Fault.{Fault}
 use Rattle.html_tool_run.specs.declared.fault.Fault.TheVariants.{OutOfMemory, BadInput, Refused}
+use Rattle.html_tool_run.specs.declared.fault.Place.{Place}
+use Rattle.html_tool_run.specs.declared.fault.Place.TheVariants.{Unknown, Text, Form}
 use Rattle.html_tool_run.specs.declared.status.Status.TheVariants.{Done}
 use Rattle.html_tool_run.specs.declared.words.Task.{Task}
 use Rattle.html_tool_run.specs.declared.words.Task.TheVariants.{Tree, Doc}
@@ -28,8 +30,9 @@ wanted_task kind layout =
     option_and_then (λ task. option_map (λ pretty. (task, pretty)) (pretty_of layout)) (task_of kind)
 
 -- the answer to an input: the program's, or bad input where a number is wrong
-abbrev pub write_answer : (kind layout : ℕ) (input : List ℕ) → Answer
-write_answer kind layout input = answer_if (task_answer input) (wanted_task kind layout)
+abbrev pub write_answer : (kind layout : ℕ) (input : List ℕ) → TextPlace → Answer
+write_answer kind layout input at =
+    answer_if Unknown (task_answer input at) (wanted_task kind layout)
 
 -- how deep the bodies of items may stand: from 1 to 10,000
 abbrev pub limit_of : (limit : ℕ) → Option ℕ
@@ -42,18 +45,31 @@ wanted_settings layout links limit = option_and_then (λ pretty. option_and_then
     (limit_of limit)) (yes_or_no links)) (pretty_of layout)
 
 -- the answer to an input that spells a document, or bad input where a number is wrong
-abbrev pub document_call_answer : (layout links limit : ℕ) (input : List ℕ) → Answer
-document_call_answer layout links limit input =
-    answer_if (λ settings. document_input_answer settings input) (wanted_settings layout links limit)
+abbrev pub document_call_answer : (layout links limit : ℕ) (input : List ℕ) → TextPlace → Answer
+document_call_answer layout links limit input at =
+    answer_if Unknown (λ settings. document_input_answer settings input at)
+    (wanted_settings layout links limit)
 
 abbrev pub without_text : (status number span : ℕ) → Reply
-without_text status number span =
-    record { length = 0; span = span; status = status; number = number }
+without_text status number span = record {
+  length = 0;
+  span = span;
+  line = 0;
+  column = 0;
+  status = status;
+  number = number;
+}
+
+-- an input that is bad at that place
+abbrev pub bad_reply : Place → Reply
+bad_reply Unknown = without_text 2 0 0
+bad_reply (Text line column) = record (without_text 2 0 0) { line = line; column = column }
+bad_reply (Form n) = without_text 2 0 n
 
 -- why there is no text, as a reply
 abbrev pub fault_reply : Fault → Reply
 fault_reply OutOfMemory = without_text 3 0 0
-fault_reply BadInput = without_text 2 0 0
+fault_reply (BadInput place) = bad_reply place
 fault_reply (Refused number span) = without_text 1 number span.0
 
 -- 0 where the text fits, and else 4
@@ -61,6 +77,8 @@ abbrev pub text_reply : (bytes old : List ℕ) → Reply
 text_reply bytes old = record {
   length = length bytes;
   span = 0;
+  line = 0;
+  column = 0;
   status = if nat_le (length bytes) (length old) then 0 else 4;
   number = 0;
 }
@@ -77,5 +95,10 @@ pub data Replies (a : Answer) (old : List ℕ) (reply : Reply) (new : List ℕ) 
       → new ≡ buffer_with bytes old → Replies a old reply new
   refused : (number span : ℕ) → a ≡ refused_answer (number, span)
       → reply ≡ without_text 1 number span → new ≡ old → Replies a old reply new
-  bad : a ≡ bad_input → reply ≡ without_text 2 0 0 → new ≡ old → Replies a old reply new
+  bad : (place : Place) → a ≡ bad_input place → reply ≡ bad_reply place → new ≡ old
+      → Replies a old reply new
   failed : reply ≡ without_text 3 0 0 → new ≡ old → Replies a old reply new
+
+-- so it replies for some place in the input
+abbrev pub RepliesAt : (TextPlace → Answer) → (old : List ℕ) (reply : Reply) (new : List ℕ) → Type 0
+RepliesAt answer old reply new = (at : TextPlace) × Replies (answer at) old reply new

@@ -13,6 +13,7 @@ use Rattle.html_dom_tree.specs.Tree.{ElementView}
 use Rattle.html_tool_run.specs.Answers.{Answer, answer_if, bad_input, refused_answer}
 use Rattle.html_tool_run.specs.declared.fault.Fault.{Fault}
 use Rattle.html_tool_run.specs.declared.fault.Fault.TheVariants.{OutOfMemory, Refused}
+use Rattle.html_tool_run.specs.declared.fault.Place.TheVariants.{Unknown}
 use Rattle.html_tool_run.specs.declared.status.Status.TheVariants.{Done}
 use Rattle.typst_html_encode.specs.Reader.{read}
 use Rattle.typst_html_read.specs.LimitedReading.{too_deep}
@@ -58,11 +59,11 @@ unless_deep (place ∷ places) answer = refused_answer (8, place)
 -- the answer to a text: what is wrong with the page that is read, or bad input where none is read
 unfoldable pub text_answer : (limit : ℕ) → (text : List ℕ) → Answer
 text_answer limit text =
-    unless_deep (too_deep limit text) (answer_if findings_answer (accepted (read text)))
+    unless_deep (too_deep limit text) (answer_if Unknown findings_answer (accepted (read text)))
 
 abbrev pub page_answer : (page : List ℕ) → (limit : ℕ) → Answer
-page_answer page limit = if is_utf8 page then text_answer limit (chars page) else bad_input
+page_answer page limit = if is_utf8 page then text_answer limit (chars page) else bad_input Unknown
 
 -- the answer to a page, or bad input where the limit is wrong
 abbrev pub check_answer : (limit : ℕ) (page : List ℕ) → Answer
-check_answer limit page = answer_if (page_answer page) (limit_of limit)
+check_answer limit page = answer_if Unknown (page_answer page) (limit_of limit)

@@ -6,12 +6,13 @@ ghost use Rattle.html_dom_check.specs.Findings.{dead_fragment_view, dead_view, r
 ghost use Rattle.html_dom_tree.specs.Views.{element_view};
 ghost use Rattle.html_tool_run.specs.Answers.{answer_if};
 ghost use Rattle.html_tool_run.specs.Replies.{GivesAnswer};
+ghost use Rattle.html_tool_run.specs.declared.fault.Place.TheVariants.{Unknown};
 ghost use Rattle.typst_html_c.specs.PageFindings.{finding, findings, findings_answer, page_answer, path_data};
 ghost use Rattle.typst_html_c.specs.PageFindings.{read_fault, text_and_path, text_answer, tree_findings};
 
 use html_dom_check::{DeadFragment, RepeatedId, dead_fragments, repeated_ids};
 use html_dom_tree::{HtmlElement, Span};
-use html_tool_run::Fault;
+use html_tool_run::{Fault, Place};
 use serde_json::{Value, json};
 use std::alloc::{AllocError, Global};
 use std::str;
@@ -26,7 +27,7 @@ pub(crate) fn page_findings(alloc: Global, page: &[u8], limit: usize) -> Result<
 {
     match str::from_utf8(page) {
         Ok(text) => text_findings(alloc, text, limit),
-        Err(_) => Err(Fault::BadInput),
+        Err(_) => Err(Fault::BadInput(Place::Unknown)),
     }
 }
 
@@ -54,11 +55,12 @@ fn read_fault(fault: ReadFault) -> Fault
 
 /// What is wrong with the links of a page that was read, if it was, as JSON.
 fn read_findings(alloc: Global, page: Option<HtmlElement>) -> Result<String, Fault>
-    ensures { GivesAnswer result (answer_if findings_answer (option_map element_view page)) }
+    ensures { GivesAnswer result
+        (answer_if Unknown findings_answer (option_map element_view page)) }
 {
     match page {
         Some(root) => tree_findings(alloc, &root),
-        None => Err(Fault::BadInput),
+        None => Err(Fault::BadInput(Place::Unknown)),
     }
 }
 

@@ -6,8 +6,8 @@
 #![tactic(auto)]
 
 ghost use Rattle.std.specs.Prelude.{◌≡◌};
-ghost use Rattle.html_tool_run.specs.Replies.{GivesAnswer};
-ghost use Rattle.typst_html_c.specs.CallReplies.{Replies, document_call_answer, write_answer};
+ghost use Rattle.html_tool_run.specs.Replies.{GivesAnswer, GivesAnswerAt};
+ghost use Rattle.typst_html_c.specs.CallReplies.{Replies, RepliesAt, document_call_answer, write_answer};
 ghost use Rattle.typst_html_c.specs.PageFindings.{check_answer};
 
 mod findings;
@@ -15,30 +15,30 @@ mod numbers;
 mod reply;
 
 use findings::page_findings;
-use html_tool_run::{Fault, text_of_document, text_of_input};
+use html_tool_run::{Fault, Place, text_of_document, text_of_input};
 use numbers::{limit_of, wanted_settings, wanted_task};
 pub use reply::Reply;
 use reply::reply_with;
 use std::alloc::Global;
 
 /// The version of these calls. It grows by one where a call or a status changes its meaning.
-const VERSION: u32 = 2;
+const VERSION: u32 = 3;
 
 /// The version of these calls, to be compared with the one of the header that a caller was made by.
 #[unsafe(no_mangle)]
 pub extern "C" fn typst_html_version() -> u32
-    ensures { result ≡ 2 }
+    ensures { result ≡ 3 }
 {
     VERSION
 }
 
 /// The text of what the input spells, where the numbers of the kind and of the layout are right.
 fn text_of(alloc: Global, kind: u8, layout: u8, input: &[u8]) -> Result<String, Fault>
-    ensures { GivesAnswer result (write_answer kind layout input.now) }
+    ensures { GivesAnswerAt result (write_answer kind layout input.now) }
 {
     match wanted_task(kind, layout) {
         Some((task, pretty)) => text_of_input(alloc, input, task, pretty),
-        None => Err(Fault::BadInput),
+        None => Err(Fault::BadInput(Place::Unknown)),
     }
 }
 
@@ -48,7 +48,8 @@ fn text_of(alloc: Global, kind: u8, layout: u8, input: &[u8]) -> Result<String, 
 ///
 /// What the buffer holds beyond the text stays, and so does all of it where the status is not 0.
 /// Status 4 says by `length` how long a buffer the text takes; a second call with one makes the text
-/// once more. Another kind or layout is bad input.
+/// once more. A bad input bears its place: the line and the column where it is no JSON, and else by
+/// `span` the list in which the form is left. Another kind or layout is bad input without a place.
 #[unsafe(no_mangle)]
 pub extern "C" fn typst_html_write(
     alloc: Global,
@@ -57,7 +58,7 @@ pub extern "C" fn typst_html_write(
     input: &[u8],
     output: &mut [u8],
 ) -> Reply
-    ensures answered { Replies (write_answer kind layout input.now) output.old result output.new }
+    ensures answered { RepliesAt (write_answer kind layout input.now) output.old result output.new }
     ensures kept { ¬ (result.status ≡ 0) → output.new ≡ output.old }
 {
     reply_with(text_of(alloc, kind, layout, input), output)
@@ -71,11 +72,11 @@ fn text_of_settings(
     limit: u32,
     input: &[u8],
 ) -> Result<String, Fault>
-    ensures { GivesAnswer result (document_call_answer layout links limit input.now) }
+    ensures { GivesAnswerAt result (document_call_answer layout links limit input.now) }
 {
     match wanted_settings(layout, links, limit) {
         Some(settings) => text_of_document(alloc, input, &settings),
-        None => Err(Fault::BadInput),
+        None => Err(Fault::BadInput(Place::Unknown)),
     }
 }
 
@@ -96,7 +97,7 @@ pub extern "C" fn typst_html_document(
     input: &[u8],
     output: &mut [u8],
 ) -> Reply
-    ensures answered { Replies (document_call_answer layout links limit input.now) output.old result output.new }
+    ensures answered { RepliesAt (document_call_answer layout links limit input.now) output.old result output.new }
     ensures kept { ¬ (result.status ≡ 0) → output.new ≡ output.old }
 {
     let text = text_of_settings(alloc, layout, links, limit, input);
@@ -109,7 +110,7 @@ fn text_of_findings(alloc: Global, limit: u32, page: &[u8]) -> Result<String, Fa
 {
     match limit_of(limit) {
         Some(limit) => page_findings(alloc, page, limit),
-        None => Err(Fault::BadInput),
+        None => Err(Fault::BadInput(Place::Unknown)),
     }
 }
 

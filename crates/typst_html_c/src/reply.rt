@@ -3,10 +3,10 @@
 ghost use Rattle.std.specs.Prelude.{◌≡◌};
 ghost use Rattle.html_tool_run.specs.Answers.{Answer};
 ghost use Rattle.html_tool_run.specs.Replies.{GivesAnswer};
-ghost use Rattle.typst_html_c.specs.CallReplies.{Replies, fault_reply, text_reply, buffer_with, without_text};
+ghost use Rattle.typst_html_c.specs.CallReplies.{Replies, bad_reply, fault_reply, text_reply, buffer_with, without_text};
 
 use html_dom_tree::Span;
-use html_tool_run::Fault;
+use html_tool_run::{Fault, Place};
 
 /// How a call ended.
 #[repr(C)]
@@ -14,8 +14,13 @@ use html_tool_run::Fault;
 pub struct Reply {
     /// How many bytes the text has; 0 where there is none.
     pub length: usize,
-    /// The span of what is refused; 0 where nothing is, or where what is refused has none.
+    /// The span of what is refused; 0 where nothing is, or where what is refused has none. Of a bad
+    /// input: where the form is left, as [`Place::Form`] says.
     pub span: u64,
+    /// The line of a bad input that is no JSON; else 0.
+    pub line: usize,
+    /// The column there, as [`Place::Text`] says.
+    pub column: usize,
     /// 0: the text is in the buffer; 1: refused; 2: bad input; 3: an allocation failed; 4: the buffer
     /// is too short for the text.
     pub status: u8,
@@ -40,6 +45,8 @@ fn without_text(status: u8, number: u8, span: u64) -> Reply
     Reply {
         length: 0,
         span,
+        line: 0,
+        column: 0,
         status,
         number,
     }
@@ -58,8 +65,25 @@ fn put(text: &[u8], output: &mut [u8]) -> Reply
     Reply {
         length,
         span: 0,
+        line: 0,
+        column: 0,
         status: if fits { DONE } else { TOO_SHORT },
         number: 0,
+    }
+}
+
+/// The reply to an input that is bad at that place.
+fn bad_reply(place: Place) -> Reply
+    ensures { result ≡ bad_reply place }
+{
+    match place {
+        Place::Unknown => without_text(BAD_INPUT, 0, 0),
+        Place::Text(line, column) => Reply {
+            line,
+            column,
+            ..without_text(BAD_INPUT, 0, 0)
+        },
+        Place::Form(number) => without_text(BAD_INPUT, 0, number),
     }
 }
 
@@ -69,7 +93,7 @@ fn fault_reply(fault: Fault) -> Reply
 {
     match fault {
         Fault::OutOfMemory => without_text(OUT_OF_MEMORY, 0, 0),
-        Fault::BadInput => without_text(BAD_INPUT, 0, 0),
+        Fault::BadInput(place) => bad_reply(place),
         Fault::Refused(number, Span(span)) => without_text(REFUSED, number, span),
     }
 }

@@ -12,6 +12,8 @@ fn a_text_is_put_before_what_was_there(rt: HostRuntime) {
     let made = Reply {
         length: 30,
         span: 0,
+        line: 0,
+        column: 0,
         status: 0,
         number: 0,
     };
@@ -38,6 +40,8 @@ fn a_refusal_has_its_number_and_its_span(rt: HostRuntime) {
     let refused = Reply {
         length: 0,
         span: 2,
+        line: 0,
+        column: 0,
         status: 1,
         number: 2,
     };
@@ -46,26 +50,32 @@ fn a_refusal_has_its_number_and_its_span(rt: HostRuntime) {
 }
 
 #[test]
-fn bad_input_is_told(rt: HostRuntime) {
+fn bad_input_is_told_with_its_place(rt: HostRuntime) {
     let alloc = rt.alloc();
-    for (kind, layout, input) in [
-        (0, 0, b"".as_slice()),
-        (0, 0, b"\xff".as_slice()),
-        (1, 0, PARAGRAPH),
-        (2, 0, PARAGRAPH),
-        (0, 2, PARAGRAPH),
-        (255, 255, PARAGRAPH),
+    for (kind, layout, input, span, line, column) in [
+        (0, 0, b"".as_slice(), 0, 1, 0),
+        (0, 0, b"\xff".as_slice(), 0, 1, 1),
+        (1, 0, b"[\n [], }".as_slice(), 0, 2, 6),
+        (1, 0, PARAGRAPH, 0, 0, 0),
+        (1, 0, br#"[["space"],["text",1]]"#.as_slice(), 2, 0, 0),
+        (2, 0, PARAGRAPH, 0, 0, 0),
+        (0, 2, PARAGRAPH, 0, 0, 0),
+        (255, 255, PARAGRAPH, 0, 0, 0),
     ] {
         let mut output = [b'.'; 40];
         let reply = typst_html_write(alloc, kind, layout, input, &mut output);
         assert_eq!(rt; (reply.status, reply.length, reply.number), (2, 0, 0));
+        assert_eq!(rt;
+            (reply.span, reply.line, reply.column),
+            (span, line, column)
+        );
         assert!(rt; &output[..] == [b'.'; 40].as_slice());
     }
 }
 
 #[test]
-fn the_version_is_2(rt: HostRuntime) {
-    assert_eq!(rt; typst_html_version(), 2);
+fn the_version_is_3(rt: HostRuntime) {
+    assert_eq!(rt; typst_html_version(), 3);
 }
 
 const TIDES: &[u8] = br#"{

@@ -18,7 +18,7 @@ fn a_run_writes_a_tree(rt: HostRuntime) -> Result<(), Fail> {
 
 #[test]
 fn a_text_is_made_of_an_input(rt: HostRuntime) -> Result<(), Fail> {
-    use html_tool_run::{Fault, Task, text_of_input};
+    use html_tool_run::{Fault, Place, Task, text_of_input};
     use typst_html::Span;
 
     let alloc = rt.alloc();
@@ -31,6 +31,10 @@ fn a_text_is_made_of_an_input(rt: HostRuntime) -> Result<(), Fail> {
     assert_eq!(rt; text.as_str(), "<!DOCTYPE html><p>a &lt; b</p>");
     let fault = text_of_input(alloc, br#"["el","P Q",[],[]]"#, Task::Tree, false);
     assert!(rt; fault == Err(Fault::Refused(2, Span(1)))); // no tag has a name with a space
+    let fault = text_of_input(alloc, br#"["el","p",[],[["text",7]]]"#, Task::Tree, false);
+    assert!(rt; fault == Err(Fault::BadInput(Place::Form(2)))); // the second list is no text
+    let fault = text_of_input(alloc, br#"["el","p",[],[]"#, Task::Tree, false);
+    assert!(rt; fault == Err(Fault::BadInput(Place::Text(1, 15)))); // a bracket is missing
     Ok(())
 }
 

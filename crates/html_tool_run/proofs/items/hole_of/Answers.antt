@@ -6,9 +6,9 @@ use Rattle.html_tool_run.proofs.Readings.{read_clean}
 use Rattle.html_tool_run.specs.NameRefusals.{item_refusals}
 use Rattle.html_tool_run.proofs.items.hole_of.Goals as goal
 
-pub returns : goal.returns
+pub returns-in-Some : goal.returns-in-Some
 unfolding item_refusals
-returns c =
-    read_clean item_refusals (item_view Item.Hole) _ c.args.reader.now c.span.new.self
-    (rw (c.in_ok-nothing_in.ensures, item_view-Hole, c.in_ok-_span.ensures.next) refl)
-    (rw item_view-Hole refl) c.in_ok-_span.ensures.refused
+returns-in-Some c =
+    read_clean item_refusals (item_view (Item.Hole)) _ c.args.reader.now c.args.reader.now
+    (rw (← c.nothing_in.ensures, c.in-Some.is, item_view-Hole) refl)
+    (rw item_view-Hole refl) refl

@@ -1,4 +1,4 @@
-use Rattle.std.proofs.Common.{◌≡◌, false, None, chars, length, map, refl, sym, ap, ◌∙◌, rules, arith}
+use Rattle.std.proofs.Common.{◌≡◌, ℕ, false, None, chars, length, map, refl, sym, ap, ◌∙◌, subst, rules, arith}
 use Rattle.std.proofs.lemmas.List.{nil_from_length}
 use Rattle.std.proofs.lemmas.Result.{err_from_is_err_and}
 use Rattle.std.specs.Vec.Iter.{into_iter_items, into_iter_len}
@@ -9,39 +9,47 @@ use Rattle.html_dom_tree.specs.declared.node.HtmlNode as HtmlNode
 use Rattle.html_dom_tree.proofs.Basics.{node_view-Element}
 use Rattle.html_tool_run.proofs.Forms.{element_form-four}
 use Rattle.html_tool_run.proofs.KindForms.{form-kind}
-use Rattle.html_tool_run.proofs.NodeRows.{nodes_row, joined-nodes, own_first}
+use Rattle.html_tool_run.proofs.NodeRows.{nodes_row, joined-nodes, own_first, added_from}
 use Rattle.html_tool_run.proofs.Readings.{read_element}
 use Rattle.html_tool_run.proofs.Rows.{none_read, one_read, all_read, wrong_one}
 use Rattle.html_tool_run.specs.Fields.{pairs_at}
 use Rattle.html_tool_run.specs.NameRefusals.{name_refusals, all_name_refusals}
-use Rattle.html_tool_run.specs.Spelled.{element_made, list_at, spelled_all}
+use Rattle.html_tool_run.specs.Reading.{AddsNode}
+use Rattle.html_tool_run.specs.Spelled.{element_made, form, list_at, spelled_all}
 use Rattle.html_tool_run.proofs.nodes.+spell.Goals as goal
 
-pub push_node-returns-in-Some : goal.push_node-returns-in-Some
-push_node-returns-in-Some t c =
+pub push_node-returns : goal.push_node-returns
+push_node-returns t c =
+    let Opened : ℕ → Type 0 = λ n. AddsNode c.push_list.result
+    (form (items_view c.in-Array.list.items) n) c.args.nodes.now c.push_list.new.nodes
+    c.args.reader.now c.push_list.new.reader in
+    rw (c.in-Array.is, view-Array)
+    (subst Opened c.in_ok-open.ensures.lists
+    (added_from c.push_list.result _ c.args.nodes.now c.push_list.new.nodes c.args.reader.now
+    c.open.new.self c.push_list.new.reader c.in_ok-open.ensures.refused c.push_list.ensures))
+
+pub push_list-returns-in-Some : goal.push_list-returns-in-Some
+push_list-returns-in-Some t c =
     rw (
-      c.in-Array.is,
-      view-Array,
-      form-kind c.in-Array.list.items c.args.reader.now.next,
+      form-kind c.args.list.items c.args.reader.now.lists,
       ← c.deref.ensures.value,
       ← c.list_kind.ensures,
       c.in-Some.is,
       c.deref.ensures.value,
     ) c.push_form.ensures
 
-pub push_node-returns-in-None : goal.push_node-returns-in-None
-push_node-returns-in-None t c =
+pub push_list-returns-in-None : goal.push_list-returns-in-None
+push_list-returns-in-None t c =
     rw (
-      c.in-Array.is,
-      view-Array,
-      form-kind c.in-Array.list.items c.args.reader.now.next,
+      form-kind c.args.list.items c.args.reader.now.lists,
       ← c.deref.ensures.value,
       ← c.list_kind.ensures,
       c.in-None.is,
+      c.left.ensures,
     ) refl
 
-pub push_element-returns : goal.push_element-returns
-push_element-returns t c = search (rules, element_form-four)
+pub push_element-returns-in-Some : goal.push_element-returns-in-Some
+push_element-returns-in-Some t c = search (rules, element_form-four)
 
 pub push_element_with-returns : goal.push_element_with-returns
 push_element_with-returns t c = record {
@@ -51,7 +59,7 @@ push_element_with-returns t c = record {
     css = c.new.result;
     children = c.in_ok-children.children;
     parent = None;
-    span = c.in_ok-span.span;
+    span = c.here-span.result;
     pre_span = false;
   });
   added = c.push_reserved.ensures.items;
@@ -59,26 +67,26 @@ push_element_with-returns t c = record {
   room = c.push_reserved.ensures.capacity;
   read =
       rw (
-        c.in_ok-text_at.ensures,
+        ← c.text_at.ensures,
+        c.in-Some.is,
         ← c.deref.ensures,
         node_view-Element,
         c.new.ensures,
-        c.in_ok-span.ensures.span,
+        c.here-span.ensures,
       )
       (read_element element_made name_refusals all_name_refusals own_first
       (chars c.deref.result.now) c.in_ok-tag.tag (pairs_at (view c.args.pairs))
       (attrs_view c.in_ok-attrs.attrs) (list_at (view c.args.list))
-      (nodes_view c.in_ok-children.children.items) c.in_ok-span.span.0 c.args.reader.now
-      c.span.new.self c.tag.new.self c.pairs.new.self c.list_of.new.reader
-      c.in_ok-span.ensures.span c.in_ok-span.ensures.next c.in_ok-span.ensures.refused
+      (nodes_view c.in_ok-children.children.items) c.here-span.result.0 c.args.reader.now
+      c.tag.new.self c.pairs.new.self c.list_of.new.reader c.here-span.ensures
       c.in_ok-tag.ensures c.in_ok-attrs.ensures c.in_ok-children.ensures);
 }
 
 pub list_of-loop-value-init : goal.list_of-loop-value-init
 list_of-loop-value-init t c =
     let left = into_iter_items c.into_iter-value-iterator.result in
-    let is : list_at (view c.args.value) c.args.reader.now.next
-    ≡ spelled_all (items_view left) c.args.reader.now.next =
+    let is : list_at (view c.args.value) c.args.reader.now.lists
+    ≡ spelled_all (items_view left) c.args.reader.now.lists =
     rw (
       c.in-Array.is,
       view-Array,

@@ -6,22 +6,17 @@ use Rattle.html_tool_run.proofs.Readings.{read_clean}
 use Rattle.html_tool_run.specs.NameRefusals.{name_refusals}
 use Rattle.html_tool_run.proofs.nodes.push_text.Goals as goal
 
-pub returns : goal.returns
+pub returns-in-Some : goal.returns-in-Some
 unfolding name_refusals
-returns c =
-    let made = HtmlNode.Text c.in_ok-text.text c.in_ok-span.span in
+returns-in-Some c =
+    let made = HtmlNode.Text c.in-Some.text c.here.result in
     record {
       made = made;
       added = c.push_reserved.ensures.items;
       count = c.push_reserved.ensures.len;
       room = c.push_reserved.ensures.capacity;
       read =
-          read_clean name_refusals (node_view made) _ c.args.reader.now c.span.new.self
-          (rw (
-            c.in_ok-text.ensures,
-            node_view-Text,
-            c.in_ok-span.ensures.span,
-            c.in_ok-span.ensures.next,
-          ) refl)
-          (rw node_view-Text refl) c.in_ok-span.ensures.refused;
+          read_clean name_refusals (node_view made) _ c.args.reader.now c.args.reader.now
+          (rw (← c.text_in.ensures, c.in-Some.is, node_view-Text, c.here.ensures) refl)
+          (rw node_view-Text refl) refl;
     }

@@ -1,25 +1,7 @@
-use Rattle.std.proofs.Common.{refl, inr, subst}
-use Rattle.html_tool_run.specs.Answers.{Answer, AddsAnswer, bad_input, words_answer}
-use Rattle.html_tool_run.specs.Words.{texts_of}
-use Rattle.html_tool_run.proofs.Inputs.{some_input, nothing_added}
 use Rattle.html_tool_run.proofs.program.run.Goals as goal
 
-pub returns-in-Ok-clause-answers : goal.returns-in-Ok-clause-answers
-returns-in-Ok-clause-answers g c =
-    let all = c.wanted.ensures.answers in
-    let is = c.in-Ok.ensures (words_answer (texts_of c.args.words.now) all.0) all.2 in
-    let Tells : Answer → Type 0 = λ a. AddsAnswer a c.tell.result (g.W.Write.contents c.args.writer.now)
-    (g.W.Write.contents c.tell.new.writer) in
-    (all.0, all.1, subst Tells is c.tell.ensures)
+pub returns-clause-answers : goal.returns-clause-answers
+returns-clause-answers g c = (c.run_on.new.last, c.run_on.ensures.answers)
 
-pub returns-in-Ok-clause-wrong_words : goal.returns-in-Ok-clause-wrong_words
-returns-in-Ok-clause-wrong_words g c none =
-    let is = c.in-Ok.ensures bad_input (c.wanted.ensures.wrong_words none) in
-    let Tells : Answer → Type 0 = λ a. AddsAnswer a c.tell.result (g.W.Write.contents c.args.writer.now)
-    (g.W.Write.contents c.tell.new.writer) in
-    subst Tells is c.tell.ensures
-
-pub returns-in-Err-clause-answers : goal.returns-in-Err-clause-answers
-returns-in-Err-clause-answers g c =
-    let all = some_input (g.R.Read.remaining c.args.reader.now) in
-    (all.0, all.1, inr (refl, nothing_added _ _))
+pub returns-clause-wrong_words : goal.returns-clause-wrong_words
+returns-clause-wrong_words g c none = (c.run_on.new.last, c.run_on.ensures.wrong_words none)

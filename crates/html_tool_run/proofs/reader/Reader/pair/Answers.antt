@@ -5,10 +5,10 @@ use Rattle.html_tool_run.proofs.Readings.{read_mapped}
 use Rattle.html_tool_run.specs.NameRefusals.{refusals}
 use Rattle.html_tool_run.proofs.reader.Reader.pair.Goals as goal
 
-pub returns : goal.returns
-returns c =
-    rw (c.in_ok-name.ensures, ← c.deref.ensures)
-    (read_mapped (λ name. (name, text_view c.in_ok-name.value))
+pub returns-in_ok-attr-in-Some : goal.returns-in_ok-attr-in-Some
+returns-in_ok-attr-in-Some c =
+    rw (← c.pair_in.ensures, c.in-Some.is, ← c.deref.ensures)
+    (read_mapped (λ name. (name, text_view c.in-Some.value))
     (λ name. refusals c.args.span.0 (attr_fault name))
-    (λ p. refusals c.args.span.0 (attr_fault p.0)) c.in_ok-attr.field-0 _ c.args.self.now
-    c.attr.new.self (λ name. refl) c.in_ok-attr.ensures)
+    (λ p. refusals c.args.span.0 (attr_fault p.0)) c.in_ok-attr-in-Some.field-0 _ c.args.self.now
+    c.attr.new.self (λ name. refl) c.in_ok-attr-in-Some.ensures)
