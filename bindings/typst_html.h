@@ -32,8 +32,8 @@ enum typst_html_status {
     TYPST_HTML_DONE = 0,          /* the first `length` bytes of `output` are the text, in UTF-8 */
     TYPST_HTML_REFUSED = 1,       /* the input is refused: `number` says why, `span` where */
     TYPST_HTML_BAD_INPUT = 2,     /* the input is no JSON (`line` and `column` say where) or spells nothing
-                                     (`span` says where), the page is none that is read, either is no
-                                     UTF-8, or a number is none below */
+                                     (`span` says where), the page is none that is read (all three say
+                                     from where on), either is no UTF-8, or a number is none below */
     TYPST_HTML_OUT_OF_MEMORY = 3, /* an allocation failed */
     TYPST_HTML_TOO_SHORT = 4,     /* `output` is too short: the text takes `length` bytes */
 };
@@ -42,11 +42,13 @@ struct typst_html_reply {
     size_t length;  /* statuses 0 and 4: how many bytes the text has; else 0 */
     uint64_t span;  /* status 1: the number of the list of a node or item in the JSON, counted from 1 by
                        their opening brackets, where the refusal is; 0 where it has no place. Of a
-                       page: how many characters stand before what is refused. Status 2: how many of
-                       these lists are opened up to the first value that is not what the form wants */
-    size_t line;    /* status 2, where the input is no JSON: the line, from 1 on; else 0 */
-    size_t column;  /* the column there, in bytes from 1 on; where the input ends too soon, how long its
-                       last line is */
+                       page, statuses 1 and 2: how many bytes stand before the place from which on it is
+                       not read. Of JSON, status 2: how many of these lists are opened up to the first
+                       value that is not what the form wants */
+    size_t line;    /* status 2, where the input is no JSON, and of a page, statuses 1 and 2: the line of
+                       that place, from 1 on; else 0 */
+    size_t column;  /* the column there, from 1 on: of JSON in bytes, and where it ends too soon, how long
+                       its last line is; of a page in characters. A line ends with a line feed */
     uint8_t status; /* enum typst_html_status */
     uint8_t number; /* status 1: which refusal, as below; else 0 */
 };
@@ -115,8 +117,8 @@ struct typst_html_reply typst_html_document(uint8_t layout, uint8_t links, uint3
  * nowhere, and the ids that stand in it before.
  *     {"dead_fragments":[{"fragment":t,"path":[n,..]},..],"repeated_ids":[{"id":t,"path":[n,..]},..]}
  * A path is the index of each child on the way from the root, texts counted. Pages are read that are
- * written as by these calls; one with another syntax is bad input. Elements may stand `limit` deep,
- * from 1 to 10,000.
+ * written as by these calls; one with another syntax is bad input, with the place of the first character
+ * with which no such page goes on. Elements may stand `limit` deep, from 1 to 10,000.
  */
 struct typst_html_reply typst_html_check(uint32_t limit, const uint8_t *page, size_t length,
                                          uint8_t *output, size_t room);

@@ -124,13 +124,19 @@ static void pages_are_checked(void) {
                            !memcmp(output, found, room) && output[room] == '.');
     reply = typst_html_check(1, (const uint8_t *)page, length, output, room);
     expect("a page that is too deep",
-           reply.status == TYPST_HTML_REFUSED && reply.number == 8 && reply.span == 25);
+           reply.status == TYPST_HTML_REFUSED && reply.number == 8 && reply.span == 25 &&
+               reply.line == 1 && reply.column == 26);
     reply = typst_html_check(0, (const uint8_t *)page, length, output, room);
     expect("a page with limit 0", reply.status == TYPST_HTML_BAD_INPUT);
     for (size_t part = 0; part < length; part++) {
         reply = typst_html_check(50, (const uint8_t *)page, part, output, sizeof output);
-        expect("a beginning of a page", reply.status == TYPST_HTML_BAD_INPUT);
+        expect("a beginning of a page", reply.status == TYPST_HTML_BAD_INPUT && reply.span == part &&
+                                            reply.line == 1 && reply.column == part + 1);
     }
+    const char *wrong = "<!DOCTYPE html>\n<p>\xc3\xa9 & x</p>";
+    reply = typst_html_check(50, (const uint8_t *)wrong, strlen(wrong), output, sizeof output);
+    expect("a page with a bare &", reply.status == TYPST_HTML_BAD_INPUT && reply.number == 0 &&
+                                       reply.span == 23 && reply.line == 2 && reply.column == 7);
 }
 
 static void *all_rows(void *bad) {

@@ -181,12 +181,26 @@ class Calls(unittest.TestCase):
         self.assertFalse(html.check(page.encode()))
 
     def test_pages_that_are_not_read(self):
-        page = "<!DOCTYPE html><p><b></b></p>"
-        self.assertEqual(outcome(html.check, page, limit=1), (8, 18))
+        page = "<!DOCTYPE html><p>é\n<b></b></p>"
+        with self.assertRaises(Refused) as caught:
+            html.check(page, limit=1)
+        refused = caught.exception
+        self.assertEqual((refused.number, refused.span, refused.place), (8, 21, html.Place(21, 2, 1)))
+        self.assertEqual(str(refused), f"{html.WORDS[8]} (refusal 8 at 2:1)")
         self.assertFalse(html.check(page, limit=2))
-        for bad, limit in ((page, 0), (page, 10_001), (page, -1), ("<p>", 50), (b"\xff", 50), ("\ud800", 50)):
-            with self.subTest(bad, limit=limit):
-                self.assertIs(outcome(html.check, bad, limit=limit), html.BadInput)
+        for bad, limit in ((page, 0), (page, 10_001), (page, -1), (b"\xff", 50), ("\ud800", 50)):
+            with self.subTest(bad, limit=limit), self.assertRaises(html.BadInput) as caught:
+                html.check(bad, limit=limit)
+            self.assertIsNone(caught.exception.place)
+        for bad, place in (
+            ("", (0, 1, 1)),
+            ("<p>", (1, 1, 2)),
+            ("<!DOCTYPE html>\n<p>é & x</p>", (23, 2, 7)),
+            ("<!DOCTYPE html><p>x</b>", (21, 1, 22)),
+        ):
+            with self.subTest(bad), self.assertRaises(html.BadInput) as caught:
+                html.check(bad)
+            self.assertEqual(caught.exception.place, html.Place(*place))
 
     def test_findings_far_longer_than_their_page(self):
         page = "<!DOCTYPE html>" + "<b>" * 400 + '<a href="#x"></a>' * 1000 + "</b>" * 400

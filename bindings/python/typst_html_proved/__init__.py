@@ -36,8 +36,8 @@ from ._library import VERSION, Reply, called
 
 __all__ = [
     "BREAK", "HOLE", "SPACE", "VERSION", "Attrs", "BadInput", "DeadFragment", "Failure", "Findings", "Info", "Item",
-    "Items", "Kind", "Node", "OtherLibrary", "OutOfMemory", "Refused", "RepeatedId", "Texts", "block", "box", "check",
-    "element", "end", "start", "text", "write", "write_json", "write_tree",
+    "Items", "Kind", "Node", "OtherLibrary", "OutOfMemory", "Place", "Refused", "RepeatedId", "Texts", "block", "box",
+    "check", "element", "end", "start", "text", "write", "write_json", "write_tree",
 ]  # fmt: skip
 
 
@@ -89,8 +89,26 @@ WORDS = {
 """What is wrong, by the number of the refusal."""
 
 
+@dataclass(frozen=True)
+class Place:
+    """A place in a page. As text it is `line:column`."""
+
+    offset: int
+    """How many bytes of the page, in UTF-8, stand before it."""
+    line: int
+    """Its line, counted from 1. A line ends with a line feed, and with nothing else."""
+    column: int
+    """Its column, in characters, counted from 1."""
+
+    def __str__(self) -> str:
+        return f"{self.line}:{self.column}"
+
+
 class Failure(Exception):
     """There is no text."""
+
+    place: Place | None = None
+    """Where, if a page that is checked is not read."""
 
 
 class Refused(Failure):
@@ -103,11 +121,11 @@ class Refused(Failure):
     span: int
     """Where: the number of the list of an item, counted from 1 by their opening brackets as they stand in
     JSON, those of footnotes after those of items; 0 where it has no place. Of a page that is checked: how many
-    characters stand before."""
+    bytes stand before."""
 
-    def __init__(self, number: int, span: int) -> None:
-        super().__init__(number, span)
-        self.number, self.span = number, span
+    def __init__(self, number: int, span: int, place: Place | None = None) -> None:
+        super().__init__(number, span, place)
+        self.number, self.span, self.place = number, span, place
 
     @property
     def words(self) -> str:
@@ -115,13 +133,14 @@ class Refused(Failure):
         return WORDS.get(self.number, "refused")
 
     def __str__(self) -> str:
-        return f"{self.words} (refusal {self.number} at {self.span})"
+        return f"{self.words} (refusal {self.number} at {self.place or self.span})"
 
 
 class BadInput(Failure, ValueError):
     """The input spells nothing that can be written, or nests more than 127 lists; or a page that is checked has
-    another syntax than those that are written. It says what is wrong where this package sees it, and else where
-    the library does, if it says so."""
+    another syntax than those that are written, from a place on: there stands the first character with which no
+    such page goes on, or the page ends. It says what is wrong where this package sees it, and else where the
+    library does, if it says so."""
 
     span: int
     """Where the form is left: how many lists of items are opened in the JSON up to the first value that is not
@@ -133,13 +152,16 @@ class BadInput(Failure, ValueError):
     column: int
     """The column there, in bytes from 1 on; where the JSON ends too soon, how long its last line is."""
 
-    def __init__(self, *words: object, span: int = 0, line: int = 0, column: int = 0) -> None:
+    def __init__(
+        self, *words: object, span: int = 0, line: int = 0, column: int = 0, place: Place | None = None
+    ) -> None:
         super().__init__(*words)
-        self.span, self.line, self.column = span, line, column
+        self.span, self.line, self.column, self.place = span, line, column, place
 
     def __str__(self) -> str:
-        place = f" at line {self.line} column {self.column}" if self.line else f" at {self.span}" if self.span else ""
-        return ": ".join(["bad input" + place, *map(str, self.args)])
+        where = f" at line {self.line} column {self.column}" if self.line else f" at {self.span}" if self.span else ""
+        page = [] if self.place is None else [f"the page is not read from {self.place} on"]
+        return ": ".join(["bad input" + where, *map(str, self.args), *page])
 
 
 class OutOfMemory(Failure, MemoryError):
@@ -340,14 +362,15 @@ def _bytes(data: bytes | str) -> bytes:
         raise BadInput(error) from error
 
 
-def _text(made: tuple[Reply, bytes]) -> str:
+def _text(made: tuple[Reply, bytes], of_page: bool = False) -> str:
     reply, output = made
     if reply.status == 0:
         return output.decode()
+    place = Place(reply.span, reply.line, reply.column) if of_page and reply.line else None
     if reply.status == 1:
-        raise Refused(reply.number, reply.span)
+        raise Refused(reply.number, reply.span, place)
     if reply.status == 2:
-        raise BadInput(span=reply.span, line=reply.line, column=reply.column)
+        raise BadInput(place=place) if place else BadInput(span=reply.span, line=reply.line, column=reply.column)
     raise OutOfMemory if reply.status == 3 else OtherLibrary
 
 
@@ -411,15 +434,20 @@ def check(page: bytes | str, *, limit: int = 50) -> Findings:
     """What is wrong with the links of a page: links to fragments of the page itself that lead nowhere, and ids
     that stand in it before.
 
-    A page is read that is written as by this package, with elements `limit` deep at most, from 1 to 10,000.
+    A page is read that is written as by this package, with elements `limit` deep at most, from 1 to 10,000. Of
+    another page it is told where: in `place` of what is raised.
 
     >>> check(write([element("a", "b", attrs=[("href", "#b")])])).dead_fragments
     (DeadFragment(path=(1, 0), fragment='b'),)
+    >>> check("<!DOCTYPE html>\\n<p>a & b</p>")
+    Traceback (most recent call last):
+        ...
+    typst_html_proved.BadInput: bad input: the page is not read from 2:7 on
 
     Raises `Refused`, `BadInput` or `OutOfMemory`.
     """
     limit = _number("the limit", limit, 1, 10_000)
-    found = json.loads(_text(called("typst_html_check", _bytes(page), limit=limit)))
+    found = json.loads(_text(called("typst_html_check", _bytes(page), limit=limit), of_page=True))
     return Findings(
         tuple(DeadFragment(tuple(it["path"]), it["fragment"]) for it in found["dead_fragments"]),
         tuple(RepeatedId(tuple(it["path"]), it["id"]) for it in found["repeated_ids"]),

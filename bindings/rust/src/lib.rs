@@ -32,7 +32,7 @@ mod refusal;
 
 pub use document::{Document, Element, Info, Item};
 pub use findings::{DeadFragment, Findings, RepeatedId};
-pub use refusal::Refusal;
+pub use refusal::{Place, Refusal};
 
 /// The version of the library's calls that this crate was made for.
 pub const VERSION: u32 = 3;
@@ -120,8 +120,8 @@ pub fn write_document_json(json: &[u8], options: Options) -> Result<String, Refu
 /// ids that stand in it before.
 ///
 /// A page is read that is written as by this crate, with elements `limit` deep at most, from 1 to
-/// 10,000. One with another syntax is bad input; one with an element that stands deeper is refused as
-/// number 8, and the span is how many characters stand before that element.
+/// 10,000. One with another syntax is [`Refusal::Unread`], and one with an element that stands deeper
+/// [`Refusal::TooDeep`], both with the place.
 ///
 /// ```
 /// use typst_html_proved::{check, write, Document, Element, Options, Refusal};
@@ -132,6 +132,9 @@ pub fn write_document_json(json: &[u8], options: Options) -> Result<String, Refu
 /// assert_eq!(findings.dead_fragments[0].fragment, "b");
 /// assert_eq!(findings.dead_fragments[0].path, [1, 0, 0]);
 /// assert!(findings.repeated_ids.is_empty());
+///
+/// let refusal = check("<!DOCTYPE html>\n<p>a & b</p>", 50).unwrap_err();
+/// assert_eq!(refusal.to_string(), "the page is not read from 2:7 on");
 /// # Ok::<(), Refusal>(())
 /// ```
 pub fn check(page: &str, limit: u32) -> Result<Findings, Refusal> {

@@ -1,6 +1,6 @@
 //! The calls of the static library, as typst_html.h has them.
 
-use crate::{Kind, Options, Refusal, VERSION};
+use crate::{Kind, Options, Place, Refusal, VERSION};
 
 /// How a call ended.
 #[repr(C)]
@@ -11,6 +11,42 @@ struct Reply {
     column: usize,
     status: u8,
     number: u8,
+}
+
+impl Reply {
+    /// The place in a page, if one is the reason.
+    fn place(&self) -> Option<Place> {
+        let place = Place {
+            offset: self.span,
+            line: self.line,
+            column: self.column,
+        };
+        (self.line > 0).then_some(place)
+    }
+
+    /// The refusal of a reply of status 1 or 2 to JSON.
+    fn of_json(&self) -> Refusal {
+        match self.status {
+            1 => Refusal::Refused {
+                number: self.number,
+                span: self.span,
+            },
+            _ => Refusal::BadInput {
+                span: self.span,
+                line: self.line,
+                column: self.column,
+            },
+        }
+    }
+
+    /// The refusal of a reply of status 1 or 2 to a page.
+    fn of_page(&self) -> Refusal {
+        match (self.status, self.place()) {
+            (1, Some(place)) => Refusal::TooDeep(place),
+            (2, Some(place)) => Refusal::Unread(place),
+            _ => self.of_json(),
+        }
+    }
 }
 
 extern "C" {
@@ -56,7 +92,7 @@ pub(crate) fn write(kind: Kind, pretty: bool, input: &[u8]) -> Result<String, Re
         Kind::Tree => 0,
         Kind::Items => 1,
     };
-    text_by(input.len(), |output| {
+    text_by(input.len(), Reply::of_json, |output| {
         // SAFETY: the library is of this version, so the declaration is that of the export, which requires
         // nothing beyond its types; each pointer and length are those of one slice, that of `output` lent
         // for writing.
@@ -75,7 +111,7 @@ pub(crate) fn write(kind: Kind, pretty: bool, input: &[u8]) -> Result<String, Re
 
 /// The text of a document.
 pub(crate) fn document(options: Options, input: &[u8]) -> Result<String, Refusal> {
-    text_by(input.len(), |output| {
+    text_by(input.len(), Reply::of_json, |output| {
         // SAFETY: as in `write`.
         unsafe {
             typst_html_document(
@@ -93,7 +129,7 @@ pub(crate) fn document(options: Options, input: &[u8]) -> Result<String, Refusal
 
 /// What is wrong with the links of a page, in JSON.
 pub(crate) fn check(limit: u32, page: &[u8]) -> Result<String, Refusal> {
-    text_by(page.len(), |output| {
+    text_by(page.len(), Reply::of_page, |output| {
         // SAFETY: as in `write`.
         unsafe {
             typst_html_check(
@@ -109,7 +145,11 @@ pub(crate) fn check(limit: u32, page: &[u8]) -> Result<String, Refusal> {
 
 /// The text that a call makes, in a buffer that is mostly long enough: four bytes for each of the input.
 /// A library of another version is not called.
-fn text_by(length: usize, call: impl Fn(&mut [u8]) -> Reply) -> Result<String, Refusal> {
+fn text_by(
+    length: usize,
+    refusal: impl Fn(&Reply) -> Refusal,
+    call: impl Fn(&mut [u8]) -> Reply,
+) -> Result<String, Refusal> {
     if version() != VERSION {
         return Err(Refusal::OtherLibrary);
     }
@@ -122,19 +162,7 @@ fn text_by(length: usize, call: impl Fn(&mut [u8]) -> Reply) -> Result<String, R
                 output.shrink_to_fit();
                 return Ok(String::from_utf8(output).expect("the library writes UTF-8"));
             }
-            1 => {
-                return Err(Refusal::Refused {
-                    number: reply.number,
-                    span: reply.span,
-                })
-            }
-            2 => {
-                return Err(Refusal::BadInput {
-                    span: reply.span,
-                    line: reply.line,
-                    column: reply.column,
-                })
-            }
+            1 | 2 => return Err(refusal(&reply)),
             3 => return Err(Refusal::OutOfMemory),
             4 if reply.length > output.len() => output.resize(reply.length, 0),
             _ => return Err(Refusal::OtherLibrary),

@@ -1,25 +1,49 @@
 //! Why there is no text.
 
+use std::fmt;
 use thiserror::Error;
 
 const OTHER_LIBRARY: &str = "the library that is linked is not of the version that is wanted";
 
+/// A place in a page.
+#[derive(Clone, Copy, Debug, PartialEq, Eq, Hash)]
+pub struct Place {
+    /// How many bytes of the page stand before it.
+    pub offset: u64,
+    /// Its line, counted from 1. A line ends with a line feed, and with nothing else.
+    pub line: usize,
+    /// Its column, in characters, counted from 1.
+    pub column: usize,
+}
+
+impl fmt::Display for Place {
+    /// `line:column`, as in `3:14`.
+    fn fmt(&self, f: &mut fmt::Formatter<'_>) -> fmt::Result {
+        write!(f, "{}:{}", self.line, self.column)
+    }
+}
+
 /// Why there is no text.
 #[derive(Clone, Copy, Debug, PartialEq, Eq, Error)]
 pub enum Refusal {
-    /// What is to be written breaks a rule of HTML, or stands where it may not; or an element of a page
-    /// that is checked stands too deep.
+    /// What is to be written breaks a rule of HTML, or stands where it may not.
     #[error("{} (refusal {number} at {span})", words(.number))]
     Refused {
         /// Which rule: 1 to 15, as in [`Refusal::words`].
         number: u8,
         /// Where: the number of the list of a node or item in the JSON, counted from 1 by their opening
-        /// brackets, those of footnotes after those of items; 0 where it has no place. Of a page that is
-        /// checked: how many characters stand before.
+        /// brackets, those of footnotes after those of items; 0 where it has no place.
         span: u64,
     },
-    /// The input spells nothing that can be written, or nests more than 127 levels of JSON; or a page
-    /// that is checked has another syntax than those that are written.
+    /// An element of a page that is checked stands deeper than the limit. Its start tag begins there.
+    #[error("an element stands deeper than the limit at {0}")]
+    TooDeep(Place),
+    /// A page that is checked has another syntax than those that are written, from that place on: there
+    /// stands the first character with which no such page goes on, or the page ends.
+    #[error("the page is not read from {0} on")]
+    Unread(Place),
+    /// The input spells nothing that can be written, or nests more than 127 levels of JSON; or the limit
+    /// is wrong.
     #[error("bad input{}", place(.span, .line, .column))]
     BadInput {
         /// Where the form is left: how many lists of nodes or items are opened up to the first value that
@@ -52,15 +76,18 @@ impl Refusal {
     pub fn number(&self) -> u8 {
         match self {
             Refusal::Refused { number, .. } => *number,
-            Refusal::BadInput { .. } | Refusal::OutOfMemory | Refusal::OtherLibrary => 0,
+            Refusal::TooDeep(_) => 8,
+            _ => 0,
         }
     }
 
-    /// Where the refusal is, or where the form is left; 0 where there is no such place.
+    /// Where the refusal is, or where the form is left: of a page, how many bytes stand before; 0 where
+    /// there is no such place.
     pub fn span(&self) -> u64 {
         match self {
             Refusal::Refused { span, .. } | Refusal::BadInput { span, .. } => *span,
-            Refusal::OutOfMemory | Refusal::OtherLibrary => 0,
+            Refusal::TooDeep(place) | Refusal::Unread(place) => place.offset,
+            _ => 0,
         }
     }
 
@@ -68,6 +95,8 @@ impl Refusal {
     pub fn words(&self) -> &'static str {
         match self {
             Refusal::Refused { number, .. } => words(number),
+            Refusal::TooDeep(_) => words(&8),
+            Refusal::Unread(_) => "the page is not read",
             Refusal::BadInput { .. } => "bad input",
             Refusal::OutOfMemory => "out of memory",
             Refusal::OtherLibrary => OTHER_LIBRARY,

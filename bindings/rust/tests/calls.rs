@@ -285,16 +285,28 @@ fn links_that_are_given_lead() {
 
 #[test]
 fn pages_that_are_not_read_are_told() {
-    let page = "<!DOCTYPE html><p><b></b></p>";
-    let deep = Refusal::Refused {
-        number: 8,
-        span: 18,
+    let place = |offset, line, column| Place {
+        offset,
+        line,
+        column,
     };
+    let page = "<!DOCTYPE html><p>é\n<b></b></p>";
+    let deep = Refusal::TooDeep(place(21, 2, 1));
     assert_eq!(check(page, 1), Err(deep));
+    assert_eq!((deep.number(), deep.span()), (8, 21));
+    let message = "an element stands deeper than the limit at 2:1";
+    assert_eq!(deep.to_string(), message);
     for limit in [0, 10_001] {
         assert_eq!(check(page, limit), Err(Refusal::BAD_INPUT));
     }
-    assert_eq!(check("<p>", 50), Err(Refusal::BAD_INPUT));
+    for (page, at) in [
+        ("", place(0, 1, 1)),
+        ("<p>", place(1, 1, 2)),
+        ("<!DOCTYPE html>\n<p>é & x</p>", place(23, 2, 7)),
+        ("<!DOCTYPE html><p>x</b>", place(21, 1, 22)),
+    ] {
+        assert_eq!(check(page, 50), Err(Refusal::Unread(at)), "{page}");
+    }
 }
 
 /// Each dead link has a path as long as it is deep, so the first buffer is too short.

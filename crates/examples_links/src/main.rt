@@ -14,7 +14,13 @@
 //! ```
 //!
 //! Pages are read by the syntax that is written here, which a browser's parser takes too, with elements
-//! at most 1,000 deep. A page that can't be read is told on standard error, and the others are checked.
+//! at most 1,000 deep. A page that can't be read is told on standard error, with the line and the column
+//! from which on it isn't, and the others are checked:
+//!
+//! ```text
+//! other.html:3:14: not read: other syntax than that of the pages that are written
+//! ```
+//!
 //! The status is 0 where all pages were read and nothing is wrong, 2 where the words are wrong, and
 //! else 1.
 #![tactic(auto)]
@@ -78,7 +84,7 @@ fn is_clean(rt: &HostRuntime, page: &str) -> Result<bool> {
     let root = match read_page(rt, page) {
         Ok(root) => root,
         Err(error) => {
-            eprintln!(rt; "{page}: {error:#}")?;
+            eprintln!(rt; "{error:#}")?;
             return Ok(false);
         }
     };
@@ -89,14 +95,16 @@ fn is_clean(rt: &HostRuntime, page: &str) -> Result<bool> {
     Ok(findings.is_empty())
 }
 
-/// The tree of a page.
+/// The tree of a page, or what is told where it is not read.
 fn read_page(rt: &HostRuntime, page: &str) -> Result<HtmlElement> {
-    let text = fs::read_to_string(rt, page)?;
+    let text = fs::read_to_string(rt, page).context(format_args!("{page}"))?;
     match read_html(rt.alloc(), &text, DEEPEST) {
-        Ok(Some(root)) => Ok(root),
-        Ok(None) => bail!("not read, since it has another syntax than the pages that are written"),
+        Ok(root) => Ok(root),
         Err(ReadFault::TooDeep { place }) => {
-            bail!("not read, since elements stand deeper than {DEEPEST} from character {place} on")
+            bail!("{page}:{place}: not read: an element stands deeper than {DEEPEST}")
+        }
+        Err(ReadFault::Syntax { place }) => {
+            bail!("{page}:{place}: not read: other syntax than that of the pages that are written")
         }
         Err(fault) => Err(fault.into()),
     }

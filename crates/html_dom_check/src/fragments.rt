@@ -46,7 +46,7 @@ struct Walk {
 ///
 /// let alloc = rt.alloc();
 /// let text = r##"<!DOCTYPE html><p><b id="a b"></b><a href="#a%20b">x</a><a href="#c">y</a></p>"##;
-/// let root = read_html(alloc, text, 50)?.expect(&rt, "an element");
+/// let root = read_html(alloc, text, 50)?;
 /// let dead = dead_fragments(alloc, &root)?;
 /// assert_eq!(rt; dead.len(), 1);
 /// for link in &dead {

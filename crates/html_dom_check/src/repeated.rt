@@ -48,7 +48,7 @@ struct Walk {
 ///
 /// let alloc = rt.alloc();
 /// let text = r#"<!DOCTYPE html><p id="a"><b id="b"></b>x<b id="a"></b></p>"#;
-/// let root = read_html(alloc, text, 50)?.expect(&rt, "an element");
+/// let root = read_html(alloc, text, 50)?;
 /// let repeated = repeated_ids(alloc, &root)?;
 /// assert_eq!(rt; repeated.len(), 1);
 /// for place in &repeated {

@@ -12,7 +12,7 @@ const DEPTH_LIMIT: usize = 10_000;
 
 /// The tree that a text spells.
 fn tree_of(alloc: Global, text: &str) -> Option<HtmlElement> {
-    read_html(alloc, text, DEPTH_LIMIT).ok()?
+    read_html(alloc, text, DEPTH_LIMIT).ok()
 }
 
 /// The plain text of a tree without frames.

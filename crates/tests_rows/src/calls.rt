@@ -23,8 +23,9 @@
 //!
 //! Of a page, whose text behind the document type the input is:
 //!
-//! - `read [limit=N]`: the text of the tree that is read, `same` where that is the input; `none` where
-//!   nothing is read; `too deep at N`
+//! - `read [limit=N]`: the text of the tree that is read, `same` where that is the input; `none at N, L:C`
+//!   where nothing is read from there on: how many bytes of the page stand before, line and column;
+//!   `too deep at N, L:C`
 //! - `page-text`: what is visible: each text in brackets, objects, `/` for a line break, `|` for an edge
 //! - `dead-fragments`, `repeated-ids`: path and name of each
 //!

@@ -3,7 +3,7 @@
 use crate::given::items_in;
 use crate::row::Row;
 use crate::runs::inner_text;
-use anyhow::{Context, Result, ensure};
+use anyhow::{Result, ensure};
 use std::alloc::Global;
 use typst_html::{
     DocumentInfo, HtmlElement, HtmlOptions, ReadFault, Shown, export, html_in_bundle,
@@ -22,20 +22,22 @@ fn page_of(alloc: Global, row: &Row<'_>) -> Result<String> {
 
 /// The tree of the row's page.
 pub(crate) fn root_of(alloc: Global, row: &Row<'_>) -> Result<HtmlElement> {
-    let root = read_html(alloc, &page_of(alloc, row)?, DEEPEST)?;
-    root.context("not read")
+    Ok(read_html(alloc, &page_of(alloc, row)?, DEEPEST)?)
 }
 
-/// The text of the tree that the row's page is read as, if it is read.
+/// The text of the tree that the row's page is read as, or the place from which on it is not read: how
+/// many bytes stand before, line and column.
 pub(crate) fn read(alloc: Global, row: &Row<'_>) -> Result<String> {
     let page = page_of(alloc, row)?;
     let limit = row.number("limit", DEEPEST)?;
     ensure!(is_depth_limit(limit), "no limit");
     let root = match read_html(alloc, &page, limit) {
-        Ok(Some(root)) => root,
-        Ok(None) => return Ok(String::from_str(alloc, "none")?),
+        Ok(root) => root,
         Err(ReadFault::TooDeep { place }) => {
-            return Ok(format!(in alloc; "too deep at {place}")?);
+            return Ok(format!(in alloc; "too deep at {}, {place}", place.offset)?);
+        }
+        Err(ReadFault::Syntax { place }) => {
+            return Ok(format!(in alloc; "none at {}, {place}", place.offset)?);
         }
         Err(fault) => return Err(fault.into()),
     };
@@ -63,8 +65,7 @@ fn exported_text(alloc: Global, row: &Row<'_>, pretty: bool) -> Result<String> {
     let items = items_in(alloc, &row.input)?;
     let (info, options) = (DocumentInfo::new(alloc), HtmlOptions { pretty });
     let text = export(alloc, &items, &info, &[], 50, &options, &())?;
-    let root = read_html(alloc, &text, DEEPEST)?;
-    visible_text(alloc, &root.context("not read")?)
+    visible_text(alloc, &read_html(alloc, &text, DEEPEST)?)
 }
 
 /// What is visible of a tree: each text in brackets, an object by its tag, `/` for a line break and `|`

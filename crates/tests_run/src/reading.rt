@@ -4,7 +4,7 @@
 use std::alloc::Global;
 use std::process::Abort;
 use tests_reading::{reads_again, reads_same};
-use typst_html::{HtmlElement, read_html};
+use typst_html::{HtmlElement, Place, ReadFault, read_html};
 
 /// How deep elements stand in one another at most.
 const DEEPEST: usize = 10_000;
@@ -22,13 +22,21 @@ fn the_deepest_text_is_read(rt: HostRuntime) {
 
 #[test]
 fn texts_without_the_document_type_are_not_read(rt: HostRuntime) {
-    for text in [
-        "",
-        "<p></p>",
-        "<!doctype html><p></p>",
-        " <!DOCTYPE html><p></p>",
+    for (text, offset) in [
+        ("", 0),
+        ("<p></p>", 1),
+        ("<!doctype html><p></p>", 2),
+        (" <!DOCTYPE html><p></p>", 0),
+        ("<!DOCTYPE htm", 13),
+        ("<!DOCTYPE htm\u{141}>", 13),
     ] {
-        assert!(rt; tree_of(&rt, rt.alloc(), text).is_none(), "{text}");
+        let place = Place {
+            offset,
+            line: 1,
+            column: offset.saturating_add(1),
+        };
+        let read = read_html(rt.alloc(), text, 50);
+        assert!(rt; read == Err(ReadFault::Syntax { place }), "{text}");
     }
 }
 
@@ -59,7 +67,13 @@ fn is_blank(text: &str) -> bool {
 
 /// The tree that a text spells.
 fn tree_of(rt: &impl Abort, alloc: Global, text: &str) -> Option<HtmlElement> {
-    read_html(alloc, text, 50).expect(rt, "nothing that is deep")
+    match read_html(alloc, text, 50) {
+        Ok(root) => Some(root),
+        Err(fault) => {
+            assert!(rt; matches!(fault, ReadFault::Syntax { .. }), "{text}");
+            None
+        }
+    }
 }
 
 /// Asserts that the page up to there is read where it is whole but for white space, and that what is

@@ -5,14 +5,13 @@ use html_tool_run::{Fault, WriteFailed};
 use std::alloc::{AllocError, AllocFailed};
 use std::test::Fail;
 use typst_html::{
-    CastFault, ConstructFault, ExportFault, FlowFault, FrameFault, NameFault, NameTable, ReadFault,
-    Refused, Span,
+    CastFault, ConstructFault, ExportFault, FlowFault, FrameFault, NameFault, NameTable, Place,
+    ReadFault, Refused, Span,
 };
 
 /// What is made of faults of the layers below: numbers, spans and texts.
 const MADE: &str = "\
     8 at 7: items are nested too deeply\n\
-    8 at 3: items are nested too deeply\n\
     15 at 0: a frame was refused by its writer\n\
     1 at 0: tag name must not be empty\n\
     23 at 0: the year is out of range\n\
@@ -25,7 +24,6 @@ fn faults_of_the_layers_below(rt: HostRuntime) -> Result<(), Fail> {
     let casts = vec![in rt.alloc(); (CastFault::NumberRange, Span(5))]?;
     let faults = [
         ExportFault::from(FlowFault::TooDeep { span }),
-        ExportFault::from(ReadFault::TooDeep { place: 3 }),
         ExportFault::from(FrameFault::Refused),
         ExportFault::from(NameFault::EmptyTag),
         ExportFault::from(CastFault::YearRange),
@@ -54,14 +52,12 @@ fn want_of_memory_is_one_fault(rt: HostRuntime) {
         ExportFault::from(FlowFault::OutOfMemory),
         ExportFault::from(ConstructFault::OutOfMemory),
         ExportFault::from(FrameFault::OutOfMemory),
-        ExportFault::from(ReadFault::from(AllocError)),
-        ExportFault::from(ReadFault::from(AllocFailed { value: 1u8 })),
-        ExportFault::from(ReadFault::from(Refused { back: 1u8 })),
     ];
     for fault in &faults {
         assert!(rt; *fault == ExportFault::OutOfMemory);
     }
     assert!(rt; Fault::from(Refused { back: 1u8 }) == Fault::OutOfMemory);
+    assert!(rt; ReadFault::from(Refused { back: 1u8 }) == ReadFault::OutOfMemory);
 }
 
 /// Faults with texts of their own, and their numbers.
@@ -69,17 +65,27 @@ const OWN: &str = "\
     0: out of memory\n\
     8: items are nested too deeply\n\
     0: out of memory\n\
-    8: elements are nested too deeply\n\
+    8: elements are nested too deeply at 3:14\n\
+    25: other syntax than that of written pages at 3:14\n\
     a write failed\n";
 
 #[test]
 fn faults_with_texts_of_their_own(rt: HostRuntime) -> Result<(), Fail> {
     let mut shown = String::new(rt.alloc());
-    let (span, place) = (Span(7), 3);
+    let (span, offset, line, column) = (Span(7), 40, 3, 14);
+    let place = Place {
+        offset,
+        line,
+        column,
+    };
     for fault in [FlowFault::OutOfMemory, FlowFault::TooDeep { span }] {
         write!(shown, "{}: {fault}\n", fault.number())?;
     }
-    for fault in [ReadFault::OutOfMemory, ReadFault::TooDeep { place }] {
+    for fault in [
+        ReadFault::OutOfMemory,
+        ReadFault::TooDeep { place },
+        ReadFault::Syntax { place },
+    ] {
         write!(shown, "{}: {fault}\n", fault.number())?;
     }
     write!(shown, "{WriteFailed}\n")?;

@@ -54,8 +54,8 @@ mod all_types {
         HtmlIntrospector, HtmlNode, HtmlOptions, HtmlOutput, HtmlPosition, HtmlSliceExt, HtmlTag,
         IconSize, ImageCandidate, Inline, IntoAttr, Item, Length, ListType, Locale, Location,
         Moment, NameFault, NameTable, NativeType, NoneEmpty, NoneUndefined, NoneValue, OnOffBool,
-        PageText, Paint, Pair, Point, Properties, PropertiesBuilder, Property, Ratio, ReadFault,
-        Refused, Rel, RepeatedId, Rgba, Role, Separator, Shown, Span, Str, Tag, ToCss,
+        PageText, Paint, Pair, Place, Point, Properties, PropertiesBuilder, Property, Ratio,
+        ReadFault, Refused, Rel, RepeatedId, Rgba, Role, Separator, Shown, Span, Str, Tag, ToCss,
         TrueFalseBool, Value, Warning, WarningSink, Whitespace, YesNoBool,
     };
 }

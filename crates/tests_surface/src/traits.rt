@@ -16,9 +16,9 @@ use typst_html::{
     FrameFault, FrameItem, FrameWriter, HorizontalDir, HtmlAttr, HtmlAttrs, HtmlElement, HtmlFrame,
     HtmlNode, HtmlOptions, HtmlTag, IconSize, ImageCandidate, Inline, IntoAttr, Length, Locale,
     Location, Moment, NameFault, NativeType, NoneEmpty, NoneUndefined, NoneValue, OnOffBool,
-    PageText, Paint, Point, Properties, Property, Ratio, ReadFault, Refused, Rel, RepeatedId, Rgba,
-    Separator, Span, Str, Tag, ToCss, TrueFalseBool, Warning, WarningSink, Whitespace, YesNoBool,
-    attr, tag,
+    PageText, Paint, Place, Point, Properties, Property, Ratio, ReadFault, Refused, Rel,
+    RepeatedId, Rgba, Separator, Span, Str, Tag, ToCss, TrueFalseBool, Warning, WarningSink,
+    Whitespace, YesNoBool, attr, tag,
 };
 
 fn are_compared<T: Debug + Drop + Eq>() {}
@@ -62,7 +62,7 @@ fn types_that_are_keys() {
     are_keys::<(Abs, Angle, Em, Ratio)>();
     are_keys::<(ConversionLevel, DeadFragment, DeadLink, Display)>();
     are_keys::<(HtmlAttr, HtmlAttrs, HtmlOptions, HtmlTag)>();
-    are_keys::<(Length, Location, Paint, Properties, Property)>();
+    are_keys::<(Length, Location, Paint, Place, Properties, Property)>();
     are_keys::<(Rel, RepeatedId, Rgba, Span, Whitespace)>();
 }
 
@@ -86,6 +86,7 @@ fn types_that_are_shown() {
     is_shown::<HtmlTag>();
     is_shown::<Inline<'static>>();
     is_shown::<PageText>();
+    is_shown::<Place>();
 }
 
 #[test]

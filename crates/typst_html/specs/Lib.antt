@@ -17,6 +17,8 @@ pub use Rattle.typst_html_read.specs.PlainElements
 pub use Rattle.typst_html_read.specs.ReadFaults
 pub use Rattle.typst_html_read.specs.ReadLaws
 pub use Rattle.typst_html_read.specs.LimitedReading
+pub use Rattle.typst_html_read.specs.BegunReferences
+pub use Rattle.typst_html_read.specs.Places
 pub use Rattle.typst_html_page.specs.PageLaws
 pub use Rattle.typst_html_page.specs.PageTexts
 pub use Rattle.typst_html_page.specs.PageViews
@@ -55,3 +57,4 @@ pub use Rattle.html_flow_convert.specs.Views as ItemViews
 pub use Rattle.typst_html_encode.specs.declared.fault.ExportFault
 pub use Rattle.typst_html_encode.specs.declared.frame.FrameFault
 pub use Rattle.typst_html_read.specs.declared.fault.ReadFault
+pub use Rattle.typst_html_read.specs.declared.place.Place

@@ -145,5 +145,6 @@ pub use typst_html_export::html_document_for_bundle;
 pub use typst_html_page::PageText;
 pub use typst_html_page::Shown;
 pub use typst_html_page::page_text;
+pub use typst_html_read::Place;
 pub use typst_html_read::ReadFault;
 pub use typst_html_read::read_html;

@@ -1,6 +1,7 @@
 -- What is wrong with the links of a page, as JSON:
 --     {"dead_fragments":[{"fragment":t,"path":[n,..]},..],"repeated_ids":[{"id":t,"path":[n,..]},..]}
-use Rattle.std.specs.Prelude.{ℕ, List, [], ◌∷◌, map, chars, codes, if◌then◌else◌}
+use Rattle.std.specs.Prelude.{◌≡◌, ℕ, List, [], ◌∷◌, map, chars, codes, if◌then◌else◌, Option, Some, None, Result, MatchResult, String, string_bytes}
+use Rattle.std.specs.declared.alloc.Global.{Global}
 use Rattle.std.specs.Str.{is_utf8}
 use lib.Utf8.{encodes}
 use Rattle.serde_json.specs.Data.{Data, number, string, array, object, unsigned, member, no_members}
@@ -10,17 +11,16 @@ use Rattle.html_dom_check.specs.Fragments.{dead_fragments}
 use Rattle.html_dom_check.specs.PlacedTexts.{Placed}
 use Rattle.html_dom_check.specs.RepeatedIds.{repeated_ids}
 use Rattle.html_dom_tree.specs.Tree.{ElementView}
-use Rattle.html_tool_run.specs.Answers.{Answer, answer_if, bad_input, refused_answer}
-use Rattle.html_tool_run.specs.declared.fault.Fault.{Fault}
-use Rattle.html_tool_run.specs.declared.fault.Fault.TheVariants.{OutOfMemory, Refused}
-use Rattle.html_tool_run.specs.declared.fault.Place.TheVariants.{Unknown}
-use Rattle.html_tool_run.specs.declared.status.Status.TheVariants.{Done}
 use Rattle.typst_html_encode.specs.Reader.{read}
 use Rattle.typst_html_read.specs.LimitedReading.{too_deep}
+use Rattle.typst_html_read.specs.LimitedReading as reading
+use Rattle.typst_html_read.specs.Places.{place_at}
 use Rattle.typst_html_read.specs.PlainElements.{accepted}
 use Rattle.typst_html_read.specs.declared.fault.ReadFault.{ReadFault}
-use Rattle.typst_html_read.specs.declared.fault.ReadFault.TheVariants as read
-use Rattle.typst_html_c.specs.CallReplies.{limit_of}
+use Rattle.typst_html_read.specs.declared.fault.ReadFault.TheVariants.{OutOfMemory, TooDeep, Syntax}
+use Rattle.typst_html_read.specs.declared.place.Place.{Place}
+use Rattle.typst_html_c.specs.CallReplies.{buffer_with, limit_of, text_reply, without_text}
+use Rattle.typst_html_c.specs.declared.reply.Reply.{Reply}
 
 -- the indices of a path
 abbrev pub path_data : List ℕ → Data
@@ -43,27 +43,69 @@ tree_findings e = object (
     member (codes "dead_fragments") (findings (codes "fragment") (dead_fragments e)) (
     member (codes "repeated_ids") (findings (codes "id") (repeated_ids e)) no_members))
 
-abbrev pub findings_answer : ElementView → Answer
-findings_answer e = record { status = Done; line = compact_text (tree_findings e) }
+-- what is told of a page: its findings, the place of what stands too deep or from which on nothing is
+-- read, or that it is no text or that the limit is wrong
+pub data Told : Type 0 where
+  text : (bytes : List ℕ) → Told
+  deep : (place : Place) → Told
+  unreadable : (place : Place) → Told
+  bad : Told
 
--- why a page was not read
-abbrev pub read_fault : ReadFault → Fault
-read_fault read.OutOfMemory = OutOfMemory
-read_fault (read.TooDeep place) = Refused 8 (record { 0 = place })
+-- by the places that stand too deep, the element that is read, and the place from which on nothing is
+abbrev pub told_of : (page : List ℕ) → (too_deep : List ℕ) → Option ElementView → (unread : ℕ) → Told
+told_of page (n ∷ ns) element unread = deep (place_at page n)
+told_of page [] (Some e) unread = text (compact_text (tree_findings e))
+told_of page [] None unread = unreadable (place_at page unread)
 
--- the first place of those that are too deep is refused, as number 8
-abbrev pub unless_deep : (places : List ℕ) → Answer → Answer
-unless_deep [] answer = answer
-unless_deep (place ∷ places) answer = refused_answer (8, place)
+-- of the characters of a page
+unfoldable pub text_told : (limit : ℕ) → (page : List ℕ) → Told
+text_told limit page = told_of page (too_deep limit page) (accepted (read page)) (reading.unread page)
 
--- the answer to a text: what is wrong with the page that is read, or bad input where none is read
-unfoldable pub text_answer : (limit : ℕ) → (text : List ℕ) → Answer
-text_answer limit text =
-    unless_deep (too_deep limit text) (answer_if Unknown findings_answer (accepted (read text)))
+-- of its bytes
+abbrev pub page_told : (page : List ℕ) → (limit : ℕ) → Told
+page_told page limit = if is_utf8 page then text_told limit (chars page) else bad
 
-abbrev pub page_answer : (page : List ℕ) → (limit : ℕ) → Answer
-page_answer page limit = if is_utf8 page then text_answer limit (chars page) else bad_input Unknown
+abbrev pub told_within : (page : List ℕ) → (limit : Option ℕ) → Told
+told_within page None = bad
+told_within page (Some limit) = page_told page limit
 
--- the answer to a page, or bad input where the limit is wrong
-abbrev pub check_answer : (limit : ℕ) (page : List ℕ) → Answer
-check_answer limit page = answer_if Unknown (page_answer page) (limit_of limit)
+abbrev pub check_told : (limit : ℕ) (page : List ℕ) → Told
+check_told limit page = told_within page (limit_of limit)
+
+-- the reply of a call that has no text, because of what stands in a page at that place
+abbrev pub placed : (status number : ℕ) → Place → Reply
+placed status number place = record {
+  length = 0;
+  span = place.offset;
+  line = place.line;
+  column = place.column;
+  status = status;
+  number = number;
+}
+
+-- the call replies what is told, and leaves the text; or an allocation failed, and nothing is left
+pub data Tells (told : Told) (old : List ℕ) (reply : Reply) (new : List ℕ) : Type 0 where
+  made : (bytes : List ℕ) → told ≡ text bytes → reply ≡ text_reply bytes old →
+      new ≡ buffer_with bytes old → Tells told old reply new
+  refused : (place : Place) → told ≡ deep place → reply ≡ placed 1 8 place → new ≡ old →
+      Tells told old reply new
+  unread : (place : Place) → told ≡ unreadable place → reply ≡ placed 2 0 place → new ≡ old →
+      Tells told old reply new
+  no_page : told ≡ bad → reply ≡ without_text 2 0 0 → new ≡ old → Tells told old reply new
+  failed : reply ≡ without_text 3 0 0 → new ≡ old → Tells told old reply new
+
+-- why a page is not read, as a reply
+abbrev pub unread_reply : ReadFault → Reply
+unread_reply OutOfMemory = without_text 3 0 0
+unread_reply (TooDeep place) = placed 1 8 place
+unread_reply (Syntax place) = placed 2 0 place
+
+-- a fault is what is told, unless memory ran out
+abbrev pub IsTold : Told → ReadFault → Type 0
+IsTold told OutOfMemory = Unit {0}
+IsTold told (TooDeep place) = told ≡ deep place
+IsTold told (Syntax place) = told ≡ unreadable place
+
+-- a text is all that is told, or a fault is
+abbrev pub GivesTold : Result (String Global) ReadFault → Told → Type 0
+GivesTold r told = MatchResult r (λ t. told ≡ text (string_bytes t)) (IsTold told)

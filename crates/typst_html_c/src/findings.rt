@@ -1,72 +1,85 @@
 //! What is wrong with the links of a page, as JSON.
 
-ghost use Rattle.std.specs.Prelude.{◌≡◌, ◌≤◌, chars, codes, IfOk, option_map};
+ghost use Rattle.std.specs.Prelude.{◌≡◌, ◌≤◌, chars, codes, string_bytes, IfOk};
 ghost use Rattle.serde_json.specs.View.{view};
+ghost use Rattle.serde_json.specs.Written.{compact_text};
 ghost use Rattle.html_dom_check.specs.Findings.{dead_fragment_view, dead_view, repeated_id_view, repeated_view};
 ghost use Rattle.html_dom_tree.specs.Views.{element_view};
-ghost use Rattle.html_tool_run.specs.Answers.{answer_if};
-ghost use Rattle.html_tool_run.specs.Replies.{GivesAnswer};
-ghost use Rattle.html_tool_run.specs.declared.fault.Place.TheVariants.{Unknown};
-ghost use Rattle.typst_html_c.specs.PageFindings.{finding, findings, findings_answer, page_answer, path_data};
-ghost use Rattle.typst_html_c.specs.PageFindings.{read_fault, text_and_path, text_answer, tree_findings};
+ghost use Rattle.typst_html_c.specs.PageFindings.{Told, Tells, GivesTold, check_told, page_told, text_told};
+ghost use Rattle.typst_html_c.specs.PageFindings.{finding, findings, path_data, text_and_path, tree_findings, unread_reply};
 
+use crate::numbers::limit_of;
+use crate::reply::{BAD_INPUT, OUT_OF_MEMORY, REFUSED, Reply, placed, put, without_text};
 use html_dom_check::{DeadFragment, RepeatedId, dead_fragments, repeated_ids};
-use html_dom_tree::{HtmlElement, Span};
-use html_tool_run::{Fault, Place};
+use html_dom_tree::HtmlElement;
 use serde_json::{Value, json};
 use std::alloc::{AllocError, Global};
 use std::str;
 use typst_html_read::{ReadFault, read_html};
 
-/// What is wrong with the links of a page, as JSON.
-#[tactic(auto, using(crate::proofs::Pages::pages))]
-pub(crate) fn page_findings(alloc: Global, page: &[u8], limit: usize) -> Result<String, Fault>
+/// The reply of a call that checks a page, whose findings are copied into the buffer, where they fit.
+pub(crate) fn reply_to_page(alloc: Global, limit: u32, page: &[u8], output: &mut [u8]) -> Reply
+    ensures answered { Tells (check_told limit page.now) output.old result output.new }
+    ensures kept { ¬ (result.status ≡ 0) → output.new ≡ output.old }
+{
+    match limit_of(limit) {
+        Some(limit) => reply_within(alloc, page, limit, output),
+        None => without_text(BAD_INPUT, 0, 0),
+    }
+}
+
+/// The same, where the limit is right.
+fn reply_within(alloc: Global, page: &[u8], limit: usize, output: &mut [u8]) -> Reply
     requires some_limit { 1 ≤ limit }
     requires low_limit { limit ≤ 10000 }
-    ensures { GivesAnswer result (page_answer page.now limit) }
+    ensures answered { Tells (page_told page.now limit) output.old result output.new }
+    ensures kept { ¬ (result.status ≡ 0) → output.new ≡ output.old }
 {
     match str::from_utf8(page) {
-        Ok(text) => text_findings(alloc, text, limit),
-        Err(_) => Err(Fault::BadInput(Place::Unknown)),
+        Ok(text) => reply_with_findings(text_findings(alloc, text, limit), output),
+        Err(_) => without_text(BAD_INPUT, 0, 0),
+    }
+}
+
+/// The reply of a call that has these findings, or none.
+fn reply_with_findings(findings: Result<String, ReadFault>, output: &mut [u8]) -> Reply
+    ensures answered { (told : Told) → GivesTold findings told →
+        Tells told output.old result output.new }
+    ensures kept { ¬ (result.status ≡ 0) → output.new ≡ output.old }
+{
+    match findings {
+        Ok(text) => put(text.as_bytes(), output),
+        Err(fault) => unread_reply(fault),
+    }
+}
+
+/// Why a page is not read, as a reply.
+fn unread_reply(fault: ReadFault) -> Reply
+    ensures { result ≡ unread_reply fault }
+{
+    match fault {
+        ReadFault::OutOfMemory => without_text(OUT_OF_MEMORY, 0, 0),
+        ReadFault::TooDeep { place } => placed(REFUSED, 8, place),
+        ReadFault::Syntax { place } => placed(BAD_INPUT, 0, place),
     }
 }
 
 /// What is wrong with the links of a page that has this text, as JSON.
-fn text_findings(alloc: Global, text: &str, limit: usize) -> Result<String, Fault>
+fn text_findings(alloc: Global, text: &str, limit: usize) -> Result<String, ReadFault>
     requires some_limit { 1 ≤ limit }
     requires low_limit { limit ≤ 10000 }
-    ensures { GivesAnswer result (text_answer limit (chars text.now)) }
+    ensures { GivesTold result (text_told limit (chars text.now)) }
 {
     match read_html(alloc, text, limit) {
-        Ok(page) => read_findings(alloc, page),
-        Err(fault) => Err(read_fault(fault)),
-    }
-}
-
-/// Why a page was not read.
-fn read_fault(fault: ReadFault) -> Fault
-    ensures { result ≡ read_fault fault }
-{
-    match fault {
-        ReadFault::OutOfMemory => Fault::OutOfMemory,
-        ReadFault::TooDeep { place } => Fault::Refused(8, Span(place as u64)),
-    }
-}
-
-/// What is wrong with the links of a page that was read, if it was, as JSON.
-fn read_findings(alloc: Global, page: Option<HtmlElement>) -> Result<String, Fault>
-    ensures { GivesAnswer result
-        (answer_if Unknown findings_answer (option_map element_view page)) }
-{
-    match page {
-        Some(root) => tree_findings(alloc, &root),
-        None => Err(Fault::BadInput(Place::Unknown)),
+        Ok(root) => Ok(tree_findings(alloc, &root)?),
+        Err(fault) => Err(fault),
     }
 }
 
 /// What is wrong with the links of a tree, as JSON.
-fn tree_findings(alloc: Global, root: &HtmlElement) -> Result<String, Fault>
-    ensures { GivesAnswer result (findings_answer (element_view root.now)) }
+fn tree_findings(alloc: Global, root: &HtmlElement) -> Result<String, AllocError>
+    ensures { IfOk result (λ text.
+        string_bytes text ≡ compact_text (tree_findings (element_view root.now))) }
 {
     let value = tree_value(alloc, root)?;
     Ok(value.to_string(alloc)?)

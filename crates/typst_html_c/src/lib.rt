@@ -6,17 +6,17 @@
 #![tactic(auto)]
 
 ghost use Rattle.std.specs.Prelude.{◌≡◌};
-ghost use Rattle.html_tool_run.specs.Replies.{GivesAnswer, GivesAnswerAt};
-ghost use Rattle.typst_html_c.specs.CallReplies.{Replies, RepliesAt, document_call_answer, write_answer};
-ghost use Rattle.typst_html_c.specs.PageFindings.{check_answer};
+ghost use Rattle.html_tool_run.specs.Replies.{GivesAnswerAt};
+ghost use Rattle.typst_html_c.specs.CallReplies.{RepliesAt, document_call_answer, write_answer};
+ghost use Rattle.typst_html_c.specs.PageFindings.{Tells, check_told};
 
 mod findings;
 mod numbers;
 mod reply;
 
-use findings::page_findings;
+use findings::reply_to_page;
 use html_tool_run::{Fault, Place, text_of_document, text_of_input};
-use numbers::{limit_of, wanted_settings, wanted_task};
+use numbers::{wanted_settings, wanted_task};
 pub use reply::Reply;
 use reply::reply_with;
 use std::alloc::Global;
@@ -104,16 +104,6 @@ pub extern "C" fn typst_html_document(
     reply_with(text, output)
 }
 
-/// What is wrong with the links of a page, where the limit is right.
-fn text_of_findings(alloc: Global, limit: u32, page: &[u8]) -> Result<String, Fault>
-    ensures { GivesAnswer result (check_answer limit page.now) }
-{
-    match limit_of(limit) {
-        Some(limit) => page_findings(alloc, page, limit),
-        None => Err(Fault::BadInput(Place::Unknown)),
-    }
-}
-
 /// Reads a page, and tells in JSON which links to fragments of the page lead nowhere, and which ids
 /// stand in it before. The text is copied into the buffer, where it fits:
 ///
@@ -123,9 +113,10 @@ fn text_of_findings(alloc: Global, limit: u32, page: &[u8]) -> Result<String, Fa
 ///
 /// How many there are is how long each list is. A path is the index of each child on the way from
 /// the root, texts counted. The page is read as
-/// [`read_html`](typst_html_read::read_html) reads it: one that is not read is bad input, and so is a
-/// limit that is not from 1 to 10,000. Where an element would stand deeper than the limit, that is
-/// refused as number 8, and the span is the place of its start tag: how many characters stand before.
+/// [`read_html`](typst_html_read::read_html) reads it: one that is not read is bad input, and the reply
+/// has the place from which on it is not: how many bytes stand before, its line and its column. Where an
+/// element would stand deeper than the limit, that is refused as number 8, with the place of its start
+/// tag. A page that is no UTF-8, or a limit that is not from 1 to 10,000, is bad input without a place.
 /// Buffers and replies are those of [`typst_html_write`].
 #[unsafe(no_mangle)]
 pub extern "C" fn typst_html_check(
@@ -134,10 +125,10 @@ pub extern "C" fn typst_html_check(
     page: &[u8],
     output: &mut [u8],
 ) -> Reply
-    ensures answered { Replies (check_answer limit page.now) output.old result output.new }
+    ensures answered { Tells (check_told limit page.now) output.old result output.new }
     ensures kept { ¬ (result.status ≡ 0) → output.new ≡ output.old }
 {
-    reply_with(text_of_findings(alloc, limit, page), output)
+    reply_to_page(alloc, limit, page, output)
 }
 
 #[cfg(test)]

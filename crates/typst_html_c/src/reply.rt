@@ -4,9 +4,11 @@ ghost use Rattle.std.specs.Prelude.{◌≡◌};
 ghost use Rattle.html_tool_run.specs.Answers.{Answer};
 ghost use Rattle.html_tool_run.specs.Replies.{GivesAnswer};
 ghost use Rattle.typst_html_c.specs.CallReplies.{Replies, bad_reply, fault_reply, text_reply, buffer_with, without_text};
+ghost use Rattle.typst_html_c.specs.PageFindings.{placed};
 
 use html_dom_tree::Span;
 use html_tool_run::{Fault, Place};
+use typst_html_read::Place as PagePlace;
 
 /// How a call ended.
 #[repr(C)]
@@ -15,11 +17,12 @@ pub struct Reply {
     /// How many bytes the text has; 0 where there is none.
     pub length: usize,
     /// The span of what is refused; 0 where nothing is, or where what is refused has none. Of a bad
-    /// input: where the form is left, as [`Place::Form`] says.
+    /// input: where the form is left, as [`Place::Form`] says. Of a page that is not read: how many bytes
+    /// stand before the place from which on it is not.
     pub span: u64,
-    /// The line of a bad input that is no JSON; else 0.
+    /// The line of a bad input that is no JSON, or of that place in a page, counted from 1; else 0.
     pub line: usize,
-    /// The column there, as [`Place::Text`] says.
+    /// The column there: of an input as [`Place::Text`] says, of a page in characters, counted from 1.
     pub column: usize,
     /// 0: the text is in the buffer; 1: refused; 2: bad input; 3: an allocation failed; 4: the buffer
     /// is too short for the text.
@@ -30,16 +33,16 @@ pub struct Reply {
 
 const DONE: u8 = 0;
 
-const REFUSED: u8 = 1;
+pub(crate) const REFUSED: u8 = 1;
 
-const BAD_INPUT: u8 = 2;
+pub(crate) const BAD_INPUT: u8 = 2;
 
-const OUT_OF_MEMORY: u8 = 3;
+pub(crate) const OUT_OF_MEMORY: u8 = 3;
 
 const TOO_SHORT: u8 = 4;
 
 /// The reply of a call that has no text.
-fn without_text(status: u8, number: u8, span: u64) -> Reply
+pub(crate) fn without_text(status: u8, number: u8, span: u64) -> Reply
     ensures { result ≡ without_text status number span }
 {
     Reply {
@@ -52,8 +55,22 @@ fn without_text(status: u8, number: u8, span: u64) -> Reply
     }
 }
 
+/// The reply of a call that has no text, because of what stands in a page at that place.
+pub(crate) fn placed(status: u8, number: u8, place: PagePlace) -> Reply
+    ensures { result ≡ placed status number place }
+{
+    Reply {
+        length: 0,
+        span: place.offset as u64,
+        line: place.line,
+        column: place.column,
+        status,
+        number,
+    }
+}
+
 /// Copies a text into the buffer, where it fits.
-fn put(text: &[u8], output: &mut [u8]) -> Reply
+pub(crate) fn put(text: &[u8], output: &mut [u8]) -> Reply
     ensures reply { result ≡ text_reply text.now output.old }
     ensures output { output.new ≡ buffer_with text.now output.old }
 {

@@ -169,22 +169,24 @@ fn a_page_of_links_that_lead_has_no_findings(rt: HostRuntime) {
 }
 
 #[test]
-fn a_page_that_is_not_read_is_told(rt: HostRuntime) {
-    let page = b"<!DOCTYPE html><p><b></b></p>".as_slice();
-    for (limit, page, status, number, span) in [
-        (1, page, 1, 8, 18),
-        (2, page, 4, 0, 0),
-        (10_000, page, 4, 0, 0),
-        (0, page, 2, 0, 0),
-        (10_001, page, 2, 0, 0),
-        (50, b"<p></p>".as_slice(), 2, 0, 0),
-        (50, b"\xff".as_slice(), 2, 0, 0),
-        (50, b"".as_slice(), 2, 0, 0),
+fn a_page_that_is_not_read_is_told_with_its_place(rt: HostRuntime) {
+    let page = "<!DOCTYPE html><p>é\n<b></b></p>".as_bytes();
+    for (limit, page, status, number, span, line, column) in [
+        (1, page, 1, 8, 21, 2, 1),
+        (2, page, 4, 0, 0, 0, 0),
+        (10_000, page, 4, 0, 0, 0, 0),
+        (0, page, 2, 0, 0, 0, 0),
+        (10_001, page, 2, 0, 0, 0, 0),
+        (50, &page[..24], 2, 0, 24, 2, 4),
+        (50, b"<p></p>", 2, 0, 1, 1, 2),
+        (50, b"\xff", 2, 0, 0, 0, 0),
+        (50, b"", 2, 0, 0, 1, 1),
     ] {
         let reply = typst_html_check(rt.alloc(), limit, page, &mut [0; 4]);
+        assert_eq!(rt; (reply.status, reply.number), (status, number));
         assert_eq!(rt;
-            (reply.status, reply.number, reply.span),
-            (status, number, span)
+            (reply.span, reply.line, reply.column),
+            (span, line, column)
         );
     }
 }

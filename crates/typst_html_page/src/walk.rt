@@ -47,7 +47,7 @@ use std::alloc::{AllocError, Global};
 ///
 /// let alloc = rt.alloc();
 /// let html = "<!DOCTYPE html><html><body><p>Salt  &amp;\n<i>vinegar</i> </p></body></html>";
-/// let root = read_html(alloc, html, 50)?.expect(&rt, "an element");
+/// let root = read_html(alloc, html, 50)?;
 /// let page = page_text(alloc, &root)?;
 /// assert!(rt; matches!(page.parts(), [Shown::Edge, Shown::Text(_), Shown::Edge]));
 /// let shown = format!(in alloc; "{page}")?;

@@ -10,24 +10,29 @@ use Rattle.typst_html_encode.specs.PlainStretches.{is_common}
 use Rattle.typst_html_encode.specs.Reader.{Open, ReaderState, Content, Value}
 use Rattle.typst_html_encode.proofs.Stretches.{common_ascii}
 use Rattle.typst_html_read.specs.CommonStretches.{takes_text, with_more, ReadsCommon}
-use Rattle.typst_html_read.specs.LimitedReading.{next_state, begins_deep, deep_places}
-use Rattle.typst_html_read.proofs.Loops.{deep_later}
-use Rattle.typst_html_read.proofs.Names.{taken, outcome, next_outcome}
+use Rattle.typst_html_read.specs.LimitedReading.{next_state, begins_deep, deep_places, is_stop, stop_place}
+use Rattle.typst_html_read.proofs.Loops.{deep_later, stop_later}
+use Rattle.typst_html_read.proofs.Names.{taken, outcome}
 
 -- a common character is none that is not common
 other : (c d : ℕ) → is_common c ≡ true → is_common d ≡ false → eqb c d ≡ false
 other c d h k = ne_eqb c d (λ e. false≢true (sym k ∙ (ap is_common (sym e) ∙ h)))
 
--- a text that grows by each common character, where nothing begins
+-- a text that grows by each common character, where nothing begins and nothing is refused
 pub record Grows (f : List ℕ → ReaderState) : Type 0 where
   pub adds : (t : List ℕ) (c : ℕ) → is_common c ≡ true → next_state (f t) c ≡ f (t ++ c ∷ [])
   pub flat : (limit : ℕ) (t : List ℕ) (c : ℕ) → begins_deep limit (f t) c ≡ false
+  pub stays : (t : List ℕ) → is_stop (f t) ≡ false
+  pub reads : (t : List ℕ) (c : ℕ) (cs : List ℕ) →
+      outcome (next_state (f t) c) cs ≡ outcome (f t) (c ∷ cs)
 
 in_text : (stack : List Open) → Grows (λ t. Content t stack)
 unfolding is_common
 in_text stack = record {
   adds = λ t c h. rw (other c 60 h refl, other c 38 h refl) refl;
   flat = λ limit t c. refl;
+  stays = λ t. refl;
+  reads = λ t c cs. refl;
 }
 
 in_value : (name : List ℕ) (attrs : List TextPair) (attr : List ℕ) (stack : List Open) →
@@ -36,6 +41,8 @@ unfolding is_common
 in_value name attrs attr stack = record {
   adds = λ t c h. rw (other c 34 h refl, other c 38 h refl) refl;
   flat = λ limit t c. refl;
+  stays = λ t. refl;
+  reads = λ t c cs. refl;
 }
 
 grown_outcome : (f : List ℕ → ReaderState) → Grows f → (front t cs : List ℕ) →
@@ -43,7 +50,7 @@ grown_outcome : (f : List ℕ → ReaderState) → Grows f → (front t cs : Lis
 grown_outcome f g [] t cs h = ap (λ u. outcome (f u) cs) (sym (append-nil t))
 grown_outcome f g (c ∷ front) t cs h =
     let both = and_parts (is_common c) (all is_common front) h in
-    sym (next_outcome (f t) c (front ++ cs))
+    sym (g.reads t c (front ++ cs))
     ∙ (ap (λ s. outcome s (front ++ cs)) (g.adds t c both.0)
     ∙ (grown_outcome f g front (t ++ c ∷ []) cs both.1
     ∙ ap (λ u. outcome (f u) cs) (append_assoc t (c ∷ []) front)))
@@ -63,11 +70,27 @@ grown_deep f g limit before (c ∷ front) t cs h =
     (append_assoc t (c ∷ []) front)
     ∙ ap (λ n. deep_places limit n (f (t ++ c ∷ front)) cs) (omega arith))))
 
+grown_stop : (f : List ℕ → ReaderState) → Grows f → (before : ℕ) (front t cs : List ℕ) →
+    all is_common front ≡ true → stop_place before (f t) (front ++ cs)
+    ≡ stop_place (before + length front) (f (t ++ front)) cs
+grown_stop f g before [] t cs h =
+    ap (λ u. stop_place before (f u) cs) (sym (append-nil t))
+    ∙ ap (λ n. stop_place n (f (t ++ [])) cs) (omega arith)
+grown_stop f g before (c ∷ front) t cs h =
+    let both = and_parts (is_common c) (all is_common front) h in
+    stop_later before (f t) c (front ++ cs) (ap is_stop (g.adds t c both.0) ∙ g.stays (t ++ c ∷ []))
+    ∙ (ap (λ s. stop_place (before + 1) s (front ++ cs)) (g.adds t c both.0)
+    ∙ (grown_stop f g (before + 1) front (t ++ c ∷ []) cs both.1
+    ∙ (ap (λ u. stop_place (before + 1 + length front) (f u) cs) (append_assoc t (c ∷ []) front)
+    ∙ ap (λ n. stop_place n (f (t ++ c ∷ front)) cs) (omega arith))))
+
 -- reading goes on as from the first of the characters
 pub record Passes (front : List ℕ) (old new : ReaderState) : Type 0 where
   pub read : (cs : List ℕ) → outcome new cs ≡ outcome old (front ++ cs)
   pub deep : (limit before : ℕ) (cs : List ℕ) →
       deep_places limit (before + length front) new cs ≡ deep_places limit before old (front ++ cs)
+  pub stop : (before : ℕ) (cs : List ℕ) →
+      stop_place (before + length front) new cs ≡ stop_place before old (front ++ cs)
   pub names : taken new ≡ taken old
 
 grown : (f : List ℕ → ReaderState) (t front : List ℕ) → Grows f → all is_common front ≡ true →
@@ -75,6 +98,7 @@ grown : (f : List ℕ → ReaderState) (t front : List ℕ) → Grows f → all 
 grown f t front g h e = record {
   read = λ cs. sym (grown_outcome f g front t cs h);
   deep = λ limit before cs. sym (grown_deep f g limit before front t cs h);
+  stop = λ before cs. sym (grown_stop f g before front t cs h);
   names = e;
 }
 
@@ -82,6 +106,7 @@ nothing : (s : ReaderState) (front : List ℕ) → front ≡ [] → Passes front
 nothing s front e = rw e record {
   read = λ cs. refl;
   deep = λ limit before cs. ap (λ n. deep_places limit n s cs) (omega arith);
+  stop = λ before cs. ap (λ n. stop_place n s cs) (omega arith);
   names = refl;
 }
 
@@ -106,6 +131,8 @@ pub record Goes (limit before : ℕ) (old new : ReaderState) (text rest : List �
   pub read : outcome new (chars rest) ≡ outcome old (chars text)
   pub deep : deep_places limit (before + (length text - length rest)) new (chars rest)
       ≡ deep_places limit before old (chars text)
+  pub stop : stop_place (before + (length text - length rest)) new (chars rest)
+      ≡ stop_place before old (chars text)
   pub names : taken new ≡ taken old
   pub fewer : length rest ≤ length text
 
@@ -125,6 +152,10 @@ goes_on limit before old new text rest h =
           (sym (front_length text front rest h.split))
           ∙ (ap (λ s. deep_places limit (before + length front) s (chars rest)) h.state
           ∙ (passed.deep limit before (chars rest) ∙ ap (deep_places limit before old) (sym all)));
+      stop = ap (λ n. stop_place (before + n) new (chars rest))
+          (sym (front_length text front rest h.split))
+          ∙ (ap (λ s. stop_place (before + length front) s (chars rest)) h.state
+          ∙ (passed.stop before (chars rest) ∙ ap (stop_place before old) (sym all)));
       names = ap taken h.state ∙ passed.names;
       fewer = omega (arith, ap length h.split, length-append front rest);
     }

@@ -1,11 +1,14 @@
+pub mod BegunReferences
 pub mod Closings
 pub mod CommonStretches
 pub mod Loops
 pub mod Names
 pub mod Normal
 pub mod Numbers
+pub mod Places
 pub mod Plain
 pub mod ReadLaws
 pub mod References
+pub mod Refusals
 pub mod Steps
 pub mod Words

@@ -2,7 +2,6 @@
 use Rattle.std.proofs.Common.{◌≡◌, ℕ, Bool, true, false, not, ◌&&◌, ◌∷◌, ◌++◌, ◌⊎◌, inl, inr, List, [], Option, Some, None, eqb, bytes_eq, refl, sym, ap, ◌∙◌, subst}
 use Rattle.std.specs.Prelude.{if◌then◌else◌, is_some, is_none}
 use Rattle.std.specs.List.{list_all}
-use Rattle.std.proofs.lemmas.Bool.{cases_Bool}
 use Rattle.std.proofs.Math.Bool.{and-true, and-false, and_assoc}
 use Rattle.html_names.specs.Characters.{is_tag_char, is_attr_char, is_blank}
 use Rattle.html_names.specs.Kinds.{is_void, is_foreign_self_closing, is_raw}
@@ -13,7 +12,6 @@ use Rattle.typst_html_encode.specs.ClosingTags.{is_tag_end, ends_closing, ends_e
 use Rattle.typst_html_encode.specs.References.{reference}
 use Rattle.typst_html_encode.specs.Reader.{drops_feed, ◌then◌, Open, ReaderState, Outside, Content, Fresh, Reference, Raw, Less, StartName, Space, AttrName, Equals, Value, ValueReference, Quoted, Slash, EndName, Stop, with_text, add_text, complete, holds_text_alone, after_start_tag, after, close, or_stop, in_content, step, run, final_root}
 use Rattle.typst_html_read.specs.PlainElements.{plain_element, is_named, are_named, accepted}
-use Rattle.typst_html_read.specs.LimitedReading.{ends_refused, next_state}
 
 -- all names so far are names, but for the one that is being read
 
@@ -49,6 +47,13 @@ taken (Quoted name attrs stack) = is_named name attrs && stack_taken stack
 taken (Slash name attrs stack) = is_named name attrs && stack_taken stack
 taken (EndName name stack) = stack_taken stack
 taken Stop = true
+
+-- with the character a name ends that is none
+abbrev pub ends_refused : ReaderState → ℕ → Bool
+ends_refused (StartName name stack) c = not (is_tag_char c) && is_some (tag_fault name)
+ends_refused (AttrName name attrs attr stack) c =
+    not (is_attr_char c) && is_some (attr_fault attr)
+ends_refused s c = false
 
 -- the answer for a state, unless it has stopped
 abbrev pub Holds : ReaderState → Bool → Type 0
@@ -257,34 +262,12 @@ state_none : (s : ReaderState) → taken s ≡ false → accepted (final_root s)
 state_none (Outside root) h = root_none root h
 state_none s h = refl
 
-none_after : (cs : List ℕ) (s : ReaderState) → Holds s false → outcome s cs ≡ None
+pub none_after : (cs : List ℕ) (s : ReaderState) → Holds s false → outcome s cs ≡ None
 none_after cs s (inl e) = ap (λ t. outcome t cs) e ∙ stopped cs
 none_after [] s (inr e) = state_none s e
 none_after (c ∷ cs) s (inr e) = none_after cs (step s c)
     (subst (Holds (step s c)) (ap (λ b. not (ends_refused s c) && b) e
     ∙ and-false (not (ends_refused s c))) (step_holds s c))
-
--- it is the same where nothing is read after a name that is none
-pub next_outcome : (s : ReaderState) (c : ℕ) (cs : List ℕ) →
-    outcome (next_state s c) cs ≡ outcome s (c ∷ cs)
-next_outcome s c cs =
-    elim (cases_Bool (ends_refused s c)) [
-      | inl e ↦
-          let none : outcome (step s c) cs ≡ None = none_after cs (step s c)
-          (subst (λ b. Holds (step s c) (not b && taken s)) e (step_holds s c)) in
-          ap (λ b. outcome (if b then Stop else step s c) cs) e ∙ (stopped cs ∙ sym none)
-      | inr e ↦ ap (λ b. outcome (if b then Stop else step s c) cs) e
-    ]
-
--- and the names stay taken
-pub next_taken : (s : ReaderState) (c : ℕ) → taken s ≡ true → Holds (next_state s c) true
-next_taken s c h =
-    elim (cases_Bool (ends_refused s c)) [
-      | inl e ↦ inl (ap (λ b. if b then Stop else step s c) e)
-      | inr e ↦ subst (λ t. Holds t true) (sym (ap (λ b. if b then Stop else step s c) e))
-          (subst (λ b. Holds (step s c) (not b && true)) e
-          (subst (λ b. Holds (step s c) (not (ends_refused s c) && b)) h (step_holds s c)))
-    ]
 
 -- the root that is read
 pub root_accepted : (name : List ℕ) (attrs : List TextPair) (kids : Plains) →

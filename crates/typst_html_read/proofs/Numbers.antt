@@ -12,7 +12,7 @@ use lib.Utf8.{scalar, scalar_fits, encodes}
 use Rattle.typst_html_encode.specs.References.{numbered_char}
 use Rattle.html_names.proofs.Digits.{chars-digits, digits_ascii}
 
-no_plus : (ds : List ℕ) → AllDigits 16 ds → without_leading_plus ds ≡ ds
+pub no_plus : (ds : List ℕ) → AllDigits 16 ds → without_leading_plus ds ≡ ds
 no_plus [] h = refl
 no_plus (c ∷ cs) h = let other : eqb c 43 ≡ false = grind (arith, nat_tests, h.0) in rw other refl
 

@@ -1,13 +1,13 @@
--- How reading ends: with the element, or none, where nothing stands too deep, else with the place
--- of the first start tag that does; out of memory may come before.
-use Rattle.std.specs.Prelude.{ℕ, List, Option, option_map, Result}
-use Rattle.html_names.specs.Endings.{GivesBy}
+-- How reading ends: with the element that is read, where nothing stands too deep, or with a fault.
+use Rattle.std.specs.Prelude.{◌≡◌, ℕ, List, [], Option, Some, Result, IfOk, OnOk, IfErr}
 use Rattle.html_dom_tree.specs.Tree.{ElementView}
 use Rattle.html_dom_tree.specs.Views.{element_view}
 use Rattle.html_dom_tree.specs.declared.node.HtmlElement.{HtmlElement}
 use Rattle.typst_html_read.specs.ReadFaults.{IsFirst}
 use Rattle.typst_html_read.specs.declared.fault.ReadFault.{ReadFault}
 
-abbrev pub Gives : Result (Option HtmlElement) ReadFault → (value : Option ElementView)
-    → (too_deep : List ℕ) → Type 0
-Gives = GivesBy IsFirst (option_map element_view)
+pub record Gives (r : Result HtmlElement ReadFault) (text : List ℕ) (element : Option ElementView)
+    (too_deep : List ℕ) (unread : ℕ) : Type 0 where
+  pub made : IfOk r (λ e. Some (element_view e) ≡ element)
+  pub clean : OnOk r (too_deep ≡ [])
+  pub fault : IfErr r (IsFirst text element too_deep unread)

@@ -1,10 +1,12 @@
+pub mod BegunReferences
 pub mod CommonStretches
 pub mod Endings
+pub mod LimitedReading
 pub mod OpenViews
+pub mod Places
 pub mod PlainElements
 pub mod PlainViews
 pub mod RawEnds
 pub mod ReadFaults
 pub mod ReadLaws
 pub mod ReaderViews
-pub mod LimitedReading

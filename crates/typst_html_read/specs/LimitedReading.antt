@@ -1,19 +1,34 @@
--- Reading with a limit on how deep elements may stand, and with the names that the program takes.
-use Rattle.std.specs.Prelude.{ℕ, ◌+◌, Bool, false, not, ◌&&◌, nat_le, List, [], ◌∷◌, ◌++◌, if◌then◌else◌, bytes_eq, codes, take, drop, length, None, is_some}
+-- Reading with a limit on how deep elements may stand, with the names that the program takes, and up
+-- to the first character that no text has which is read.
+use Rattle.std.specs.Prelude.{ℕ, ◌+◌, ◌-◌, Bool, true, false, not, ◌&&◌, ◌==◌, nat_le, List, [], ◌∷◌, ◌++◌, if◌then◌else◌, bytes_eq, codes, take, drop, get_or, length, None, is_some}
+use Rattle.std.specs.List.{common_prefix_len}
+use lib.Utf8.{encodes}
 use Rattle.html_names.specs.Characters.{is_tag_char, is_attr_char}
 use Rattle.html_names.specs.Names.{tag_fault, attr_fault}
-use Rattle.typst_html_encode.specs.Reader.{ReaderState, Outside, Less, StartName, AttrName, Stop, holds_text_alone, step}
+use Rattle.typst_html_encode.specs.Reader.{Open, ReaderState, Outside, Reference, Less, StartName, AttrName, ValueReference, EndName, Stop, holds_text_alone, step}
+use Rattle.typst_html_read.specs.BegunReferences.{continues_reference}
 
--- the character ends a name that is none
-abbrev pub ends_refused : ReaderState → ℕ → Bool
-ends_refused (StartName name stack) c = not (is_tag_char c) && is_some (tag_fault name)
-ends_refused (AttrName name attrs attr stack) c =
-    not (is_attr_char c) && is_some (attr_fault attr)
-ends_refused s c = false
+-- in the name of the innermost element the character stands at that place, or it is the `>` behind
+-- that name
+abbrev pub ends_at : List Open → (place : ℕ) → ℕ → Bool
+ends_at [] place c = false
+ends_at (o ∷ os) place c = c == get_or o.name place 62
 
--- as `step`, but nothing is read after a name that is none
+-- the character is where no text is read, whatever follows, though `step` goes on: in a reference that
+-- is none, behind a name that is none, in an end tag where no element is open, or in that of another
+-- name. (Names are ASCII: each of their characters is a byte.)
+abbrev pub refuses : ReaderState → ℕ → Bool
+refuses (Reference text since stack) c = not (continues_reference since c)
+refuses (Less stack) c = c == 47 && length stack == 0
+refuses (StartName name stack) c = not (is_tag_char c) && is_some (tag_fault name)
+refuses (AttrName name attrs attr stack) c = not (is_attr_char c) && is_some (attr_fault attr)
+refuses (ValueReference name attrs attr value since stack) c = not (continues_reference since c)
+refuses (EndName name stack) c = not (ends_at stack (length (encodes name)) c)
+refuses s c = false
+
+-- as `step`, but nothing is read from such a character on
 abbrev pub next_state : ReaderState → ℕ → ReaderState
-next_state s c = if ends_refused s c then Stop else step s c
+next_state s c = if refuses s c then Stop else step s c
 
 -- with the character a start tag begins, of an element that would stand deeper than the limit
 abbrev pub begins_deep : (limit : ℕ) → ReaderState → ℕ → Bool
@@ -21,15 +36,36 @@ begins_deep limit (Less stack) c =
     is_tag_char c && not (holds_text_alone stack) && nat_le limit (length stack)
 begins_deep limit s c = false
 
--- the places of the `<` of these start tags, counted in characters, where the one before the first
--- of the text stands at that place
+-- how many characters stand before the `<` of each of these start tags, where so many stand before
+-- the first of the text
 unfoldable pub deep_places : (limit before : ℕ) → ReaderState → List ℕ → List ℕ
 deep_places limit before s [] = []
-deep_places limit before s (c ∷ cs) =
-    (if begins_deep limit s c then before ∷ [] else []) ++ deep_places limit (before + 1) (next_state s c)
-    cs
+deep_places limit before s (c ∷ cs) = (if begins_deep limit s c then (before - 1) ∷ [] else [])
+    ++ deep_places limit (before + 1) (next_state s c) cs
+
+abbrev pub is_stop : ReaderState → Bool
+is_stop Stop = true
+is_stop s = false
+
+-- how many characters stand before the one at which reading stops, or, where it does not stop, before
+-- the end
+unfoldable pub stop_place : (before : ℕ) → ReaderState → List ℕ → ℕ
+stop_place before s [] = before
+stop_place before s (c ∷ cs) = if is_stop (next_state s c) then before
+    else stop_place (before + 1) (next_state s c) cs
+
+abbrev pub document_type : List ℕ
+document_type = codes "<!DOCTYPE html>"
+
+abbrev pub begins_page : List ℕ → Bool
+begins_page text = bytes_eq (take 15 text) document_type
 
 -- the places of the start tags that stand too deep in a text
 abbrev pub too_deep : (limit : ℕ) → List ℕ → List ℕ
-too_deep limit text = if bytes_eq (take 15 text) (codes "<!DOCTYPE html>")
-    then deep_places limit 14 (Outside None) (drop 15 text) else []
+too_deep limit text =
+    if begins_page text then deep_places limit 15 (Outside None) (drop 15 text) else []
+
+-- the place of the first character that no text has which is read
+abbrev pub unread : List ℕ → ℕ
+unread text = if begins_page text then stop_place 15 (Outside None) (drop 15 text)
+    else common_prefix_len ◌==◌ document_type text

@@ -10,7 +10,7 @@ ghost use Rattle.typst_html_read.specs.declared.reader.Mode.TheVariants as mode;
 
 use crate::open::OpenElement;
 use crate::reader::{Mode, Reader};
-use crate::reference::reference;
+use crate::reference::{extend, reference};
 use crate::text::{add, empty, take};
 use html_names::charsets::is_valid_in_tag_name;
 use std::alloc::AllocError;
@@ -73,7 +73,8 @@ impl Reader {
         ensures { OnOk result (reader_state self.new ≡ next_state (reader_state self.old) c) }
     {
         if c != ';' {
-            add(&mut self.word, c)?;
+            let begins = extend(&mut self.word, c)?;
+            self.mode = if begins { Mode::Reference } else { Mode::Stop };
             return Ok(());
         }
         match reference(self.alloc, self.word.as_str())? {
@@ -111,6 +112,10 @@ impl Reader {
         requires { self.old.mode ≡ mode.EndName }
         ensures { OnOk result (reader_state self.new ≡ next_state (reader_state self.old) c) }
     {
+        if !self.stack.ends_at(self.word.as_str().len(), c) {
+            self.mode = Mode::Stop;
+            return Ok(());
+        }
         if is_valid_in_tag_name(c) {
             add(&mut self.word, c)?;
             return Ok(());

@@ -1,11 +1,10 @@
 ghost use Rattle.std.specs.Prelude.{◌≡◌};
 ghost use Rattle.typst_html_read.specs.ReadFaults.{number_of};
 
-use html_dom_tree::Span;
+use crate::place::Place;
 use html_names::Refused;
 use std::alloc::{AllocError, AllocFailed};
 use thiserror::Error;
-use typst_html_encode::ExportFault;
 
 /// Why a text was not read.
 #[derive(Clone, Copy, Debug, PartialEq, Eq, Error)]
@@ -14,21 +13,30 @@ pub enum ReadFault {
     #[error("out of memory")]
     OutOfMemory,
     /// An element stands deeper than the limit.
-    #[error("elements are nested too deeply")]
+    #[error("elements are nested too deeply at {place}")]
     TooDeep {
-        /// How many characters stand before the `<` of the element's start tag.
-        place: usize,
+        /// The place of the `<` of the element's start tag.
+        place: Place,
+    },
+    /// The text has another syntax than the pages that are read, or ends too early.
+    #[error("other syntax than that of written pages at {place}")]
+    Syntax {
+        /// The place of the first character with which no page that is read goes on, or the end of the
+        /// text.
+        place: Place,
     },
 }
 
 impl ReadFault {
-    /// The fault's number: 0 for out of memory, 8 for an element that stands too deep.
+    /// The fault's number: 0 for out of memory, 8 for an element that stands too deep, 25 for another
+    /// syntax.
     pub fn number(&self) -> u8
         ensures { result ≡ number_of self.now }
     {
         match self {
             ReadFault::OutOfMemory => 0,
             ReadFault::TooDeep { .. } => 8,
+            ReadFault::Syntax { .. } => 25,
         }
     }
 }
@@ -60,21 +68,5 @@ impl<T: Drop> From<Refused<T>> for ReadFault {
 
     fn from(_refused: Refused<T>) -> ReadFault {
         ReadFault::OutOfMemory
-    }
-}
-
-/// Of an element that stands too deep the span is its place in the text.
-impl From<ReadFault> for ExportFault {
-    ghost use Rattle.typst_html_read.specs.ReadFaults.{of_read};
-
-    ghost from_gives = { λ fault made. made ≡ of_read fault };
-
-    fn from(fault: ReadFault) -> ExportFault {
-        match fault {
-            ReadFault::OutOfMemory => ExportFault::OutOfMemory,
-            ReadFault::TooDeep { place } => ExportFault::TooDeep {
-                span: Span(place as u64),
-            },
-        }
     }
 }

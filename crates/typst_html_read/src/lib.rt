@@ -7,6 +7,7 @@ mod content;
 mod fault;
 pub mod laws;
 mod open;
+mod place;
 mod raw;
 mod read;
 mod reader;
@@ -16,4 +17,5 @@ mod tags;
 mod text;
 
 pub use fault::ReadFault;
+pub use place::Place;
 pub use read::read_html;

@@ -16,7 +16,7 @@ pub(crate) struct OpenElement {
 }
 
 impl OpenElement {
-    ghost use Rattle.std.specs.Prelude.{◌≡◌, IfOk, bytes_eq, chars, []};
+    ghost use Rattle.std.specs.Prelude.{◌≡◌, ◌==◌, IfOk, bytes_eq, chars, get_or, []};
     ghost use Rattle.html_dom_tree.specs.PlainTree.{plain, no_plains};
     ghost use Rattle.html_dom_tree.specs.Views.{attrs_view, text_view};
     ghost use Rattle.html_names.specs.Kinds as kinds;
@@ -68,6 +68,18 @@ impl OpenElement {
         ensures { result ≡ bytes_eq (chars name.now) (open_of self.now).name }
     {
         name == self.element.tag.resolve()
+    }
+
+    /// Whether the character stands at that place of its name, or is the `>` behind the name.
+    pub(crate) fn ends_at(&self, place: usize, c: char) -> bool
+        ensures { result ≡ (c == get_or (open_of self.now).name place 62) }
+    {
+        let name = self.element.tag.resolve().as_bytes();
+        if place < name.len() {
+            c == char::from(name[place])
+        } else {
+            c == '>'
+        }
     }
 
     /// Whether it holds texts alone.

@@ -2,15 +2,19 @@ ghost use Rattle.std.specs.Prelude.{◌≡◌, ◌≤◌, chars, None};
 ghost use Rattle.typst_html_encode.specs.Reader.{Outside, final_root, read, run};
 ghost use Rattle.typst_html_read.specs.Endings.{Gives};
 ghost use Rattle.typst_html_read.specs.PlainElements.{accepted};
-ghost use Rattle.typst_html_read.specs.LimitedReading.{deep_places, too_deep};
+ghost use Rattle.typst_html_read.specs.LimitedReading.{deep_places, stop_place, too_deep, unread};
+ghost use Rattle.typst_html_read.specs.Places.{place_at};
 
 use crate::fault::ReadFault;
+use crate::place::{common_length, place_at};
 use crate::reader::Reader;
 use html_dom_tree::HtmlElement;
 use std::alloc::Global;
 
-/// The element that a text spells, if it spells one: `<!DOCTYPE html>`, and then one element with
-/// nothing around it but tabs, line feeds, carriage returns and spaces.
+const DOCUMENT_TYPE: &str = "<!DOCTYPE html>";
+
+/// The element that a text spells: `<!DOCTYPE html>`, and then one element with nothing around it but
+/// tabs, line feeds, carriage returns and spaces.
 ///
 /// It takes the syntax that is written here, and a browser's parser takes more: values stand in
 /// double quotes, each attribute follows one space, each element that is not void has an end tag of
@@ -18,45 +22,61 @@ use std::alloc::Global;
 /// or a number in small hexadecimal digits without leading zeros. All that a text does not spell is
 /// as [`HtmlElement::new`] makes it.
 ///
-/// There is no element either where a name is none that `HtmlTag::intern` or `HtmlAttr::intern`
-/// takes. What follows such a name is not read.
-///
 /// `limit` is from 1 to 10,000 and bounds how deep elements may stand; the root stands at depth 1.
-/// Reading ends with the place of the first start tag, counted in characters, of an element that
-/// would stand deeper, unless it ends before.
+///
+/// # Errors
+///
+/// The first of these in the text, with its place:
+///
+/// - [`ReadFault::TooDeep`], the `<` of the start tag of an element that would stand deeper;
+/// - [`ReadFault::Syntax`], the first character that no text has which is read, or the end of a text
+///   that is not whole. A name is judged once it ends: the place of one that `HtmlTag::intern` or
+///   `HtmlAttr::intern` refuses is that of the character behind it.
 ///
 /// Cost: grows with the length of the text. Beside the element it needs memory for the elements
 /// that are open, and for one text and one name.
 ///
 /// ```
-/// use typst_html::{read_html, tag};
+/// use typst_html::{Place, ReadFault, read_html, tag};
 ///
 /// let alloc = rt.alloc();
-/// let root = read_html(alloc, "<!DOCTYPE html><p>a &amp; b</p>", 50)?.expect(&rt, "an element");
+/// let root = read_html(alloc, "<!DOCTYPE html><p>a &amp; b</p>", 50)?;
 /// assert!(rt; root.tag == tag::p);
 /// assert_eq!(rt; root.children.len(), 1);
-/// let none = read_html(alloc, "<!DOCTYPE html><p>a & b", 50)?;
-/// assert!(rt; none.is_none());
+///
+/// let read = read_html(alloc, "<!DOCTYPE html>\n<p>a & b</p>", 50);
+/// let (offset, line, column) = (22, 2, 7); // the space behind a bare `&`
+/// let place = Place { offset, line, column };
+/// assert!(rt; read == Err(ReadFault::Syntax { place }));
 /// ```
-pub fn read_html(alloc: Global, text: &str, limit: usize) -> Result<Option<HtmlElement>, ReadFault>
+pub fn read_html(alloc: Global, text: &str, limit: usize) -> Result<HtmlElement, ReadFault>
     requires some_limit { 1 ≤ limit }
     requires low_limit { limit ≤ 10000 }
-    ensures { Gives result (accepted (read (chars text.now))) (too_deep limit (chars text.now)) }
+    ensures { let cs = chars text.now in
+        Gives result cs (accepted (read cs)) (too_deep limit cs) (unread cs) }
 {
-    match text.strip_prefix("<!DOCTYPE html>") {
-        None => Ok(None),
-        Some(rest) => read_root(alloc, rest, limit),
+    match text.strip_prefix(DOCUMENT_TYPE) {
+        None => Err(syntax_at(text, common_length(DOCUMENT_TYPE, text))),
+        Some(rest) => read_root(alloc, text, rest, limit),
     }
 }
 
-/// The tree that the text after the document type spells.
-fn read_root(alloc: Global, text: &str, limit: usize) -> Result<Option<HtmlElement>, ReadFault>
-    ensures { let text = chars text.now in
-        Gives result (accepted (final_root (run (Outside None) text)))
-        (deep_places limit 14 (Outside None) text) }
+/// That a text is not read from that character on.
+fn syntax_at(text: &str, count: usize) -> ReadFault
+    ensures { result ≡ ReadFault.Syntax (place_at (chars text.now) count) }
+{
+    let place = place_at(text, count);
+    ReadFault::Syntax { place }
+}
+
+/// The tree that the text after the document type spells. Places are those of the whole text.
+fn read_root(alloc: Global, whole: &str, text: &str, limit: usize) -> Result<HtmlElement, ReadFault>
+    ensures { let cs = chars text.now in
+        Gives result (chars whole.now) (accepted (final_root (run (Outside None) cs)))
+        (deep_places limit 15 (Outside None) cs) (stop_place 15 (Outside None) cs) }
 {
     let mut reader = Reader::new(alloc);
-    let mut before = 14;
+    let mut before = 15;
     let mut rest = text;
     loop {
         let past = reader.read_common(rest)?;
@@ -64,16 +84,17 @@ fn read_root(alloc: Global, text: &str, limit: usize) -> Result<Option<HtmlEleme
         let mut left = past.chars();
         let Some(c) = left.next() else {
             return match reader.into_root() {
-                None => Ok(None),
-                Some(root) => Ok(Some(root.into_element())),
+                None => Err(syntax_at(whole, before)),
+                Some(root) => Ok(root.into_element()),
             };
         };
         if reader.begins_deep(limit, c) {
-            return Err(ReadFault::TooDeep { place: before });
+            let place = place_at(whole, before - 1);
+            return Err(ReadFault::TooDeep { place });
         }
         reader.step(c)?;
         if reader.is_stopped() {
-            return Ok(None);
+            return Err(syntax_at(whole, before));
         }
         before += 1;
         rest = left.as_str();

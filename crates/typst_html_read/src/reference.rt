@@ -1,8 +1,14 @@
 //! Character references.
 
-ghost use Rattle.std.specs.Prelude.{◌≡◌, chars, IfOk};
+ghost use Rattle.std.specs.Prelude.{◌≡◌, ◌==◌, ◌∷◌, ◌++◌, [], chars, slice_index, IfOk, OnOk, IsTrue, true, nat_lt};
+ghost use Rattle.std.specs.List.{list_all};
+ghost use Rattle.std.specs.Str.Parse.{digits_value};
+ghost use Rattle.html_dom_tree.specs.Views.{text_view};
+ghost use Rattle.html_names.specs.Names.{is_ascii};
 ghost use Rattle.typst_html_encode.specs.References as definition;
+ghost use Rattle.typst_html_read.specs.BegunReferences as begun;
 
+use crate::text::add;
 use std::alloc::{AllocError, Global};
 
 /// The character whose one spelling in small hexadecimal digits that is, if it is none of U+0000.
@@ -41,4 +47,98 @@ pub(crate) fn reference(alloc: Global, words: &str) -> Result<Option<char>, Allo
             None => None,
         },
     })
+}
+
+/// Whether it is a small hexadecimal digit.
+fn is_small_digit(c: char) -> bool
+    ensures { result ≡ begun.is_small_digit c }
+{
+    matches!(c, '0'..='9' | 'a'..='f')
+}
+
+/// Whether all characters are small hexadecimal digits.
+fn are_small_digits(text: &str) -> bool
+    ensures { result ≡ list_all begun.is_small_digit (chars text.now) }
+{
+    text.chars().all(|c| is_small_digit(c))
+}
+
+/// Whether the first character is the digit 0.
+fn begins_zero(text: &str) -> bool
+    ensures { result ≡ (slice_index (chars text.now) 0 == 48) }
+{
+    match text.chars().next() {
+        Some(c) => c == '0',
+        None => false,
+    }
+}
+
+/// Whether the number of these digits is at most that of the last character.
+fn is_number_of_char(digits: &str) -> bool
+    requires { list_all begun.is_small_digit (chars digits.now) ≡ true }
+    ensures { result ≡ nat_lt (digits_value 16 (chars digits.now)) 0x11_0000 }
+{
+    if digits.is_empty() {
+        return true;
+    }
+    match u32::from_str_radix(digits, 16) {
+        Ok(number) => number < 0x11_0000,
+        Err(_) => false,
+    }
+}
+
+/// Whether the number of a character begins with these digits, or has none yet.
+#[tactic(auto, unfolding(crate::specs::BegunReferences::begins_digits))]
+fn begins_digits(digits: &str) -> bool
+    ensures { result ≡ begun.begins_digits (chars digits.now) }
+{
+    if !are_small_digits(digits) {
+        return false;
+    }
+    if begins_zero(digits) {
+        return false;
+    }
+    is_number_of_char(digits)
+}
+
+/// Whether a word begins with a text.
+fn begins(word: &str, text: &str) -> bool
+    requires { IsTrue (is_ascii word.now) }
+    ensures { result ≡ begun.begins word.now (chars text.now) }
+{
+    word.starts_with(text)
+}
+
+/// Whether a text is `#x` and digits with which the number of a character begins.
+fn begins_number(text: &str) -> bool
+    ensures { result ≡ begun.begins_number (chars text.now) }
+{
+    match text.strip_prefix("#x") {
+        Some(digits) => begins_digits(digits),
+        None => false,
+    }
+}
+
+/// Whether a reference begins with this text behind its `&`.
+#[tactic(auto, unfolding(crate::specs::BegunReferences::begins_reference))]
+fn begins_reference(text: &str) -> bool
+    ensures { result ≡ begun.begins_reference (chars text.now) }
+{
+    begins("amp", text)
+        || begins("lt", text)
+        || begins("gt", text)
+        || begins("quot", text)
+        || begins("apos", text)
+        || begins("#x", text)
+        || begins_number(text)
+}
+
+/// Adds a character to what stands since `&`, and tells whether a reference begins so.
+pub(crate) fn extend(since: &mut String, c: char) -> Result<bool, AllocError>
+    ensures since { OnOk result (text_view since.new ≡ text_view since.old ++ c ∷ []) }
+    ensures begins { IfOk result (λ begins.
+        begins ≡ begun.begins_reference (text_view since.old ++ c ∷ [])) }
+{
+    add(since, c)?;
+    Ok(begins_reference(since.as_str()))
 }

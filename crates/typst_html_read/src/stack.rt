@@ -3,6 +3,7 @@
 ghost use Rattle.std.specs.Prelude.{◌≡◌, ◌∷◌, [], OnOk, IfSome, IfNone, length};
 ghost use Rattle.html_dom_tree.specs.Views.{text_view};
 ghost use Rattle.typst_html_encode.specs.Reader.{add_text, holds_text_alone};
+ghost use Rattle.typst_html_read.specs.LimitedReading.{ends_at};
 ghost use Rattle.typst_html_read.specs.OpenViews.{open_of, stack_of};
 
 use crate::open::OpenElement;
@@ -68,6 +69,17 @@ impl Stack {
         match self.pop() {
             None => Ok(()),
             Some(element) => self.push(element.with_text(text)?),
+        }
+    }
+
+    /// Whether in the name of the innermost element the character stands at that place, or is the
+    /// `>` behind that name.
+    pub(crate) fn ends_at(&self, place: usize, c: char) -> bool
+        ensures { result ≡ ends_at (stack_of self.now) place c }
+    {
+        match self.items.last() {
+            None => false,
+            Some(element) => element.ends_at(place, c),
         }
     }
 

@@ -12,7 +12,7 @@ ghost use Rattle.typst_html_read.specs.declared.reader.Mode.TheVariants as mode;
 
 use crate::open::OpenElement;
 use crate::reader::{Mode, Reader};
-use crate::reference::reference;
+use crate::reference::{extend, reference};
 use crate::text::{add, begin, empty, take};
 use html_dom_tree::HtmlAttrs;
 use html_names::charsets::{is_valid_in_attribute_name, is_valid_in_tag_name};
@@ -60,7 +60,11 @@ impl Reader {
     {
         if c == '/' {
             empty(&mut self.word);
-            self.mode = Mode::EndName;
+            self.mode = if self.stack.len() == 0 {
+                Mode::Stop
+            } else {
+                Mode::EndName
+            };
         } else if is_valid_in_tag_name(c) && !self.stack.holds_text_alone() {
             begin(&mut self.word, c)?;
             self.mode = Mode::StartName;
@@ -168,7 +172,12 @@ impl Reader {
         ensures { OnOk result (reader_state self.new ≡ next_state (reader_state self.old) c) }
     {
         if c != ';' {
-            add(&mut self.word, c)?;
+            let begins = extend(&mut self.word, c)?;
+            self.mode = if begins {
+                Mode::ValueReference
+            } else {
+                Mode::Stop
+            };
             return Ok(());
         }
         match reference(self.alloc, self.word.as_str())? {

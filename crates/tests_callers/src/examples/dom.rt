@@ -237,7 +237,7 @@ fn fragments_to_nowhere_are_told(rt: HostRuntime) -> Result<(), Fail> {
     let alloc = rt.alloc();
     let text =
         r##"<!DOCTYPE html><p><b id="a b"></b><a href="#a%20b">x</a><a href="#c">y</a></p>"##;
-    let root = read_html(alloc, text, 50)?.expect(&rt, "an element");
+    let root = read_html(alloc, text, 50)?;
     let dead = dead_fragments(alloc, &root)?;
     assert_eq!(rt; dead.len(), 1);
     for link in &dead {
@@ -253,7 +253,7 @@ fn repeated_ids_are_told(rt: HostRuntime) -> Result<(), Fail> {
 
     let alloc = rt.alloc();
     let text = r#"<!DOCTYPE html><p id="a"><b id="b"></b>x<b id="a"></b></p>"#;
-    let root = read_html(alloc, text, 50)?.expect(&rt, "an element");
+    let root = read_html(alloc, text, 50)?;
     let repeated = repeated_ids(alloc, &root)?;
     assert_eq!(rt; repeated.len(), 1);
     for place in &repeated {

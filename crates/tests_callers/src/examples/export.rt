@@ -135,14 +135,21 @@ fn trees_are_written_in_pretty_text(rt: HostRuntime) -> Result<(), Fail> {
 
 #[test]
 fn texts_are_read(rt: HostRuntime) -> Result<(), Fail> {
-    use typst_html::{read_html, tag};
+    use typst_html::{Place, ReadFault, read_html, tag};
 
     let alloc = rt.alloc();
-    let root = read_html(alloc, "<!DOCTYPE html><p>a &amp; b</p>", 50)?.expect(&rt, "an element");
+    let root = read_html(alloc, "<!DOCTYPE html><p>a &amp; b</p>", 50)?;
     assert!(rt; root.tag == tag::p);
     assert_eq!(rt; root.children.len(), 1);
-    let none = read_html(alloc, "<!DOCTYPE html><p>a & b", 50)?;
-    assert!(rt; none.is_none());
+
+    let read = read_html(alloc, "<!DOCTYPE html>\n<p>a & b</p>", 50);
+    let (offset, line, column) = (22, 2, 7); // the space behind a bare `&`
+    let place = Place {
+        offset,
+        line,
+        column,
+    };
+    assert!(rt; read == Err(ReadFault::Syntax { place }));
     Ok(())
 }
 
@@ -152,7 +159,7 @@ fn pages_are_shown(rt: HostRuntime) -> Result<(), Fail> {
 
     let alloc = rt.alloc();
     let html = "<!DOCTYPE html><html><body><p>Salt  &amp;\n<i>vinegar</i> </p></body></html>";
-    let root = read_html(alloc, html, 50)?.expect(&rt, "an element");
+    let root = read_html(alloc, html, 50)?;
     let page = page_text(alloc, &root)?;
     assert!(rt; matches!(page.parts(), [Shown::Edge, Shown::Text(_), Shown::Edge]));
     let shown = format!(in alloc; "{page}")?;

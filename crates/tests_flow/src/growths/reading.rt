@@ -1,10 +1,10 @@
 //! Texts that are read, and what is shown of a page that was read.
 
 use html_dom_tree::HtmlElement;
-use std::alloc::AllocError;
+use std::alloc::{AllocError, Global};
 use tests_growth::{TestResult, refuses, refuses_lent};
 use typst_html_page::page_text;
-use typst_html_read::read_html;
+use typst_html_read::{ReadFault, read_html};
 
 /// A text with names of one's own, attributes, references, raw texts, and elements in one another.
 const PAGE: &str = concat!(
@@ -13,9 +13,18 @@ const PAGE: &str = concat!(
     "<ul><li>five</li><li><em class=\"c\">six</em></li></ul>seven</div>\n",
 );
 
-/// Whether the text is read as an element with that many attributes and children.
-fn is_read(root: Option<HtmlElement>, attrs: usize, children: usize) -> bool {
-    root.is_some_and(|root| root.attrs.0.len() == attrs && root.children.len() == children)
+/// Whether the element has that many attributes and children.
+fn has(root: HtmlElement, attrs: usize, children: usize) -> bool {
+    root.attrs.0.len() == attrs && root.children.len() == children
+}
+
+/// Whether so many bytes of a text are read, and no more.
+fn ends_at(alloc: Global, text: &str, offset: usize) -> Result<bool, ReadFault> {
+    match read_html(alloc, text, 9) {
+        Err(ReadFault::Syntax { place }) => Ok(place.offset == offset),
+        Err(fault) => Err(fault),
+        Ok(_) => Ok(false),
+    }
 }
 
 /// What stands before the place where reading ends takes memory too.
@@ -24,12 +33,9 @@ fn texts(rt: HostRuntime) -> TestResult {
     let (alloc, wrong) = (rt.alloc(), "<!DOCTYPE html><p class=\"a\">b<i>c</i></b>");
     refuses(
         alloc,
-        || read_html(alloc, PAGE, 9).map(|root| is_read(root, 3, 8)),
+        || read_html(alloc, PAGE, 9).map(|root| has(root, 3, 8)),
     )?;
-    refuses(
-        alloc,
-        || read_html(alloc, wrong, 9).map(|root| root.is_none()),
-    )
+    refuses(alloc, || ends_at(alloc, wrong, 39))
 }
 
 /// Text with spaces and ignorable characters, objects and line breaks, in blocks.
@@ -40,7 +46,7 @@ const SHOWN: &str = concat!(
 #[test]
 fn pages(rt: HostRuntime) -> TestResult {
     let alloc = rt.alloc();
-    let root = read_html(alloc, SHOWN, 9)?.ok_or("an element")?;
+    let root = read_html(alloc, SHOWN, 9)?;
     refuses_lent(
         alloc,
         root,

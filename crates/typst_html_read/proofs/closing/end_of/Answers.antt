@@ -1,4 +1,4 @@
-use Rattle.std.proofs.Common.{◌≡◌, ◌&&◌, ◌+◌, ◌-◌, ◌≤◌, true, false, inl, inr, chars, sym, ap, ◌∙◌, length, arith, bytes_eq, drop, map, subst}
+use Rattle.std.proofs.Common.{◌≡◌, ◌&&◌, ◌+◌, ◌-◌, ◌≤◌, inl, inr, chars, sym, ap, ◌∙◌, length, arith, bytes_eq, drop, map, subst}
 use Rattle.std.specs.Char.{to_ascii_lowercase}
 use Rattle.std.proofs.lemmas.Bool.{cases_Bool, false≢true, and_right}
 use Rattle.typst_html_encode.specs.ClosingTags as ending

@@ -3,7 +3,7 @@ use denote.Text.{Utf8}
 use denote.Shadow.{shadow}
 use Rattle.typst_html_encode.specs.Reader.{Outside}
 use Rattle.typst_html_read.specs.ReaderViews.{reader_state}
-use Rattle.typst_html_read.specs.LimitedReading.{deep_places}
+use Rattle.typst_html_read.specs.LimitedReading.{deep_places, stop_place}
 use Rattle.typst_html_read.proofs.Names.{taken, outcome}
 use Rattle.typst_html_read.proofs.read.read_root.Given as goal
 
@@ -16,8 +16,10 @@ invariant-loop-reader l =
       names : taken state ≡ true;
       read : outcome state left ≡ outcome (Outside None) (chars l.fn.text);
       deep : deep_places l.limit l.before state left
-          ≡ deep_places l.limit 14 (Outside None) (chars l.fn.text);
-      few : l.before + length l.rest ≤ 14 + length l.fn.text;
+          ≡ deep_places l.limit 15 (Outside None) (chars l.fn.text);
+      stop : stop_place l.before state left ≡ stop_place 15 (Outside None) (chars l.fn.text);
+      few : l.before + length l.rest ≤ 15 + length l.fn.text;
+      some : 15 ≤ l.before;
     }
 
 abbrev pub decreases-loop-reader : goal.decreases-loop-reader

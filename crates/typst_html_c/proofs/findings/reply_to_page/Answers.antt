@@ -1,0 +1,9 @@
+use Rattle.std.proofs.Common.{sym, ◌∙◌, subst}
+use Rattle.typst_html_c.specs.PageFindings.{Tells, told_within}
+use Rattle.typst_html_c.proofs.findings.reply_to_page.Goals as goal
+
+pub returns-in-Some-clause-answered : goal.returns-in-Some-clause-answered
+returns-in-Some-clause-answered c =
+    subst (λ o. Tells (told_within c.args.page.now o) c.args.output.now c.reply_within.result
+    c.reply_within.new.output) (sym c.in-Some.is ∙ c.limit_of.ensures)
+    c.reply_within.ensures.answered

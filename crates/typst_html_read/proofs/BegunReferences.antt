@@ -1,0 +1,260 @@
+-- What begins no reference is read as none, whatever follows.
+use Rattle.std.proofs.Common.{◌≡◌, ℕ, zero, suc, ◌+◌, ◌*◌, ◌/◌, ◌%◌, ◌^◌, ◌<◌, ◌≤◌, Bool, true, false, not, ◌&&◌, ◌||◌, inl, inr, eqb, List, [], ◌∷◌, ◌++◌, None, bytes_eq, chars, codes, get_or, length, refl, sym, ap, ◌∙◌, subst, arith, nat_lt, eq-eqb, ne_eqb, ltb-true}
+use Rattle.std.specs.Prelude.{if◌then◌else◌}
+use Rattle.std.specs.Char.{digit_value}
+use Rattle.std.specs.Fmt.{digit_glyph, digits_onto, digits}
+use Rattle.std.specs.List.{list_all}
+use Rattle.std.specs.Str.{IsUtf8, IsAscii}
+use Rattle.std.specs.Str.Parse.{AllDigits, IsNumeral, digits_value, digits_value_after, without_leading_plus}
+use Rattle.std.proofs.lemmas.Bool.{cases_Bool, and_from, and_parts, agree_below_at, eqb-true, false≢true, false_from_ne_true, lt-ltb}
+use Rattle.std.proofs.lemmas.Bool.Decides.{Decides-eqb, nat_tests}
+use Rattle.std.proofs.lemmas.Fmt.{digits_is_IsNumeral}
+use Rattle.std.proofs.lemmas.List.{take_at}
+use Rattle.std.proofs.lemmas.List.Folds.{list_all-append}
+use Rattle.std.proofs.lemmas.Slice.Eq.{starts_is}
+use Rattle.std.proofs.lemmas.Str.{IsAscii-take, chars-IsAscii, encodes-chars, encodes-IsAscii}
+use Rattle.std.proofs.Math.Nat.{div-lt_iff_lt-mul, pow-suc, pow-zero}
+use lib.Utf8.{encodes, scalar, scalar_cases}
+use Rattle.html_names.proofs.Basics.{bytes_eq-same}
+use Rattle.html_names.proofs.Digits.{digits_ascii}
+use Rattle.typst_html_encode.specs.References.{numbered_char, reference_by_number, reference}
+use Rattle.typst_html_read.specs.BegunReferences.{is_small_digit, begins_digits, begins_number, begins, begins_reference}
+use Rattle.typst_html_read.proofs.Numbers.{no_plus}
+use Rattle.typst_html_read.proofs.Words.{chars_after_word, word_before}
+
+-- the digits that are written of a number are small ones, and a zero is not the first, but of 0
+
+glyph_small : (d : ℕ) → d < 16 → is_small_digit (digit_glyph false d) ≡ true
+glyph_small d h =
+    agree_below_at (λ e. is_small_digit (digit_glyph false e)) (λ e. true) 16 d refl h
+
+glyph_some : (d : ℕ) → d < 16 → 0 < d → eqb (digit_glyph false d) 48 ≡ false
+glyph_some d h p =
+    agree_below_at (λ e. eqb (digit_glyph false e) 48) (λ e. eqb e 0) 16 d refl h
+    ∙ ne_eqb d 0 (λ e. omega (arith, e, p))
+
+if_small : (b : Bool) (xs ys : List ℕ) → list_all is_small_digit xs ≡ true →
+    list_all is_small_digit ys ≡ true → list_all is_small_digit (if b then xs else ys) ≡ true
+if_small true xs ys h k = h
+if_small false xs ys h k = k
+
+onto_small : (k n : ℕ) (acc : List ℕ) → list_all is_small_digit acc ≡ true →
+    list_all is_small_digit (digits_onto k 16 false n acc) ≡ true
+onto_small zero n acc h = h
+onto_small (suc k) n acc h =
+    let d = digit_glyph false (n % 16) in
+    let more : list_all is_small_digit (d ∷ acc) ≡ true =
+    and_from (is_small_digit d) (list_all is_small_digit acc) (glyph_small (n % 16) (omega arith)) h in
+    if_small (eqb (n / 16) 0) (d ∷ acc) (digits_onto k 16 false (n / 16) (d ∷ acc)) more
+    (onto_small k (n / 16) (d ∷ acc) more)
+
+onto_some : (k n : ℕ) (acc : List ℕ) → 0 < n → n < 16 ^ k →
+    eqb (get_or (digits_onto k 16 false n acc) 0 0) 48 ≡ false
+onto_some zero n acc p h = absurd (omega (arith, pow-zero 16, h, p))
+onto_some (suc k) n acc p h =
+    let d = digit_glyph false (n % 16) in
+    let first : List ℕ → Bool = λ ds. eqb (get_or ds 0 0) 48 in
+    let choice : Bool → List ℕ =
+    λ b. if b then d ∷ acc else digits_onto k 16 false (n / 16) (d ∷ acc) in
+    elim (cases_Bool (eqb (n / 16) 0)) [
+      | inl e ↦
+          let none : n / 16 ≡ 0 = eqb-true (n / 16) 0 e in
+          ap (λ b. first (choice b)) e ∙ glyph_some (n % 16) (omega arith) (omega arith)
+      | inr e ↦
+          let not_none : n / 16 ≡ 0 → ⊥ = λ z. false≢true (sym e ∙ eq-eqb (n / 16) 0 z) in
+          let some : 0 < n / 16 = omega arith in
+          let sixteen : 0 < 16 = omega arith in
+          let small : n / 16 < 16 ^ k =
+          (div-lt_iff_lt-mul sixteen).1 (omega (arith, pow-suc 16 k, h)) in
+          ap (λ b. first (choice b)) e ∙ onto_some k (n / 16) (d ∷ acc) some small
+    ]
+
+digits_small : (n : ℕ) → list_all is_small_digit (digits 16 false n) ≡ true
+unfolding digits
+digits_small n = onto_small 64 n [] refl
+
+digits_some : (n : ℕ) → 0 < n → n < 0x11_0000 → eqb (get_or (digits 16 false n) 0 0) 48 ≡ false
+unfolding digits
+digits_some n p h = onto_some 64 n [] p (omega arith)
+
+-- what the digits in front write is no more
+
+value_grows : (ds : List ℕ) (n : ℕ) → n ≤ digits_value_after 16 n ds
+value_grows [] n = omega arith
+value_grows (c ∷ cs) n = omega (arith, value_grows cs (n * 16 + digit_value c))
+
+value_front : (ds more : List ℕ) (n : ℕ) →
+    digits_value_after 16 n ds ≤ digits_value_after 16 n (ds ++ more)
+value_front [] more n = value_grows more n
+value_front (c ∷ cs) more n = value_front cs more (n * 16 + digit_value c)
+
+front_some : (ds more : List ℕ) → eqb (get_or (ds ++ more) 0 0) 48 ≡ false →
+    eqb (get_or ds 0 0) 48 ≡ false
+front_some [] more h = refl
+front_some (c ∷ cs) more h = h
+
+digits_begun : (ds more : List ℕ) (v : ℕ) → ds ++ more ≡ digits 16 false v → 0 < v →
+    v < 0x11_0000 → begins_digits ds ≡ true
+unfolding begins_digits
+digits_begun ds more v e p h =
+    let all_small : (list_all is_small_digit ds && list_all is_small_digit more) ≡ true =
+    sym (list_all-append is_small_digit ds more)
+    ∙ (ap (list_all is_small_digit) e ∙ digits_small v) in
+    let some : eqb (get_or ds 0 0) 48 ≡ false =
+    front_some ds more (ap (λ l. eqb (get_or l 0 0) 48) e ∙ digits_some v p h) in
+    let value : digits_value 16 (ds ++ more) ≡ v = ap (digits_value 16) e
+    ∙ (digits_is_IsNumeral 16 false (omega arith) (omega arith) v (omega arith)).1 in
+    let low : digits_value 16 ds < 0x11_0000 = omega (arith, value_front ds more 0, value, h) in
+    and_from _ _ (and_parts _ _ all_small).0
+    (and_from _ _ (ap not some) (lt-ltb (digits_value 16 ds) 0x11_0000 low))
+
+char_low : (v : ℕ) → scalar v ≡ true → v < 0x11_0000
+char_low v s =
+    elim (scalar_cases v s) [
+      | inl h ↦ omega (arith, h)
+      | inr h ↦ omega (arith, h.1)
+    ]
+
+numbered_never : (ds more : List ℕ) → begins_digits ds ≡ false → numbered_char (ds ++ more) ≡ None
+numbered_never ds more h =
+    let l = ds ++ more in
+    let v = digits_value 16 l in
+    elim (cases_Bool ((scalar v && nat_lt 0 v) && bytes_eq l (digits 16 false v))) [
+      | inl e ↦
+          let p = and_parts (scalar v && nat_lt 0 v) (bytes_eq l (digits 16 false v)) e in
+          let q = and_parts (scalar v) (nat_lt 0 v) p.0 in
+          absurd (false≢true (sym h ∙ digits_begun ds more v (bytes_eq-same l _ p.1)
+          (ltb-true 0 v q.1) (char_low v q.0)))
+      | inr e ↦ rw e refl
+    ]
+
+-- a word that a text begins, begins with the text's beginnings
+pub front_begins : (word front rest : List ℕ) → word ≡ front ++ rest → begins word front ≡ true
+front_begins word front rest e = (starts_is Decides-eqb word front (begins word front) refl).1 rest e
+
+no_hash : (x : ℕ) → begins (codes "#x") (x ∷ []) ≡ false → eqb x 35 ≡ false
+no_hash x h = false_from_ne_true (eqb x 35) (λ e. false≢true (sym h
+    ∙ front_begins (codes "#x") (x ∷ []) (120 ∷ [])
+    (ap (λ c. c ∷ 120 ∷ []) (sym (eqb-true x 35 e)))))
+
+number_never : (w more : List ℕ) → begins (codes "#x") w ≡ false → begins_number w ≡ false →
+    reference_by_number (w ++ more) ≡ None
+number_never [] more h k = absurd (false≢true (sym h ∙ front_begins (codes "#x") [] (codes "#x") refl))
+number_never (x ∷ []) [] h k = refl
+number_never (x ∷ []) (y ∷ ds) h k = let other : eqb x 35 ≡ false = no_hash x h in rw other refl
+number_never (x ∷ y ∷ ds) more h k =
+    elim (cases_Bool (eqb x 35)) [
+      | inl e ↦ elim (cases_Bool (eqb y 120)) [
+        | inl f ↦
+            let none : begins_digits ds ≡ false = rw (e, f) at k in
+            rw (e, f) (numbered_never ds more none)
+        | inr f ↦ rw (e, f) refl
+      ]
+      | inr e ↦ rw e refl
+    ]
+
+name_never : (name w more : List ℕ) → begins name w ≡ false → bytes_eq (w ++ more) name ≡ false
+name_never name w more h = false_from_ne_true (bytes_eq (w ++ more) name) (λ e. false≢true
+    (sym h ∙ front_begins name w more (sym (bytes_eq-same (w ++ more) name e))))
+
+pub neither : (a b : Bool) → (a || b) ≡ false → (a ≡ false) × (b ≡ false)
+neither true b h = cc
+neither false b h = (refl, h)
+
+pub reference_never : (w : List ℕ) → begins_reference w ≡ false → (more : List ℕ) →
+    reference (w ++ more) ≡ None
+unfolding begins_reference
+reference_never w h more =
+    let amp = neither (begins (codes "amp") w) _ h in
+    let lt = neither (begins (codes "lt") w) _ amp.1 in
+    let gt = neither (begins (codes "gt") w) _ lt.1 in
+    let quot = neither (begins (codes "quot") w) _ gt.1 in
+    let apos = neither (begins (codes "apos") w) _ quot.1 in
+    let number = neither (begins (codes "#x") w) _ apos.1 in
+    rw (
+      name_never (codes "amp") w more amp.0,
+      name_never (codes "lt") w more lt.0,
+      name_never (codes "gt") w more gt.0,
+      name_never (codes "quot") w more quot.0,
+      name_never (codes "apos") w more apos.0,
+    )
+    (number_never w more number.0 number.1)
+
+-- the digits of a text, by its bytes
+
+digit_small : (c : ℕ) → is_small_digit c ≡ true → digit_value c < 16
+digit_small c h = grind (arith, nat_tests)
+
+all_digits : (cs : List ℕ) → list_all is_small_digit cs ≡ true → AllDigits 16 cs
+all_digits [] h = tt
+all_digits (c ∷ cs) h =
+    let both = and_parts (is_small_digit c) (list_all is_small_digit cs) h in
+    (digit_small c both.0, all_digits cs both.1)
+
+-- ASCII is its own bytes
+own_bytes : (ds : List ℕ) → IsUtf8 ds → IsAscii (chars ds) → ds ≡ chars ds
+own_bytes ds u a = sym (encodes-chars ds u) ∙ encodes-IsAscii (chars ds) a
+
+module _ (ds : List ℕ) (u : IsUtf8 ds) (h : list_all is_small_digit (chars ds) ≡ true) where
+  own : ds ≡ chars ds
+  own = own_bytes ds u (digits_ascii (chars ds) (all_digits (chars ds) h))
+
+  pub digits_read : without_leading_plus ds ≡ chars ds
+  digits_read = ap without_leading_plus own ∙ no_plus (chars ds) (all_digits (chars ds) h)
+
+  pub digits_high : eqb (length ds) 0 ≡ false →
+      (IsNumeral 16 (without_leading_plus ds) × (digits_value 16 (without_leading_plus ds) < 2 ^ 32) → ⊥) →
+      nat_lt (digits_value 16 (chars ds)) 0x11_0000 ≡ false
+  digits_high some wrong =
+      let not_none : length ds ≡ 0 → ⊥ = λ z. false≢true (sym some ∙ eq-eqb (length ds) 0 z) in
+      let long : 0 < length (chars ds) = omega (arith, ap length own) in
+      false_from_ne_true (nat_lt (digits_value 16 (chars ds)) 0x11_0000) (λ e.
+      let low = ltb-true (digits_value 16 (chars ds)) 0x11_0000 e in
+      wrong (subst (λ l. IsNumeral 16 l × (digits_value 16 l < 2 ^ 32)) (sym digits_read)
+      ((long, all_digits (chars ds) h), omega (arith, low))))
+
+-- a word of ASCII begins with a text where it begins with its characters
+
+pub front_ascii : (front rest : List ℕ) → IsAscii (front ++ rest) → IsAscii front
+front_ascii front rest a = subst IsAscii (take_at front rest (length front) refl)
+    (IsAscii-take (front ++ rest) (length front) a)
+
+front_own : (word front : List ℕ) → IsAscii word → begins word front ≡ true → IsAscii front
+front_own word front a h = front_ascii front _
+    (subst IsAscii ((starts_is Decides-eqb word front (begins word front) refl).0 h) a)
+
+pub begins-chars : (word text : List ℕ) → IsAscii word → IsUtf8 text →
+    begins word text ≡ begins word (chars text)
+begins-chars word text a u =
+    elim (cases_Bool (begins word text)) [
+      | inl e ↦ ap (begins word) (sym (chars-IsAscii text (front_own word text a e)))
+      | inr e ↦ e ∙ sym (false_from_ne_true (begins word (chars text)) (λ t. false≢true (sym e
+          ∙ (ap (begins word) (own_bytes text u (front_own word (chars text) a t)) ∙ t))))
+    ]
+
+-- `#x` and digits
+
+pub number_after : (w ds : List ℕ) → w ≡ 35 ∷ 120 ∷ ds →
+    begins_number (chars w) ≡ begins_digits (chars ds)
+number_after w ds e = ap begins_number (chars_after_word (35 ∷ 120 ∷ []) w ds refl e)
+
+no_number : (cs : List ℕ) → ((rest : List ℕ) → cs ≡ 35 ∷ 120 ∷ rest → ⊥) →
+    false ≡ begins_number cs
+no_number [] h = refl
+no_number (x ∷ []) h = refl
+no_number (x ∷ y ∷ ds) h =
+    elim (cases_Bool (eqb x 35)) [
+      | inl e ↦ elim (cases_Bool (eqb y 120)) [
+        | inl f ↦
+            let p : x ≡ 35 = eqb-true x 35 e in
+            let q : y ≡ 120 = eqb-true y 120 f in
+            absurd (h ds cc)
+        | inr f ↦ rw (e, f) refl
+      ]
+      | inr e ↦ rw e refl
+    ]
+
+pub number_otherwise : (w : List ℕ) → IsUtf8 w → ((rest : List ℕ) → w ≡ 35 ∷ 120 ∷ rest → ⊥) →
+    false ≡ begins_number (chars w)
+number_otherwise w u h = no_number (chars w)
+    (λ rest e. h (encodes rest) (word_before (35 ∷ 120 ∷ []) w rest refl u e))

@@ -1,0 +1,28 @@
+-- Places, one character after the other.
+use Rattle.std.proofs.Common.{◌≡◌, ℕ, zero, suc, ◌+◌, ◌-◌, ◌<◌, ◌≤◌, inl, inr, eqb, List, [], ◌∷◌, take, refl, ap, arith}
+use Rattle.std.specs.Char.{len_utf8}
+use Rattle.std.proofs.lemmas.Bool.{cases_Bool}
+use Rattle.typst_html_read.specs.Places.{next_place, place_behind}
+use Rattle.typst_html_read.specs.declared.place.Place.{Place}
+
+-- of those that are to come, the first is passed
+pub one_more : (p : Place) (count done c : ℕ) (cs : List ℕ) → done < count →
+    place_behind p (take (count - done) (c ∷ cs))
+    ≡ place_behind (next_place p c) (take (count - (done + 1)) cs)
+one_more p count done c cs h =
+    let more : count - done ≡ suc (count - (done + 1)) = omega arith in
+    ap (λ n. place_behind p (take n (c ∷ cs))) more
+
+-- what a character adds to the offset, and at most to the line and the column
+pub passed : (p q : Place) (c : ℕ) → q ≡ next_place p c →
+    (q.offset ≡ p.offset + len_utf8 c) × (q.line ≤ p.line + 1)
+    × (q.column ≤ p.column + 1)
+passed p q c e =
+    elim (cases_Bool (eqb c 10)) [
+      | inl h ↦ rw (e, h) (refl, omega arith, omega arith)
+      | inr h ↦ rw (e, h) (refl, omega arith, omega arith)
+    ]
+
+pub none_more : (p : Place) (n : ℕ) → place_behind p (take n []) ≡ p
+none_more p zero = refl
+none_more p (suc n) = refl
