@@ -2,19 +2,20 @@
 //! over the fault that it returns, and is called with that of this project, with `anyhow::Error`, and
 //! with that of tests.
 
-use crate::guide::drawn;
 use std::alloc::{AllocError, AllocFailed, Global};
 use std::test::Fail;
+use tests_frames::OneText;
 use typst_html::civil::date;
 use typst_html::{
     Abs, Args, AttrType, CastFault, ConstructFault, ConversionLevel, Datetime, DocumentInfo,
-    ElementInfo, ExportFault, FlatTree, FlowFault, Frame, FrameFault, HtmlAttr, HtmlAttrs,
-    HtmlDocument, HtmlElem, HtmlElement, HtmlFrame, HtmlNode, HtmlOptions, HtmlOutput, HtmlTag,
-    IntoAttr, Item, ListType, Location, Moment, NameFault, NameTable, NativeType, Pair, Properties,
-    PropertiesBuilder, ReadFault, Refused, Span, Value, Whitespace, YesNoBool, attr, bare_spaces, construct,
-    convert_to_nodes, create_link_anchors, dead_fragments, dead_links, export, export_linked,
-    href_to, html, html_block_fragment, html_document, html_document_for_bundle, html_in_bundle,
-    ids_are_distinct, page_text, push_located, read_html, repeated_ids, resolve_inline_styles,
+    ElementInfo, ExportFault, FlatTree, FlowFault, Frame, FrameFault, FrameWriter, HtmlAttr,
+    HtmlAttrs, HtmlDocument, HtmlElem, HtmlElement, HtmlFrame, HtmlNode, HtmlOptions, HtmlOutput,
+    HtmlTag, IntoAttr, Item, ListType, Location, Moment, NameFault, NameTable, NativeType, Pair,
+    Properties, PropertiesBuilder, ReadFault, Refused, Span, Value, Whitespace, YesNoBool, attr,
+    bare_spaces, construct, convert_to_nodes, create_link_anchors, dead_fragments, dead_links,
+    export, export_linked, href_to, html, html_block_fragment, html_document,
+    html_document_for_bundle, html_in_bundle, ids_are_distinct, page_text, push_located, read_html,
+    repeated_ids, resolve_inline_styles,
     resolve_links, tag, with_resolved_links,
 };
 
@@ -167,7 +168,7 @@ fn make_elements<E: Fault>(alloc: Global) -> Result<(), E> {
     let (picture, items) = (1, Vec::new(alloc));
     let size = Abs::from_millionths(1);
     let frame = HtmlFrame::new(alloc, Frame { picture, items }, size, Span(1));
-    let _ = drawn(alloc, &frame)?;
+    let _ = OneText::new(alloc)?.write(alloc, &frame, false)?;
     Ok(())
 }
 

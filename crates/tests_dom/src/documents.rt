@@ -1,12 +1,13 @@
 //! Tests of documents.
 
-use crate::asserts::{TestResult, Tester, assert_number, assert_text, start};
 use html_dom_document::laws::document::{equal_infos, equal_locales};
 use html_dom_document::{DocumentInfo, HtmlDocument, HtmlOutput, Locale};
 use html_dom_tree::{HtmlElement, HtmlNode, Location, Span};
 use html_names::tag;
 use std::alloc::{AllocError, Global};
 use std::collections::BTreeMap;
+use tests_asserts::{TestResult, Tester, assert_number, assert_text};
+use tests_given::start;
 
 /// The start of an element, and then the root, an `html` of span 3.
 fn output(alloc: Global) -> Result<HtmlOutput, AllocError> {
@@ -72,27 +73,27 @@ fn assert_root(
     root: &HtmlElement,
     root_node: &HtmlNode,
     span: u64,
-) {
+) -> TestResult {
     let html = HtmlElement::new(rt.alloc(), tag::html).spanned(Span(span));
-    assert_number(rt, nodes.len(), 2);
+    assert_number(nodes.len(), 2)?;
     assert!(rt; *root == html);
     assert!(rt; *root_node == HtmlNode::Element(html));
+    Ok(())
 }
 
 /// Asserts the nodes and the root of an output.
-fn assert_output(rt: &impl Tester, output: &HtmlOutput, span: u64) {
-    assert_root(rt, output.nodes(), output.root(), output.root_node(), span);
+fn assert_output(rt: &impl Tester, output: &HtmlOutput, span: u64) -> TestResult {
+    assert_root(rt, output.nodes(), output.root(), output.root_node(), span)
 }
 
 /// Outputs have their nodes and their root, which may be changed.
 #[test]
 fn outputs(rt: HostRuntime) -> TestResult {
     let mut output = output(rt.alloc())?;
-    assert_output(&rt, &output, 3);
-    assert_output(&rt, &output.try_clone()?, 3);
+    assert_output(&rt, &output, 3)?;
+    assert_output(&rt, &output.try_clone()?, 3)?;
     output.root_mut().span = Span(4);
-    assert_output(&rt, &output, 4);
-    Ok(())
+    assert_output(&rt, &output, 4)
 }
 
 /// Information is equal where all fields are, and empty where it is new.
@@ -120,7 +121,7 @@ fn assert_document(
     title: &str,
 ) -> TestResult {
     let root = document.root();
-    assert_root(rt, document.nodes(), root, document.root_node(), span);
+    assert_root(rt, document.nodes(), root, document.root_node(), span)?;
     assert!(rt; *document.info() == information(rt.alloc(), title)?);
     Ok(())
 }
@@ -149,10 +150,10 @@ fn positions(rt: HostRuntime) -> TestResult {
 }
 
 /// Asserts the path and the anchor of element 1.
-fn assert_known(rt: &impl Tester, document: &HtmlDocument, wanted: &str) {
+fn assert_known(rt: &impl Tester, document: &HtmlDocument, wanted: &str) -> TestResult {
     assert_path(rt, document, &[0, 0]);
     let anchor = document.introspector().anchor(Location(1));
-    assert_text(rt, anchor.expect(rt, "an anchor"), wanted);
+    assert_text(anchor.expect(rt, "an anchor"), wanted)
 }
 
 #[test]
@@ -162,7 +163,6 @@ fn anchors_are_set_and_copied(rt: HostRuntime) -> TestResult {
     let mut anchors = BTreeMap::new(rt.alloc());
     anchors.insert(Location(1), String::from_str(rt.alloc(), "loc-1")?)?;
     document.introspector_mut().set_anchors(anchors);
-    assert_known(&rt, &document, "loc-1");
-    assert_known(&rt, &document.try_clone()?, "loc-1");
-    Ok(())
+    assert_known(&rt, &document, "loc-1")?;
+    assert_known(&rt, &document.try_clone()?, "loc-1")
 }

@@ -1,8 +1,5 @@
 //! Tests of trees.
 
-use crate::asserts::{
-    TestResult, Tester, assert_debug, assert_number, assert_text, attrs_of, nested, point, text_of,
-};
 use html_dom_tree::{
     Frame, FrameItem, HtmlAttrs, HtmlElement, HtmlFrame, HtmlNode, Location, Span, Tag,
 };
@@ -10,6 +7,8 @@ use html_names::{attr, tag};
 use html_values_css::Abs;
 use std::alloc::{AllocError, Global};
 use std::collections::HashMap;
+use tests_asserts::{TestResult, Tester, assert_debug, assert_number, assert_text};
+use tests_given::{attrs_of, nested, point, text_of};
 
 /// Asserts that a list has these names and values.
 fn assert_attrs(rt: &impl Tester, list: &HtmlAttrs, wanted: &[(&str, &str)]) -> TestResult {
@@ -38,7 +37,7 @@ fn first_pairs_are_pushed(rt: HostRuntime) -> TestResult {
 #[test]
 fn first_values_are_found_and_changed(rt: HostRuntime) -> TestResult {
     let mut list = attrs_of(rt.alloc(), &[("class", "2"), ("id", "1"), ("id", "3")])?;
-    assert_text(&rt, list.get(&attr::id).expect(&rt, "a value"), "1");
+    assert_text(list.get(&attr::id).expect(&rt, "a value"), "1")?;
     assert!(rt; list.get(&attr::title).is_none());
     let value = list.get_mut(&attr::id).expect(&rt, "a value");
     value.push('0')?;
@@ -84,7 +83,7 @@ fn paragraph(alloc: Global, span: Span) -> Result<HtmlElement, AllocError> {
 fn nodes_have_spans(rt: HostRuntime) -> TestResult {
     let spans = [Span(0), Span(2), Span(3), Span(0)];
     let children = children(rt.alloc(), Span(3))?;
-    assert_number(&rt, children.len(), spans.len());
+    assert_number(children.len(), spans.len())?;
     for (child, span) in children.iter().zip(spans.iter()) {
         assert!(rt; child.span() == *span);
     }
@@ -112,11 +111,10 @@ fn elements_are_compared_and_copied(rt: HostRuntime) -> TestResult {
     assert_copied(&rt, &element)?;
     assert_node_copied(&rt, &HtmlNode::from(element))?;
     assert_debug(
-        &rt,
+        rt.alloc(),
         &text_of(rt.alloc(), "word", 3)?,
         "Text(\"word\", Span(3))",
-    )?;
-    Ok(())
+    )
 }
 
 /// A frame of that picture, which holds a group with a link in it.

@@ -1,11 +1,12 @@
 //! Tests of flat trees.
 
-use crate::asserts::{TestResult, Tester, assert_number, attrs_of, css_of, nested, text_of};
 use html_dom_flat::{FlatElement, FlatNode, FlatTree};
 use html_dom_tree::{HtmlElement, HtmlNode, Location, Span, Tag};
 use html_names::{HtmlTag, tag};
 use std::alloc::Global;
 use std::test::Fail;
+use tests_asserts::{TestResult, Tester, assert_number};
+use tests_given::{attrs_of, css_of, nested, text_of};
 
 /// `<ul class="a" id="b"><li class="c">x</li><my-li></my-li></ul>`, with css.
 fn list(alloc: Global) -> Result<HtmlElement, Fail> {
@@ -15,7 +16,7 @@ fn list(alloc: Global) -> Result<HtmlElement, Fail> {
     let nodes = vec![in alloc; HtmlNode::from(item), HtmlNode::from(own)]?;
     Ok(HtmlElement {
         attrs: attrs_of(alloc, &[("class", "a"), ("id", "b")])?,
-        css: css_of(alloc, &[("color", "red")])?,
+        css: css_of(alloc, "color", "red")?,
         parent: Some(Location(5)),
         span: Span(3),
         ..HtmlElement::new(alloc, tag::ul).with_children(nodes)
@@ -34,7 +35,7 @@ fn sample(alloc: Global) -> Result<Vec<HtmlNode>, Fail> {
 
 /// Asserts how many nodes the tree has, and that it spells these.
 fn assert_back(rt: &impl Tester, tree: &FlatTree, length: usize, nodes: &[HtmlNode]) -> TestResult {
-    assert_number(rt, tree.nodes().len(), length);
+    assert_number(tree.nodes().len(), length)?;
     assert!(rt; tree.to_nodes()?.as_slice() == nodes);
     Ok(())
 }
@@ -63,7 +64,7 @@ fn element<'a>(rt: &impl Tester, tree: &'a FlatTree, place: usize) -> &'a FlatEl
 fn elements_end_after_their_children(rt: HostRuntime) -> TestResult {
     let tree = FlatTree::from_nodes(rt.alloc(), &sample(rt.alloc())?)?;
     for (place, past) in [(0, 4), (1, 3), (3, 4)] {
-        assert_number(&rt, element(&rt, &tree, place).past, past);
+        assert_number(element(&rt, &tree, place).past, past)?;
     }
     Ok(())
 }
@@ -77,9 +78,8 @@ fn repeated_names_have_one_number(rt: HostRuntime) -> TestResult {
     assert!(rt; list.attrs.len() == 2 && item.attrs.len() == 1);
     assert!(rt; list.attrs[0].0 == item.attrs[0].0);
     assert!(rt; list.attrs[0].0 != list.attrs[1].0);
-    assert_number(&rt, tree.names().tags(), 3);
-    assert_number(&rt, tree.names().attrs(), 2);
-    Ok(())
+    assert_number(tree.names().tags(), 3)?;
+    assert_number(tree.names().attrs(), 2)
 }
 
 #[test]
@@ -87,7 +87,6 @@ fn deep_trees_come_back(rt: HostRuntime) -> TestResult {
     let inner = HtmlElement::new(rt.alloc(), tag::div);
     let root = nested(rt.alloc(), inner, 4_999)?;
     let tree = FlatTree::from_element(rt.alloc(), &root)?;
-    assert_number(&rt, tree.nodes().len(), 5_000);
-    assert_number(&rt, tree.to_nodes()?.len(), 1);
-    Ok(())
+    assert_number(tree.nodes().len(), 5_000)?;
+    assert_number(tree.to_nodes()?.len(), 1)
 }

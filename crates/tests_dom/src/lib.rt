@@ -1,21 +1,14 @@
-//! Tests of names, css texts, values, trees, documents and writing, each over public calls.
+//! Tests of trees, flat trees, positions and documents, and of calls on them whose growths of memory
+//! are refused, over public calls.
 #![tactic(auto)]
 
-#[cfg(test)]
-mod asserts;
-#[cfg(test)]
-mod css;
 #[cfg(test)]
 mod documents;
 #[cfg(test)]
 mod dom;
 #[cfg(test)]
-mod encode;
-#[cfg(test)]
 mod flat;
 #[cfg(test)]
-mod names;
+mod growths;
 #[cfg(test)]
 mod places;
-#[cfg(test)]
-mod values;

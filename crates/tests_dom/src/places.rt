@@ -1,14 +1,13 @@
 //! Tests of positions and links in a tree.
 
-use crate::asserts::{
-    TestResult, Tester, assert_debug, assert_number, assert_text, nested, point, start, text_of,
-};
 use html_dom_document::{HtmlIntrospector, HtmlPosition, HtmlSliceExt};
 use html_dom_tree::{Frame, FrameItem, HtmlElement, HtmlFrame, HtmlNode, Location, Point, Span};
 use html_names::tag;
 use html_values_css::Abs;
 use std::alloc::{AllocError, Global};
 use std::collections::{BTreeMap, BTreeSet};
+use tests_asserts::{TestResult, Tester, assert_debug, assert_number, assert_text};
+use tests_given::{nested, point, start, text_of};
 
 /// A node for each word: `-` a start tag, `<` a `span`, any other a text.
 fn nodes(alloc: Global, words: &[&str]) -> Result<Vec<HtmlNode>, AllocError> {
@@ -41,9 +40,9 @@ fn runs_of_texts_count_once(rt: HostRuntime) -> TestResult {
     for (words, wanted) in &INDICES {
         let nodes = nodes(rt.alloc(), words)?;
         let nodes = nodes.as_slice();
-        assert_number(&rt, nodes.iter_with_dom_indices().count(), wanted.len());
+        assert_number(nodes.iter_with_dom_indices().count(), wanted.len())?;
         for ((_, index), wanted) in nodes.iter_with_dom_indices().zip(wanted.iter()) {
-            assert_number(&rt, index, *wanted);
+            assert_number(index, *wanted)?;
         }
     }
     Ok(())
@@ -115,11 +114,12 @@ fn assert_point(rt: &impl Tester, introspector: &HtmlIntrospector, location: u64
 }
 
 /// Asserts that a set has just these locations.
-fn assert_set(rt: &impl Tester, set: &BTreeSet<Location>, wanted: &[u64]) {
-    assert_number(rt, set.len(), wanted.len());
+fn assert_set(rt: &impl Tester, set: &BTreeSet<Location>, wanted: &[u64]) -> TestResult {
+    assert_number(set.len(), wanted.len())?;
     for location in wanted {
         assert!(rt; set.contains(&Location(*location)));
     }
+    Ok(())
 }
 
 /// Asserts where start tags and links in frames lead.
@@ -129,9 +129,8 @@ fn assert_targets(
     all: &[u64],
     framed: &[u64],
 ) -> TestResult {
-    assert_set(rt, &introspector.link_targets()?, all);
-    assert_set(rt, introspector.frame_link_targets(), framed);
-    Ok(())
+    assert_set(rt, &introspector.link_targets()?, all)?;
+    assert_set(rt, introspector.frame_link_targets(), framed)
 }
 
 /// A group does not move what is in it.
@@ -159,9 +158,14 @@ fn set_anchor(
 }
 
 /// Asserts the anchor of that element.
-fn assert_anchor(rt: &impl Tester, introspector: &HtmlIntrospector, location: u64, wanted: &str) {
+fn assert_anchor(
+    rt: &impl Tester,
+    introspector: &HtmlIntrospector,
+    location: u64,
+    wanted: &str,
+) -> TestResult {
     let anchor = introspector.anchor(Location(location));
-    assert_text(rt, anchor.expect(rt, "an anchor"), wanted);
+    assert_text(anchor.expect(rt, "an anchor"), wanted)
 }
 
 #[test]
@@ -169,9 +173,9 @@ fn anchors_are_set(rt: HostRuntime) -> TestResult {
     let mut introspector = HtmlIntrospector::new(rt.alloc(), &[])?;
     assert!(rt; introspector.anchor(Location(1)).is_none());
     set_anchor(rt.alloc(), &mut introspector, 1, "loc-1")?;
-    assert_anchor(&rt, &introspector, 1, "loc-1");
+    assert_anchor(&rt, &introspector, 1, "loc-1")?;
     set_anchor(rt.alloc(), &mut introspector, 2, "loc-2")?;
-    assert_anchor(&rt, &introspector, 2, "loc-2");
+    assert_anchor(&rt, &introspector, 2, "loc-2")?;
     assert!(rt; introspector.anchor(Location(1)).is_none());
     Ok(())
 }
@@ -183,8 +187,8 @@ fn copies_know_the_same(rt: HostRuntime) -> TestResult {
     let copy = introspector.try_clone()?;
     assert_point(&rt, &copy, 3, point(1, 0));
     assert_targets(&rt, &copy, &[4, 6], &[6])?;
-    assert_anchor(&rt, &copy, 1, "loc-1");
-    assert_debug(&rt, &copy, "HtmlIntrospector(..)")
+    assert_anchor(&rt, &copy, 1, "loc-1")?;
+    assert_debug(rt.alloc(), &copy, "HtmlIntrospector(..)")
 }
 
 /// That many `span`, each after a text, and a start tag.
@@ -206,6 +210,5 @@ fn large_trees_have_positions(rt: HostRuntime) -> TestResult {
     let inner = inner.with_child(HtmlNode::from(start(1, None)))?;
     let root = HtmlNode::from(nested(rt.alloc(), inner, 4_999)?);
     let introspector = HtmlIntrospector::new(rt.alloc(), &[root])?;
-    assert_number(&rt, position(&rt, &introspector, 1).path().len(), 5_001);
-    Ok(())
+    assert_number(position(&rt, &introspector, 1).path().len(), 5_001)
 }

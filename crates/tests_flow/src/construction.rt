@@ -5,15 +5,13 @@ mod bodies;
 mod faults;
 mod items;
 
-use crate::asserts::assert_text;
 use html_dom_tree::Span;
 use html_flow::{
     Arg, ArgValue, Args, ConstructFault, ElementInfo, HtmlElem, Item, Pair, Role, construct,
 };
 use html_values::Value;
 use std::alloc::{AllocError, Global};
-use std::process::Abort;
-use tests_growth::TestResult;
+use tests_asserts::{TestResult, assert_text};
 
 /// A value of an argument, as it stands in a table.
 #[derive(Clone, Copy)]
@@ -115,13 +113,7 @@ fn shown(alloc: Global, info: &ElementInfo, args: &mut Args) -> Result<String, A
 }
 
 /// Asserts what constructing of these arguments returns, in words.
-fn assert_made(
-    rt: &(impl Abort + AllocGlobal),
-    info: &ElementInfo,
-    rows: &[Row],
-    wanted: &str,
-) -> TestResult {
-    let mut args = args_of(rt.alloc(), rows)?;
-    assert_text(rt, &shown(rt.alloc(), info, &mut args)?, wanted);
-    Ok(())
+fn assert_made(alloc: Global, info: &ElementInfo, rows: &[Row], wanted: &str) -> TestResult {
+    let mut args = args_of(alloc, rows)?;
+    assert_text(&shown(alloc, info, &mut args)?, wanted)
 }

@@ -1,4 +1,5 @@
-//! Calls that are refused their first growth, their second, and so on until a run succeeds.
+//! Calls that are refused their first growth, their second, and so on until a run succeeds. Each way
+//! in which a call takes a value has a loop of its own, so that no closure wraps a call.
 
 use crate::memory::Memory;
 use crate::shown::{is_shown, shown_of};
@@ -6,6 +7,7 @@ use html_names::Refused;
 use std::alloc::{AllocError, Global};
 use std::fmt::Debug;
 use std::test::Fail;
+use tests_asserts::TestResult;
 
 /// How often a call is tried at most.
 const MOST_ATTEMPTS: usize = 100_000;
@@ -13,9 +15,6 @@ const MOST_ATTEMPTS: usize = 100_000;
 /// How often a call is tried at most that consumes what it is given and does not give it back: what a
 /// refused attempt frees is there for the next.
 const SPARES: usize = 40;
-
-/// How a test ends.
-pub type TestResult = Result<(), Fail>;
 
 /// What a call makes of which a test asks no more than whether it is right.
 pub trait Made: Drop {
@@ -37,6 +36,58 @@ impl Made for () {
     }
 }
 
+/// The attempts of a call, of which the first finds no memory.
+#[derive(Drop)]
+struct Attempts {
+    memory: Memory,
+    is_refused: bool,
+}
+
+impl Attempts {
+    /// Takes all the memory there is.
+    fn begin(alloc: Global) -> Result<Attempts, AllocError> {
+        let memory = Memory::take(alloc)?;
+        Ok(Attempts {
+            memory,
+            is_refused: false,
+        })
+    }
+
+    /// After a refused attempt, which has to keep what it was given: frees a little for the next one.
+    fn refuse(&mut self, is_kept: bool) -> TestResult {
+        if !is_kept {
+            return Err(Fail::new("a call that is refused changes what it is given"));
+        }
+        self.is_refused = true;
+        self.memory.free_block();
+        Ok(())
+    }
+
+    /// The same of an attempt that has to fail by a fault that is shown by that text.
+    fn refuse_by<E: Debug>(&mut self, fault: &E, refusal: &str, is_kept: bool) -> TestResult {
+        if !is_shown(fault, refusal) {
+            return Err(Fail::new("a call fails by another fault than that of memory"));
+        }
+        self.refuse(is_kept)
+    }
+
+    /// After an attempt that was not refused, which has to make what is right, and not to be the first.
+    fn end(self, is_right: bool) -> TestResult {
+        if !is_right {
+            return Err(Fail::new("what is made is wrong"));
+        }
+        if !self.is_refused {
+            return Err(Fail::new("no growth is refused"));
+        }
+        Ok(())
+    }
+
+    /// After so many attempts that were all refused.
+    fn give_up(self) -> TestResult {
+        Err(Fail::new("each growth is refused"))
+    }
+}
+
 /// Asserts that a call is refused at first, and what it makes is right once it is refused no more. An
 /// attempt returns that, or what it was given, which is held to the test each time.
 pub fn refuses_tested<T, R, K, F>(alloc: Global, given: T, is_kept: K, attempt: F) -> TestResult
@@ -48,19 +99,18 @@ where
     requires test { K.IsAlwaysCallable is_kept }
     requires call { F.IsAlwaysCallable attempt }
 {
-    let mut memory = Memory::take(alloc)?;
+    let mut attempts = Attempts::begin(alloc)?;
     let mut next = given;
-    for count in 0..MOST_ATTEMPTS {
+    for _ in 0..MOST_ATTEMPTS {
         match attempt(next) {
-            Ok(made) if !made.is_right() => return Err(Fail::new("what is made is wrong")),
-            Ok(_) if count == 0 => return Err(Fail::new("no growth is refused")),
-            Ok(_) => return Ok(()),
-            Err(back) if is_kept(&back) => next = back,
-            Err(_) => return Err(Fail::new("a call that is refused changes what it is given")),
+            Ok(made) => return attempts.end(made.is_right()),
+            Err(back) => {
+                attempts.refuse(is_kept(&back))?;
+                next = back;
+            }
         }
-        memory.free_block();
     }
-    Err(Fail::new("each growth is refused"))
+    attempts.give_up()
 }
 
 /// Asserts that a call that consumes what it is given is refused at first, gives it back as it was each
@@ -73,19 +123,23 @@ pub fn refuses_given<T: Debug + Drop, R: Made, F: Fn(T) -> Result<R, Refused<T>>
     requires { F.IsAlwaysCallable call }
 {
     let shown = shown_of(alloc, &given)?;
-    refuses_tested(
-        alloc,
-        given,
-        |back| is_shown(back, &shown),
-        |given: T|
-            requires { F.IsAlwaysCallable call }
-        { call(given).map_err(|refused| refused.back) },
-    )
+    let mut attempts = Attempts::begin(alloc)?;
+    let mut next = given;
+    for _ in 0..MOST_ATTEMPTS {
+        match call(next) {
+            Ok(made) => return attempts.end(made.is_right()),
+            Err(Refused { back }) => {
+                attempts.refuse(is_shown(&back, &shown))?;
+                next = back;
+            }
+        }
+    }
+    attempts.give_up()
 }
 
 /// Asserts that a call is refused at first, fails by "out of memory" and leaves what it borrows as it
 /// was each time, and what it makes is right once it is refused no more.
-pub fn refuses_lent<T, R, E, F>(alloc: Global, lent: T, call: F) -> TestResult
+pub fn refuses_lent<T, R, E, F>(alloc: Global, mut lent: T, call: F) -> TestResult
 where
     T: Debug + Drop,
     R: Made,
@@ -93,12 +147,19 @@ where
     F: Fn(&mut T) -> Result<R, E>,
     requires { F.IsAlwaysCallable call }
 {
-    let shown = shown_of(alloc, &lent)?;
-    refuses_kept(alloc, lent, |lent| is_shown(lent, &shown), call)
+    let (shown, refusal) = (shown_of(alloc, &lent)?, refusal_of::<E>(alloc)?);
+    let mut attempts = Attempts::begin(alloc)?;
+    for _ in 0..MOST_ATTEMPTS {
+        match call(&mut lent) {
+            Ok(made) => return attempts.end(made.is_right()),
+            Err(fault) => attempts.refuse_by(&fault, &refusal, is_shown(&lent, &shown))?,
+        }
+    }
+    attempts.give_up()
 }
 
 /// The same of what has no text by which it is shown, and is held to that test.
-pub fn refuses_kept<T, R, E, K, F>(alloc: Global, lent: T, is_kept: K, call: F) -> TestResult
+pub fn refuses_kept<T, R, E, K, F>(alloc: Global, mut lent: T, is_kept: K, call: F) -> TestResult
 where
     T: Drop,
     R: Made,
@@ -108,30 +169,15 @@ where
     requires test { K.IsAlwaysCallable is_kept }
     requires call { F.IsAlwaysCallable call }
 {
-    let refusal = shown_of(alloc, &E::from(AllocError))?;
-    refuses_tested(
-        alloc,
-        lent,
-        is_kept,
-        |lent: T|
-            requires { F.IsAlwaysCallable call }
-        { lent_once(lent, &refusal, &call) },
-    )
-}
-
-/// Whether what the call makes is right, or what it borrowed if it fails by that refusal.
-fn lent_once<T: Drop, R: Made, E: Debug + Drop, F: Fn(&mut T) -> Result<R, E>>(
-    mut lent: T,
-    refusal: &str,
-    call: &F,
-) -> Result<bool, T>
-    requires { F.IsAlwaysCallable call.now }
-{
-    match call(&mut lent) {
-        Ok(made) => Ok(made.is_right()),
-        Err(fault) if is_shown(&fault, refusal) => Err(lent),
-        Err(_) => Ok(false),
+    let refusal = refusal_of::<E>(alloc)?;
+    let mut attempts = Attempts::begin(alloc)?;
+    for _ in 0..MOST_ATTEMPTS {
+        match call(&mut lent) {
+            Ok(made) => return attempts.end(made.is_right()),
+            Err(fault) => attempts.refuse_by(&fault, &refusal, is_kept(&lent))?,
+        }
     }
+    attempts.give_up()
 }
 
 /// Asserts that a call that is given nothing is refused at first, fails by "out of memory" each time,
@@ -142,13 +188,15 @@ pub fn refuses<R: Made, E: From<AllocError> + Debug + Drop, F: Fn() -> Result<R,
 ) -> TestResult
     requires { F.IsAlwaysCallable call }
 {
-    refuses_lent(
-        alloc,
-        (),
-        |_: &mut ()|
-            requires { F.IsAlwaysCallable call }
-        { call() },
-    )
+    let refusal = refusal_of::<E>(alloc)?;
+    let mut attempts = Attempts::begin(alloc)?;
+    for _ in 0..MOST_ATTEMPTS {
+        match call() {
+            Ok(made) => return attempts.end(made.is_right()),
+            Err(fault) => attempts.refuse_by(&fault, &refusal, true)?,
+        }
+    }
+    attempts.give_up()
 }
 
 /// The same of a call that consumes what it is given and does not give it back: each attempt takes
@@ -167,19 +215,15 @@ where
     for _ in 0..SPARES {
         spares.push(make()?)?;
     }
-    refuses_kept(
-        alloc,
-        spares,
-        |_| true,
-        |spares: &mut Vec<T>|
-            requires { F.IsAlwaysCallable call }
-        {
-            match spares.pop() {
-                Some(spare) => call(spare).map(|made| made.is_right()),
-                None => Ok(false),
-            }
-        },
-    )
+    let refusal = refusal_of::<E>(alloc)?;
+    let mut attempts = Attempts::begin(alloc)?;
+    for spare in spares {
+        match call(spare) {
+            Ok(made) => return attempts.end(made.is_right()),
+            Err(fault) => attempts.refuse_by(&fault, &refusal, true)?,
+        }
+    }
+    attempts.give_up()
 }
 
 /// Asserts that copies of the value are refused at first, and the first that is not is shown as the
@@ -192,22 +236,17 @@ pub fn refuses_copy<T: Debug + Drop, F: Fn(&T) -> Result<T, AllocError>>(
     requires { F.IsAlwaysCallable copy }
 {
     let shown = shown_of(alloc, &value)?;
-    refuses_lent(
-        alloc,
-        value,
-        |value: &mut T|
-            requires { F.IsAlwaysCallable copy }
-        { is_copied(value, &shown, &copy) },
-    )
+    let mut attempts = Attempts::begin(alloc)?;
+    for _ in 0..MOST_ATTEMPTS {
+        match copy(&value) {
+            Ok(copied) => return attempts.end(is_shown(&copied, &shown)),
+            Err(AllocError) => attempts.refuse(is_shown(&value, &shown))?,
+        }
+    }
+    attempts.give_up()
 }
 
-/// Whether the copy of the value is shown by that text.
-fn is_copied<T: Debug + Drop, F: Fn(&T) -> Result<T, AllocError>>(
-    value: &T,
-    shown: &str,
-    copy: &F,
-) -> Result<bool, AllocError>
-    requires { F.IsAlwaysCallable copy.now }
-{
-    Ok(is_shown(&copy(value)?, shown))
+/// The text by which a fault of memory is shown.
+fn refusal_of<E: From<AllocError> + Debug + Drop>(alloc: Global) -> Result<String, AllocError> {
+    shown_of(alloc, &E::from(AllocError))
 }

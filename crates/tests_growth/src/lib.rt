@@ -14,7 +14,7 @@ mod memory;
 mod shown;
 
 pub use attempts::{
-    Made, TestResult, refuses, refuses_copy, refuses_given, refuses_kept, refuses_lent,
-    refuses_taken, refuses_tested,
+    Made, refuses, refuses_copy, refuses_given, refuses_kept, refuses_lent, refuses_taken,
+    refuses_tested,
 };
 pub use shown::{is_shown, shown_of};

@@ -2,13 +2,13 @@
 
 ghost use Rattle.std.specs.Prelude.{◌≤◌};
 
-use crate::frames::OneText;
 use crate::given::items_of;
 use crate::row::Row;
 use crate::runs::{PLAIN, inner_text};
 use anyhow::{Context, Result, ensure};
 use serde_json::{Map, Value};
 use std::alloc::Global;
+use tests_frames::OneText;
 use tests_reading::reads_back;
 use typst_html::{
     DocumentInfo, ExportFault, HtmlDocument, HtmlOptions, Locale, Location, Pair,

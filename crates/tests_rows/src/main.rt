@@ -24,7 +24,6 @@
 mod calls;
 mod checks;
 mod documents;
-mod frames;
 mod given;
 mod nodes;
 mod pages;

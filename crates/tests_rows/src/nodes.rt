@@ -1,11 +1,11 @@
 //! What items become as nodes.
 
-use crate::frames::OneText;
 use crate::given::items_in;
 use crate::row::Row;
 use crate::runs::inner_text;
 use anyhow::{Result, bail, ensure};
 use std::alloc::{AllocError, Global};
+use tests_frames::OneText;
 use tests_reading::reads_back;
 use typst_html::{
     ConversionLevel, FlatTree, FlowFault, HtmlElement, HtmlNode, HtmlOptions, Span, Whitespace,

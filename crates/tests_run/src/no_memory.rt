@@ -3,7 +3,8 @@
 use crate::runs::words;
 use html_tool_run::{Status, run};
 use std::alloc::{AllocError, Global};
-use tests_growth::{TestResult, refuses_lent};
+use tests_asserts::TestResult;
+use tests_growth::refuses_lent;
 
 /// How many bytes are written at most.
 const ROOM: usize = 4096;

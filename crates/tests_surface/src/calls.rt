@@ -1,7 +1,7 @@
 //! Calls that no other test makes.
 
-use crate::asserts::assert_text;
 use std::test::Fail;
+use tests_asserts::assert_text;
 use typst_html::property::Display;
 use typst_html::output::Output;
 use typst_html::{ConstructFault, Dir, HorizontalDir, HtmlElem, HtmlElement, Span, ToCss, attr, tag};
@@ -16,8 +16,7 @@ fn borders_and_directions(rt: HostRuntime) {
 #[test]
 fn texts_are_css(rt: HostRuntime) -> Result<(), Fail> {
     let serif = String::from_str(rt.alloc(), "serif")?;
-    assert_text(&rt, &serif.to_css(rt.alloc(), &mut ())?, "serif");
-    Ok(())
+    assert_text(&serif.to_css(rt.alloc(), &mut ())?, "serif")
 }
 
 #[test]

@@ -1,9 +1,9 @@
 //! Numbers, spans and texts of faults, and what `?` makes of those of the layers below.
 
-use crate::asserts::assert_text;
 use html_tool_run::{Fault, WriteFailed};
 use std::alloc::{AllocError, AllocFailed};
 use std::test::Fail;
+use tests_asserts::assert_text;
 use typst_html::{
     CastFault, ConstructFault, ExportFault, FlowFault, FrameFault, NameFault, NameTable, Place,
     ReadFault, Refused, Span,
@@ -12,6 +12,8 @@ use typst_html::{
 /// What is made of faults of the layers below: numbers, spans and texts.
 const MADE: &str = "\
     8 at 7: items are nested too deeply\n\
+    8 at 3: items are nested too deeply\n\
+    25 at 3: other syntax than that of written pages\n\
     15 at 0: a frame was refused by its writer\n\
     1 at 0: tag name must not be empty\n\
     23 at 0: the year is out of range\n\
@@ -22,8 +24,16 @@ const MADE: &str = "\
 fn faults_of_the_layers_below(rt: HostRuntime) -> Result<(), Fail> {
     let (mut shown, span) = (String::new(rt.alloc()), Span(7));
     let casts = vec![in rt.alloc(); (CastFault::NumberRange, Span(5))]?;
+    let (offset, line, column) = (3, 1, 4);
+    let place = Place {
+        offset,
+        line,
+        column,
+    };
     let faults = [
         ExportFault::from(FlowFault::TooDeep { span }),
+        ExportFault::from(ReadFault::TooDeep { place }),
+        ExportFault::from(ReadFault::Syntax { place }),
         ExportFault::from(FrameFault::Refused),
         ExportFault::from(NameFault::EmptyTag),
         ExportFault::from(CastFault::YearRange),
@@ -33,8 +43,7 @@ fn faults_of_the_layers_below(rt: HostRuntime) -> Result<(), Fail> {
     for fault in &faults {
         write!(shown, "{} at {}: {fault}\n", fault.number(), fault.span().0)?;
     }
-    assert_text(&rt, &shown, MADE);
-    Ok(())
+    assert_text(&shown, MADE)
 }
 
 #[test]
@@ -52,12 +61,14 @@ fn want_of_memory_is_one_fault(rt: HostRuntime) {
         ExportFault::from(FlowFault::OutOfMemory),
         ExportFault::from(ConstructFault::OutOfMemory),
         ExportFault::from(FrameFault::OutOfMemory),
+        ExportFault::from(ReadFault::from(AllocError)),
+        ExportFault::from(ReadFault::from(AllocFailed { value: 1u8 })),
+        ExportFault::from(ReadFault::from(Refused { back: 1u8 })),
     ];
     for fault in &faults {
         assert!(rt; *fault == ExportFault::OutOfMemory);
     }
     assert!(rt; Fault::from(Refused { back: 1u8 }) == Fault::OutOfMemory);
-    assert!(rt; ReadFault::from(Refused { back: 1u8 }) == ReadFault::OutOfMemory);
 }
 
 /// Faults with texts of their own, and their numbers.
@@ -89,8 +100,7 @@ fn faults_with_texts_of_their_own(rt: HostRuntime) -> Result<(), Fail> {
         write!(shown, "{}: {fault}\n", fault.number())?;
     }
     write!(shown, "{WriteFailed}\n")?;
-    assert_text(&rt, &shown, OWN);
-    Ok(())
+    assert_text(&shown, OWN)
 }
 
 /// Values whose fields are not shown.
@@ -98,6 +108,5 @@ fn faults_with_texts_of_their_own(rt: HostRuntime) -> Result<(), Fail> {
 fn hidden_fields(rt: HostRuntime) -> Result<(), Fail> {
     let (refused, names) = (Refused { back: 7u8 }, NameTable::new(rt.alloc()));
     let shown = format!(in rt.alloc(); "{refused:?} {names:?}")?;
-    assert_text(&rt, &shown, "Refused(..) NameTable");
-    Ok(())
+    assert_text(&shown, "Refused(..) NameTable")
 }

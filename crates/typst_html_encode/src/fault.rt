@@ -12,8 +12,8 @@ use std::alloc::{AllocError, AllocFailed};
 use thiserror::Error;
 
 /// Why items or a tree have no HTML text. Writing a tree answers the kinds from `Unencodable` to
-/// `FrameRefused`, making a document of items those from `TooDeep` to `Footnotes`. The last three kinds
-/// are faults of calls below; no call here answers them, but a function that makes items and writes
+/// `FrameRefused`, making a document of items those from `TooDeep` to `Footnotes`. The last four kinds
+/// are faults of other calls; no call here answers them, but a function that makes items and writes
 /// them can hand all its faults on by `?`, those of reading too.
 #[derive(Debug, Drop, Error)]
 pub enum ExportFault {
@@ -82,13 +82,19 @@ pub enum ExportFault {
     /// No element could be constructed of its arguments.
     #[error("{0}")]
     Construct(ConstructFault),
+    /// A text that is read has another syntax than the pages that are written.
+    #[error("other syntax than that of written pages")]
+    Syntax {
+        /// How many bytes of the text stand before the place.
+        span: Span,
+    },
 }
 
 impl ExportFault {
     ghost use Rattle.typst_html_encode.specs.ExportFaults.{number_of, span_of};
 
     /// The fault's number: 0 for out of memory, from 8 on in the order of the variants up to
-    /// `FrameRefused`, and that of the fault below for the last three.
+    /// `FrameRefused`, that of the fault below for the next three, and 25 for another syntax.
     pub fn number(&self) -> u8
         ensures { result ≡ number_of self.now }
     {
@@ -105,6 +111,7 @@ impl ExportFault {
             ExportFault::Name(fault) => fault.number(),
             ExportFault::Cast(fault) => fault.number(),
             ExportFault::Construct(fault) => fault.number(),
+            ExportFault::Syntax { .. } => 25,
         }
     }
 
@@ -123,7 +130,8 @@ impl ExportFault {
             | ExportFault::VoidChildren { span }
             | ExportFault::RawChild { span }
             | ExportFault::RawClosing { span }
-            | ExportFault::FrameRefused { span } => *span,
+            | ExportFault::FrameRefused { span }
+            | ExportFault::Syntax { span } => *span,
         }
     }
 }
@@ -165,7 +173,8 @@ fn same_fault(a: &ExportFault, b: &ExportFault) -> bool
         | (ExportFault::VoidChildren { span }, ExportFault::VoidChildren { span: other })
         | (ExportFault::RawChild { span }, ExportFault::RawChild { span: other })
         | (ExportFault::RawClosing { span }, ExportFault::RawClosing { span: other })
-        | (ExportFault::FrameRefused { span }, ExportFault::FrameRefused { span: other }) => {
+        | (ExportFault::FrameRefused { span }, ExportFault::FrameRefused { span: other })
+        | (ExportFault::Syntax { span }, ExportFault::Syntax { span: other }) => {
             *span == *other
         }
         (ExportFault::Name(fault), ExportFault::Name(other)) => *fault == *other,

@@ -5,7 +5,7 @@ use html_flow::ElementInfo;
 use html_names::{attr, tag};
 use html_values::{AttrType, NativeType};
 use std::alloc::{AllocError, Global};
-use tests_growth::TestResult;
+use tests_asserts::TestResult;
 
 /// A link with a text, and with a presence and a whole number.
 fn link(alloc: Global) -> Result<ElementInfo, AllocError> {
@@ -68,7 +68,7 @@ static LINKS: [(&[Row], &str); 6] = [
 fn arguments_become_attributes(rt: HostRuntime) -> TestResult {
     let link = link(rt.alloc())?;
     for (rows, wanted) in &LINKS {
-        assert_made(&rt, &link, rows, wanted)?;
+        assert_made(rt.alloc(), &link, rows, wanted)?;
     }
     Ok(())
 }

@@ -3,7 +3,7 @@
 use super::{Sample, assert_made};
 use html_flow::ElementInfo;
 use html_names::HtmlTag;
-use tests_growth::TestResult;
+use tests_asserts::TestResult;
 
 /// An element without attributes, its only argument's span and value, and what is made of it. Raw
 /// elements refuse items and none, and take a text. Void elements take no body; others take none, and
@@ -27,7 +27,7 @@ fn arguments_become_bodies(rt: HostRuntime) -> TestResult {
     for (name, span, sample, wanted) in &BODIES {
         let tag = HtmlTag::intern(rt.alloc(), name)?;
         let info = ElementInfo::new(tag, Vec::new(rt.alloc()));
-        assert_made(&rt, &info, &[("", *span, *sample)], wanted)?;
+        assert_made(rt.alloc(), &info, &[("", *span, *sample)], wanted)?;
     }
     Ok(())
 }

@@ -1,12 +1,11 @@
 //! Faults of constructing.
 
-use crate::asserts::assert_text;
 use html_dom_tree::Span;
 use html_flow::ConstructFault;
 use html_flow::laws::equal_construct_faults;
 use html_values::CastFault;
 use std::alloc::{AllocError, Global};
-use tests_growth::TestResult;
+use tests_asserts::{TestResult, assert_text};
 
 /// A refusal with that fault of a cast.
 fn of_cast(alloc: Global, fault: CastFault) -> Result<ConstructFault, AllocError> {
@@ -32,8 +31,7 @@ fn numbers_and_texts_of_faults(rt: HostRuntime) -> TestResult {
     for fault in &faults {
         write!(shown, "{}: {fault}\n", fault.number())?;
     }
-    assert_text(&rt, &shown, FAULTS);
-    Ok(())
+    assert_text(&shown, FAULTS)
 }
 
 #[test]

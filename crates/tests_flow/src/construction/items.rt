@@ -1,12 +1,11 @@
 //! Items, and elements that are built.
 
 use super::show_element;
-use crate::asserts::assert_text;
 use html_dom_tree::{Location, Span, Tag};
 use html_flow::{HtmlElem, Item};
 use html_names::{attr, tag};
 use std::alloc::{AllocError, Global};
-use tests_growth::TestResult;
+use tests_asserts::{TestResult, assert_text};
 
 /// A paragraph with an id and a language, and without a title.
 fn paragraph(alloc: Global) -> Result<HtmlElem, AllocError> {
@@ -22,7 +21,7 @@ fn optional_attributes_and_copies(rt: HostRuntime) -> TestResult {
     for element in [p.try_clone()?, p] {
         let mut shown = String::new(rt.alloc());
         show_element(&mut shown, &element)?;
-        assert_text(&rt, &shown, "<p> id='a' lang='b' at 0");
+        assert_text(&shown, "<p> id='a' lang='b' at 0")?;
     }
     Ok(())
 }

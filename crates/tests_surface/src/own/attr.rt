@@ -29,10 +29,10 @@ impl IntoAttr for Limit {
 
 mod tests {
     use super::Limit;
-    use crate::asserts::assert_text;
     use html_values::IntoAttr;
     use std::alloc::{AllocError, Global};
     use std::test::Fail;
+    use tests_asserts::assert_text;
 
     fn text_of<T: IntoAttr>(alloc: Global, value: &T) -> Result<String, AllocError> {
         value.into_attr(alloc)
@@ -40,8 +40,7 @@ mod tests {
 
     #[test]
     fn a_value_has_its_text(rt: HostRuntime) -> Result<(), Fail> {
-        assert_text(&rt, &text_of(rt.alloc(), &Limit::Most(7))?, "7");
-        assert_text(&rt, &text_of(rt.alloc(), &Limit::Unlimited)?, "none");
-        Ok(())
+        assert_text(&text_of(rt.alloc(), &Limit::Most(7))?, "7")?;
+        assert_text(&text_of(rt.alloc(), &Limit::Unlimited)?, "none")
     }
 }

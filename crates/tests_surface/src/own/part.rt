@@ -46,9 +46,9 @@ impl CalcPart for Gap {
 
 mod tests {
     use super::Gap;
-    use crate::asserts::assert_text;
     use html_values::{Abs, Calc, CalcPart, CssWriter, Ratio};
     use std::test::Fail;
+    use tests_asserts::assert_text;
 
     #[test]
     fn a_part_is_added(rt: HostRuntime) -> Result<(), Fail> {
@@ -60,7 +60,7 @@ mod tests {
         sum.sum(&Ratio::from_millionths(500_000))?;
         sum.sum(&gap)?;
         sum.finish()?;
-        assert_text(&rt, out.text(), "calc(50% - 2pt)");
+        assert_text(out.text(), "calc(50% - 2pt)")?;
         assert!(rt; gap.is_negative() && !gap.is_zero());
         assert!(rt; !gap.negated().is_negative());
         Ok(())

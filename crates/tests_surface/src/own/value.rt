@@ -25,9 +25,9 @@ impl ToCss for Dimension<'_> {
 
 mod tests {
     use super::Dimension;
-    use crate::asserts::assert_text;
     use html_values::{CssWriter, ToCss};
     use std::test::Fail;
+    use tests_asserts::assert_text;
 
     #[test]
     fn a_value_has_its_text(rt: HostRuntime) -> Result<(), Fail> {
@@ -36,11 +36,10 @@ mod tests {
             unit: "s",
         };
         let css = second.to_css(rt.alloc(), &mut ())?;
-        assert_text(&rt, &css, "1s");
+        assert_text(&css, "1s")?;
         let mut out = CssWriter::new(rt.alloc(), ());
         out.write("left ")?;
         out.emit(&second)?;
-        assert_text(&rt, out.text(), "left 1s");
-        Ok(())
+        assert_text(out.text(), "left 1s")
     }
 }

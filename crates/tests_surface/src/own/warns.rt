@@ -22,15 +22,15 @@ impl ToCss for Fading {
 
 mod tests {
     use super::Fading;
-    use crate::asserts::assert_text;
     use html_values::{ToCss, Warning};
     use std::test::Fail;
+    use tests_asserts::assert_text;
 
     #[test]
     fn a_value_may_warn(rt: HostRuntime) -> Result<(), Fail> {
         let mut warnings = Vec::new(rt.alloc());
         let css = Fading.to_css(rt.alloc(), &mut warnings)?;
-        assert_text(&rt, &css, "");
+        assert_text(&css, "")?;
         assert!(rt; warnings.as_slice() == [Warning::Gradient].as_slice());
         Ok(())
     }

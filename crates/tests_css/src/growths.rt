@@ -1,0 +1,207 @@
+//! Css texts, where their warnings go, and maps of properties, where growths of memory are refused.
+
+use html_names::Refused;
+use html_names::property::Display;
+use html_values_css::{
+    Abs, Angle, CssWriter, Em, Length, Paint, Properties, PropertiesBuilder, Property, Ratio, Rel,
+    Rgba, Separator, ToCss, Warning, WarningSink,
+};
+use std::alloc::{AllocError, Global};
+use tests_asserts::TestResult;
+use tests_growth::{refuses_copy, refuses_given, refuses_kept, refuses_lent, refuses_tested};
+
+/// How many letters fill the text of a writer that got them one by one.
+const FULL: usize = 32;
+
+/// How many warnings fill a list that was made for them.
+const MOST_WARNINGS: usize = 32;
+
+/// Asserts that a call on a sink that has no room for a further warning is refused at first.
+fn assert_warns<F: Fn(&mut Vec<Warning>) -> Result<(), AllocError>>(
+    alloc: Global,
+    call: F,
+) -> TestResult
+    requires { F.IsAlwaysCallable call }
+{
+    refuses_lent(alloc, vec![in alloc; Warning::Tiling; MOST_WARNINGS]?, call)
+}
+
+/// Asserts that the text of a value is refused at first.
+fn assert_text<V: ToCss>(alloc: Global, value: &V) -> TestResult {
+    assert_warns(alloc, |sink| value.to_css(alloc, sink).map(|_| ()))
+}
+
+/// Asserts that a call on a writer with room for that many letters is refused at first, and leaves
+/// the text that was there.
+fn assert_written<F: Fn(&mut CssWriter<()>) -> Result<(), AllocError>>(
+    alloc: Global,
+    room: usize,
+    call: F,
+) -> TestResult
+    requires { F.IsAlwaysCallable call }
+{
+    let mut out = CssWriter::new(alloc, ());
+    for _ in room..FULL {
+        out.write("x")?;
+    }
+    let held = String::from_str(alloc, out.text())?;
+    refuses_kept(
+        alloc,
+        out,
+        |out| out.text().starts_with(held.as_str()),
+        call,
+    )
+}
+
+/// Asserts that the text of a value is refused at first, on its own and on a writer.
+fn assert_value<V: ToCss>(alloc: Global, value: &V) -> TestResult {
+    assert_text(alloc, value)?;
+    assert_written(alloc, 0, |out| out.emit(value))
+}
+
+const COLOR: Rgba = Rgba {
+    r: 1,
+    g: 2,
+    b: 3,
+    a: 4,
+};
+
+/// Two points.
+fn width() -> Abs {
+    Abs::from_millionths(2_000_000)
+}
+
+#[test]
+fn quantities(rt: HostRuntime) -> TestResult {
+    let alloc = rt.alloc();
+    let (em, abs) = (Em::from_millionths(-500_000), Abs::from_millionths(250_000));
+    assert_value(alloc, &abs)?;
+    assert_value(alloc, &em)?;
+    assert_value(alloc, &Ratio::from_millionths(333_350))?;
+    assert_value(alloc, &Angle::from_millionths(90_000_050))?;
+    let (rel, abs) = (Ratio::from_millionths(500_000), Length { em, abs });
+    assert_value(alloc, &abs)?;
+    assert_value(alloc, &Rel { rel, abs })
+}
+
+#[test]
+fn other_values(rt: HostRuntime) -> TestResult {
+    let alloc = rt.alloc();
+    assert_value(alloc, &COLOR)?;
+    assert_value(alloc, &Paint::Solid(COLOR))?;
+    assert_value(alloc, &Display::Block)?;
+    assert_value(alloc, &"a text")?;
+    assert_text(alloc, &Paint::Gradient)
+}
+
+/// `rgb(x / y)`.
+fn called(out: &mut CssWriter<()>) -> Result<(), AllocError> {
+    let mut call = out.call("rgb", Separator::Space)?;
+    call.arg(&"x")?;
+    call.arg_with(&"y", Separator::Slash)?;
+    call.finish()
+}
+
+/// `calc(0.5em + 2pt)`.
+fn summed(out: &mut CssWriter<()>) -> Result<(), AllocError> {
+    let mut sum = out.calc();
+    sum.sum(&Em::from_millionths(500_000))?;
+    sum.sum(&width())?;
+    sum.finish()
+}
+
+/// Several pieces are written with room for all that come before a piece.
+#[test]
+fn writers_and_sinks(rt: HostRuntime) -> TestResult {
+    let alloc = rt.alloc();
+    assert_written(alloc, 0, |out| out.write("a text"))?;
+    for room in 0..10 {
+        assert_written(alloc, room, called)?;
+        assert_written(alloc, room, summed)?;
+    }
+    assert_warns(
+        alloc,
+        |sink| CssWriter::new(alloc, sink).fail(Warning::Gradient),
+    )?;
+    assert_warns(alloc, |sink| sink.emit(Warning::Gradient))?;
+    assert_warns(
+        alloc,
+        |sink| Properties::build(alloc, sink).push("color", &Paint::Gradient),
+    )
+}
+
+/// A colour and a width.
+fn map_of(alloc: Global) -> Result<Properties, AllocError> {
+    let map = Properties::new(alloc).with("color", String::from_str(alloc, "red")?)?;
+    Ok(map.with("width", String::from_str(alloc, "2pt")?)?)
+}
+
+/// A map, and the value of a further property.
+fn addition_of(alloc: Global) -> Result<(Properties, String), AllocError> {
+    Ok((map_of(alloc)?, String::from_str(alloc, "1em")?))
+}
+
+#[test]
+fn maps(rt: HostRuntime) -> TestResult {
+    let alloc = rt.alloc();
+    refuses_given(alloc, addition_of(alloc)?, |(mut map, value)| {
+        let pushed = map.push("top", value);
+        pushed.map_err(|Refused { back }| Refused { back: (map, back) })
+    })?;
+    refuses_given(
+        alloc,
+        addition_of(alloc)?,
+        |(map, value)| map.with("top", value).map(|_| ()),
+    )?;
+    refuses_copy(alloc, map_of(alloc)?, Properties::try_clone)?;
+    let (name, value) = (
+        String::from_str(alloc, "color")?,
+        String::from_str(alloc, "red")?,
+    );
+    refuses_copy(alloc, Property { name, value }, Property::try_clone)
+}
+
+type Builder = PropertiesBuilder<()>;
+
+/// Whether there are a colour and a width.
+fn is_built(builder: Builder) -> bool {
+    matches!(
+        builder.finish().as_slice(),
+        [one, two] if one.name.as_str() == "color"
+            && one.value.as_str() == "red"
+            && two.name.as_str() == "width"
+            && two.value.as_str() == "2pt"
+    )
+}
+
+/// A builder that has a colour.
+fn builder_of(alloc: Global) -> Result<Builder, AllocError> {
+    Ok(Properties::build(alloc, ()).with("color", &"red")?)
+}
+
+#[test]
+fn builders(rt: HostRuntime) -> TestResult {
+    let alloc = rt.alloc();
+    refuses_tested(
+        alloc,
+        builder_of(alloc)?,
+        |_| true,
+        |mut builder: Builder| {
+            match builder.push("width", &width()) {
+                Ok(()) => Ok(is_built(builder)),
+                Err(AllocError) => Err(builder),
+            }
+        },
+    )?;
+    refuses_tested(
+        alloc,
+        builder_of(alloc)?,
+        |_| true,
+        |builder: Builder| {
+            builder
+                .with("width", &width())
+                .map(is_built)
+                .map_err(|refused| refused.back)
+        },
+    )
+}

@@ -1,0 +1,5 @@
+//! Public calls that take memory: their first growth is refused, their second, and so on until a run
+//! succeeds.
+
+mod reading;
+mod texts;

@@ -1,0 +1,88 @@
+//! Documents of items, and texts of documents, plain and pretty.
+
+use html_dom_document::{DocumentInfo, HtmlDocument};
+use html_flow_convert::Pair;
+use std::alloc::{AllocError, Global};
+use std::fmt::Debug;
+use tests_asserts::TestResult;
+use tests_frames::OneText;
+use tests_given::{document_of, info_of};
+use tests_growth::refuses_lent;
+use tests_items::{content_of, line_of};
+use typst_html_encode::{ExportFault, HtmlOptions};
+use typst_html_export::{export, export_linked, html, html_document, html_document_for_bundle};
+
+/// What a document with a footnote is made of.
+#[derive(Debug, Drop)]
+struct Content {
+    items: Vec<Pair>,
+    footnotes: Vec<Pair>,
+    info: DocumentInfo,
+}
+
+fn sources_of(alloc: Global) -> Result<Content, AllocError> {
+    Ok(Content {
+        items: content_of(alloc)?,
+        footnotes: line_of(alloc)?,
+        info: info_of(alloc)?,
+    })
+}
+
+/// Asserts that a call that makes a text is refused at first, and leaves what it borrows.
+fn assert_text<T: Debug + Drop, F: Fn(&mut T) -> Result<String, ExportFault>>(
+    alloc: Global,
+    lent: T,
+    call: F,
+) -> TestResult
+    requires { F.IsAlwaysCallable call }
+{
+    let is_written = |lent: &mut T|
+        requires { F.IsAlwaysCallable call }
+    { call(lent).map(|text| !text.is_empty()) };
+    refuses_lent(alloc, lent, is_written)
+}
+
+/// The text of a document.
+fn assert_written(alloc: Global, options: &HtmlOptions, frames: &OneText) -> TestResult {
+    assert_text(alloc, document_of(alloc)?, |document| {
+        html(alloc, document, options, frames)
+    })
+}
+
+/// Texts of what a document is made of.
+fn assert_exported(alloc: Global, options: &HtmlOptions, frames: &OneText) -> TestResult {
+    assert_text(alloc, sources_of(alloc)?, |of: &mut Content| {
+        let (items, info, notes) = (&of.items, &of.info, &of.footnotes);
+        export(alloc, items, info, notes, 9, options, frames)
+    })?;
+    assert_text(alloc, sources_of(alloc)?, |of: &mut Content| {
+        let (items, info, notes) = (&of.items, &of.info, &of.footnotes);
+        export_linked(alloc, items, info, notes, 9, options, frames)
+    })
+}
+
+#[test]
+fn texts(rt: HostRuntime) -> TestResult {
+    let frames = OneText::new(rt.alloc())?;
+    for pretty in [false, true] {
+        assert_written(rt.alloc(), &HtmlOptions { pretty }, &frames)?;
+        assert_exported(rt.alloc(), &HtmlOptions { pretty }, &frames)?;
+    }
+    Ok(())
+}
+
+/// Whether the root is all that a document has.
+fn is_alone(document: HtmlDocument) -> bool {
+    document.nodes().len() == 1
+}
+
+#[test]
+fn made_documents(rt: HostRuntime) -> TestResult {
+    let alloc = rt.alloc();
+    refuses_lent(alloc, sources_of(alloc)?, |of: &mut Content| {
+        html_document_for_bundle(alloc, &of.items, &of.info, &of.footnotes, 9).map(is_alone)
+    })?;
+    refuses_lent(alloc, sources_of(alloc)?, |of: &mut Content| {
+        html_document(alloc, &of.items, &of.info, &of.footnotes, 9).map(is_alone)
+    })
+}

@@ -1,0 +1,75 @@
+//! Nodes, and what they have.
+
+use crate::frames::{html_frame_of, start_of};
+use html_dom_tree::{HtmlAttrs, HtmlElement, HtmlNode, Span};
+use html_names::{HtmlAttr, HtmlTag, attr, tag};
+use html_values_css::Properties;
+use std::alloc::{AllocError, Global};
+use std::test::Fail;
+
+/// The attributes of these names and values, pushed in that order.
+pub fn attrs_of(alloc: Global, pairs: &[(&str, &str)]) -> Result<HtmlAttrs, Fail> {
+    let mut list = HtmlAttrs::new(alloc);
+    for (name, value) in pairs {
+        list.push(
+            HtmlAttr::intern(alloc, name)?,
+            String::from_str(alloc, value)?,
+        )?;
+    }
+    Ok(list)
+}
+
+/// A list of one pair, without room for more.
+pub fn id_of(alloc: Global, text: &str) -> Result<HtmlAttrs, AllocError> {
+    Ok(HtmlAttrs(vec![in alloc; (attr::id, String::from_str(alloc, text)?)]?))
+}
+
+/// A property.
+pub fn css_of(alloc: Global, name: &str, value: &str) -> Result<Properties, AllocError> {
+    Ok(Properties::new(alloc).with(name, String::from_str(alloc, value)?)?)
+}
+
+/// A text of that span.
+pub fn text_of(alloc: Global, text: &str, span: u64) -> Result<HtmlNode, AllocError> {
+    Ok(HtmlNode::text(String::from_str(alloc, text)?, Span(span)))
+}
+
+/// The element in that many `div`, one in another.
+pub fn nested(alloc: Global, inner: HtmlElement, levels: u32) -> Result<HtmlElement, AllocError> {
+    let mut element = inner;
+    for _ in 0..levels {
+        element = HtmlElement::new(alloc, tag::div).with_child(HtmlNode::from(element))?;
+    }
+    Ok(element)
+}
+
+/// An element with css, an attribute and these nodes.
+fn styled_of(
+    alloc: Global,
+    tag: HtmlTag,
+    id: &str,
+    nodes: Vec<HtmlNode>,
+) -> Result<HtmlElement, AllocError> {
+    Ok(HtmlElement {
+        attrs: id_of(alloc, id)?,
+        css: css_of(alloc, "color", "red")?,
+        ..HtmlElement::new(alloc, tag).with_children(nodes)
+    })
+}
+
+/// A `p` with css, an attribute, a tag, a text and a frame, whose lists have no room for more.
+pub fn inner_of(alloc: Global) -> Result<HtmlElement, AllocError> {
+    let (tag, text) = (
+        HtmlNode::from(start_of(alloc)?),
+        text_of(alloc, "a text", 5)?,
+    );
+    let nodes = vec![in alloc; tag, text, HtmlNode::from(html_frame_of(alloc)?)]?;
+    styled_of(alloc, tag::p, "inner", nodes)
+}
+
+/// A `div` with css, an attribute, and a `p` between texts, whose lists have no room for more.
+pub fn element_of(alloc: Global) -> Result<HtmlElement, AllocError> {
+    let (one, two) = (text_of(alloc, "one", 6)?, text_of(alloc, "two", 7)?);
+    let nodes = vec![in alloc; one, HtmlNode::from(inner_of(alloc)?), two]?;
+    styled_of(alloc, tag::div, "outer", nodes)
+}

@@ -1,0 +1,96 @@
+//! For tests: items that calls are made on.
+//!
+//! ```
+//! let items = blocks_of(alloc)?;
+//! let nodes = convert_to_nodes(alloc, &items, level, Whitespace::Normal, None, 0, 9)?;
+//! ```
+#![tactic(auto)]
+
+use html_dom_tree::Span;
+use html_flow_convert::{FrameElem, HtmlElem, Item, Pair, Role};
+use html_names::{HtmlTag, attr, tag};
+use html_values_css::Abs;
+use std::alloc::{AllocError, Global};
+use tests_given::{css_of, frame_of, id_of, start_of};
+
+/// A frame with a frame in it.
+pub fn frame_elem_of(alloc: Global) -> Result<FrameElem, AllocError> {
+    Ok(FrameElem {
+        frame: frame_of(alloc)?,
+        text_size: Abs::from_millionths(3),
+        span: Span(8),
+    })
+}
+
+/// A text with blanks and a line end.
+pub fn text_item_of(alloc: Global) -> Result<Item, AllocError> {
+    Ok(Item::Text(String::from_str(alloc, "  two  words \n")?, Span(2)))
+}
+
+/// A role of its own.
+pub fn role_of(alloc: Global) -> Result<Role, AllocError> {
+    Ok(Role::Set(String::from_str(alloc, "note")?))
+}
+
+/// A frame with a role of its own.
+pub fn noted_frame_of(alloc: Global) -> Result<Pair, AllocError> {
+    let (item, role) = (Item::Frame(frame_elem_of(alloc)?), role_of(alloc)?);
+    Ok(Pair { item, role })
+}
+
+/// Items of a line, with a text in a box.
+pub fn line_of(alloc: Global) -> Result<Vec<Pair>, AllocError> {
+    let boxed = vec![in alloc; Pair::from(text_item_of(alloc)?)]?;
+    Ok(vec![in alloc;
+        Pair::from(Item::Tag(start_of(alloc)?)),
+        Pair::from(Item::Space(Span(1))),
+        Pair::from(text_item_of(alloc)?),
+        Pair::from(Item::LineBreak(Span(3))),
+        Pair::from(Item::Box(Some(boxed), Span(4))),
+        noted_frame_of(alloc)?,
+        Pair::from(Item::Hole),
+    ]?)
+}
+
+/// An element with css, an attribute and items of a line.
+pub fn elem_of(alloc: Global, tag: HtmlTag) -> Result<HtmlElem, AllocError> {
+    Ok(HtmlElem {
+        attrs: id_of(alloc, "inner")?,
+        css: css_of(alloc, "color", "red")?,
+        body: Some(line_of(alloc)?),
+        ..HtmlElem::new(alloc, tag)
+    })
+}
+
+/// A block with items of a line in it.
+pub fn block_of(alloc: Global) -> Result<Pair, AllocError> {
+    Ok(Pair::from(Item::Block(Some(line_of(alloc)?), Span(5))))
+}
+
+/// An element with css, an attribute and items of a line, as an item.
+fn element_item_of(alloc: Global, tag: HtmlTag) -> Result<Pair, AllocError> {
+    Ok(Pair::from(Item::Element(elem_of(alloc, tag)?)))
+}
+
+/// A `p`, a block with items of a line in it, and a row of a table whose cell holds a line.
+pub fn blocks_of(alloc: Global) -> Result<Vec<Pair>, AllocError> {
+    let cells = vec![in alloc; element_item_of(alloc, tag::td)?]?;
+    let row = HtmlElem::new(alloc, tag::tr).with_body(cells);
+    let (paragraph, block) = (element_item_of(alloc, tag::p)?, block_of(alloc)?);
+    Ok(vec![in alloc; paragraph, block, Pair::from(Item::Element(row))]?)
+}
+
+/// An `a` with items of a line, which links to the element that starts in it.
+fn link_of(alloc: Global) -> Result<HtmlElem, AllocError> {
+    Ok(elem_of(alloc, tag::a)?.with_attr(attr::href, String::from_str(alloc, "#here")?)?)
+}
+
+/// Items of a document: a `p`, a block, and a link.
+pub fn content_of(alloc: Global) -> Result<Vec<Pair>, AllocError> {
+    let (paragraph, block) = (element_item_of(alloc, tag::p)?, block_of(alloc)?);
+    Ok(vec![in alloc;
+        paragraph,
+        block,
+        Pair::from(Item::Element(link_of(alloc)?)),
+    ]?)
+}
