@@ -8,9 +8,8 @@
  *
  * Threads: calls share nothing, so any number may run at once, each with an `output` of its own. A call
  * takes memory by `malloc`, `realloc` and `free`, so it is not for signal handlers, nor for a forked
- * child of a process with threads. It wants 256 KB of stack; typst_html_check with a limit above 1,000
- * wants 256 bytes more for each level above that (2.5 MB at 10,000). Where there is less, a deep input ends
- * the process.
+ * child of a process with threads. It wants 256 KB of stack, whatever the input and the limit are. Where
+ * there is less, a deep input ends the process.
  *
  * Linux on x86-64 (x86-64-v2 and later).
  */
@@ -118,7 +117,7 @@ struct typst_html_reply typst_html_document(uint8_t layout, uint8_t links, uint3
  *     {"dead_fragments":[{"fragment":t,"path":[n,..]},..],"repeated_ids":[{"id":t,"path":[n,..]},..]}
  * A path is the index of each child on the way from the root, texts counted. Pages are read that are
  * written as by these calls; one with another syntax is bad input, with the place of the first character
- * with which no such page goes on. Elements may stand `limit` deep, from 1 to 10,000.
+ * with which no such page goes on. Elements may stand `limit` deep, from 1 to 1,000.
  */
 struct typst_html_reply typst_html_check(uint32_t limit, const uint8_t *page, size_t length,
                                          uint8_t *output, size_t room);

@@ -165,18 +165,16 @@ static void *deepest_page(void *limit) {
 
 /* As much stack as the header says: a thread that lacks some ends the process. */
 static void the_stack_is_enough(void) {
-    static uint32_t limits[] = {50, 1000, 1001, 4000, 10000};
+    static uint32_t limits[] = {1, 50, 500, 999, 1000};
     bool bad = false;
     pthread_attr_t with;
     pthread_t thread;
     pthread_attr_init(&with);
+    pthread_attr_setstacksize(&with, 256 << 10);
     for (size_t i = 0; i < sizeof limits / sizeof *limits; i++) {
-        size_t above = limits[i] > 1000 ? limits[i] - 1000 : 0;
-        pthread_attr_setstacksize(&with, (256 << 10) + (256 * above + 4095) / 4096 * 4096);
         pthread_create(&thread, &with, deepest_page, &limits[i]);
         pthread_join(thread, NULL);
     }
-    pthread_attr_setstacksize(&with, 256 << 10);
     pthread_create(&thread, &with, all_rows, &bad);
     pthread_join(thread, NULL);
     expect("rows on a small stack", !bad);

@@ -4,6 +4,7 @@ import ctypes
 import doctest
 import json
 import sys
+import threading
 import unittest
 import unittest.mock
 from concurrent.futures import ThreadPoolExecutor
@@ -188,7 +189,7 @@ class Calls(unittest.TestCase):
         self.assertEqual((refused.number, refused.span, refused.place), (8, 21, html.Place(21, 2, 1)))
         self.assertEqual(str(refused), f"{html.WORDS[8]} (refusal 8 at 2:1)")
         self.assertFalse(html.check(page, limit=2))
-        for bad, limit in ((page, 0), (page, 10_001), (page, -1), (b"\xff", 50), ("\ud800", 50)):
+        for bad, limit in ((page, 0), (page, 1_001), (page, -1), (b"\xff", 50), ("\ud800", 50)):
             with self.subTest(bad, limit=limit), self.assertRaises(html.BadInput) as caught:
                 html.check(bad, limit=limit)
             self.assertIsNone(caught.exception.place)
@@ -201,6 +202,23 @@ class Calls(unittest.TestCase):
             with self.subTest(bad), self.assertRaises(html.BadInput) as caught:
                 html.check(bad)
             self.assertEqual(caught.exception.place, html.Place(*place))
+
+    def test_the_deepest_page_on_a_small_stack(self):
+        def checks():
+            for limit in (1, 50, 500, 999, 1000):
+                page = "<!DOCTYPE html>" + '<a href="#b" id="a">' * limit + "</a>" * limit
+                found = html.check(page, limit=limit)
+                told.append((len(found.dead_fragments), len(found.repeated_ids) + 1) == (limit, limit))
+
+        told: list[bool] = []
+        before = threading.stack_size(256 << 10)
+        try:
+            thread = threading.Thread(target=checks)
+            thread.start()
+        finally:
+            threading.stack_size(before)
+        thread.join()
+        self.assertEqual(told, [True] * 5)
 
     def test_findings_far_longer_than_their_page(self):
         page = "<!DOCTYPE html>" + "<b>" * 400 + '<a href="#x"></a>' * 1000 + "</b>" * 400

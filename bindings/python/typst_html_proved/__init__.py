@@ -434,7 +434,7 @@ def check(page: bytes | str, *, limit: int = 50) -> Findings:
     """What is wrong with the links of a page: links to fragments of the page itself that lead nowhere, and ids
     that stand in it before.
 
-    A page is read that is written as by this package, with elements `limit` deep at most, from 1 to 10,000. Of
+    A page is read that is written as by this package, with elements `limit` deep at most, from 1 to 1,000. Of
     another page it is told where: in `place` of what is raised.
 
     >>> check(write([element("a", "b", attrs=[("href", "#b")])])).dead_fragments
@@ -446,7 +446,7 @@ def check(page: bytes | str, *, limit: int = 50) -> Findings:
 
     Raises `Refused`, `BadInput` or `OutOfMemory`.
     """
-    limit = _number("the limit", limit, 1, 10_000)
+    limit = _number("the limit", limit, 1, 1_000)
     found = json.loads(_text(called("typst_html_check", _bytes(page), limit=limit), of_page=True))
     return Findings(
         tuple(DeadFragment(tuple(it["path"]), it["fragment"]) for it in found["dead_fragments"]),

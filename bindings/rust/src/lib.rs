@@ -19,9 +19,8 @@
 //!
 //! A page that is written can be checked: links within it that lead nowhere, and ids that come twice.
 //!
-//! Calls share nothing, so any number of threads may make them. Each wants 256 KB of stack; [`check`]
-//! with a limit above 1,000 wants 256 bytes more for each level above that (2.5 MB at 10,000), and a
-//! thread of Rust's has 2 MB. Where there is less, a deep page ends the process.
+//! Calls share nothing, so any number of threads may make them. Each wants 256 KB of stack,
+//! whatever the input and the limit are. Where there is less, a deep input ends the process.
 
 #![deny(missing_docs)]
 
@@ -120,7 +119,7 @@ pub fn write_document_json(json: &[u8], options: Options) -> Result<String, Refu
 /// ids that stand in it before.
 ///
 /// A page is read that is written as by this crate, with elements `limit` deep at most, from 1 to
-/// 10,000. One with another syntax is [`Refusal::Unread`], and one with an element that stands deeper
+/// 1,000. One with another syntax is [`Refusal::Unread`], and one with an element that stands deeper
 /// [`Refusal::TooDeep`], both with the place.
 ///
 /// ```

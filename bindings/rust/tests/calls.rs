@@ -296,7 +296,7 @@ fn pages_that_are_not_read_are_told() {
     assert_eq!((deep.number(), deep.span()), (8, 21));
     let message = "an element stands deeper than the limit at 2:1";
     assert_eq!(deep.to_string(), message);
-    for limit in [0, 10_001] {
+    for limit in [0, 1_001] {
         assert_eq!(check(page, limit), Err(Refusal::BAD_INPUT));
     }
     for (page, at) in [
@@ -378,4 +378,26 @@ fn ten_megabytes_are_written() {
             .count(),
         100_000
     );
+}
+
+/// The deepest page that may be checked, on a stack of 256 KB, at every limit that is tried.
+#[test]
+fn the_deepest_page_on_a_small_stack() {
+    let checks = || {
+        for limit in [1, 50, 500, 999, 1_000] {
+            let deep = limit as usize;
+            let page = format!(
+                "<!DOCTYPE html>{}{}",
+                "<a href=\"#b\" id=\"a\">".repeat(deep),
+                "</a>".repeat(deep)
+            );
+            let findings = check(&page, limit).unwrap();
+            assert_eq!(findings.dead_fragments.len(), deep);
+            assert_eq!(findings.repeated_ids.len(), deep - 1);
+            let deeper = page.replacen("<a href", "<b><a href", 1) + "</b>";
+            assert_eq!(check(&deeper, limit).unwrap_err().number(), 8);
+        }
+    };
+    let thread = std::thread::Builder::new().stack_size(256 << 10);
+    thread.spawn(checks).unwrap().join().unwrap();
 }

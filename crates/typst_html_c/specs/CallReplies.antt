@@ -38,6 +38,10 @@ write_answer kind layout input at =
 abbrev pub limit_of : (limit : ℕ) → Option ℕ
 limit_of limit = if nat_le 1 limit && nat_le limit 10000 then Some limit else None
 
+-- how deep the elements of a page may stand: from 1 to 1,000
+abbrev pub page_limit_of : (limit : ℕ) → Option ℕ
+page_limit_of limit = if nat_le 1 limit && nat_le limit 1000 then Some limit else None
+
 -- how a document is written, where all three numbers are right
 abbrev pub wanted_settings : (layout links limit : ℕ) → Option Settings
 wanted_settings layout links limit = option_and_then (λ pretty. option_and_then (λ resolved.

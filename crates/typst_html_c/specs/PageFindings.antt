@@ -19,7 +19,7 @@ use Rattle.typst_html_read.specs.PlainElements.{accepted}
 use Rattle.typst_html_read.specs.declared.fault.ReadFault.{ReadFault}
 use Rattle.typst_html_read.specs.declared.fault.ReadFault.TheVariants.{OutOfMemory, TooDeep, Syntax}
 use Rattle.typst_html_read.specs.declared.place.Place.{Place}
-use Rattle.typst_html_c.specs.CallReplies.{buffer_with, limit_of, text_reply, without_text}
+use Rattle.typst_html_c.specs.CallReplies.{buffer_with, page_limit_of, text_reply, without_text}
 use Rattle.typst_html_c.specs.declared.reply.Reply.{Reply}
 
 -- the indices of a path
@@ -70,7 +70,7 @@ told_within page None = bad
 told_within page (Some limit) = page_told page limit
 
 abbrev pub check_told : (limit : ℕ) (page : List ℕ) → Told
-check_told limit page = told_within page (limit_of limit)
+check_told limit page = told_within page (page_limit_of limit)
 
 -- the reply of a call that has no text, because of what stands in a page at that place
 abbrev pub placed : (status number : ℕ) → Place → Reply

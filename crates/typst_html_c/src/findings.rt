@@ -8,7 +8,7 @@ ghost use Rattle.html_dom_tree.specs.Views.{element_view};
 ghost use Rattle.typst_html_c.specs.PageFindings.{Told, Tells, GivesTold, check_told, page_told, text_told};
 ghost use Rattle.typst_html_c.specs.PageFindings.{finding, findings, path_data, text_and_path, tree_findings, unread_reply};
 
-use crate::numbers::limit_of;
+use crate::numbers::page_limit_of;
 use crate::reply::{BAD_INPUT, OUT_OF_MEMORY, REFUSED, Reply, placed, put, without_text};
 use html_dom_check::{DeadFragment, RepeatedId, dead_fragments, repeated_ids};
 use html_dom_tree::HtmlElement;
@@ -22,7 +22,7 @@ pub(crate) fn reply_to_page(alloc: Global, limit: u32, page: &[u8], output: &mut
     ensures answered { Tells (check_told limit page.now) output.old result output.new }
     ensures kept { ¬ (result.status ≡ 0) → output.new ≡ output.old }
 {
-    match limit_of(limit) {
+    match page_limit_of(limit) {
         Some(limit) => reply_within(alloc, page, limit, output),
         None => without_text(BAD_INPUT, 0, 0),
     }

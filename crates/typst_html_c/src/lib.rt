@@ -116,7 +116,7 @@ pub extern "C" fn typst_html_document(
 /// [`read_html`](typst_html_read::read_html) reads it: one that is not read is bad input, and the reply
 /// has the place from which on it is not: how many bytes stand before, its line and its column. Where an
 /// element would stand deeper than the limit, that is refused as number 8, with the place of its start
-/// tag. A page that is no UTF-8, or a limit that is not from 1 to 10,000, is bad input without a place.
+/// tag. A page that is no UTF-8, or a limit that is not from 1 to 1,000, is bad input without a place.
 /// Buffers and replies are those of [`typst_html_write`].
 #[unsafe(no_mangle)]
 pub extern "C" fn typst_html_check(

@@ -1,7 +1,7 @@
 //! What numbers stand for.
 
 ghost use Rattle.std.specs.Prelude.{◌≡◌};
-ghost use Rattle.typst_html_c.specs.CallReplies.{limit_of, pretty_of, task_of, yes_or_no};
+ghost use Rattle.typst_html_c.specs.CallReplies.{limit_of, page_limit_of, pretty_of, task_of, yes_or_no};
 ghost use Rattle.typst_html_c.specs.CallReplies.{wanted_settings, wanted_task};
 
 use html_tool_run::{Settings, Task};
@@ -49,6 +49,17 @@ fn yes_or_no(number: u8) -> Option<bool>
     match number {
         0 => Some(false),
         1 => Some(true),
+        _ => None,
+    }
+}
+
+/// How deep the elements of a page may stand: not as deep as bodies, since a check calls itself at each
+/// level, and 256 KB of stack have to be enough whatever page comes.
+pub(crate) fn page_limit_of(limit: u32) -> Option<usize>
+    ensures { result ≡ page_limit_of limit }
+{
+    match limit {
+        1..=1_000 => Some(limit as usize),
         _ => None,
     }
 }
