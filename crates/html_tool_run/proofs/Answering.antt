@@ -6,16 +6,16 @@ use lib.Utf8.{encodes}
 use Rattle.serde_json.specs.Data.{Data}
 use Rattle.html_dom_tree.specs.Views.{text_view}
 use Rattle.html_tool_run.specs.Answers.{Answer, TextPlace, in_text, bad_input, first_refusal_or_text, answer_if, answer_to}
-use Rattle.html_tool_run.specs.LeftForms.{Left, IsLeft, IsInText}
-use Rattle.html_tool_run.specs.Reading.{IsNoJson}
+use Rattle.html_tool_spell.specs.LeftForms.{Left, IsLeft, IsInText}
+use Rattle.html_tool_spell.specs.Reading.{IsNoJson}
 use Rattle.html_tool_run.specs.Replies.{GivesAnswer, GivesAnswerAt, Says}
-use Rattle.html_tool_run.specs.NameRefusals.{Refusal}
-use Rattle.html_tool_run.specs.Refusals.{Gives, IsFirst}
-use Rattle.html_tool_run.specs.Spelling.{IsTold}
-use Rattle.html_tool_run.specs.declared.fault.Fault.{Fault}
-use Rattle.html_tool_run.specs.declared.fault.Fault.TheVariants.{OutOfMemory, BadInput, Refused}
-use Rattle.html_tool_run.specs.declared.fault.Place.{Place}
-use Rattle.html_tool_run.specs.declared.fault.Place.TheVariants.{Unknown, Text, Form}
+use Rattle.html_tool_spell.specs.NameRefusals.{Refusal}
+use Rattle.html_tool_spell.specs.Refusals.{Gives, IsFirst}
+use Rattle.html_tool_spell.specs.Spelling.{IsTold}
+use Rattle.html_tool_spell.specs.declared.fault.Fault.{Fault}
+use Rattle.html_tool_spell.specs.declared.fault.Fault.TheVariants.{OutOfMemory, BadInput, Refused}
+use Rattle.html_tool_spell.specs.declared.fault.Place.{Place}
+use Rattle.html_tool_spell.specs.declared.fault.Place.TheVariants.{Unknown, Text, Form}
 
 first_said : (refusals : List Refusal) (text : List ℕ) (f : Fault) → IsFirst f refusals
     → Says (first_refusal_or_text refusals text) f

@@ -14,9 +14,9 @@ use Rattle.typst_html_encode.specs.declared.fault.ExportFault.{ExportFault}
 use Rattle.typst_html_encode.specs.declared.fault.ExportFault.TheVariants as fault
 use Rattle.html_tool_run.specs.Answers.{construct_refusal, fault_refusal, first_span}
 use Rattle.html_tool_run.specs.ExportRefusals.{export_refusal}
-use Rattle.html_tool_run.specs.NameRefusals as names
-use Rattle.html_tool_run.specs.Refusals.{IsFirst, numbered_fault}
-use Rattle.html_tool_run.specs.declared.fault.Fault.TheVariants.{OutOfMemory, Refused}
+use Rattle.html_tool_spell.specs.NameRefusals as names
+use Rattle.html_tool_spell.specs.Refusals.{IsFirst, numbered_fault}
+use Rattle.html_tool_spell.specs.declared.fault.Fault.TheVariants.{OutOfMemory, Refused}
 
 same_first : (spans : List Span) → export.first_span spans ≡ first_span (spans_view spans)
 same_first [] = refl

@@ -1,13 +1,3 @@
 pub mod Answering
-pub mod Bytes
 pub mod FirstFaults
-pub mod Forms
 pub mod Inputs
-pub mod ItemForms
-pub mod ItemRows
-pub mod KindForms
-pub mod NodeRows
-pub mod PairRows
-pub mod Readings
-pub mod Rows
-pub mod ToldBodies

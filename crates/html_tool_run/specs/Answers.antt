@@ -16,15 +16,15 @@ use Rattle.typst_html_encode.specs.Text.{document_text}
 use Rattle.typst_html_encode.specs.declared.options.HtmlOptions.{HtmlOptions}
 use Rattle.html_flow_convert.specs.Items.{ItemsView, no_items}
 use Rattle.typst_html_export.specs.Exported.{root_faults, export_faults, export_text}
-use Rattle.html_tool_run.specs.Json.{json_of}
-use Rattle.html_tool_run.specs.LeftForms.{Left}
-use Rattle.html_tool_run.specs.NameRefusals.{Refusal, element_refusals, items_refusals}
-use Rattle.html_tool_run.specs.Spelled.{spelled_element}
-use Rattle.html_tool_run.specs.SpelledItems.{spelled_items}
+use Rattle.html_tool_spell.specs.Json.{json_of}
+use Rattle.html_tool_spell.specs.LeftForms.{Left}
+use Rattle.html_tool_spell.specs.NameRefusals.{Refusal, element_refusals, items_refusals}
+use Rattle.html_tool_spell.specs.Spelled.{spelled_element}
+use Rattle.html_tool_spell.specs.SpelledItems.{spelled_items}
 use Rattle.html_tool_run.specs.Words.{wanted_task}
 use Rattle.html_tool_run.specs.Writing.{AppendsBeginning}
-use Rattle.html_tool_run.specs.declared.fault.Place.{Place}
-use Rattle.html_tool_run.specs.declared.fault.Place.TheVariants.{Unknown, Text, Form}
+use Rattle.html_tool_spell.specs.declared.fault.Place.{Place}
+use Rattle.html_tool_spell.specs.declared.fault.Place.TheVariants.{Unknown, Text, Form}
 use Rattle.html_tool_run.specs.declared.recorded.LastCall.{LastCall}
 use Rattle.html_tool_run.specs.declared.recorded.LastCall.TheVariants as last_call
 use Rattle.html_tool_run.specs.declared.status.Status.{Status}

@@ -4,9 +4,9 @@ use Rattle.typst_html_encode.specs.FaultViews.{ExportFaultView}
 use Rattle.typst_html_encode.specs.FrameWriters.{no_frames}
 use Rattle.typst_html_export.specs.Exported.{export_faults, export_text, export_linked_faults, export_linked_text}
 use Rattle.html_tool_run.specs.Answers.{Answer, TextPlace, in_text, answer_if, answer_to, fault_refusal, first_refusal_or_text, options_of}
-use Rattle.html_tool_run.specs.Json.{json_of}
-use Rattle.html_tool_run.specs.NameRefusals.{Refusal}
-use Rattle.html_tool_run.specs.SpelledDocuments.{Spelling, names_refusals, spelled_document}
+use Rattle.html_tool_spell.specs.Json.{json_of}
+use Rattle.html_tool_spell.specs.NameRefusals.{Refusal}
+use Rattle.html_tool_spell.specs.SpelledDocuments.{Spelling, names_refusals, spelled_document}
 use Rattle.html_tool_run.specs.declared.documents.Settings.{Settings}
 
 -- the text of a document, with its links resolved where that is wanted

@@ -1,17 +1,6 @@
 pub mod Answers
 pub mod DocumentAnswers
 pub mod ExportRefusals
-pub mod Fields
-pub mod Json
-pub mod FormKinds
-pub mod LeftForms
-pub mod NameRefusals
-pub mod Reading
-pub mod Refusals
 pub mod Replies
-pub mod Spelled
-pub mod SpelledDocuments
-pub mod SpelledItems
-pub mod Spelling
 pub mod Words
 pub mod Writing

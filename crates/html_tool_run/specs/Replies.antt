@@ -3,8 +3,8 @@ use Rattle.std.specs.Prelude.{◌≡◌, ℕ, List, Option, Result, MatchResult,
 use Rattle.std.specs.declared.alloc.Global.{Global}
 use Rattle.html_tool_run.specs.Answers.{Answer, TextPlace, IsAll, bad_input, refused_answer, words_answer}
 use Rattle.html_tool_run.specs.declared.program.Reply.{Reply}
-use Rattle.html_tool_run.specs.declared.fault.Fault.{Fault}
-use Rattle.html_tool_run.specs.declared.fault.Fault.TheVariants.{OutOfMemory, BadInput, Refused}
+use Rattle.html_tool_spell.specs.declared.fault.Fault.{Fault}
+use Rattle.html_tool_spell.specs.declared.fault.Fault.TheVariants.{OutOfMemory, BadInput, Refused}
 use Rattle.html_tool_run.specs.declared.status.Status.TheVariants.{Done}
 
 abbrev pub reply_answer : Reply → Answer

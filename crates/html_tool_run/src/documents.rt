@@ -1,4 +1,4 @@
-//! Documents with what is known of them and with footnotes, as a JSON value spells them.
+//! The HTML text of documents with what is known of them and with footnotes.
 
 ghost use Rattle.std.specs.Prelude.{◌≡◌, ◌≤◌};
 ghost use Rattle.serde_json.specs.View.{view};
@@ -11,21 +11,15 @@ ghost use Rattle.html_tool_run.specs.DocumentAnswers.{document_answer, document_
 ghost use Rattle.html_tool_run.specs.DocumentAnswers.{document_faults, document_refusals, document_text};
 ghost use Rattle.typst_html_export.specs.Assembles.{GivesDocument};
 ghost use Rattle.typst_html_export.specs.Exported.{export_linked_faults, export_linked_text};
-ghost use Rattle.html_tool_run.specs.Refusals.{Gives};
+ghost use Rattle.html_tool_spell.specs.Refusals.{Gives};
 ghost use Rattle.html_tool_run.specs.Replies.{GivesAnswer, GivesAnswerAt};
-ghost use Rattle.html_tool_run.specs.Reading.{ReadsField};
-ghost use Rattle.html_tool_run.specs.SpelledDocuments.{nothing_told, spelled_document, spelling_from};
-ghost use Rattle.html_tool_run.specs.SpelledDocuments.{told_at, with_known, with_member};
-ghost use Rattle.html_tool_run.specs.Spelling.{GivesSpelledDocument, spelling_view, told_view};
+ghost use Rattle.html_tool_spell.specs.SpelledDocuments.{spelled_document};
+ghost use Rattle.html_tool_spell.specs.Spelling.{spelling_view};
 
-use crate::fault::{Fault, Place};
-use crate::field::{named_field, with_field};
-use crate::items::list_of;
-use crate::json::parse;
 use crate::program::fault_of;
-use crate::reader::Reader;
 use html_dom_document::DocumentInfo;
 use html_flow_convert::Pair;
+use html_tool_spell::{Fault, SpelledDocument, document_in, parse};
 use serde_json::Value;
 use std::alloc::Global;
 use typst_html_encode::{ExportFault, HtmlOptions};
@@ -40,108 +34,6 @@ pub struct Settings {
     pub links: bool,
     /// How deep the bodies of items may stand, from 1 to 10,000.
     pub limit: usize,
-}
-
-/// What an object tells of a document.
-#[derive(Drop)]
-pub(crate) struct Told {
-    /// What is known.
-    info: DocumentInfo,
-    /// The items, as they stand there.
-    items: Value,
-    /// The footnotes, as they stand there.
-    footnotes: Value,
-}
-
-impl Told {
-    /// Nothing is known, and there are no items and no footnotes.
-    fn new(alloc: Global) -> Told
-        ensures { told_view result ≡ nothing_told }
-    {
-        Told {
-            info: DocumentInfo::new(alloc),
-            items: Value::Array(Vec::new(alloc)),
-            footnotes: Value::Array(Vec::new(alloc)),
-        }
-    }
-}
-
-/// What a value tells of a document.
-fn told_at(alloc: Global, value: Value) -> Result<Told, Fault>
-    ensures { ReadsField told_view result (told_at (view value)) }
-{
-    let Value::Object(members) = value else {
-        return Err(Fault::BadInput(Place::Form(0)));
-    };
-    let mut told = Told::new(alloc);
-    for (name, value) in members {
-        told = with_member(alloc, told, &name, value)?;
-    }
-    Ok(told)
-}
-
-/// What is told, and one member more.
-fn with_member(alloc: Global, told: Told, name: &str, value: Value) -> Result<Told, Fault>
-    ensures { ReadsField told_view result (with_member (told_view told) name.now (view value)) }
-{
-    match name {
-        "items" => Ok(Told {
-            items: value,
-            ..told
-        }),
-        "footnotes" => Ok(Told {
-            footnotes: value,
-            ..told
-        }),
-        _ => with_known(alloc, told, name, value),
-    }
-}
-
-/// What is told, and one field more.
-fn with_known(alloc: Global, told: Told, name: &str, value: Value) -> Result<Told, Fault>
-    ensures { ReadsField told_view result (with_known (told_view told) name.now (view value)) }
-{
-    let field = named_field(name).ok_or(Fault::BadInput(Place::Form(0)))?;
-    let info = with_field(alloc, told.info, field, value)?;
-    Ok(Told { info, ..told })
-}
-
-/// What a value spells as a document.
-#[derive(Drop)]
-pub(crate) struct SpelledDocument {
-    info: DocumentInfo,
-    items: Vec<Pair>,
-    footnotes: Vec<Pair>,
-}
-
-/// The document that a value spells, where no name in it is refused.
-fn document_in(alloc: Global, value: Value) -> Result<SpelledDocument, Fault>
-    ensures { GivesSpelledDocument result (spelled_document (view value)) }
-{
-    let told = told_at(alloc, value)?;
-    document_by(alloc, told)
-}
-
-/// The document of what is told.
-fn document_by(alloc: Global, told: Told) -> Result<SpelledDocument, Fault>
-    ensures { GivesSpelledDocument result (spelling_from (told_view told)) }
-{
-    let Told {
-        info,
-        items,
-        footnotes,
-    } = told;
-    let mut reader = Reader::new(alloc);
-    let items = list_of(&mut reader, items)?;
-    let footnotes = list_of(&mut reader, footnotes)?;
-    match reader.refused() {
-        Some((number, span)) => Err(Fault::Refused(number, span)),
-        None => Ok(SpelledDocument {
-            info,
-            items,
-            footnotes,
-        }),
-    }
 }
 
 /// The text of a document.

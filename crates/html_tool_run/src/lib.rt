@@ -11,24 +11,14 @@
 #![tactic(auto)]
 
 mod documents;
-mod fault;
-mod field;
-mod fields;
-mod items;
-mod json;
-mod kind;
-mod nodes;
 mod program;
-mod reader;
 mod recorded;
 mod status;
 mod whole;
 mod words;
 
 pub use documents::{Settings, text_of_document};
-pub use fault::{Fault, Place};
-pub use items::items_in;
-pub use nodes::element_in;
+pub use html_tool_spell::{Fault, Place, element_in, items_in};
 pub use program::{run, run_recorded, text_of_input};
 pub use recorded::{LastCall, Recorded, WriteFailed};
 pub use status::Status;

@@ -2,8 +2,8 @@
 use Rattle.std.specs.Prelude.{◌≡◌, ℕ, List}
 use Rattle.html_tool_run.specs.Answers.{Answer}
 use Rattle.html_tool_run.specs.Replies.{Says}
-use Rattle.html_tool_run.specs.declared.fault.Fault.{Fault}
-use Rattle.html_tool_run.specs.declared.fault.Fault.TheVariants.{OutOfMemory, BadInput, Refused}
+use Rattle.html_tool_spell.specs.declared.fault.Fault.{Fault}
+use Rattle.html_tool_spell.specs.declared.fault.Fault.TheVariants.{OutOfMemory, BadInput, Refused}
 use Rattle.typst_html_c.specs.CallReplies.{Replies, refused, bad, failed, fault_reply}
 use Rattle.typst_html_c.specs.declared.reply.Reply.{Reply}
 

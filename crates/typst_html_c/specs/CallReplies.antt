@@ -3,10 +3,10 @@ use Rattle.std.specs.Prelude.{◌≡◌, ◌==◌, ◌&&◌, ℕ, Bool, true, fa
 use Rattle.html_tool_run.specs.Answers.{Answer, TextPlace, bad_input, refused_answer, answer_if, task_answer}
 use Rattle.html_tool_run.specs.DocumentAnswers.{document_input_answer}
 use Rattle.html_tool_run.specs.declared.documents.Settings.{Settings}
-use Rattle.html_tool_run.specs.declared.fault.Fault.{Fault}
-use Rattle.html_tool_run.specs.declared.fault.Fault.TheVariants.{OutOfMemory, BadInput, Refused}
-use Rattle.html_tool_run.specs.declared.fault.Place.{Place}
-use Rattle.html_tool_run.specs.declared.fault.Place.TheVariants.{Unknown, Text, Form}
+use Rattle.html_tool_spell.specs.declared.fault.Fault.{Fault}
+use Rattle.html_tool_spell.specs.declared.fault.Fault.TheVariants.{OutOfMemory, BadInput, Refused}
+use Rattle.html_tool_spell.specs.declared.fault.Place.{Place}
+use Rattle.html_tool_spell.specs.declared.fault.Place.TheVariants.{Unknown, Text, Form}
 use Rattle.html_tool_run.specs.declared.status.Status.TheVariants.{Done}
 use Rattle.html_tool_run.specs.declared.words.Task.{Task}
 use Rattle.html_tool_run.specs.declared.words.Task.TheVariants.{Tree, Doc}

@@ -2,8 +2,8 @@ use Rattle.std.proofs.lemmas.Result.{err_from_is_err_and}
 use Rattle.serde_json.specs.View.{view}
 use Rattle.html_tool_run.proofs.Answering.{text_said, name_said}
 use Rattle.html_tool_run.specs.DocumentAnswers.{document_answer, document_refusals, document_text}
-use Rattle.html_tool_run.specs.SpelledDocuments.{names_refusals, spelled_document}
-use Rattle.html_tool_run.specs.Spelling.{spelling_view}
+use Rattle.html_tool_spell.specs.SpelledDocuments.{names_refusals, spelled_document}
+use Rattle.html_tool_spell.specs.Spelling.{spelling_view}
 use Rattle.html_tool_run.proofs.documents.spelled_text.Goals as goal
 
 pub returns-in_err-document : goal.returns-in_err-document

@@ -2,8 +2,8 @@ use Rattle.std.proofs.lemmas.Result.{err_from_is_err_and}
 use Rattle.html_tool_run.proofs.Answering.{json_said, no_json_said}
 use Rattle.html_tool_run.specs.Answers.{answer_to}
 use Rattle.html_tool_run.specs.DocumentAnswers.{document_answer, document_input_answer}
-use Rattle.html_tool_run.specs.Json.{json_of}
-use Rattle.html_tool_run.specs.SpelledDocuments.{spelled_document}
+use Rattle.html_tool_spell.specs.Json.{json_of}
+use Rattle.html_tool_spell.specs.SpelledDocuments.{spelled_document}
 use Rattle.serde_json.specs.View.{view}
 use Rattle.html_tool_run.proofs.documents.text_of_document.Goals as goal
 

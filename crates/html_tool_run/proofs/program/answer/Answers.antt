@@ -1,7 +1,7 @@
 use Rattle.std.proofs.lemmas.Result.{err_from_is_err_and}
 use Rattle.html_tool_run.proofs.Answering.{json_said, no_json_said}
 use Rattle.html_tool_run.specs.Answers.{input_answer, value_answer}
-use Rattle.html_tool_run.specs.Json.{json_of}
+use Rattle.html_tool_spell.specs.Json.{json_of}
 use Rattle.serde_json.specs.View.{view}
 use Rattle.html_tool_run.proofs.program.answer.Goals as goal
 

@@ -3,8 +3,8 @@ use Rattle.serde_json.specs.View.{view}
 use Rattle.html_flow_convert.specs.Views.{items_view}
 use Rattle.html_tool_run.proofs.Answering.{text_said, name_said}
 use Rattle.html_tool_run.specs.Answers.{doc_answer, doc_refusals, doc_text}
-use Rattle.html_tool_run.specs.NameRefusals.{items_refusals}
-use Rattle.html_tool_run.specs.SpelledItems.{spelled_items}
+use Rattle.html_tool_spell.specs.NameRefusals.{items_refusals}
+use Rattle.html_tool_spell.specs.SpelledItems.{spelled_items}
 use Rattle.html_tool_run.proofs.program.spelled_doc.Goals as goal
 
 pub returns-in_err-items : goal.returns-in_err-items

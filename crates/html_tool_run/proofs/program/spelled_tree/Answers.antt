@@ -3,8 +3,8 @@ use Rattle.serde_json.specs.View.{view}
 use Rattle.html_dom_tree.specs.Views.{element_view}
 use Rattle.html_tool_run.proofs.Answering.{text_said, name_said}
 use Rattle.html_tool_run.specs.Answers.{tree_answer, tree_refusals, tree_text}
-use Rattle.html_tool_run.specs.NameRefusals.{element_refusals}
-use Rattle.html_tool_run.specs.Spelled.{spelled_element}
+use Rattle.html_tool_spell.specs.NameRefusals.{element_refusals}
+use Rattle.html_tool_spell.specs.Spelled.{spelled_element}
 use Rattle.html_tool_run.proofs.program.spelled_tree.Goals as goal
 
 pub returns-in_err-element : goal.returns-in_err-element

@@ -1,0 +1,10 @@
+pub mod Bytes
+pub mod Forms
+pub mod ItemForms
+pub mod ItemRows
+pub mod KindForms
+pub mod NodeRows
+pub mod PairRows
+pub mod Readings
+pub mod Rows
+pub mod ToldBodies

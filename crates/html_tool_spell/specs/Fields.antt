@@ -1,0 +1,69 @@
+-- The parts of what a JSON value spells, whether it spells a tree or items: texts, numbers and
+-- attributes, and the fields of texts and of tags.
+use Rattle.std.specs.Prelude.{ℕ, List, [], ◌∷◌, chars, Option, Some, None, option_map, option_and_then, Ok}
+use Rattle.serde_json.specs.Data.{Data, Items, no_items, item}
+use Rattle.serde_json.specs.Find.{as_str, as_array, as_number, as_u64}
+use Rattle.html_dom_tree.specs.Tree.{TextPair, TagView, starts, ends}
+use Rattle.html_tool_spell.specs.LeftForms.{Left, mapped, and_then, from_part}
+
+-- a text's characters
+abbrev pub text_at : Data → Option (List ℕ)
+text_at d = option_map chars (as_str d)
+
+-- a whole number from 0 to 2^64 - 1
+abbrev pub whole_at : Data → Option ℕ
+whole_at d = option_and_then as_u64 (as_number d)
+
+abbrev pub pair_form : Items → Option TextPair
+pair_form (item name (item value no_items)) = option_and_then
+    (λ n. option_map (λ v. (n, v)) (text_at value)) (text_at name)
+pair_form _ = None
+
+abbrev pub pair_at : Data → Option TextPair
+pair_at d = option_and_then pair_form (as_array d)
+
+abbrev pub pairs_of : Items → Option (List TextPair)
+pairs_of no_items = Some []
+pairs_of (item d ds) = option_and_then (λ pair. option_map (λ pairs. pair ∷ pairs) (pairs_of ds))
+    (pair_at d)
+
+abbrev pub pairs_at : Data → Option (List TextPair)
+pairs_at d = option_and_then pairs_of (as_array d)
+
+abbrev pub text_form : Items → Option (List ℕ)
+text_form (item d no_items) = text_at d
+text_form _ = None
+
+-- a destination, or none
+abbrev pub dest_form : Items → Option (Option ℕ)
+dest_form no_items = Some None
+dest_form (item d no_items) = option_map Some (whole_at d)
+dest_form _ = None
+
+abbrev pub start_form : Items → Option TagView
+start_form no_items = None
+start_form (item l ds) = option_and_then
+    (λ d. option_map (λ l. starts l None d) (whole_at l)) (dest_form ds)
+
+abbrev pub end_form : Items → Option TagView
+end_form (item l no_items) = option_map ends (whole_at l)
+end_form _ = None
+
+abbrev pub no_fields : Items → Option (Unit {0})
+no_fields no_items = Some tt
+no_fields (item d ds) = None
+
+-- what holds no other list that is numbered; its own is number n
+abbrev pub leaf : {A B : Type 0} → (made : A → B) → Option A → (n : ℕ) → Left (B × ℕ)
+leaf made fields n = from_part n (λ a. Ok (made a, n)) fields
+
+-- an element of number n, made of its tag, its attributes and what it holds
+abbrev pub element_from : {A B : Type 0} → (made : List ℕ → List TextPair → A → B) → (n : ℕ)
+    → (tag : Option (List ℕ)) (pairs : Option (List TextPair)) (inside : Left (A × ℕ)) → Left (B × ℕ)
+element_from made n tag pairs inside = from_part n (λ t. from_part n (λ ps.
+    mapped (λ c. (made t ps c.0, c.1)) inside) pairs) tag
+
+-- the first of a row, and then the rest
+abbrev pub row_from : {A B : Type 0} → (add : A → B → B) → (first : Left (A × ℕ))
+    → (rest : ℕ → Left (B × ℕ)) → Left (B × ℕ)
+row_from add first rest = and_then (λ p. mapped (λ q. (add p.0 q.0, q.1)) (rest p.1)) first

@@ -1,0 +1,35 @@
+-- What a JSON value spells, or where the form is left: how many lists of nodes or items are opened up to
+-- the first value that is not what the form wants.
+use Rattle.std.specs.Prelude.{◌≡◌, ℕ, Option, Some, None, Result, Ok, Err}
+use Rattle.html_tool_spell.specs.declared.fault.Place.{Place}
+use Rattle.html_tool_spell.specs.declared.fault.Place.TheVariants.{Unknown, Text, Form}
+
+-- something that is spelled, or the place where the form is left
+abbrev pub Left : Type 0 → Type 0
+Left A = Result A ℕ
+
+abbrev pub mapped : {A B : Type 0} → (A → B) → Left A → Left B
+mapped f (Ok a) = Ok (f a)
+mapped f (Err n) = Err n
+
+-- one thing, and then what is made of it
+abbrev pub and_then : {A B : Type 0} → (A → Left B) → Left A → Left B
+and_then f (Ok a) = f a
+and_then f (Err n) = Err n
+
+-- what is made of a part that has no place of its own, or the form is left at n
+abbrev pub from_part : {A B : Type 0} → (n : ℕ) → (A → Left B) → Option A → Left B
+from_part n f (Some a) = f a
+from_part n f None = Err n
+
+-- the form is left at that place
+abbrev pub IsLeft : {A : Type 0} → Left A → Place → Type 0
+IsLeft wanted Unknown = ⊥
+IsLeft wanted (Text line column) = ⊥
+IsLeft wanted (Form n) = wanted ≡ Err n
+
+-- the text is no JSON at that place
+abbrev pub IsInText : Place → Type 0
+IsInText Unknown = ⊥
+IsInText (Text line column) = Unit {0}
+IsInText (Form n) = ⊥

@@ -1,0 +1,11 @@
+pub mod Fields
+pub mod FormKinds
+pub mod Json
+pub mod LeftForms
+pub mod NameRefusals
+pub mod Reading
+pub mod Refusals
+pub mod Spelled
+pub mod SpelledDocuments
+pub mod SpelledItems
+pub mod Spelling

@@ -1,0 +1,52 @@
+-- How calls end that make something of what a JSON value spells.
+use Rattle.std.specs.Prelude.{◌≡◌, List, [], Result, Ok, IsOkAnd, MatchResult, Vec}
+use Rattle.std.specs.declared.alloc.Global.{Global}
+use Rattle.serde_json.specs.View.{view}
+use Rattle.html_dom_tree.specs.Tree.{ElementView}
+use Rattle.html_dom_tree.specs.Views.{element_view}
+use Rattle.html_dom_tree.specs.declared.node.HtmlElement.{HtmlElement}
+use Rattle.html_dom_document.specs.Views.{info_view}
+use Rattle.html_flow_convert.specs.Items.{ItemsView}
+use Rattle.html_flow_convert.specs.Views.{items_view}
+use Rattle.html_flow_convert.specs.declared.item.Pair.{Pair}
+use Rattle.html_tool_spell.specs.LeftForms.{Left, IsLeft}
+use Rattle.html_tool_spell.specs.NameRefusals.{Refusal, element_refusals, items_refusals}
+use Rattle.html_tool_spell.specs.Refusals.{IsFirst}
+use Rattle.html_tool_spell.specs.SpelledDocuments.{Spelling, ToldView, names_refusals}
+use Rattle.html_tool_spell.specs.declared.documents.SpelledDocument.{SpelledDocument}
+use Rattle.html_tool_spell.specs.declared.documents.Told.{Told}
+use Rattle.html_tool_spell.specs.declared.fault.Fault.{Fault}
+use Rattle.html_tool_spell.specs.declared.fault.Fault.TheVariants.{OutOfMemory, BadInput, Refused}
+
+-- the form is left, or something is spelled and its first name that is none is told; memory aside
+abbrev pub IsTold : {B : Type 0} → (refusals : B → List Refusal) → Left B → Fault → Type 0
+IsTold refusals wanted OutOfMemory = Unit {0}
+IsTold refusals wanted (BadInput place) = IsLeft wanted place
+IsTold refusals wanted (Refused number span) =
+    IsOkAnd wanted (λ b. IsFirst (Refused number span) (refusals b))
+
+-- what is spelled was made, and no name in it is refused, or the fault is right
+abbrev pub GivesSpelled : {A B : Type 0} → (view : A → B) → (refusals : B → List Refusal)
+    → Result A Fault → Left B → Type 0
+GivesSpelled view refusals r wanted =
+    MatchResult r (λ a. (wanted ≡ Ok (view a)) × (refusals (view a) ≡ []))
+    (IsTold refusals wanted)
+
+abbrev pub GivesElement : Result HtmlElement Fault → Left ElementView → Type 0
+GivesElement = GivesSpelled element_view element_refusals
+
+abbrev pub GivesItems : Result (Vec Pair Global) Fault → Left ItemsView → Type 0
+GivesItems = GivesSpelled (λ pairs. items_view pairs.items) items_refusals
+
+abbrev pub told_view : Told → ToldView
+told_view told = record {
+  info = info_view told.info;
+  items = view told.items;
+  footnotes = view told.footnotes;
+}
+
+abbrev pub spelling_view : SpelledDocument → Spelling
+spelling_view d = (info_view d.info, (items_view d.items.items, items_view d.footnotes.items))
+
+abbrev pub GivesSpelledDocument : Result SpelledDocument Fault → Left Spelling → Type 0
+GivesSpelledDocument = GivesSpelled spelling_view names_refusals

@@ -1,0 +1,123 @@
+//! What is known of a document, its items and its footnotes, as a JSON value spells them.
+
+ghost use Rattle.std.specs.Prelude.{◌≡◌};
+ghost use Rattle.serde_json.specs.View.{view};
+ghost use Rattle.html_tool_spell.specs.Reading.{ReadsField};
+ghost use Rattle.html_tool_spell.specs.SpelledDocuments.{nothing_told, spelled_document, spelling_from};
+ghost use Rattle.html_tool_spell.specs.SpelledDocuments.{told_at, with_known, with_member};
+ghost use Rattle.html_tool_spell.specs.Spelling.{GivesSpelledDocument, told_view};
+
+use crate::fault::{Fault, Place};
+use crate::field::{named_field, with_field};
+use crate::items::list_of;
+use crate::reader::Reader;
+use html_dom_document::DocumentInfo;
+use html_flow_convert::Pair;
+use serde_json::Value;
+use std::alloc::Global;
+
+/// What an object tells of a document.
+#[derive(Drop)]
+pub(crate) struct Told {
+    /// What is known.
+    info: DocumentInfo,
+    /// The items, as they stand there.
+    items: Value,
+    /// The footnotes, as they stand there.
+    footnotes: Value,
+}
+
+impl Told {
+    /// Nothing is known, and there are no items and no footnotes.
+    fn new(alloc: Global) -> Told
+        ensures { told_view result ≡ nothing_told }
+    {
+        Told {
+            info: DocumentInfo::new(alloc),
+            items: Value::Array(Vec::new(alloc)),
+            footnotes: Value::Array(Vec::new(alloc)),
+        }
+    }
+}
+
+/// What a value tells of a document.
+fn told_at(alloc: Global, value: Value) -> Result<Told, Fault>
+    ensures { ReadsField told_view result (told_at (view value)) }
+{
+    let Value::Object(members) = value else {
+        return Err(Fault::BadInput(Place::Form(0)));
+    };
+    let mut told = Told::new(alloc);
+    for (name, value) in members {
+        told = with_member(alloc, told, &name, value)?;
+    }
+    Ok(told)
+}
+
+/// What is told, and one member more.
+fn with_member(alloc: Global, told: Told, name: &str, value: Value) -> Result<Told, Fault>
+    ensures { ReadsField told_view result (with_member (told_view told) name.now (view value)) }
+{
+    match name {
+        "items" => Ok(Told {
+            items: value,
+            ..told
+        }),
+        "footnotes" => Ok(Told {
+            footnotes: value,
+            ..told
+        }),
+        _ => with_known(alloc, told, name, value),
+    }
+}
+
+/// What is told, and one field more.
+fn with_known(alloc: Global, told: Told, name: &str, value: Value) -> Result<Told, Fault>
+    ensures { ReadsField told_view result (with_known (told_view told) name.now (view value)) }
+{
+    let field = named_field(name).ok_or(Fault::BadInput(Place::Form(0)))?;
+    let info = with_field(alloc, told.info, field, value)?;
+    Ok(Told { info, ..told })
+}
+
+/// What a value spells as a document.
+#[derive(Drop)]
+pub struct SpelledDocument {
+    /// What is known of it.
+    pub info: DocumentInfo,
+    /// Its items.
+    pub items: Vec<Pair>,
+    /// Its footnotes.
+    pub footnotes: Vec<Pair>,
+}
+
+/// The document that a value spells, where no name in it is refused: made of the texts of a value, which
+/// is gone where nothing is made.
+pub fn document_in(alloc: Global, value: Value) -> Result<SpelledDocument, Fault>
+    ensures { GivesSpelledDocument result (spelled_document (view value)) }
+{
+    let told = told_at(alloc, value)?;
+    document_by(alloc, told)
+}
+
+/// The document of what is told.
+fn document_by(alloc: Global, told: Told) -> Result<SpelledDocument, Fault>
+    ensures { GivesSpelledDocument result (spelling_from (told_view told)) }
+{
+    let Told {
+        info,
+        items,
+        footnotes,
+    } = told;
+    let mut reader = Reader::new(alloc);
+    let items = list_of(&mut reader, items)?;
+    let footnotes = list_of(&mut reader, footnotes)?;
+    match reader.refused() {
+        Some((number, span)) => Err(Fault::Refused(number, span)),
+        None => Ok(SpelledDocument {
+            info,
+            items,
+            footnotes,
+        }),
+    }
+}

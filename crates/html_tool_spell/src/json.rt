@@ -1,0 +1,21 @@
+ghost use Rattle.html_tool_spell.specs.Json.{json_of};
+ghost use Rattle.html_tool_spell.specs.Reading.{ReadsJson};
+
+use crate::{Fault, Place};
+use serde_json::{Category, Value};
+use std::alloc::Global;
+
+/// The JSON value that the bytes are. Bytes that are none, or no UTF-8, are bad input at a place in the
+/// text.
+#[tactic(auto, using(crate::proofs::Bytes::json_of_steps))]
+pub fn parse(alloc: Global, bytes: &[u8]) -> Result<Value, Fault>
+    ensures { ReadsJson result (json_of bytes.now) }
+{
+    match Value::from_slice(alloc, bytes) {
+        Ok(value) => Ok(value),
+        Err(fault) => match fault.classify() {
+            Category::Memory => Err(Fault::OutOfMemory),
+            _ => Err(Fault::BadInput(Place::Text(fault.line(), fault.column()))),
+        },
+    }
+}

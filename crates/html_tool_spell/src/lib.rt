@@ -1,0 +1,26 @@
+//! Trees, items and documents that JSON spells, or where the form is left. Each public name that a user
+//! of this project names is passed on by html_tool_run.
+//!
+//! A tree is spelled by its root, and items by a list of them:
+//!
+//! ```json
+//! ["el", "p", [["class", "intro"]], [["text", "a"]]]
+//! [["text", "a"], ["space"], ["text", "b"]]
+//! ```
+#![tactic(auto)]
+
+mod documents;
+mod fault;
+mod field;
+mod fields;
+mod items;
+mod json;
+mod kind;
+mod nodes;
+mod reader;
+
+pub use documents::{SpelledDocument, document_in};
+pub use fault::{Fault, Place};
+pub use items::{into_items, items_in};
+pub use json::parse;
+pub use nodes::{element_in, into_element};

@@ -1,0 +1,200 @@
+//! The tree that a JSON value spells.
+
+ghost use Rattle.std.specs.Prelude.{◌≡◌, ◌<◌, drop, option_map, vec_len, vec_capacity};
+ghost use Rattle.serde_json.specs.View.{view, items_view};
+ghost use Rattle.html_dom_tree.specs.Tree.{tag_node};
+ghost use Rattle.html_dom_tree.specs.Views.{tag_view};
+ghost use Rattle.html_tool_spell.specs.Fields.{leaf, text_at, pairs_at, element_from};
+ghost use Rattle.html_tool_spell.specs.FormKinds.{node_of_kind};
+ghost use Rattle.html_tool_spell.specs.Reading.{AddsNode, ReadsNode, ReadsNodes};
+ghost use Rattle.html_tool_spell.specs.Spelled.{spelled_element, spelled_node, form, spelled_text};
+ghost use Rattle.html_tool_spell.specs.Spelled.{element_form, element_made, list_at};
+ghost use Rattle.html_tool_spell.specs.Spelling.{GivesElement};
+
+use crate::fault::{Fault, Place};
+use crate::fields::{end_in, parts_of, start_in, text_at, text_in};
+use crate::kind::{Kind, list_kind};
+use crate::reader::Reader;
+use html_dom_tree::{HtmlElement, HtmlNode, Tag};
+use html_values_css::Properties;
+use serde_json::Value;
+use std::alloc::Global;
+
+/// The element that a value spells, where no name in it is refused. The value is copied once.
+///
+/// A value that spells none is bad input, whatever its names are.
+pub fn element_in(alloc: Global, value: &Value) -> Result<HtmlElement, Fault>
+    ensures { GivesElement result (spelled_element (view value.now)) }
+{
+    into_element(alloc, value.clone()?)
+}
+
+/// The same, made of the texts of a value, which is gone where nothing is made.
+pub fn into_element(alloc: Global, value: Value) -> Result<HtmlElement, Fault>
+    ensures { GivesElement result (spelled_element (view value)) }
+{
+    let mut reader = Reader::new(alloc);
+    let node = node_in(&mut reader, value)?;
+    if let Some((number, span)) = reader.refused() {
+        return Err(Fault::Refused(number, span));
+    }
+    match node {
+        HtmlNode::Element(element) => Ok(element),
+        HtmlNode::Tag(_) | HtmlNode::Text(_, _) | HtmlNode::Frame(_) => {
+            Err(Fault::BadInput(Place::Form(1)))
+        }
+    }
+}
+
+/// The node that a value spells.
+fn node_in(reader: &mut Reader, value: Value) -> Result<HtmlNode, Fault>
+    ensures { ReadsNode result (spelled_node (view value) reader.old.lists) reader.old reader.new }
+{
+    let mut nodes = Vec::with_capacity(reader.alloc(), 1)?;
+    push_node(reader, &mut nodes, value)?;
+    Ok(nodes.swap_remove(0))
+}
+
+/// Adds the node that a value spells to nodes that have room for it.
+#[cycle(spell)]
+fn push_node(reader: &mut Reader, nodes: &mut Vec<HtmlNode>, value: Value) -> Result<(), Fault>
+    requires { vec_len nodes.old < vec_capacity nodes.old }
+    ensures { AddsNode result (spelled_node (view value) reader.old.lists)
+        nodes.old nodes.new reader.old reader.new }
+{
+    let Value::Array(list) = value else {
+        return Err(reader.left());
+    };
+    reader.open()?;
+    push_list(reader, nodes, list)
+}
+
+/// Adds the node of the list that was opened last.
+#[cycle(spell)]
+fn push_list(reader: &mut Reader, nodes: &mut Vec<HtmlNode>, list: Vec<Value>) -> Result<(), Fault>
+    requires { vec_len nodes.old < vec_capacity nodes.old }
+    ensures { AddsNode result (form (items_view list.items) reader.old.lists)
+        nodes.old nodes.new reader.old reader.new }
+{
+    match list_kind(&list) {
+        Some(kind) => push_form(reader, nodes, kind, list),
+        None => Err(reader.left()),
+    }
+}
+
+/// Adds the node of that list, which is of that kind.
+#[cycle(spell)]
+fn push_form(
+    reader: &mut Reader,
+    nodes: &mut Vec<HtmlNode>,
+    kind: Kind,
+    list: Vec<Value>,
+) -> Result<(), Fault>
+    requires { vec_len nodes.old < vec_capacity nodes.old }
+    ensures { AddsNode result (node_of_kind kind (items_view (drop 1 list.items)) reader.old.lists)
+        nodes.old nodes.new reader.old reader.new }
+{
+    match kind {
+        Kind::Text => push_text(reader, nodes, list),
+        Kind::Element => push_element(reader, nodes, list),
+        Kind::Start => push_tag(reader, nodes, start_in(list)),
+        Kind::End => push_tag(reader, nodes, end_in(list)),
+        Kind::Block | Kind::Box | Kind::Space | Kind::Break | Kind::Hole => Err(reader.left()),
+    }
+}
+
+fn push_text(reader: &Reader, nodes: &mut Vec<HtmlNode>, list: Vec<Value>) -> Result<(), Fault>
+    requires { vec_len nodes.old < vec_capacity nodes.old }
+    ensures { AddsNode result (spelled_text (items_view (drop 1 list.items)) reader.now.lists)
+        nodes.old nodes.new reader.now reader.now }
+{
+    match text_in(list) {
+        Some(text) => {
+            nodes.push_reserved(HtmlNode::Text(text, reader.here()));
+            Ok(())
+        }
+        None => Err(reader.left()),
+    }
+}
+
+fn push_tag(reader: &Reader, nodes: &mut Vec<HtmlNode>, tag: Option<Tag>) -> Result<(), Fault>
+    requires { vec_len nodes.old < vec_capacity nodes.old }
+    ensures { AddsNode result (leaf tag_node (option_map tag_view tag) reader.now.lists)
+        nodes.old nodes.new reader.now reader.now }
+{
+    match tag {
+        Some(tag) => {
+            nodes.push_reserved(HtmlNode::Tag(tag));
+            Ok(())
+        }
+        None => Err(reader.left()),
+    }
+}
+
+#[cycle(spell)]
+#[tactic(auto, using(crate::proofs::Forms::forms))]
+fn push_element(
+    reader: &mut Reader,
+    nodes: &mut Vec<HtmlNode>,
+    list: Vec<Value>,
+) -> Result<(), Fault>
+    requires { vec_len nodes.old < vec_capacity nodes.old }
+    ensures { AddsNode result (element_form (items_view (drop 1 list.items)) reader.old.lists)
+        nodes.old nodes.new reader.old reader.new }
+{
+    match parts_of::<4>(list) {
+        Some(parts) => {
+            let [_, name, pairs, list] = parts;
+            push_element_with(reader, nodes, name, pairs, list)
+        }
+        None => Err(reader.left()),
+    }
+}
+
+/// Adds the element of that name, those attributes and that list of children.
+#[cycle(spell)]
+fn push_element_with(
+    reader: &mut Reader,
+    nodes: &mut Vec<HtmlNode>,
+    name: Value,
+    pairs: Value,
+    list: Value,
+) -> Result<(), Fault>
+    requires { vec_len nodes.old < vec_capacity nodes.old }
+    ensures { AddsNode result (element_from (element_made reader.old.lists) reader.old.lists
+        (text_at (view name)) (pairs_at (view pairs)) (list_at (view list) reader.old.lists))
+        nodes.old nodes.new reader.old reader.new }
+{
+    let Some(name) = text_at(name) else {
+        return Err(reader.left());
+    };
+    let span = reader.here();
+    let tag = reader.tag(&name, span)?;
+    let attrs = reader.pairs(pairs, span)?;
+    let children = list_of(reader, list)?;
+    nodes.push_reserved(HtmlNode::Element(HtmlElement {
+        tag,
+        attrs,
+        css: Properties::new(reader.alloc()),
+        children,
+        parent: None,
+        span,
+        pre_span: false,
+    }));
+    Ok(())
+}
+
+/// The nodes that a list spells.
+#[cycle(spell)]
+fn list_of(reader: &mut Reader, value: Value) -> Result<Vec<HtmlNode>, Fault>
+    ensures { ReadsNodes result (list_at (view value) reader.old.lists) reader.old reader.new }
+{
+    let Value::Array(values) = value else {
+        return Err(reader.left());
+    };
+    let mut nodes = Vec::with_capacity(reader.alloc(), values.len())?;
+    for value in values {
+        push_node(reader, &mut nodes, value)?;
+    }
+    Ok(nodes)
+}

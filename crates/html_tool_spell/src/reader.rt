@@ -1,0 +1,144 @@
+//! What a reader of a JSON value remembers, and how it reads names.
+
+ghost use Rattle.std.specs.Prelude.{◌≡◌, ◌+◌, None, OnOk, IfErr, chars};
+ghost use Rattle.serde_json.specs.View.{view};
+ghost use Rattle.html_names.specs.NameFaults.{number_of};
+ghost use Rattle.html_names.specs.Names.{tag_fault, attr_fault};
+ghost use Rattle.html_tool_spell.specs.Fields.{pairs_at, pair_at};
+ghost use Rattle.html_tool_spell.specs.Reading.{IsWant, Notes, ReadsName, ReadsPair, ReadsPairs};
+ghost use Rattle.html_tool_spell.specs.declared.fault.Fault.TheVariants.{BadInput};
+ghost use Rattle.html_tool_spell.specs.declared.fault.Place.TheVariants.{Form};
+
+use crate::fault::{Fault, Place};
+use crate::fields::pair_in;
+use html_dom_tree::{HtmlAttrs, Span};
+use html_names::{HtmlAttr, HtmlTag, NameFault, attr, tag};
+use serde_json::Value;
+use std::alloc::Global;
+
+/// What was read of a value so far. A name that is refused does not end the reading, since the rest
+/// may spell nothing, and then the value is bad input whatever its names are: another name stands in
+/// its place, and what was made is not given away.
+#[derive(Drop)]
+pub(crate) struct Reader {
+    alloc: Global,
+    /// How many lists of nodes or items were opened.
+    lists: u64,
+    /// The first name that was refused: the number of its fault, and the span.
+    refused: Option<(u8, Span)>,
+}
+
+impl Reader {
+    /// The reader before anything is read.
+    pub(crate) fn new(alloc: Global) -> Reader
+        ensures lists { result.lists ≡ 0 }
+        ensures refused { result.refused ≡ None }
+    {
+        Reader {
+            alloc,
+            lists: 0,
+            refused: None,
+        }
+    }
+
+    /// The allocator.
+    pub(crate) fn alloc(&self) -> Global {
+        self.alloc
+    }
+
+    /// The first name that was refused.
+    pub(crate) fn refused(&self) -> Option<(u8, Span)>
+        ensures { result ≡ self.now.refused }
+    {
+        self.refused
+    }
+
+    /// Opens the next list.
+    pub(crate) fn open(&mut self) -> Result<(), Fault>
+        ensures lists { OnOk result (self.new.lists ≡ self.old.lists + 1) }
+        ensures refused { self.new.refused ≡ self.old.refused }
+        ensures fault { IfErr result IsWant }
+    {
+        self.lists = self.lists.checked_add(1).ok_or(Fault::OutOfMemory)?;
+        Ok(())
+    }
+
+    /// The span of the list that was opened last.
+    pub(crate) fn here(&self) -> Span
+        ensures { result.0 ≡ self.now.lists }
+    {
+        Span(self.lists)
+    }
+
+    /// The form is left in the list that was opened last, or before the first.
+    pub(crate) fn left(&self) -> Fault
+        ensures { result ≡ BadInput (Form self.now.lists) }
+    {
+        Fault::BadInput(Place::Form(self.lists))
+    }
+
+    /// Remembers the fault of a name of the element with that span, unless another was before it.
+    fn note(&mut self, fault: &NameFault, span: Span) -> Result<(), Fault>
+        ensures { Notes (number_of fault.now) span result self.old self.new }
+    {
+        match fault.number() {
+            0 => Err(Fault::OutOfMemory),
+            number => {
+                if self.refused.is_none() {
+                    self.refused = Some((number, span));
+                }
+                Ok(())
+            }
+        }
+    }
+
+    /// The tag name of that text, or another where it is refused.
+    pub(crate) fn tag(&mut self, text: &str, span: Span) -> Result<HtmlTag, Fault>
+        ensures { ReadsName tag_fault span result (chars text.now) self.old self.new }
+    {
+        match HtmlTag::intern(self.alloc, text) {
+            Ok(tag) => Ok(tag),
+            Err(fault) => {
+                self.note(&fault, span)?;
+                Ok(tag::p)
+            }
+        }
+    }
+
+    /// The attribute name of that text, or another where it is refused.
+    fn attr(&mut self, text: &str, span: Span) -> Result<HtmlAttr, Fault>
+        ensures { ReadsName attr_fault span result (chars text.now) self.old self.new }
+    {
+        match HtmlAttr::intern(self.alloc, text) {
+            Ok(attr) => Ok(attr),
+            Err(fault) => {
+                self.note(&fault, span)?;
+                Ok(attr::id)
+            }
+        }
+    }
+
+    /// The attributes of the element with that span.
+    pub(crate) fn pairs(&mut self, value: Value, span: Span) -> Result<HtmlAttrs, Fault>
+        ensures { ReadsPairs span result (pairs_at (view value)) self.old self.new }
+    {
+        let Value::Array(values) = value else {
+            return Err(self.left());
+        };
+        let mut pairs = Vec::with_capacity(self.alloc, values.len())?;
+        for value in values {
+            pairs.push(self.pair(value, span)?)?;
+        }
+        Ok(HtmlAttrs(pairs))
+    }
+
+    /// An attribute of the element with that span.
+    fn pair(&mut self, value: Value, span: Span) -> Result<(HtmlAttr, String), Fault>
+        ensures { ReadsPair span result (pair_at (view value)) self.old self.new }
+    {
+        match pair_in(value) {
+            Some((name, value)) => Ok((self.attr(&name, span)?, value)),
+            None => Err(self.left()),
+        }
+    }
+}
