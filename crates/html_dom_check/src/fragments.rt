@@ -152,7 +152,11 @@ fn add_node(child: &HtmlNode, places: &BTreeSet<String>, walk: &mut Walk) -> Res
 
 /// Adds those in the children at the end of the path.
 #[cycle(fragments)]
-fn add_nodes(nodes: &[HtmlNode], places: &BTreeSet<String>, walk: &mut Walk) -> Result<(), AllocError>
+fn add_nodes(
+    nodes: &[HtmlNode],
+    places: &BTreeSet<String>,
+    walk: &mut Walk,
+) -> Result<(), AllocError>
     ensures path { OnOk result (walk.new.path.items ≡ walk.old.path.items) }
     ensures dead { OnOk result (FindsDead places.now walk.old walk.new
         (nodes_placed fragments_at walk.old.path.items 0 (nodes_view nodes.now))) }

@@ -5,7 +5,7 @@ use Rattle.html_dom_tree.specs.Tags.{starts, ends}
 use Rattle.html_dom_tree.specs.Tree.{Head, NodeView, tag_node, text_node, element_node, frame_node, NodesView, none, node}
 use Rattle.html_dom_link.specs.NewNames.{first_id, frame_names}
 use Rattle.html_dom_link.specs.Answered.{shown_names, first_ids}
-use Rattle.html_dom_link.specs.Indicated.{link_name, nodes_places, place_names}
+use Rattle.html_dom_link.specs.Indicated.{nodes_places, place_names}
 use Rattle.html_dom_link.specs.LinkLaws.{LeftAreDead, NamesStay}
 use Rattle.html_dom_link.specs.Links.{Hrefs, dest_before, open_dest, href_of, attrs_with_href, head_with_link, node_with_links, nodes_with_links, dead_without, dead_link, node_dead_links, nodes_dead_links}
 

@@ -1,13 +1,13 @@
 -- Spellings of names: what the sets of the program hold, and where a spelling leads.
-use Rattle.std.proofs.Common.{◌≡◌, ◌≤◌, ◌<◌, ◌==◌, ℕ, List, [], ◌∷◌, ◌++◌, All, Bool, true, false, not, ◌||◌, Option, None, Some, chars, codes, refl, sym, ap, subst, ◌∙◌, arith, inl, inr}
+use Rattle.std.proofs.Common.{◌≡◌, ◌<◌, ◌==◌, ℕ, List, [], ◌∷◌, All, Bool, true, false, not, ◌||◌, None, Some, chars, refl, sym, ap, subst, ◌∙◌, arith}
 use Rattle.std.specs.List.{flat_map, list_any}
 use Rattle.std.specs.Prelude.{if◌then◌else◌, nat_lt, option_map}
-use Rattle.std.specs.Str.{IsAscii, IsUtf8}
+use Rattle.std.specs.Str.{IsUtf8}
 use Rattle.std.specs.Str.Lossy.{utf8_lossy}
-use Rattle.std.proofs.lemmas.Bool.{agree_below_at, and_parts, false≢true, true≢false}
+use Rattle.std.proofs.lemmas.Bool.{agree_below_at, and_parts, true≢false}
 use Rattle.std.proofs.lemmas.Bool.Decides.{nat_tests}
 use Rattle.std.proofs.lemmas.List.Elements.{All-nil, All-cons, All-append, All-head, All-tail, All-weaker}
-use Rattle.std.proofs.lemmas.Str.{chars-encodes, chars-IsAscii, chars-nil, encodes-chars, encodes-IsAscii, utf8_lossy-IsUtf8}
+use Rattle.std.proofs.lemmas.Str.{chars-encodes, chars-nil, encodes-chars, encodes-IsAscii, utf8_lossy-IsUtf8}
 use lib.Utf8.{encode, encodes, scalar, scalars}
 use Rattle.percent_encoding.specs.declared.ascii_set.AsciiSet.{AsciiSet}
 use Rattle.percent_encoding.specs.AsciiSet.{contains, should_percent_encode}
@@ -18,7 +18,7 @@ use Rattle.html_dom_link.specs.Indicated.{before_end, decoding, fragments_in, in
 use Rattle.html_dom_link.specs.LinkLaws.{LeadingHrefsLead, PlainHrefsLead}
 use Rattle.html_dom_link.specs.Links.{some_name}
 use Rattle.html_dom_link.specs.NewNames.{Name}
-use Rattle.html_dom_link.specs.Spellings.{byte_encoding, encoding, href_to, href_with, is_any, is_in_fragment_set, is_in_name_set, is_left, leading_href, leading_spelling, plain_spelling}
+use Rattle.html_dom_link.specs.Spellings.{byte_encoding, encoding, href_with, is_any, is_in_fragment_set, is_in_name_set, is_left, leading_spelling, plain_spelling}
 use Rattle.html_dom_link.specs.declared.spellings.TheConstants.{ANY, FRAGMENT, NAME}
 
 -- the sets

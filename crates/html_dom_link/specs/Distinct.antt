@@ -36,9 +36,9 @@ IdsAreDistinct d = are_distinct (element_names (document_root d)) ≡ true
 
 -- a link leads to a name that comes once among all
 pub record LeadsToOne (anchor : Anchors) (places shown names : List Name) (link : GivenLink) : Type 0
-    where
-  pub among : LeadsAmong anchor places shown link
-  pub once : occurrences names among.name ≡ 1
+  where
+    pub among : LeadsAmong anchor places shown link
+    pub once : occurrences names among.name ≡ 1
 
 -- each link that got an `href` leads to such a name of the new tree
 abbrev pub GivenLinksLeadToOne : (old new : DocumentView) → Type 0

@@ -7,7 +7,7 @@ use Rattle.std.specs.Str.Lossy.{utf8_lossy}
 use Rattle.percent_encoding.specs.Percent.{percent_decode}
 use Rattle.html_dom_tree.specs.Attributes.{first}
 use Rattle.html_dom_tree.specs.Tree.{TextPair, tag_node, text_node, element_node, frame_node, NodesView, none, node, ElementView}
-use Rattle.html_dom_link.specs.NewNames.{Name, first_id, frame_names}
+use Rattle.html_dom_link.specs.NewNames.{Name, frame_names}
 use Rattle.html_dom_link.specs.Spellings.{encoding, is_in_fragment_set}
 
 -- the names of places

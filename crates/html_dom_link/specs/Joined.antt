@@ -1,6 +1,6 @@
 -- Parts of the walk: one list of nodes and then another, one start tag of a frame, and several.
 use Rattle.html_dom_tree.specs.Frames.{PointView}
-use Rattle.html_dom_tree.specs.Tree.{starts, ends, NodeView, tag_node, text_node, element_node, frame_node, NodesView, none, node}
+use Rattle.html_dom_tree.specs.Tree.{starts, ends, NodeView, tag_node, text_node, element_node, frame_node, NodesView}
 use Rattle.std.specs.Prelude.{ℕ, Bool, true, false, List, ◌++◌}
 use Rattle.html_dom_document.specs.DomIndices.{◌then◌}
 use Rattle.html_dom_link.specs.Events.{FrameStart}

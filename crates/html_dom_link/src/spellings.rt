@@ -14,12 +14,7 @@ use std::collections::BTreeSet;
 
 /// The fragment percent-encode set (URL Standard 1.3): a browser encodes what it has.
 pub(crate) const FRAGMENT: AsciiSet = ascii_set!(
-    CONTROLS
-        .add(b' ')
-        .add(b'"')
-        .add(b'<')
-        .add(b'>')
-        .add(b'`')
+    CONTROLS.add(b' ').add(b'"').add(b'<').add(b'>').add(b'`')
 );
 
 /// That set and `%`, so that decoding gives what was encoded.

@@ -15,8 +15,7 @@ use typst_html::{
     bare_spaces, construct, convert_to_nodes, create_link_anchors, dead_fragments, dead_links,
     export, export_linked, href_to, html, html_block_fragment, html_document,
     html_document_for_bundle, html_in_bundle, ids_are_distinct, page_text, push_located, read_html,
-    repeated_ids, resolve_inline_styles,
-    resolve_links, tag, with_resolved_links,
+    repeated_ids, resolve_inline_styles, resolve_links, tag, with_resolved_links,
 };
 
 /// A fault that each fault of this project becomes by `?`. What a refused call gives back differs from

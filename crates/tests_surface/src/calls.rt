@@ -2,9 +2,11 @@
 
 use std::test::Fail;
 use tests_asserts::assert_text;
-use typst_html::property::Display;
 use typst_html::output::Output;
-use typst_html::{ConstructFault, Dir, HorizontalDir, HtmlElem, HtmlElement, Span, ToCss, attr, tag};
+use typst_html::property::Display;
+use typst_html::{
+    ConstructFault, Dir, HorizontalDir, HtmlElem, HtmlElement, Span, ToCss, attr, tag,
+};
 
 #[test]
 fn borders_and_directions(rt: HostRuntime) {
@@ -38,7 +40,7 @@ fn first_attributes_are_set(rt: HostRuntime) -> Result<(), Fail> {
     element.set_attr(attr::id, String::from_str(alloc, "c")?)?;
     item.set_attr(attr::id, String::from_str(alloc, "c")?)?;
     for attrs in [&element.attrs, &item.attrs] {
-        assert_text(&rt, attrs.get(&attr::id).expect(&rt, "an id"), "c");
+        assert_text(attrs.get(&attr::id).expect(&rt, "an id"), "c")?;
         assert_eq!(rt; attrs.0.len(), 2);
     }
     Ok(())
@@ -48,6 +50,5 @@ fn first_attributes_are_set(rt: HostRuntime) -> Result<(), Fail> {
 fn outputs_are_written(rt: HostRuntime) -> Result<(), Fail> {
     let mut output = Output::new(rt.alloc());
     output.push_decimal(12)?;
-    assert_text(&rt, &output.into_string(), "12");
-    Ok(())
+    assert_text(&output.into_string(), "12")
 }

@@ -1,6 +1,6 @@
 //! The traits of public types. Each function that does nothing is there for its bounds.
 
-use html_tool_run::{Fault, LastCall, Place, Settings, Status, Task, WriteFailed};
+use html_tool_run::{Fault, LastCall, Place as InputPlace, Settings, Status, Task, WriteFailed};
 use std::alloc::{AllocError, Global};
 use std::collections::HashMap;
 use std::error::Error;
@@ -53,7 +53,7 @@ fn types_that_are_copied() {
     are_copied::<(AutoValue, Datetime, Dir, Duration, Fault)>();
     are_copied::<(HorizontalDir, IconSize, LastCall, Moment, NativeType)>();
     are_copied::<(NoneEmpty, NoneUndefined, NoneValue, OnOffBool, Point)>();
-    are_copied::<(Place, Separator, Settings, Status, Task)>();
+    are_copied::<(InputPlace, Separator, Settings, Status, Task)>();
     are_copied::<(TrueFalseBool, YesNoBool)>();
 }
 

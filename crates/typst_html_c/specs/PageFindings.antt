@@ -73,14 +73,14 @@ abbrev pub check_told : (limit : ℕ) (page : List ℕ) → Told
 check_told limit page = told_within page (page_limit_of limit)
 
 -- the reply of a call that has no text, because of what stands in a page at that place
-abbrev pub placed : (status number : ℕ) → Place → Reply
-placed status number place = record {
+abbrev pub placed : (status n : ℕ) → Place → Reply
+placed status n place = record {
   length = 0;
   span = place.offset;
   line = place.line;
   column = place.column;
   status = status;
-  number = number;
+  number = n;
 }
 
 -- the call replies what is told, and leaves the text; or an allocation failed, and nothing is left

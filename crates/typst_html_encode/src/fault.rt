@@ -174,9 +174,7 @@ fn same_fault(a: &ExportFault, b: &ExportFault) -> bool
         | (ExportFault::RawChild { span }, ExportFault::RawChild { span: other })
         | (ExportFault::RawClosing { span }, ExportFault::RawClosing { span: other })
         | (ExportFault::FrameRefused { span }, ExportFault::FrameRefused { span: other })
-        | (ExportFault::Syntax { span }, ExportFault::Syntax { span: other }) => {
-            *span == *other
-        }
+        | (ExportFault::Syntax { span }, ExportFault::Syntax { span: other }) => { *span == *other }
         (ExportFault::Name(fault), ExportFault::Name(other)) => *fault == *other,
         (ExportFault::Cast(fault), ExportFault::Cast(other)) => *fault == *other,
         (ExportFault::Construct(fault), ExportFault::Construct(other)) => {

@@ -1,6 +1,6 @@
 -- The `href` of a link holds printable ASCII alone, so it is a clean value, whatever name it leads to
 -- and whatever places there are.
-use Rattle.std.proofs.Common.{◌≡◌, ◌<◌, ℕ, zero, suc, Bool, true, false, ◌&&◌, ◌||◌, List, [], ◌∷◌, All, Option, None, Some, inl, inr, refl, sym, subst, arith}
+use Rattle.std.proofs.Common.{◌≡◌, ◌<◌, ℕ, zero, suc, Bool, true, false, ◌&&◌, ◌||◌, List, [], ◌∷◌, Option, None, Some, inl, inr, refl, sym, subst, arith}
 use Rattle.std.specs.Prelude.{eqb, option_map}
 use Rattle.std.proofs.lemmas.Bool.{and_parts, cases_Bool, eqb-true, eqb-false, false≢true}
 use Rattle.std.proofs.lemmas.Bool.Decides.{nat_tests}

@@ -61,8 +61,10 @@ fn attributes_of_elements_are_set(rt: HostRuntime) -> Result<(), Fail> {
     use html_names::{attr, tag};
 
     let alloc = rt.alloc();
-    let mut link = HtmlElement::new(alloc, tag::a)
-        .with_attr(attr::href, String::from_str(alloc, "/tides")?)?;
+    let mut link = HtmlElement::new(alloc, tag::a).with_attr(
+        attr::href,
+        String::from_str(alloc, "/tides")?,
+    )?;
     link.set_attr(attr::href, String::from_str(alloc, "/moon")?)?;
     assert_eq!(rt; link.attrs.0.len(), 1);
     Ok(())

@@ -4,14 +4,14 @@ use Rattle.std.proofs.lemmas.Result.{on_ok_weaker}
 use Rattle.std.proofs.lemmas.List.{nil_from_length}
 use Rattle.std.specs.Vec.Iter.{into_iter_items}
 use Rattle.html_names.specs.Tables.{known_attrs}
-use Rattle.html_dom_tree.specs.Tree.{none, node}
+use Rattle.html_dom_tree.specs.Tree.{none}
 use Rattle.html_dom_tree.specs.Views.{optional_text_view, node_view, nodes_view, element_view}
 use Rattle.html_dom_link.specs.Anchors.{span_before}
 use Rattle.html_dom_document.specs.DomIndices.{◌then◌}
-use Rattle.html_dom_link.specs.AnchorWalk.{first_waiting, Serves, walk}
+use Rattle.html_dom_link.specs.AnchorWalk.{first_waiting, Serves}
 use Rattle.html_dom_link.specs.WalkViews.{walk_view, targets_view}
 use Rattle.html_dom_link.proofs.WholeWalk.{element_served, node_placed, node_kept, node_walked, nodes_kept, nodes_walked}
-use Rattle.html_dom_link.proofs.Steps.{nodes_view-push, span_placed}
+use Rattle.html_dom_link.proofs.Steps.{span_placed}
 use Rattle.html_dom_link.proofs.elements.+nodes.Goals as goal
 
 pub anchor_element-returns : goal.anchor_element-returns

@@ -1,11 +1,10 @@
-use Rattle.std.proofs.Common.{◌≡◌, ◌==◌, ◌++◌, Some, true, false, chars, sym, ap, ◌∙◌, rules}
+use Rattle.std.proofs.Common.{◌≡◌, ◌==◌, Some, true, false, chars, sym, ap, ◌∙◌, rules}
 use Rattle.std.specs.Str.Iter.{chars_rest}
 use Rattle.std.proofs.lemmas.List.{nil_from_length}
 use Rattle.std.proofs.lemmas.Str.{IsUtf8-past_char}
 use Rattle.html_dom_link.specs.Indicated.{is_blank}
 use Rattle.html_dom_link.proofs.TakenFragments.{at_blank, at_hash, at_no_hash, at_other}
 use Rattle.html_dom_link.proofs.indicated.behind_hash.Goals as goal
-use lib.Utf8.{encode}
 
 pub returns-then-c-eq35 : goal.returns-then-c-eq35
 returns-then-c-eq35 c =

@@ -1,4 +1,4 @@
-use Rattle.std.proofs.Common.{◌≡◌, true, false, Result, Ok, Err, IfOk, chars, string_bytes, sym, ap, subst, ◌∙◌, rules}
+use Rattle.std.proofs.Common.{◌≡◌, true, false, IfOk, chars, string_bytes, sym, ap, subst, ◌∙◌, rules}
 use Rattle.std.proofs.lemmas.Str.{IsUtf8-string_bytes}
 use Rattle.html_dom_link.specs.Indicated.{decoding, text_leads}
 use Rattle.html_dom_link.specs.UsedNames.{used_in}

@@ -1,4 +1,4 @@
-use Rattle.std.proofs.Common.{Some, None, ◌∙◌}
+use Rattle.std.proofs.Common.{Some, None}
 use Rattle.html_dom_tree.specs.Views.{text_view}
 use Rattle.html_dom_link.specs.WalkViews.{walk_view}
 use Rattle.html_dom_link.proofs.Steps.{text_served}
