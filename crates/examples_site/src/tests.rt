@@ -41,13 +41,13 @@ const LINES: [(&str, &str); 10] = [
     ("# x y z", r#"<h2 id="x">y z</h2>"#),
     (
         "# x% y\n[z](#x%)",
-        r##"<h2 id="x%">y</h2><p><a href="#x%25">z</a></p>"##,
+        r##"<h2 id="x%">y</h2><p><a href="#x%">z</a></p>"##,
     ),
     (
         "[x](a) [y](b) [z](b#l%)!",
         concat!(
             r#"<p><a href="a.html">x</a> <a href="b.html">y</a> "#,
-            r#"<a href="b.html#l%25">z</a>!</p>"#,
+            r#"<a href="b.html#l%">z</a>!</p>"#,
         ),
     ),
     ("[x] y](z [w](b", "<p>[x] y](z [w](b</p>"),
