@@ -266,6 +266,23 @@ fn repeated_ids_are_told(rt: HostRuntime) -> Result<(), Fail> {
 }
 
 #[test]
+fn ids_that_stand_twice_are_told(rt: HostRuntime) -> Result<(), Fail> {
+    use typst_html::{DocumentInfo, HtmlElem, Item, Pair, attr, html_document};
+    use typst_html::{ids_are_distinct, tag};
+
+    let alloc = rt.alloc();
+    let (mut items, info) = (Vec::new(alloc), DocumentInfo::new(alloc));
+    for tag in [tag::h2, tag::p] {
+        let id = String::from_str(alloc, "tides")?;
+        let element = HtmlElem::new(alloc, tag).with_attr(attr::id, id)?;
+        items.push(Pair::from(Item::Element(element)))?;
+    }
+    let document = html_document(alloc, &items, &info, &[], 50)?;
+    assert!(rt; !ids_are_distinct(alloc, &document)?);
+    Ok(())
+}
+
+#[test]
 fn names_are_spelled_in_an_href(rt: HostRuntime) -> Result<(), Fail> {
     use html_dom::href_to;
 
