@@ -30,7 +30,14 @@ overflow_add-count c =
     let held = c.loop-expected.invariant in
     let d = c.in-Some-next.c in
     let parts = c.in-Some-next.ensures.steps.0 in
-    omega (arith, held.few, ap length parts, length-append (encode d) (chars_rest c.next-in-loop-expected.new.self), length-encode d, len_utf8_bounds d)
+    omega (
+      arith,
+      held.few,
+      ap length parts,
+      length-append (encode d) (chars_rest c.next-in-loop-expected.new.self),
+      length-encode d,
+      len_utf8_bounds d,
+    )
 
 pub loop-expected-preserved : goal.loop-expected-preserved
 loop-expected-preserved c =
