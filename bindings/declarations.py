@@ -47,7 +47,7 @@ CHANGES = [
     ("raw", "    status: u8,\n    number: u8,", "    number: u8,\n    status: u8,", "reply"),
     ("library", "    _fields_", "    _pack_ = 1\n    _fields_", "reply"),
     ("library", '("status", ctypes.c_uint8)', '("state", ctypes.c_uint8)', "reply"),
-    ("library", "VERSION = 3", "VERSION = 4", "version"),
+    ("library", "VERSION = 4", "VERSION = 5", "version"),
     ("refusal", "tag name must not be empty", "tag name is empty", "words"),
     ("crate", "Apache-2.0", "MIT", "licence"),
     ("project", "Apache-2.0", "MIT", "licence"),

@@ -2,7 +2,8 @@
 """rows.py json|c: the rows of crates/tests_rows, as the tests of the bindings read them.
 
 Runs of the program on trees and items are calls of typst_html_write, and rows of whole documents calls of
-typst_html_document, where its JSON has all that is in them. Rows about the program's words are left out,
+typst_html_document, where its JSON has all that is in them. With links, those that lead nowhere are listed as
+the row `dead-links` of that input says; where there is none, all lead. Rows about the program's words are left out,
 since the library has none; so are, of JSON and C, rows whose input or text is longer than MOST bytes.
 """
 
@@ -35,6 +36,8 @@ class Row(NamedTuple):
     line: int
     column: int
     text: bytes
+    dead: bytes
+    """What typst_html_dead_links writes, where links get an `href`."""
 
 
 def reader() -> Any:
@@ -61,24 +64,35 @@ def document(given: bytes) -> bytes | None:
     return given if is_own(spelled.get("items", []) + spelled.get("footnotes", [])) else None
 
 
+def dead_links(output: str) -> list[dict[str, int]]:
+    """The links of a row `dead-links`, which tells of each its span and its destination."""
+    told = [map(int, one.split(" to ")) for one in output.split(", ") if one]
+    return [{"destination": destination, "span": span} for span, destination in told]
+
+
 def rows(most: int | None = None) -> list[Row]:
     """All rows that are about an input; those whose input and text are at most so long, if that is given."""
     found = []
     files = reader()
+    dead = {row.input: dead_links(row.output) for row in files.rows() if row.words == ("dead-links",)}
     for row in files.rows():
         word, *more = row.words or [""]
         if row.words in files.FRAMES:
             layout, links, limit, given, answer = len(more), 0, 50, row.input, files.answer(row)
         elif word in ("document", "links") and not row.output.startswith("refused"):
-            # The spans of refusals are counted otherwise.
+            # (of a refusal, a row says more than the library does)
             layout, links, limit = 0, int(word == "links"), int("".join(more).removeprefix("limit=") or 50)
             given, answer = document(row.input), files.answer(row._replace(words=("doc",)))
         else:
             continue
-        text = answer.text.encode() if answer.status == 0 else b""
+        text, listed = answer.text.encode() if answer.status == 0 else b"", b""
+        if links:
+            nowhere = dead.get(row.input, [])
+            listed = json.dumps({"dead_links": nowhere}, separators=(",", ":")).encode()
+            answer = answer._replace(status=5, span=nowhere[0]["span"]) if nowhere else answer
         if given is not None and (most is None or max(len(given), len(text)) <= most):
             status, _, *place = answer
-            found.append(Row(KINDS[word], layout, links, limit, given, status, *place, text))
+            found.append(Row(KINDS[word], layout, links, limit, given, status, *place, text, listed))
     return found
 
 
@@ -97,13 +111,13 @@ def as_c(found: list[Row]) -> str:
     """The rows as an array of C."""
     lines = [
         f"    {{{r.kind}, {r.layout}, {r.links}, {r.limit}, {r.status}, {r.number}, {r.span}, {r.line}, {r.column}, "
-        f"{len(r.input)}, {len(r.text)}, {quoted(r.input)}, {quoted(r.text)}}},"
+        f"{len(r.input)}, {len(r.text)}, {quoted(r.input)}, {quoted(r.text)}, {quoted(r.dead)}}},"
         for r in found
     ]
     fields = (
         "uint8_t kind, layout, links; uint32_t limit; uint8_t status, number; uint64_t span; "
         "size_t line, column, length, text_length; "
-        "const char *input, *text;"
+        "const char *input, *text, *dead;"
     )
     return "\n".join(
         [f"enum {{ DOCUMENT = {KINDS['document']}, MOST = {MOST} }};", f"static const struct row {{ {fields} }} rows[] = {{", *lines, "};", ""]

@@ -24,23 +24,26 @@ extern "C" {
 #endif
 
 /* The version of these calls: compare it with typst_html_version(). */
-#define TYPST_HTML_VERSION 3
+#define TYPST_HTML_VERSION 4
 
-/* How a call ended. In all but TYPST_HTML_DONE `output` is as it was. */
+/* How a call ended. In all but TYPST_HTML_DONE and TYPST_HTML_DEAD_LINKS `output` is as it was. */
 enum typst_html_status {
     TYPST_HTML_DONE = 0,          /* the first `length` bytes of `output` are the text, in UTF-8 */
     TYPST_HTML_REFUSED = 1,       /* the input is refused: `number` says why, `span` where */
     TYPST_HTML_BAD_INPUT = 2,     /* the input is no JSON (`line` and `column` say where) or spells nothing
                                      (`span` says where), the page is none that is read (all three say
-                                     from where on), either is no UTF-8, or a number is none below */
+                                     from where on), or a number is none below */
     TYPST_HTML_OUT_OF_MEMORY = 3, /* an allocation failed */
     TYPST_HTML_TOO_SHORT = 4,     /* `output` is too short: the text takes `length` bytes */
+    TYPST_HTML_DEAD_LINKS = 5,    /* as TYPST_HTML_DONE, and links in the text lead nowhere: `span` says
+                                     where the first is, typst_html_dead_links lists them */
 };
 
 struct typst_html_reply {
-    size_t length;  /* statuses 0 and 4: how many bytes the text has; else 0 */
+    size_t length;  /* statuses 0, 4 and 5: how many bytes the text has; else 0 */
     uint64_t span;  /* status 1: the number of the list of a node or item in the JSON, counted from 1 by
-                       their opening brackets, where the refusal is; 0 where it has no place. Of a
+                       their opening brackets, where the refusal is; 0 where it has no place. Status 5:
+                       the number of the list of the first `a` without a place to lead to. Of a
                        page, statuses 1 and 2: how many bytes stand before the place from which on it is
                        not read. Of JSON, status 2: how many of these lists are opened up to the first
                        value that is not what the form wants */
@@ -104,12 +107,22 @@ struct typst_html_reply typst_html_write(uint8_t kind, uint8_t layout, const uin
  *      "items": [item, ..], "footnotes": [item, ..]}
  * Each member may be left out, but for the "lang" of a "region"; another is bad input. With links = 1
  * each `a` without `href` behind a start with a destination gets the `href` of that destination; with
- * links = 0 none does. Bodies may stand `limit` deep, from 1 to 10,000. The lists of footnotes are
- * numbered after those of the items.
+ * links = 0 none does. Where a destination has no place in the document, the `a` stays as it is, and the
+ * status is TYPST_HTML_DEAD_LINKS in place of TYPST_HTML_DONE: the text is there all the same. Bodies may
+ * stand `limit` deep, from 1 to 10,000. The lists of footnotes are numbered after those of the items.
  */
 struct typst_html_reply typst_html_document(uint8_t layout, uint8_t links, uint32_t limit,
                                             const uint8_t *input, size_t length, uint8_t *output,
                                             size_t room);
+
+/*
+ * The links that lead nowhere in that document with links = 1, as JSON, in document order:
+ *     {"dead_links":[{"destination":n,"span":n},..]}
+ * A destination is the number behind the start, and a span the number of the list of the `a`. Input, limit
+ * and refusals are those of typst_html_document; where all links lead the list is empty, with status 0.
+ */
+struct typst_html_reply typst_html_dead_links(uint32_t limit, const uint8_t *input, size_t length,
+                                              uint8_t *output, size_t room);
 
 /*
  * What is wrong with the links of a page, as JSON: the links to fragments of the page itself that lead
@@ -117,7 +130,11 @@ struct typst_html_reply typst_html_document(uint8_t layout, uint8_t links, uint3
  *     {"dead_fragments":[{"fragment":t,"path":[n,..]},..],"repeated_ids":[{"id":t,"path":[n,..]},..]}
  * A path is the index of each child on the way from the root, texts counted. Pages are read that are
  * written as by these calls; one with another syntax is bad input, with the place of the first character
- * with which no such page goes on. Elements may stand `limit` deep, from 1 to 1,000.
+ * with which no such page goes on. So is one that a browser takes apart otherwise: with a capital in a
+ * name that is none of SVG's, as `<A>`, a name that begins with no letter, a `plaintext`, a tag or
+ * reference in an `iframe`, `noembed`, `noframes` or `xmp`, U+0000, or a reference such as `&#x80;`. Of
+ * one that is no UTF-8 the place is that of the first byte that is none. Elements may stand `limit` deep,
+ * from 1 to 1,000.
  */
 struct typst_html_reply typst_html_check(uint32_t limit, const uint8_t *page, size_t length,
                                          uint8_t *output, size_t room);

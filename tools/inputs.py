@@ -149,3 +149,7 @@ KINDS: dict[str, Callable[[float], list[Item]]] = {
     "U+200B": lambda size: paragraph("w\u200b" * int(size * 2.5e5)),
     "names of one's own": of_many(34, lambda k: [["el", f"x-{k % 1000}", [[f"data-{k % 1000}", ""]], []]]),
 }
+
+# Characters of which each becomes a node, all in one text, for `doc`; and the bytes of that node: 144 and, where it is
+# a text, those of a string of one character.
+ALONE: dict[str, tuple[str, int]] = {"blanks": (" ", 176), "line feeds": ("\n", 144), "U+200B": ("\u200b", 176)}

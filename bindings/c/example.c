@@ -1,7 +1,8 @@
 /*
  * example tree|items|document [--pretty] [--links]: JSON from standard input becomes HTML on standard
- * output. example check: a page from standard input is checked, and what is wrong with its links is
- * told in JSON. It ends with the status of the call, and tells of a refusal on standard error.
+ * output. example dead-links: the links that lead nowhere in a document are told in JSON. example check:
+ * a page from standard input is checked, and what is wrong with its links is told in JSON. It ends with
+ * the status of the call, and tells of a refusal, or of links that lead nowhere, on standard error.
  */
 #include "typst_html.h"
 
@@ -15,14 +16,16 @@ struct bytes {
     size_t length;
 };
 
-enum task { TREE, ITEMS, DOCUMENT, CHECK };
+enum task { TREE, ITEMS, DOCUMENT, DEAD_LINKS, CHECK };
 
-static const char *const names[] = {"tree", "items", "document", "check"};
+static const char *const names[] = {"tree", "items", "document", "dead-links", "check"};
 
 static struct typst_html_reply call(enum task task, bool pretty, bool links, struct bytes input,
                                     struct bytes output) {
     if (task == CHECK)
         return typst_html_check(1000, input.at, input.length, output.at, output.length);
+    if (task == DEAD_LINKS)
+        return typst_html_dead_links(50, input.at, input.length, output.at, output.length);
     if (task == DOCUMENT)
         return typst_html_document(pretty, links, 50, input.at, input.length, output.at, output.length);
     return typst_html_write(task == TREE ? TYPST_HTML_TREE : TYPST_HTML_ITEMS, pretty, input.at,
@@ -65,7 +68,7 @@ int main(int count, char **words) {
     while (task <= CHECK && (count < 2 || strcmp(words[1], names[task])))
         task++;
     if (task > CHECK) {
-        fputs("wanted: example tree|items|document|check\n", stderr);
+        fputs("wanted: example tree|items|document|dead-links|check\n", stderr);
         return TYPST_HTML_BAD_INPUT;
     }
     for (int i = 2; i < count; i++) {
@@ -74,13 +77,16 @@ int main(int count, char **words) {
     }
     if (typst_html_version() != TYPST_HTML_VERSION) {
         fputs("the library has another version than its header\n", stderr);
-        return 5;
+        return 6;
     }
     struct bytes input = all_of(stdin), text;
     if (input.at == NULL)
         return TYPST_HTML_OUT_OF_MEMORY;
     struct typst_html_reply reply = text_of(task, pretty, links, input, &text);
     switch (reply.status) {
+    case TYPST_HTML_DEAD_LINKS:
+        fprintf(stderr, "a link leads nowhere at %llu\n", (unsigned long long)reply.span);
+        /* fall through */
     case TYPST_HTML_DONE:
         fwrite(text.at, 1, reply.length, stdout);
         break;

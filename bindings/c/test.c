@@ -32,18 +32,34 @@ static struct typst_html_reply of_row(const struct row *row, uint8_t *output, si
     return typst_html_write(row->kind, row->layout, input, row->length, output, room);
 }
 
+/* Whether the first bytes are a text, and those behind are as they were. */
+static bool begins_with(const uint8_t *output, size_t room, const char *text, size_t length) {
+    for (size_t i = length; i < room; i++)
+        if (output[i] != '.')
+            return false;
+    return !memcmp(output, text, length);
+}
+
+/* The links of a row that lead nowhere are listed, where links get an `href`. */
+static bool lists_dead_links(const struct row *row) {
+    uint8_t output[1024];
+    size_t length = strlen(row->dead);
+    memset(output, '.', sizeof output);
+    struct typst_html_reply reply =
+        typst_html_dead_links(row->limit, (const uint8_t *)row->input, row->length, output, sizeof output);
+    return reply.status == TYPST_HTML_DONE && reply.span == 0 && reply.length == length &&
+           begins_with(output, sizeof output, row->dead, length);
+}
+
 static bool is_as_wanted(const struct row *row) {
     uint8_t output[MOST + BEHIND];
     size_t length = row->text_length, room = length + BEHIND;
     memset(output, '.', room);
     struct typst_html_reply reply = of_row(row, output, room);
     if (reply.status != row->status || reply.number != row->number || reply.span != row->span ||
-        reply.line != row->line || reply.column != row->column)
+        reply.line != row->line || reply.column != row->column || reply.length != length)
         return false;
-    for (size_t i = length; i < room; i++)
-        if (output[i] != '.')
-            return false;
-    return reply.length == length && !memcmp(output, row->text, length);
+    return begins_with(output, room, row->text, length) && (!row->links || lists_dead_links(row));
 }
 
 static void rows_are_as_the_program_writes_them(void) {
@@ -109,6 +125,35 @@ static void wrong_numbers_are_bad_input(void) {
     expect("no input", document_status(0, 0, 50, "") == TYPST_HTML_BAD_INPUT);
 }
 
+static void dead_links_are_told(void) {
+    const char *input = "{\"items\":[[\"start\",1,9],[\"el\",\"a\",[],[[\"text\",\"x\"]]]]}";
+    const char *end = "<body><a>x</a></body></html>";
+    const char *found = "{\"dead_links\":[{\"destination\":9,\"span\":2}]}";
+    const uint8_t *json = (const uint8_t *)input;
+    uint8_t output[1024];
+    size_t length = strlen(input), room = strlen(found), tail = strlen(end);
+    memset(output, '.', sizeof output);
+    struct typst_html_reply reply = typst_html_document(0, 1, 50, json, length, output, 99);
+    expect("a dead link in a short buffer",
+           reply.status == TYPST_HTML_TOO_SHORT && reply.span == 0 && output[0] == '.');
+    size_t wanted = reply.length;
+    reply = typst_html_document(0, 1, 50, json, length, output, sizeof output);
+    expect("a dead link is told", reply.status == TYPST_HTML_DEAD_LINKS && reply.span == 2 &&
+                                      reply.length == wanted &&
+                                      !memcmp(output + wanted - tail, end, tail));
+    memset(output, '.', sizeof output);
+    reply = typst_html_dead_links(50, json, length, output, room - 1);
+    expect("dead links in a short buffer",
+           reply.status == TYPST_HTML_TOO_SHORT && reply.length == room && output[0] == '.');
+    reply = typst_html_dead_links(50, json, length, output, room);
+    expect("dead links are listed", reply.status == TYPST_HTML_DONE && reply.length == room &&
+                                        begins_with(output, sizeof output, found, room));
+    reply = typst_html_dead_links(0, json, length, output, room);
+    expect("dead links with limit 0", reply.status == TYPST_HTML_BAD_INPUT);
+    reply = typst_html_dead_links(50, json, length - 1, output, room);
+    expect("dead links of no JSON", reply.status == TYPST_HTML_BAD_INPUT && reply.line == 1);
+}
+
 static void pages_are_checked(void) {
     const char *page = "<!DOCTYPE html><p id=\"a\"><a href=\"#b\">x</a><b id=\"a\"></b></p>";
     const char *found = "{\"dead_fragments\":[{\"fragment\":\"b\",\"path\":[0]}],"
@@ -137,6 +182,14 @@ static void pages_are_checked(void) {
     reply = typst_html_check(50, (const uint8_t *)wrong, strlen(wrong), output, sizeof output);
     expect("a page with a bare &", reply.status == TYPST_HTML_BAD_INPUT && reply.number == 0 &&
                                        reply.span == 23 && reply.line == 2 && reply.column == 7);
+    wrong = "<!DOCTYPE html><A HREF=\"#gone\">x</A>";
+    reply = typst_html_check(50, (const uint8_t *)wrong, strlen(wrong), output, sizeof output);
+    expect("a page with capitals", reply.status == TYPST_HTML_BAD_INPUT && reply.number == 0 &&
+                                       reply.span == 17 && reply.line == 1 && reply.column == 18);
+    wrong = "<!DOCTYPE html>\n<p>\xc3\xa9\xe9</p>";
+    reply = typst_html_check(50, (const uint8_t *)wrong, strlen(wrong), output, sizeof output);
+    expect("a page in Latin-1", reply.status == TYPST_HTML_BAD_INPUT && reply.number == 0 &&
+                                    reply.span == 21 && reply.line == 2 && reply.column == 5);
 }
 
 static void *all_rows(void *bad) {
@@ -224,6 +277,7 @@ int main(int count, char **words) {
     rows_are_as_the_program_writes_them();
     a_short_buffer_stays_and_its_length_is_told();
     wrong_numbers_are_bad_input();
+    dead_links_are_told();
     pages_are_checked();
     if (!is_short) {
         the_stack_is_enough();

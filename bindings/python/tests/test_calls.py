@@ -32,6 +32,8 @@ def outcome(call, *words, **more):
         return call(*words, **more)
     except Refused as refused:
         return refused.number, refused.span
+    except html.DeadLinks as dead:
+        return dead.text, dead.links
     except html.Failure as failure:
         return type(failure)
 
@@ -46,7 +48,15 @@ def place(call, *words, **more):
         return refused.number, refused.span
 
 
+def dead_links(row):
+    """The links that the library lists so."""
+    listed = json.loads(row.dead)["dead_links"]
+    return tuple(html.DeadLink(it["span"], it["destination"]) for it in listed)
+
+
 def wanted(row):
+    if row.status == 5:
+        return row.text.decode(), dead_links(row)
     return [row.text.decode(), (row.number, row.span), html.BadInput][row.status]
 
 
@@ -105,6 +115,15 @@ class Calls(unittest.TestCase):
         text = html.write(items, footnotes=[element("p", "n")], links=True)
         self.assertTrue(text.endswith('<body><a href="#loc-1">b</a><h2 id="loc-1"></h2><p>n</p></body></html>'), text)
         self.assertIn("<a>b</a>", html.write(items))
+
+    def test_links_that_lead_nowhere(self):
+        items, footnotes = [html.start(1, 7), element("a", "b")], [html.start(2, (1 << 64) - 1), element("a")]
+        with self.assertRaises(html.DeadLinks) as caught:
+            html.write(items, footnotes=footnotes, links=True)
+        dead = caught.exception
+        self.assertEqual(dead.links, (html.DeadLink(2, 7), html.DeadLink(5, (1 << 64) - 1)))
+        self.assertEqual(dead.text, html.write(items, footnotes=footnotes))
+        self.assertEqual((dead.span, str(dead)), (2, "links lead nowhere (2, the first at 2)"))
 
     def test_every_item(self):
         body = ["a", html.SPACE, html.BREAK, html.HOLE]
@@ -189,7 +208,7 @@ class Calls(unittest.TestCase):
         self.assertEqual((refused.number, refused.span, refused.place), (8, 21, html.Place(21, 2, 1)))
         self.assertEqual(str(refused), f"{html.WORDS[8]} (refusal 8 at 2:1)")
         self.assertFalse(html.check(page, limit=2))
-        for bad, limit in ((page, 0), (page, 1_001), (page, -1), (b"\xff", 50), ("\ud800", 50)):
+        for bad, limit in ((page, 0), (page, 1_001), (page, -1), ("\ud800", 50)):
             with self.subTest(bad, limit=limit), self.assertRaises(html.BadInput) as caught:
                 html.check(bad, limit=limit)
             self.assertIsNone(caught.exception.place)
@@ -198,6 +217,10 @@ class Calls(unittest.TestCase):
             ("<p>", (1, 1, 2)),
             ("<!DOCTYPE html>\n<p>é & x</p>", (23, 2, 7)),
             ("<!DOCTYPE html><p>x</b>", (21, 1, 22)),
+            ('<!DOCTYPE html><A HREF="#gone">x</A>', (17, 1, 18)),
+            ("<!DOCTYPE html><iframe>&amp;</iframe>", (23, 1, 24)),
+            (b"\xff", (0, 1, 1)),
+            (b"<!DOCTYPE html>\n<p>\xc3\xa9\xe9</p>", (21, 2, 5)),
         ):
             with self.subTest(bad), self.assertRaises(html.BadInput) as caught:
                 html.check(bad)

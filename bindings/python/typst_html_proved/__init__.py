@@ -20,6 +20,16 @@ typst_html_proved.BadInput: bad input: an item is a list of items: give each of 
 
 `mypy --strict` refuses what is refused for its type.
 
+Links get the `href` of their destination where `write` is told so. What they lead to may be missing: then what
+is raised has the list of these links, and the text.
+
+>>> try:
+...     page = write([start(1, 7), element("a", "there"), end(1)], links=True)  # nothing starts 7
+... except DeadLinks as dead:
+...     print(dead, dead.links)
+...     page = dead.text
+links lead nowhere (1, the first at 2) (DeadLink(span=2, destination=7),)
+
 A page that is written can be checked: `check` tells of links within it that lead nowhere, and of ids that come
 twice.
 
@@ -35,9 +45,9 @@ from typing import Any, Iterable, Iterator, Literal, Mapping, Sequence, Union, V
 from ._library import VERSION, Reply, called
 
 __all__ = [
-    "BREAK", "HOLE", "SPACE", "VERSION", "Attrs", "BadInput", "DeadFragment", "Failure", "Findings", "Info", "Item",
-    "Items", "Kind", "Node", "OtherLibrary", "OutOfMemory", "Place", "Refused", "RepeatedId", "Texts", "block", "box",
-    "check", "element", "end", "start", "text", "write", "write_json", "write_tree",
+    "BREAK", "HOLE", "SPACE", "VERSION", "Attrs", "BadInput", "DeadFragment", "DeadLink", "DeadLinks", "Failure", "Findings",
+    "Info", "Item", "Items", "Kind", "Node", "OtherLibrary", "OutOfMemory", "Place", "Refused", "RepeatedId", "Texts",
+    "block", "box", "check", "element", "end", "start", "text", "write", "write_json", "write_tree",
 ]  # fmt: skip
 
 
@@ -105,7 +115,7 @@ class Place:
 
 
 class Failure(Exception):
-    """There is no text."""
+    """There is no text, or none without dead links."""
 
     place: Place | None = None
     """Where, if a page that is checked is not read."""
@@ -138,9 +148,9 @@ class Refused(Failure):
 
 class BadInput(Failure, ValueError):
     """The input spells nothing that can be written, or nests more than 127 lists; or a page that is checked has
-    another syntax than those that are written, from a place on: there stands the first character with which no
-    such page goes on, or the page ends. It says what is wrong where this package sees it, and else where the
-    library does, if it says so."""
+    another syntax than those that are written, or is something else in a browser, from a place on: there stands the
+    first character with which no page that is read goes on, or the page ends. It says what is wrong where this
+    package sees it, and else where the library does, if it says so."""
 
     span: int
     """Where the form is left: how many lists of items are opened in the JSON up to the first value that is not
@@ -162,6 +172,39 @@ class BadInput(Failure, ValueError):
         where = f" at line {self.line} column {self.column}" if self.line else f" at {self.span}" if self.span else ""
         page = [] if self.place is None else [f"the page is not read from {self.place} on"]
         return ": ".join(["bad input" + where, *map(str, self.args), *page])
+
+
+@dataclass(frozen=True)
+class DeadLink:
+    """A link that was to get the `href` of its destination, and leads nowhere."""
+
+    span: int
+    """The number of its list in the JSON, counted as that of a refusal."""
+    destination: int
+    """The location that it would lead to."""
+
+
+class DeadLinks(Failure):
+    """Links were to get the `href` of their destination, and for some no place of the document is one. The text
+    is there all the same."""
+
+    text: str
+    """The text, in which these links stand without an `href`."""
+
+    links: tuple[DeadLink, ...]
+    """The links, in document order: at least one."""
+
+    def __init__(self, text: str, links: tuple[DeadLink, ...]) -> None:
+        super().__init__(text, links)
+        self.text, self.links = text, links
+
+    @property
+    def span(self) -> int:
+        """Where the first of them is."""
+        return self.links[0].span if self.links else 0
+
+    def __str__(self) -> str:
+        return f"links lead nowhere ({len(self.links)}, the first at {self.span})"
 
 
 class OutOfMemory(Failure, MemoryError):
@@ -362,6 +405,10 @@ def _bytes(data: bytes | str) -> bytes:
         raise BadInput(error) from error
 
 
+DEAD_LINKS = 5
+"""The status of a text in which links lead nowhere."""
+
+
 def _text(made: tuple[Reply, bytes], of_page: bool = False) -> str:
     reply, output = made
     if reply.status == 0:
@@ -386,17 +433,23 @@ def write(
     """The text of a document of these items.
 
     `pretty` lays it out in indented lines, where that can't be seen. `links` gives each `a` without `href`
-    behind a `start` with a destination the `href` of that destination. Bodies may stand `limit` deep, from
-    1 to 10,000; JSON is read 127 levels deep, which are 63 elements in one another.
+    behind a `start` with a destination the `href` of that destination, and raises `DeadLinks`, which has the
+    text, where the document has no such place. Bodies may stand `limit` deep, from 1 to 10,000; JSON is read
+    127 levels deep, which are 63 elements in one another.
 
     >>> write(["a  b"], info=Info(title="T", lang="de", region="AT"))[:42]
     '<!DOCTYPE html><html lang="de-AT"><head><m'
 
-    Raises `Refused`, `BadInput` or `OutOfMemory`.
+    Raises `Refused`, `BadInput`, `OutOfMemory` or `DeadLinks`.
     """
     numbers = {"layout": int(bool(pretty)), "links": int(bool(links)), "limit": _number("the limit", limit, 1, 10_000)}
     document = {**info.members(), "items": _listed("items", items), "footnotes": _listed("footnotes", footnotes)}
-    return _text(called("typst_html_document", _spelled(document), **numbers))
+    data = _spelled(document)
+    made = called("typst_html_document", data, **numbers)
+    if made[0].status != DEAD_LINKS:
+        return _text(made)
+    listed = json.loads(_text(called("typst_html_dead_links", data, limit=limit)))["dead_links"]
+    raise DeadLinks(made[1].decode(), tuple(DeadLink(it["span"], it["destination"]) for it in listed))
 
 
 def write_tree(root: Item, *, pretty: bool = False) -> str:
@@ -434,8 +487,11 @@ def check(page: bytes | str, *, limit: int = 50) -> Findings:
     """What is wrong with the links of a page: links to fragments of the page itself that lead nowhere, and ids
     that stand in it before.
 
-    A page is read that is written as by this package, with elements `limit` deep at most, from 1 to 1,000. Of
-    another page it is told where: in `place` of what is raised.
+    A page is read that is written as by this package, with elements `limit` deep at most, from 1 to 1,000, and not
+    one that a browser takes apart otherwise: with a capital in a name that is none of SVG's, as `<A>`, a name that
+    begins with no letter, a `plaintext`, a tag or reference in an `iframe`, `noembed`, `noframes` or `xmp`, U+0000,
+    or a reference such as `&#x80;`. Of a page that is not read it is told where: in `place` of what is raised. One
+    that is no UTF-8 is not from its first byte on that is none.
 
     >>> check(write([element("a", "b", attrs=[("href", "#b")])])).dead_fragments
     (DeadFragment(path=(1, 0), fragment='b'),)

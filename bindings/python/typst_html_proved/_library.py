@@ -9,7 +9,7 @@ from typing import Any
 
 NAME = "libtypst_html.so"
 
-VERSION = 3
+VERSION = 4
 """The version of the library's calls that this package was made for."""
 
 
@@ -35,6 +35,10 @@ DECLARED: dict[str, tuple[Any, dict[str, Any]]] = {
     "typst_html_document": (Reply, {
         "layout": ctypes.c_uint8, "links": ctypes.c_uint8, "limit": ctypes.c_uint32, "input": ctypes.c_char_p,
         "length": ctypes.c_size_t, "output": ctypes.c_void_p, "room": ctypes.c_size_t,
+    }),
+    "typst_html_dead_links": (Reply, {
+        "limit": ctypes.c_uint32, "input": ctypes.c_char_p, "length": ctypes.c_size_t,
+        "output": ctypes.c_void_p, "room": ctypes.c_size_t,
     }),
     "typst_html_check": (Reply, {
         "limit": ctypes.c_uint32, "page": ctypes.c_char_p, "length": ctypes.c_size_t,

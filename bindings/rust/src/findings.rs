@@ -1,6 +1,21 @@
-//! What is wrong with the links of a page.
+//! What is wrong with the links of a document, and with those of a page.
 
 use serde::Deserialize;
+
+/// A link that was to get the `href` of its destination, and leads nowhere.
+#[derive(Clone, Copy, Debug, PartialEq, Eq, Hash, Deserialize)]
+pub struct DeadLink {
+    /// The number of its list in the JSON, counted as in [`Refusal::Refused`](crate::Refusal::Refused).
+    pub span: u64,
+    /// The location that it would lead to.
+    pub destination: u64,
+}
+
+/// The dead links of a document.
+#[derive(Deserialize)]
+pub(crate) struct FoundLinks {
+    pub(crate) dead_links: Vec<DeadLink>,
+}
 
 /// What is wrong with the links of a page.
 #[derive(Clone, Debug, Default, PartialEq, Eq, Deserialize)]

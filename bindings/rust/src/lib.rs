@@ -17,6 +17,27 @@
 //! # Ok::<(), Refusal>(())
 //! ```
 //!
+//! Links get the `href` of their destination where [`Options::links`] says so. What they lead to may be
+//! missing: then the text comes with the list of these links.
+//!
+//! ```
+//! use typst_html_proved::{write, DeadLink, Document, Element, Item, Options, Refusal};
+//!
+//! let document = Document::new()
+//!     .item(Item::Start { location: 1, destination: Some(7) }) // nothing starts 7
+//!     .item(Element::new("a").child("there"));
+//! let options = Options { links: true, ..Options::default() };
+//! match write(&document, options) {
+//!     Ok(text) => print!("{text}"),
+//!     Err(Refusal::DeadLinks(dead)) => {
+//!         assert_eq!(dead.links, [DeadLink { span: 2, destination: 7 }]);
+//!         assert!(dead.text.ends_with("<body><a>there</a></body></html>"));
+//!     }
+//!     Err(refusal) => return Err(refusal),
+//! }
+//! # Ok::<(), Refusal>(())
+//! ```
+//!
 //! A page that is written can be checked: links within it that lead nowhere, and ids that come twice.
 //!
 //! Calls share nothing, so any number of threads may make them. Each wants 256 KB of stack,
@@ -30,11 +51,15 @@ mod raw;
 mod refusal;
 
 pub use document::{Document, Element, Info, Item};
-pub use findings::{DeadFragment, Findings, RepeatedId};
-pub use refusal::{Place, Refusal};
+use findings::FoundLinks;
+pub use findings::{DeadFragment, DeadLink, Findings, RepeatedId};
+pub use refusal::{DeadLinks, Place, Refusal};
 
 /// The version of the library's calls that this crate was made for.
-pub const VERSION: u32 = 3;
+pub const VERSION: u32 = 4;
+
+/// Why JSON of the library is what it is read as.
+const KNOWN_FORM: &str = "the library writes JSON of that form";
 
 /// How a document is written.
 #[derive(Clone, Copy, Debug, PartialEq, Eq)]
@@ -42,7 +67,8 @@ pub struct Options {
     /// Whether the text is laid out in indented lines, where that can't be seen.
     pub pretty: bool,
     /// Whether each `a` without `href` behind a [`Item::Start`] with a destination gets the `href` of
-    /// that destination.
+    /// that destination. Where one has no place in the document, the text is told as
+    /// [`Refusal::DeadLinks`].
     pub links: bool,
     /// How deep bodies may stand, from 1 to 10,000. JSON is read 127 levels deep, which are 63 elements
     /// in one another.
@@ -76,7 +102,7 @@ pub fn version() -> u32 {
 
 /// The text of a document.
 pub fn write(document: &Document, options: Options) -> Result<String, Refusal> {
-    raw::document(options, &spelled(document)?)
+    document_text(options, &spelled(document)?)
 }
 
 /// The text of a tree, of which only texts, elements, starts and ends may be part: another item is bad
@@ -112,7 +138,21 @@ pub fn write_json(kind: Kind, json: &[u8], pretty: bool) -> Result<String, Refus
 /// # Ok::<(), Refusal>(())
 /// ```
 pub fn write_document_json(json: &[u8], options: Options) -> Result<String, Refusal> {
-    raw::document(options, json)
+    document_text(options, json)
+}
+
+/// The text of the document that JSON spells, if its links lead.
+fn document_text(options: Options, json: &[u8]) -> Result<String, Refusal> {
+    let (text, lead) = raw::document(options, json)?;
+    if lead {
+        return Ok(text);
+    }
+    let links = raw::dead_links(options.limit, json)?;
+    let FoundLinks { dead_links } = serde_json::from_str(&links).expect(KNOWN_FORM);
+    Err(Refusal::DeadLinks(DeadLinks {
+        text,
+        links: dead_links,
+    }))
 }
 
 /// What is wrong with the links of a page: links to fragments of the page itself that lead nowhere, and
@@ -120,7 +160,10 @@ pub fn write_document_json(json: &[u8], options: Options) -> Result<String, Refu
 ///
 /// A page is read that is written as by this crate, with elements `limit` deep at most, from 1 to
 /// 1,000. One with another syntax is [`Refusal::Unread`], and one with an element that stands deeper
-/// [`Refusal::TooDeep`], both with the place.
+/// [`Refusal::TooDeep`], both with the place. Unread is also one that a browser takes apart otherwise:
+/// with a capital in a name that is none of SVG's, as `<A>`, a name that begins with no letter, a
+/// `plaintext`, a tag or reference in an `iframe`, `noembed`, `noframes` or `xmp`, U+0000, or a
+/// reference such as `&#x80;`.
 ///
 /// ```
 /// use typst_html_proved::{check, write, Document, Element, Options, Refusal};
@@ -138,7 +181,7 @@ pub fn write_document_json(json: &[u8], options: Options) -> Result<String, Refu
 /// ```
 pub fn check(page: &str, limit: u32) -> Result<Findings, Refusal> {
     let json = raw::check(limit, page.as_bytes())?;
-    Ok(serde_json::from_str(&json).expect("the library writes JSON of that form"))
+    Ok(serde_json::from_str(&json).expect(KNOWN_FORM))
 }
 
 /// The JSON by which the library is told. Texts, numbers, lists and maps of texts are JSON; only what

@@ -71,6 +71,14 @@ extern "C" {
         room: usize,
     ) -> Reply;
 
+    fn typst_html_dead_links(
+        limit: u32,
+        input: *const u8,
+        length: usize,
+        output: *mut u8,
+        room: usize,
+    ) -> Reply;
+
     fn typst_html_check(
         limit: u32,
         page: *const u8,
@@ -109,15 +117,31 @@ pub(crate) fn write(kind: Kind, pretty: bool, input: &[u8]) -> Result<String, Re
     })
 }
 
-/// The text of a document.
-pub(crate) fn document(options: Options, input: &[u8]) -> Result<String, Refusal> {
-    text_by(input.len(), Reply::of_json, |output| {
+/// The text of a document, and whether all of its links lead, as far as they were to.
+pub(crate) fn document(options: Options, input: &[u8]) -> Result<(String, bool), Refusal> {
+    made_by(input.len(), Reply::of_json, |output| {
         // SAFETY: as in `write`.
         unsafe {
             typst_html_document(
                 options.pretty.into(),
                 options.links.into(),
                 options.limit,
+                input.as_ptr(),
+                input.len(),
+                output.as_mut_ptr(),
+                output.len(),
+            )
+        }
+    })
+}
+
+/// The links that lead nowhere in a document, in JSON.
+pub(crate) fn dead_links(limit: u32, input: &[u8]) -> Result<String, Refusal> {
+    text_by(input.len(), Reply::of_json, |output| {
+        // SAFETY: as in `write`.
+        unsafe {
+            typst_html_dead_links(
+                limit,
                 input.as_ptr(),
                 input.len(),
                 output.as_mut_ptr(),
@@ -143,13 +167,25 @@ pub(crate) fn check(limit: u32, page: &[u8]) -> Result<String, Refusal> {
     })
 }
 
-/// The text that a call makes, in a buffer that is mostly long enough: four bytes for each of the input.
-/// A library of another version is not called.
+/// The text of a call that tells of no dead links.
 fn text_by(
     length: usize,
     refusal: impl Fn(&Reply) -> Refusal,
     call: impl Fn(&mut [u8]) -> Reply,
 ) -> Result<String, Refusal> {
+    match made_by(length, refusal, call)? {
+        (text, true) => Ok(text),
+        (_, false) => Err(Refusal::OtherLibrary),
+    }
+}
+
+/// The text that a call makes, in a buffer that is mostly long enough: four bytes for each of the input;
+/// and whether the call tells of no dead links. A library of another version is not called.
+fn made_by(
+    length: usize,
+    refusal: impl Fn(&Reply) -> Refusal,
+    call: impl Fn(&mut [u8]) -> Reply,
+) -> Result<(String, bool), Refusal> {
     if version() != VERSION {
         return Err(Refusal::OtherLibrary);
     }
@@ -157,10 +193,11 @@ fn text_by(
     loop {
         let reply = call(&mut output);
         match reply.status {
-            0 if reply.length <= output.len() => {
+            0 | 5 if reply.length <= output.len() => {
                 output.truncate(reply.length);
                 output.shrink_to_fit();
-                return Ok(String::from_utf8(output).expect("the library writes UTF-8"));
+                let text = String::from_utf8(output).expect("the library writes UTF-8");
+                return Ok((text, reply.status == 0));
             }
             1 | 2 => return Err(refusal(&reply)),
             3 => return Err(Refusal::OutOfMemory),

@@ -1,7 +1,10 @@
-//! Why there is no text.
+//! Why there is no text, or what is wrong with it.
 
+use crate::DeadLink;
 use std::fmt;
 use thiserror::Error;
+
+const DEAD_LINKS: &str = "links lead nowhere";
 
 const OTHER_LIBRARY: &str = "the library that is linked is not of the version that is wanted";
 
@@ -23,8 +26,32 @@ impl fmt::Display for Place {
     }
 }
 
-/// Why there is no text.
-#[derive(Clone, Copy, Debug, PartialEq, Eq, Error)]
+/// A text in which links lead nowhere.
+#[derive(Clone, Debug, PartialEq, Eq)]
+pub struct DeadLinks {
+    /// The text, in which these links stand without an `href`.
+    pub text: String,
+    /// The links, in document order: at least one.
+    pub links: Vec<DeadLink>,
+}
+
+impl DeadLinks {
+    /// Where the first of them is.
+    fn span(&self) -> u64 {
+        self.links.first().map_or(0, |link| link.span)
+    }
+}
+
+impl fmt::Display for DeadLinks {
+    /// How many there are, and where the first is.
+    fn fmt(&self, f: &mut fmt::Formatter<'_>) -> fmt::Result {
+        let (count, span) = (self.links.len(), self.span());
+        write!(f, "{DEAD_LINKS} ({count}, the first at {span})")
+    }
+}
+
+/// Why there is no text, or none without dead links.
+#[derive(Clone, Debug, PartialEq, Eq, Error)]
 pub enum Refusal {
     /// What is to be written breaks a rule of HTML, or stands where it may not.
     #[error("{} (refusal {number} at {span})", words(.number))]
@@ -38,8 +65,9 @@ pub enum Refusal {
     /// An element of a page that is checked stands deeper than the limit. Its start tag begins there.
     #[error("an element stands deeper than the limit at {0}")]
     TooDeep(Place),
-    /// A page that is checked has another syntax than those that are written, from that place on: there
-    /// stands the first character with which no such page goes on, or the page ends.
+    /// A page that is checked has another syntax than those that are written, or is something else in a
+    /// browser, from that place on: there stands the first character with which no page that is read
+    /// goes on, or the page ends.
     #[error("the page is not read from {0} on")]
     Unread(Place),
     /// The input spells nothing that can be written, or nests more than 127 levels of JSON; or the limit
@@ -55,6 +83,10 @@ pub enum Refusal {
         /// The column there, in bytes from 1 on; where the JSON ends too soon, how long its last line is.
         column: usize,
     },
+    /// Links were to get the `href` of their destination, and for some no place of the document is one.
+    /// The text is there all the same.
+    #[error("{0}")]
+    DeadLinks(DeadLinks),
     /// An allocation failed.
     #[error("out of memory")]
     OutOfMemory,
@@ -81,12 +113,13 @@ impl Refusal {
         }
     }
 
-    /// Where the refusal is, or where the form is left: of a page, how many bytes stand before; 0 where
-    /// there is no such place.
+    /// Where the refusal is, the first dead link, or where the form is left: of a page, how many bytes
+    /// stand before; 0 where there is no such place.
     pub fn span(&self) -> u64 {
         match self {
             Refusal::Refused { span, .. } | Refusal::BadInput { span, .. } => *span,
             Refusal::TooDeep(place) | Refusal::Unread(place) => place.offset,
+            Refusal::DeadLinks(dead) => dead.span(),
             _ => 0,
         }
     }
@@ -98,6 +131,7 @@ impl Refusal {
             Refusal::TooDeep(_) => words(&8),
             Refusal::Unread(_) => "the page is not read",
             Refusal::BadInput { .. } => "bad input",
+            Refusal::DeadLinks(_) => DEAD_LINKS,
             Refusal::OutOfMemory => "out of memory",
             Refusal::OtherLibrary => OTHER_LIBRARY,
         }

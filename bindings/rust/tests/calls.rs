@@ -29,8 +29,22 @@ fn bytes(value: &Value) -> Vec<u8> {
         .collect()
 }
 
+/// The links that the library lists so.
+fn dead_links(listed: &str) -> Vec<DeadLink> {
+    let listed: Value = serde_json::from_str(listed).unwrap();
+    let number = |link: &Value, name: &str| link[name].as_u64().unwrap();
+    let links = listed["dead_links"].as_array().unwrap().iter();
+    links
+        .map(|link| DeadLink {
+            span: number(link, "span"),
+            destination: number(link, "destination"),
+        })
+        .collect()
+}
+
 fn row(value: &Value) -> Row {
     let number = |name: &str| value[name].as_u64().unwrap();
+    let text = |name: &str| String::from_utf8(bytes(&value[name])).unwrap();
     Row {
         kind: [Some(Kind::Tree), Some(Kind::Items), None][number("kind") as usize],
         options: Options {
@@ -40,7 +54,11 @@ fn row(value: &Value) -> Row {
         },
         input: bytes(&value["input"]),
         wanted: match number("status") {
-            0 => Ok(String::from_utf8(bytes(&value["text"])).unwrap()),
+            0 => Ok(text("text")),
+            5 => Err(Refusal::DeadLinks(DeadLinks {
+                text: text("text"),
+                links: dead_links(&text("dead")),
+            })),
             1 => Err(Refusal::Refused {
                 number: number("number") as u8,
                 span: number("span"),
@@ -284,6 +302,39 @@ fn links_that_are_given_lead() {
 }
 
 #[test]
+fn links_that_lead_nowhere_are_told_with_the_text() {
+    let start = |location, destination| Item::Start {
+        location,
+        destination,
+    };
+    let document = Document::new()
+        .item(start(1, Some(7)))
+        .item(Element::new("a").child("b"))
+        .footnote(start(2, Some(u64::MAX)))
+        .footnote(Element::new("a"));
+    let written = |links| {
+        write(
+            &document,
+            Options {
+                links,
+                ..Options::default()
+            },
+        )
+    };
+    let refusal = written(true).unwrap_err();
+    let link = |span, destination| DeadLink { span, destination };
+    let wanted = DeadLinks {
+        text: written(false).unwrap(),
+        links: vec![link(2, 7), link(5, u64::MAX)],
+    };
+    assert_eq!(refusal, Refusal::DeadLinks(wanted));
+    assert_eq!((refusal.number(), refusal.span()), (0, 2));
+    assert_eq!(refusal.words(), "links lead nowhere");
+    let message = "links lead nowhere (2, the first at 2)";
+    assert_eq!(refusal.to_string(), message);
+}
+
+#[test]
 fn pages_that_are_not_read_are_told() {
     let place = |offset, line, column| Place {
         offset,
@@ -292,7 +343,7 @@ fn pages_that_are_not_read_are_told() {
     };
     let page = "<!DOCTYPE html><p>é\n<b></b></p>";
     let deep = Refusal::TooDeep(place(21, 2, 1));
-    assert_eq!(check(page, 1), Err(deep));
+    assert_eq!(check(page, 1), Err(deep.clone()));
     assert_eq!((deep.number(), deep.span()), (8, 21));
     let message = "an element stands deeper than the limit at 2:1";
     assert_eq!(deep.to_string(), message);
@@ -304,6 +355,8 @@ fn pages_that_are_not_read_are_told() {
         ("<p>", place(1, 1, 2)),
         ("<!DOCTYPE html>\n<p>é & x</p>", place(23, 2, 7)),
         ("<!DOCTYPE html><p>x</b>", place(21, 1, 22)),
+        ("<!DOCTYPE html><A HREF=\"#gone\">x</A>", place(17, 1, 18)),
+        ("<!DOCTYPE html><iframe>&amp;</iframe>", place(23, 1, 24)),
     ] {
         assert_eq!(check(page, 50), Err(Refusal::Unread(at)), "{page}");
     }

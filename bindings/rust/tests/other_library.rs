@@ -66,6 +66,11 @@ extern "C" fn typst_html_document(
 }
 
 #[no_mangle]
+extern "C" fn typst_html_dead_links(_: u32, _: *const u8, _: usize, _: *mut u8, _: usize) -> Reply {
+    reply(8)
+}
+
+#[no_mangle]
 extern "C" fn typst_html_check(_: u32, _: *const u8, _: usize, _: *mut u8, _: usize) -> Reply {
     reply(7)
 }

@@ -13,12 +13,12 @@
 //! herbs.html: 1.4: the id "dill" stands before
 //! ```
 //!
-//! Pages are read by the syntax that is written here, which a browser's parser takes too, with elements
-//! at most 1,000 deep. A page that can't be read is told on standard error, with the line and the column
-//! from which on it isn't, and the others are checked:
+//! Pages are read by the syntax that is written here, with elements at most 1,000 deep, and not where a
+//! browser is known to read something else, as an `a` in `<A>`. A page that can't be read is told on
+//! standard error, with the line and the column from which on it isn't, and the others are checked:
 //!
 //! ```text
-//! other.html:3:14: not read: other syntax than that of the pages that are written
+//! other.html:3:14: not read from there on: other syntax, or something else in a browser
 //! ```
 //!
 //! The status is 0 where all pages were read and nothing is wrong, 2 where the words are wrong, and
@@ -31,7 +31,7 @@ use std::alloc::Global;
 use std::fmt::Write;
 use std::process::ExitCode;
 use std::{env, fs};
-use typst_html::{HtmlElement, ReadFault, dead_fragments, read_html, repeated_ids};
+use typst_html::{HtmlElement, ReadFault, dead_fragments, read_page, repeated_ids};
 
 /// How deep elements may stand in one another.
 const DEEPEST: usize = 1000;
@@ -81,7 +81,7 @@ fn command<'a>(alloc: Global) -> Result<Command<'a>> {
 
 /// Whether a page is read and nothing is wrong with it. What is wrong is told.
 fn is_clean(rt: &HostRuntime, page: &str) -> Result<bool> {
-    let root = match read_page(rt, page) {
+    let root = match root_of(rt, page) {
         Ok(root) => root,
         Err(error) => {
             eprintln!(rt; "{error:#}")?;
@@ -96,15 +96,17 @@ fn is_clean(rt: &HostRuntime, page: &str) -> Result<bool> {
 }
 
 /// The tree of a page, or what is told where it is not read.
-fn read_page(rt: &HostRuntime, page: &str) -> Result<HtmlElement> {
-    let text = fs::read_to_string(rt, page).context(format_args!("{page}"))?;
-    match read_html(rt.alloc(), &text, DEEPEST) {
+fn root_of(rt: &HostRuntime, page: &str) -> Result<HtmlElement> {
+    let bytes = fs::read(rt, page).context(format_args!("{page}"))?;
+    match read_page(rt.alloc(), &bytes, DEEPEST) {
         Ok(root) => Ok(root),
         Err(ReadFault::TooDeep { place }) => {
             bail!("{page}:{place}: not read: an element stands deeper than {DEEPEST}")
         }
         Err(ReadFault::Syntax { place }) => {
-            bail!("{page}:{place}: not read: other syntax than that of the pages that are written")
+            bail!(
+                "{page}:{place}: not read from there on: other syntax, or something else in a browser"
+            )
         }
         Err(fault) => Err(fault.into()),
     }

@@ -15,8 +15,6 @@
 #![tactic(auto)]
 
 mod mail;
-#[cfg(test)]
-mod tests;
 
 use anyhow::{Context, Result};
 use clap::{Arg, Command};

@@ -4,8 +4,6 @@
 
 mod page;
 mod site;
-#[cfg(test)]
-mod tests;
 
 use crate::site::Site;
 use anyhow::{Context, Result, ensure};

@@ -67,10 +67,7 @@ impl Site<'_> {
 
     /// Reads the title of a page.
     fn read_title(&self, page: &mut Page, line: &str, span: Span) -> Result<()> {
-        let title = line.strip_prefix("title ").unwrap_or_default().trim();
-        ensure!(!title.is_empty(), "no `title text`");
-        let clean = title.chars().all(charsets::is_w3c_text_char);
-        ensure!(clean, "a control character");
+        let title = title_in(line)?;
         page.title.push_str(title)?;
         let heading = HtmlElem::new(self.alloc, tag::h1).spanned(span);
         let heading = heading.with_text(self.alloc, title)?;
@@ -139,6 +136,15 @@ impl Site<'_> {
         let new = Location((self.places.len() as u64).saturating_add(1));
         Ok(*self.places.entry(target)?.or_insert(new))
     }
+}
+
+/// The title that a line says.
+fn title_in(line: &str) -> Result<&str> {
+    let title = line.strip_prefix("title ").unwrap_or_default().trim();
+    ensure!(!title.is_empty(), "no `title text`");
+    let is_clean = title.chars().all(charsets::is_w3c_text_char);
+    ensure!(is_clean, "a control character");
+    Ok(title)
 }
 
 /// A word, and the text behind it.

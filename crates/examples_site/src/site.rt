@@ -66,19 +66,7 @@ impl Site<'_> {
         let alloc = self.alloc;
         let mut entries = Vec::new(alloc);
         for page in &self.pages {
-            let mut link = HtmlElem::new(alloc, tag::a).with_text(alloc, &page.title)?;
-            if page.location == current.location {
-                link = link.with_attr(attr::aria_current, "page".to_string(alloc)?)?;
-            }
-            let mut entry = Vec::new(alloc);
-            push_located(
-                &mut entry,
-                LINK,
-                None,
-                Some(page.location),
-                Item::from(link),
-            )?;
-            let entry = HtmlElem::new(alloc, tag::li).with_body(entry);
+            let entry = entry(alloc, page, page.location == current.location)?;
             entries.push(Pair::from(entry))?;
         }
         let list = HtmlElem::new(alloc, tag::ul).with_body(entries);
@@ -121,6 +109,17 @@ impl Site<'_> {
         let span = made.as_ref().err().map_or(Span(0), |fault| fault.span());
         made.with_context(|| page.place(self.alloc, span))
     }
+}
+
+/// An entry of a list, with a link to a page.
+fn entry(alloc: Global, page: &Page, is_current: bool) -> Result<HtmlElem> {
+    let mut link = HtmlElem::new(alloc, tag::a).with_text(alloc, &page.title)?;
+    if is_current {
+        link = link.with_attr(attr::aria_current, "page".to_string(alloc)?)?;
+    }
+    let (mut items, dest) = (Vec::new(alloc), Some(page.location));
+    push_located(&mut items, LINK, None, dest, Item::from(link))?;
+    Ok(HtmlElem::new(alloc, tag::li).with_body(items))
 }
 
 /// The nodes, in which each link that has no `href` gets that of its destination.

@@ -15,7 +15,6 @@ module _ (is_place : Name → Bool) where
       dead_among is_place (ps ++ qs) ≡ dead_among is_place ps ++ dead_among is_place qs
   dead-append = filter-append (λ link. not (leads is_place link.1))
 
-  -- a link that doesn't lead
   pub one_dead : (link : Placed) → leads is_place link.1 ≡ false → link ∷ [] ≡ dead_among is_place (link ∷ [])
   one_dead link lost = by (leads is_place link.1) lost
     where
@@ -23,7 +22,6 @@ module _ (is_place : Name → Bool) where
       by true e = cc
       by false e = refl
 
-  -- two parts, one after the other
   pub both_dead : (old mid new ps qs : List Placed) → mid ≡ old ++ dead_among is_place ps →
       new ≡ mid ++ dead_among is_place qs → new ≡ old ++ dead_among is_place (ps ++ qs)
   both_dead old mid new ps qs first next =

@@ -34,7 +34,6 @@ pub texts_of-placed : (path : List ℕ) (texts : List Name) → texts_of (placed
 texts_of-placed path [] = refl
 texts_of-placed path (t ∷ ts) = ap (λ l. t ∷ l) (texts_of-placed path ts)
 
--- the ids at the places of nodes
 nodes_ids : (path : List ℕ) (i : ℕ) (ns : NodesView) →
     texts_of (nodes_placed ids_at path i ns) ≡ shown_names ns
 unfolding nodes_placed node_placed shown_names
@@ -68,7 +67,6 @@ placed_ids_are_ids e =
     ∙ (ap (λ l. l ++ texts_of below) (texts_of-placed [] own)
     ∙ ap (λ l. own ++ l) (nodes_ids [] 0 e.1 ∙ sym (append-nil (shown_names e.1))))
 
--- where all are new none is repeated
 none_repeated : (used : Name → Bool) (ps : List Placed) → are_new used (texts_of ps) ≡ true →
     repeated used ps ≡ []
 unfolding repeated
@@ -86,7 +84,6 @@ all_names : (e : ElementView) → nodes_names (node (element_node e.0 e.1) none)
 unfolding nodes_names
 all_names e = ap (λ l. all_ids e.0.attrs ++ l) (append-nil (nodes_names e.1))
 
--- the ids of a tree are among all names
 ids_differ : (e : ElementView) → are_distinct (element_names e) ≡ true →
     are_distinct (tree_ids e) ≡ true
 ids_differ e distinct = once_distinct (tree_ids e) (λ n.
@@ -139,7 +136,6 @@ links_repeat_no_id hrefs e =
 module _ (hrefs : Hrefs) (is_place : Name → Bool)
     (lead : (location : ℕ) (href : List ℕ) → hrefs location ≡ Some href →
     (name : Name) × LeadsTo is_place href name) where
-  -- a fragment that indicates a name leads
   name_leads : (name fragment : List ℕ) → indicated_name is_place fragment ≡ Some name →
       leads is_place fragment ≡ true
   unfolding leads indicated_name
@@ -154,7 +150,6 @@ module _ (hrefs : Hrefs) (is_place : Name → Bool)
       by false true e = refl
       by false false e = cc
 
-  -- so a link to it is not dead
   not_dead : (path fragment : List ℕ) → leads is_place fragment ≡ true →
       dead_among is_place (placed_at path (fragment ∷ [])) ≡ []
   not_dead path fragment leading =
@@ -250,7 +245,6 @@ module _ (hrefs : Hrefs) (is_place : Name → Bool)
       ∙ (ap (λ l. dead_among is_place own ++ l) (nodes_stay [] 0 [] kids)
       ∙ sym (dead-append is_place own below))
 
--- places stay the same
 places_stay : (hrefs : Hrefs) (e : ElementView) →
     element_places (root_with_links hrefs e) ≡ element_places e
 places_stay hrefs e =
@@ -262,7 +256,6 @@ links_add_no_dead_fragment hrefs e lead =
     (places_stay hrefs e)
     ∙ tree_stays hrefs (stands_in (element_places e)) lead e.0 e.1
 
--- those of a document's anchors lead, where these stand in its tree
 hrefs_lead : (d : DocumentView) → AnchorsAreTexts d.introspector.anchor → KnownAnchorsAreShown d →
     HrefsLead (document_hrefs d) (document_root d)
 hrefs_lead d texts shown location href is =

@@ -15,7 +15,6 @@ use Rattle.html_dom_check.specs.PlacedTexts.{Placed, placed_at, node_placed, nod
 use Rattle.html_dom_check.specs.RepeatedIds.{LeavesToFind, ids_at, repeated}
 use Rattle.html_dom_check.proofs.Walks.{placed_in_turn, none_placed}
 
--- an id that is passed already is used no more than before
 still_used : (used : Name → Bool) (n : Name) → used n ≡ true → with_used_name n used ≡ used
 still_used used n passed = fun_ext (λ m. by m (bytes_eq n m) refl)
   where
@@ -24,7 +23,6 @@ still_used used n passed = fun_ext (λ m. by m (bytes_eq n m) refl)
     by m false is = refl
 
 module _ (found : List Placed) (used : Name → Bool) where
-  -- an id that is passed already is found
   pub found_again : (p : Placed) → used p.1 ≡ true → LeavesToFind found used (p ∷ []) (found ++ p ∷ []) used
   unfolding repeated
   found_again p passed rest =
@@ -36,7 +34,6 @@ module _ (found : List Placed) (used : Name → Bool) where
       by true e = ap (λ u. p ∷ repeated u rest) (sym (still_used used p.1 passed))
       by false e = cc
 
-  -- another is passed from then on
   pub passed_first : (p : Placed) → used p.1 ≡ false → LeavesToFind found used (p ∷ []) found (with_used_name p.1 used)
   unfolding repeated
   passed_first p new rest = ap (λ l. found ++ l) (by (used p.1) new)
@@ -46,7 +43,6 @@ module _ (found : List Placed) (used : Name → Bool) where
       by true e = cc
       by false e = refl
 
--- all that is found
 pub all_found : (found first : List Placed) (u v w : Name → Bool) (ps qs : List Placed) →
     first ≡ [] → u ≡ v → ps ≡ qs → LeavesToFind first u ps found w → found ≡ repeated v qs
 unfolding repeated
@@ -56,7 +52,6 @@ all_found found first u v w ps qs empty same placed passes =
     ∙ (ap (λ l. l ++ repeated u (ps ++ [])) empty
     ∙ (ap (repeated u) (append-nil ps ∙ placed) ∙ ap (λ x. repeated x qs) same)))
 
--- two parts, one after the other
 pub both_passed : (f g h : List Placed) (u v w : Name → Bool) (ps qs : List Placed) →
     LeavesToFind f u ps g v → LeavesToFind g v qs h w → LeavesToFind f u (ps ++ qs) h w
 both_passed f g h u v w ps qs first next rest =

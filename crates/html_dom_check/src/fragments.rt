@@ -24,7 +24,6 @@ pub struct DeadFragment {
     pub fragment: String,
 }
 
-/// Where a walk stands, and what it has found.
 #[derive(Drop)]
 struct Walk {
     alloc: Global,
@@ -83,7 +82,6 @@ fn fragment_at(alloc: Global, element: &HtmlElement) -> Result<Option<String>, A
     }
 }
 
-/// A link at the end of that path to that fragment.
 fn dead_fragment(path: &Vec<usize>, fragment: String) -> Result<DeadFragment, AllocError>
     ensures { IfOk result (λ dead.
         dead_fragment_view dead ≡ (path.now.items, text_view fragment)) }
@@ -94,7 +92,6 @@ fn dead_fragment(path: &Vec<usize>, fragment: String) -> Result<DeadFragment, Al
     })
 }
 
-/// Adds a link to a fragment, if it leads nowhere.
 fn add_link(
     fragment: Option<String>,
     places: &BTreeSet<String>,
@@ -115,9 +112,24 @@ fn add_link(
     Ok(())
 }
 
+/// Adds an element, if it is such a link. What that takes is no part of the walk's own frame, of which
+/// one stands for each level.
+#[inline(never)]
+fn add_own(
+    element: &HtmlElement,
+    places: &BTreeSet<String>,
+    walk: &mut Walk,
+) -> Result<(), AllocError>
+    ensures path { OnOk result (walk.new.path.items ≡ walk.old.path.items) }
+    ensures dead { let e = element_view element.now in
+        OnOk result (FindsDead places.now walk.old walk.new
+        (placed_at walk.old.path.items (fragments_at (element_node e.0 e.1)))) }
+{
+    add_link(fragment_at(walk.alloc, element)?, places, walk)
+}
+
 // Each node stands first among the parameters: its depth shows that the calls end.
 
-/// Adds an element, if it is such a link, and those below it.
 #[cycle(fragments)]
 fn add_element(
     element: &HtmlElement,
@@ -129,12 +141,11 @@ fn add_element(
         OnOk result (FindsDead places.now walk.old walk.new
         (node_placed fragments_at walk.old.path.items (element_node e.0 e.1))) }
 {
-    add_link(fragment_at(walk.alloc, element)?, places, walk)?;
+    add_own(element, places, walk)?;
     add_nodes(&element.children, places, walk)?;
     Ok(())
 }
 
-/// Adds those in a node.
 #[cycle(fragments)]
 #[tactic(auto, unfolding(crate::specs::PlacedTexts::node_placed))]
 fn add_node(child: &HtmlNode, places: &BTreeSet<String>, walk: &mut Walk) -> Result<(), AllocError>
@@ -150,7 +161,6 @@ fn add_node(child: &HtmlNode, places: &BTreeSet<String>, walk: &mut Walk) -> Res
     }
 }
 
-/// Adds those in the children at the end of the path.
 #[cycle(fragments)]
 fn add_nodes(
     nodes: &[HtmlNode],

@@ -10,14 +10,12 @@ use html_names::attr;
 use std::alloc::AllocError;
 use std::collections::BTreeSet;
 
-/// Whether a text is one of the ids.
 pub(crate) fn contains(ids: &BTreeSet<String>, name: &str) -> bool
     ensures { result ≡ used_in ids.now (chars name.now) }
 {
     ids.contains(name)
 }
 
-/// Puts an id into a set.
 pub(crate) fn put(ids: &mut BTreeSet<String>, id: String) -> Result<(), AllocError>
     ensures { OnOk result (used_in ids.new ≡ with_used_name (text_view id) (used_in ids.old)) }
 {
@@ -25,7 +23,6 @@ pub(crate) fn put(ids: &mut BTreeSet<String>, id: String) -> Result<(), AllocErr
     Ok(())
 }
 
-/// The first `id` of an element.
 #[tactic(auto, unfolding(html_names::specs::Tables::known_attrs))]
 pub(crate) fn first_id(element: &HtmlElement) -> Option<&String>
     ensures { option_map (λ id. text_view id.now) result ≡ first_id (element_view element.now).0 }

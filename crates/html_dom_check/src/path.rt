@@ -4,14 +4,12 @@ ghost use Rattle.std.specs.Prelude.{◌≡◌, ◌++◌, [], ◌∷◌, ℕ, IfO
 
 use std::alloc::AllocError;
 
-/// A copy of a path.
 pub(crate) fn copy(path: &Vec<usize>) -> Result<Vec<usize>, AllocError>
     ensures { IfOk result (λ copy. copy.items ≡ path.now.items) }
 {
     path.clone()
 }
 
-/// Goes from a child back to its parent.
 pub(crate) fn leave(path: &mut Vec<usize>)
     ensures { (parent : List ℕ) → (index : ℕ) → path.old.items ≡ parent ++ index ∷ [] →
         path.new.items ≡ parent }

@@ -26,7 +26,6 @@ pub struct RepeatedId {
     pub id: String,
 }
 
-/// Where a walk stands, what ids it has passed, and what it has found.
 #[derive(Drop)]
 struct Walk {
     path: Vec<usize>,
@@ -70,7 +69,6 @@ pub fn repeated_ids(alloc: Global, root: &HtmlElement) -> Result<Vec<RepeatedId>
     Ok(repeated)
 }
 
-/// An id at the end of that path.
 fn repeated_id(path: &Vec<usize>, id: &String) -> Result<RepeatedId, AllocError>
     ensures { IfOk result (λ repeated.
         repeated_id_view repeated ≡ (path.now.items, text_view id.now)) }
@@ -81,7 +79,6 @@ fn repeated_id(path: &Vec<usize>, id: &String) -> Result<RepeatedId, AllocError>
     })
 }
 
-/// Passes an id.
 fn pass_id(id: &String, walk: &mut Walk) -> Result<(), AllocError>
     ensures path { OnOk result (walk.new.path.items ≡ walk.old.path.items) }
     ensures passes { OnOk result (PassesIds walk.old walk.new
@@ -96,7 +93,6 @@ fn pass_id(id: &String, walk: &mut Walk) -> Result<(), AllocError>
     Ok(())
 }
 
-/// Passes an id, if there is one.
 fn pass_optional(id: Option<&String>, walk: &mut Walk) -> Result<(), AllocError>
     ensures path { OnOk result (walk.new.path.items ≡ walk.old.path.items) }
     ensures passes { OnOk result (PassesIds walk.old walk.new
@@ -108,7 +104,6 @@ fn pass_optional(id: Option<&String>, walk: &mut Walk) -> Result<(), AllocError>
     }
 }
 
-/// Passes the names of anchors.
 fn pass_anchors(anchors: &[(Point, String)], walk: &mut Walk) -> Result<(), AllocError>
     ensures path { OnOk result (walk.new.path.items ≡ walk.old.path.items) }
     ensures passes { OnOk result (PassesIds walk.old walk.new
@@ -120,7 +115,6 @@ fn pass_anchors(anchors: &[(Point, String)], walk: &mut Walk) -> Result<(), Allo
     Ok(())
 }
 
-/// Passes the id of a frame and the names of its anchors.
 fn pass_frame(frame: &HtmlFrame, walk: &mut Walk) -> Result<(), AllocError>
     ensures path { OnOk result (walk.new.path.items ≡ walk.old.path.items) }
     ensures passes { OnOk result (PassesIds walk.old walk.new
@@ -133,7 +127,6 @@ fn pass_frame(frame: &HtmlFrame, walk: &mut Walk) -> Result<(), AllocError>
 
 // Each node stands first among the parameters: its depth shows that the calls end.
 
-/// Passes the ids of an element and of all below it.
 #[cycle(ids)]
 fn pass_element(element: &HtmlElement, walk: &mut Walk) -> Result<(), AllocError>
     ensures path { OnOk result (walk.new.path.items ≡ walk.old.path.items) }
@@ -145,7 +138,6 @@ fn pass_element(element: &HtmlElement, walk: &mut Walk) -> Result<(), AllocError
     Ok(())
 }
 
-/// Passes the ids of a node and of all below it.
 #[cycle(ids)]
 #[tactic(auto, unfolding(crate::specs::PlacedTexts::node_placed))]
 fn pass_node(child: &HtmlNode, walk: &mut Walk) -> Result<(), AllocError>
@@ -161,7 +153,6 @@ fn pass_node(child: &HtmlNode, walk: &mut Walk) -> Result<(), AllocError>
     }
 }
 
-/// Passes the ids of the children at the end of the path and of all below them.
 #[cycle(ids)]
 fn pass_nodes(nodes: &[HtmlNode], walk: &mut Walk) -> Result<(), AllocError>
     ensures path { OnOk result (walk.new.path.items ≡ walk.old.path.items) }

@@ -58,7 +58,6 @@ then_some : (o : Option Plain) → option_and_then Some o ≡ o
 then_some None = refl
 then_some (Some p) = refl
 
--- one step further down
 follow_more : (path : List ℕ) (i : ℕ) (root : Plain) →
     follow (path ++ i ∷ []) root ≡ option_and_then (child i) (follow path root)
 follow_more [] i root = then_some (child i root)

@@ -24,7 +24,6 @@ position_added None false p absent = refl
 position_added (Some x) true p absent = absurd (true≢false (absent refl))
 position_added (Some x) false p absent = refl
 
--- whether two numbers are equal does not depend on their order
 equal_both : (m n : ℕ) → (m == n) ≡ (n == m)
 equal_both m n = search (rules, common_steps)
 

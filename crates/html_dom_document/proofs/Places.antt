@@ -8,13 +8,11 @@ use Rattle.html_dom_tree.specs.declared.node.HtmlNode.TheVariants.{Element}
 use Rattle.html_dom_document.specs.Documents.{node_at, as_element, element_at, is_element_at}
 use Rattle.html_dom_document.specs.RootPlaces.{view-Element}
 
--- it stands within the list
 pub within : (ns : List HtmlNode) (i : ℕ) → is_element_at (nodes_view ns) i ≡ true → i < length ns
 within [] i stands = absurd (true≢false (sym stands))
 within (n ∷ ns) zero stands = omega arith
 within (n ∷ ns) (suc i) stands = let rest = within ns i stands in omega (arith, rest)
 
--- it is the node that the list has there
 pub seen_at : (ns : List HtmlNode) (i : ℕ) (x : HtmlNode) →
     is_element_at (nodes_view ns) i ≡ true → x ≡ get_or ns i x →
     node_at (nodes_view ns) i ≡ Some (node_view x)
@@ -22,14 +20,12 @@ seen_at [] i x stands is = absurd (true≢false (sym stands))
 seen_at (n ∷ ns) zero x stands is = ap (λ m. Some (node_view m)) (sym is)
 seen_at (n ∷ ns) (suc i) x stands is = seen_at ns i x stands is
 
--- it is an element
 pub is_element : (ns : List HtmlNode) (i : ℕ) (x : HtmlNode) →
     is_element_at (nodes_view ns) i ≡ true → x ≡ get_or ns i x →
     is_some (as_element (Some (node_view x))) ≡ true
 is_element ns i x stands is =
     ap (λ n. is_some (as_element n)) (sym (seen_at ns i x stands is)) ∙ stands
 
--- it is that element
 pub element_seen : (ns : List HtmlNode) (i : ℕ) (x : HtmlNode) (e : HtmlElement) →
     is_element_at (nodes_view ns) i ≡ true → x ≡ get_or ns i x → x ≡ Element e →
     element_at (nodes_view ns) i ≡ Some (element_view e)

@@ -11,7 +11,6 @@ use Rattle.html_dom_document.proofs.Leading.{paths_lead}
 use Rattle.html_dom_document.specs.Documents.{DocumentView, nodes_before, element_at}
 use Rattle.html_dom_document.specs.Positions.{first_holder, led_to, PositionsLead}
 
--- a location that starts in no first place is found among the others
 found_after : (ps qs : List PlaceView) (l : ℕ) → first_position ps l ≡ None →
     first_position (ps ++ qs) l ≡ first_position qs l
 found_after [] qs l absent = refl
@@ -23,7 +22,6 @@ found_after (p ∷ ps) qs l absent = by (found_after ps qs l) (p.location == l) 
     by so true absent = absurd (none-some p.position (sym absent))
     by so false absent = so absent
 
--- one that starts in a first place is found there
 found_before : (ps qs : List PlaceView) (l : ℕ) (x : PositionView) →
     first_position ps l ≡ Some x → first_position (ps ++ qs) l ≡ Some x
 found_before [] qs l x found = absurd (none-some x found)
@@ -35,7 +33,6 @@ found_before (p ∷ ps) qs l x found = by (found_before ps qs l x) (p.location =
     by so true found = found
     by so false found = so found
 
--- one that starts nowhere starts in none of two parts
 absent_from_both : (ps qs : List PlaceView) (l : ℕ) → first_position (ps ++ qs) l ≡ None →
     (first_position ps l ≡ None) × (first_position qs l ≡ None)
 absent_from_both [] qs l absent = (refl, absent)
@@ -55,7 +52,6 @@ abbrev LeadingPosition : Plain → Option PositionView → ElementView → Type 
 LeadingPosition root found e =
     (x : PositionView) × (found ≡ Some x) × (led_to root x ≡ Some (element_normal e))
 
--- of places that lead to elements, the first one of a location leads to its first holder
 first_leads : (root : Plain) (ps : List PlaceView) (es : List ElementView) (l : ℕ)
     (e : ElementView) → Lead root ps es → first_holder ps es l ≡ Some e →
     LeadingPosition root (first_position ps l) e
@@ -71,7 +67,6 @@ first_leads root (p ∷ ps) (f ∷ fs) l e lead held =
         (p.position, refl, lead.0 ∙ ap (λ g. Some (element_normal g)) (same_Some f e held))
     by so false held = so held
 
--- an `html` element adds nothing to a path
 root_path : (h : Head) (i : ℕ) → is_html h ≡ true → children_path h [] i ≡ []
 root_path h i html = ap (λ out. if out then [] else i ∷ []) html
 

@@ -123,7 +123,6 @@ linked_end start old ns i beyond before =
     sym (append-nil old)
     ∙ (ap (λ l. old ++ nodes_links (nodes_view l)) (sym (drop_all i ns beyond)) ∙ before)
 
--- a cursor moves by one at most
 pub moves_by_one : (c : Cursor) (n : NodeView) → element_index (cursor_after c n) ≤ element_index c + 1
 moves_by_one c (tag_node t) = omega arith
 moves_by_one c (text_node s span) = by c.after_text

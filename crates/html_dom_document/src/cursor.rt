@@ -9,12 +9,10 @@ use html_dom_tree::HtmlNode;
 pub(crate) struct Cursor {
     /// The elements, the frames and the ended runs of texts so far.
     pub(crate) passed: usize,
-    /// Whether a text stands since the last element or frame.
     pub(crate) after_text: bool,
 }
 
 impl Cursor {
-    /// Before the first node.
     pub(crate) fn new() -> Cursor
         ensures { result ≡ first_cursor }
     {
@@ -24,7 +22,6 @@ impl Cursor {
         }
     }
 
-    /// Goes past a node, and answers its index.
     pub(crate) fn pass(&mut self, node: &HtmlNode) -> usize
         requires { suc (element_index self.old) < 2 ^ 64 }
         ensures index { result ≡ index_at self.old (node_view node.now) }
@@ -40,7 +37,6 @@ impl Cursor {
         }
     }
 
-    /// Goes past an element or a frame, and answers its index.
     fn pass_element(&mut self) -> usize
         requires { suc (element_index self.old) < 2 ^ 64 }
         ensures index { result ≡ element_index self.old }

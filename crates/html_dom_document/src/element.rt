@@ -8,14 +8,12 @@ ghost use Rattle.html_dom_document.specs.Documents.{as_element};
 
 use html_dom_tree::{HtmlElement, HtmlNode};
 
-/// Whether the node is an element.
 pub(crate) fn is_element(node: &HtmlNode) -> bool
     ensures { result ≡ is_some (as_element (Some (node_view node.now))) }
 {
     matches!(node, HtmlNode::Element(_))
 }
 
-/// The element that a node is.
 pub(crate) fn element(node: &HtmlNode) -> &HtmlElement
     requires { is_some (as_element (Some (node_view node.now))) ≡ true }
     ensures { as_element (Some (node_view node.now)) ≡ Some (element_view result.now) }
@@ -26,7 +24,6 @@ pub(crate) fn element(node: &HtmlNode) -> &HtmlElement
     }
 }
 
-/// The element that a node is, to be changed.
 pub(crate) fn element_mut(node: &mut HtmlNode) -> &mut HtmlElement
     requires { is_some (as_element (Some (node_view node.old))) ≡ true }
     ensures* writes_back { sem 𝓛

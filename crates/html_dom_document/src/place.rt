@@ -8,6 +8,5 @@ pub(crate) struct Place {
     pub(crate) location: Location,
     /// The location to which that element links.
     pub(crate) dest: Option<Location>,
-    /// Where the tag stands.
     pub(crate) position: HtmlPosition,
 }

@@ -11,7 +11,6 @@ pub struct HtmlPosition {
     pub(crate) point: Option<Point>,
 }
 
-/// A copy of a path.
 pub(crate) fn copy_path(path: &Vec<usize>) -> Result<Vec<usize>, AllocError>
     ensures { IfOk result (λ copy. copy.items ≡ path.now.items) }
 {

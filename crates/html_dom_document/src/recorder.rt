@@ -20,14 +20,11 @@ use std::alloc::{AllocError, Global};
 pub(crate) struct Recorder {
     /// The path of the node that is gone through.
     pub(crate) path: Vec<usize>,
-    /// The start tags.
     pub(crate) places: Vec<Place>,
-    /// The locations to which links of frames lead.
     pub(crate) links: Vec<Location>,
 }
 
 impl Recorder {
-    /// Nothing found yet.
     pub(crate) fn new(alloc: Global) -> Recorder
         ensures path { result.path.items ≡ [] }
         ensures places { result.places.items ≡ [] }
@@ -40,7 +37,6 @@ impl Recorder {
         }
     }
 
-    /// Takes the last number off the path.
     fn leave(&mut self)
         ensures path { self.new.path.items ≡ without_last self.old.path.items }
         ensures places { self.new.places ≡ self.old.places }
@@ -49,7 +45,6 @@ impl Recorder {
         let _ = self.path.pop();
     }
 
-    /// Adds a tag that stands at the path.
     fn add_tag(&mut self, tag: &Tag, point: Option<Point>) -> Result<(), AllocError>
         ensures { Records result self.old self.new (tag_places (tag_view tag.now)
             (record { path = self.old.path.items; point = option_map point_view point })) [] }
@@ -66,7 +61,6 @@ impl Recorder {
         Ok(())
     }
 
-    /// Adds a link of a frame.
     fn add_link(&mut self, link: Option<Location>) -> Result<(), AllocError>
         ensures { Records result self.old self.new []
             (link_targets (option_map location_view link)) }
@@ -77,7 +71,6 @@ impl Recorder {
         Ok(())
     }
 
-    /// Adds what stands in a frame at the path.
     #[cycle(add_frame)]
     #[tactic(auto, unfolding(crate::specs::Places::item_places, crate::specs::Places::item_links))]
     fn add_frame(&mut self, frame: &Frame) -> Result<(), AllocError>
@@ -91,7 +84,6 @@ impl Recorder {
         Ok(())
     }
 
-    /// Adds an item of a frame at the path.
     #[cycle(add_frame)]
     #[tactic(auto, unfolding(crate::specs::Places::item_places, crate::specs::Places::item_links))]
     fn add_item(&mut self, point: Point, item: &FrameItem) -> Result<(), AllocError>
@@ -107,7 +99,6 @@ impl Recorder {
         }
     }
 
-    /// Adds a tag of that index.
     fn add_tag_at(&mut self, tag: &Tag, index: usize) -> Result<(), AllocError>
         ensures { Records result self.old self.new (tag_places (tag_view tag.now)
             (record { path = self.old.path.items ++ index ∷ []; point = None })) [] }
@@ -118,7 +109,6 @@ impl Recorder {
         Ok(())
     }
 
-    /// Adds a frame of that index.
     fn add_frame_at(&mut self, frame: &Frame, index: usize) -> Result<(), AllocError>
         ensures { Records result self.old self.new
             (frame_places (self.old.path.items ++ index ∷ []) (frame_view frame.now))
@@ -130,7 +120,6 @@ impl Recorder {
         Ok(())
     }
 
-    /// Adds a node of that index.
     #[cycle(add_nodes)]
     #[tactic(auto, unfolding(crate::specs::Places::node_places, crate::specs::Places::node_links))]
     fn add_node(&mut self, node: &HtmlNode, index: usize) -> Result<(), AllocError>
@@ -146,7 +135,6 @@ impl Recorder {
         }
     }
 
-    /// Adds an element of that index.
     #[cycle(add_nodes)]
     fn add_element(&mut self, element: &HtmlElement, index: usize) -> Result<(), AllocError>
         ensures { let e = element_view element.now in Records result self.old self.new
@@ -162,7 +150,6 @@ impl Recorder {
         Ok(())
     }
 
-    /// Adds all nodes of a list.
     #[cycle(add_nodes)]
     pub(crate) fn add_nodes(&mut self, nodes: &[HtmlNode]) -> Result<(), AllocError>
         ensures { Records result self.old self.new
@@ -178,7 +165,6 @@ impl Recorder {
     }
 }
 
-/// Whether the element is an `html` element.
 #[tactic(auto, unfolding(html_names::specs::Tables::known_tags))]
 fn is_html(element: &HtmlElement) -> bool
     ensures { result ≡ is_html (element_view element.now).0 }

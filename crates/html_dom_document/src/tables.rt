@@ -12,7 +12,6 @@ use html_dom_tree::Location;
 use std::alloc::{AllocError, Global};
 use std::collections::{BTreeMap, BTreeSet};
 
-/// The position of each location: that of its first place.
 pub(crate) fn first_positions(
     alloc: Global,
     places: Vec<Place>,
@@ -27,7 +26,6 @@ pub(crate) fn first_positions(
     Ok(positions)
 }
 
-/// Adds the position of a place, unless its location has one.
 fn add_position(
     positions: &mut BTreeMap<Location, HtmlPosition>,
     place: Place,
@@ -42,7 +40,6 @@ fn add_position(
     Ok(())
 }
 
-/// Adds a location.
 fn add(locations: &mut BTreeSet<Location>, location: Location) -> Result<(), AllocError>
     ensures { OnOk result ((other : ℕ) →
         has_location locations.new other ≡ (has_location locations.old other || (location.0 == other))) }
@@ -51,7 +48,6 @@ fn add(locations: &mut BTreeSet<Location>, location: Location) -> Result<(), All
     Ok(())
 }
 
-/// The locations to which start tags link.
 pub(crate) fn destinations(
     alloc: Global,
     places: &[Place],
@@ -68,7 +64,6 @@ pub(crate) fn destinations(
     Ok(locations)
 }
 
-/// The locations of a list.
 pub(crate) fn location_set(
     alloc: Global,
     list: &[Location],
@@ -83,7 +78,6 @@ pub(crate) fn location_set(
     Ok(locations)
 }
 
-/// Adds the locations of another set.
 pub(crate) fn add_all(
     locations: &mut BTreeSet<Location>,
     others: &BTreeSet<Location>,
@@ -97,7 +91,6 @@ pub(crate) fn add_all(
     Ok(())
 }
 
-/// A copy of a set.
 pub(crate) fn copy_set(locations: &BTreeSet<Location>) -> Result<BTreeSet<Location>, AllocError>
     ensures { IfOk result (λ copy. (location : ℕ) →
         has_location copy location ≡ has_location locations.now location) }
@@ -105,7 +98,6 @@ pub(crate) fn copy_set(locations: &BTreeSet<Location>) -> Result<BTreeSet<Locati
     locations.clone()
 }
 
-/// A copy of a map of positions.
 pub(crate) fn copy_positions(
     positions: &BTreeMap<Location, HtmlPosition>,
 ) -> Result<BTreeMap<Location, HtmlPosition>, AllocError>
@@ -116,7 +108,6 @@ pub(crate) fn copy_positions(
     Ok(copy)
 }
 
-/// A copy of a map of texts.
 pub(crate) fn copy_texts(
     texts: &BTreeMap<Location, String>,
 ) -> Result<BTreeMap<Location, String>, AllocError>

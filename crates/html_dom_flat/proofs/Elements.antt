@@ -14,12 +14,10 @@ module _ (names : NamesView) (nodes : List FlatNode) (i : ℕ)
   all_given : AllPass (is_node_given names) nodes
   all_given = AllPass-from_list_all (is_node_given names) nodes given
 
-  -- the numbers of a node of a given list are given
   pub node_given_at : (d : FlatNode) → i < length nodes →
       is_node_given names (get_or nodes i d) ≡ true
   node_given_at d below = all_given i d below
 
-  -- so are those of a part of the list
   pub given_drop : are_given names (drop i nodes) ≡ true
   given_drop =
       list_all-from_AllPass (is_node_given names) (drop i nodes)
@@ -30,7 +28,6 @@ module _ (names : NamesView) (nodes : List FlatNode) (i : ℕ)
       list_all-from_AllPass (is_node_given names) (take i nodes)
       (All-take (λ n. is_node_given names n ≡ true) i nodes all_given)
 
--- the numbers of a given element's attributes are given
 pub given_pairs : (names : NamesView) (e : FlatElement) → is_given names e ≡ true →
     list_all (is_pair_given names) e.attrs.items ≡ true
 given_pairs names e given = (and_parts _ _ given).1

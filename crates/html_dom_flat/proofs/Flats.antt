@@ -4,7 +4,6 @@ use Rattle.std.proofs.lemmas.List.{length-append}
 use Rattle.html_dom_tree.specs.Tree.{NodeView, tag_node, text_node, element_node, frame_node, NodesView, none, node, ElementView}
 use Rattle.html_dom_flat.specs.Flat.{FlatNodeView, node_count, nodes_count, node_flat, nodes_flat, element_flat, front, back, spelled_nodes}
 
--- nodes one after another
 abbrev pub joined : NodesView → NodesView → NodesView
 joined none ms = ms
 joined (node n ns) ms = node n (joined ns ms)
@@ -70,7 +69,6 @@ unfolding node_flat spelled_nodes
 spelled_flat place ns =
     rw (← append-nil (nodes_flat place ns)) (spelled_more place ns [] ∙ joined_none ns)
 
--- a list that was made of nodes is that of the nodes that it spells
 pub list_spelled : (list : List FlatNodeView) (ns : NodesView) → list ≡ nodes_flat 0 ns →
     spelled_nodes 0 list ≡ ns
 list_spelled list ns made = ap (spelled_nodes 0) made ∙ spelled_flat 0 ns

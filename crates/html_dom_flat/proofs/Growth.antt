@@ -55,7 +55,6 @@ grows_attr (Ok number) old new attr asked =
     (record { tags = kept_all old.tags; attrs = kept_told old.attrs attr })
 grows_attr (Err fault) old new attr asked = subst (Grows old) (sym asked.kept) (grows_all old)
 
--- the number of a tag, in a table that has given more since
 pub tag_kept : (old mid new : NamesView) (tag : List ℕ) (number : ℕ) →
     Numbers (Ok number) old.tags mid.tags tag old mid (with_tag old tag) → Grows mid new →
     (number < length new.tags) × (name_at new.tags number ≡ tag)
@@ -94,7 +93,6 @@ pairs_more old new pairs attrs attr number value made asked =
           (lt-ltb _ _ asked.below) refl);
     }
 
--- with one more pair
 pub numbered_more :
     (old new : NamesView) (pairs : List FlatPair) (seen : List (HtmlAttr × String Global))
     (attr : HtmlAttr) (number : ℕ) (value : String Global) →

@@ -2,4 +2,5 @@ pub mod Flats
 pub mod Elements
 pub mod Growth
 pub mod Closings
+pub mod Reversed
 pub mod Stacking

@@ -120,7 +120,6 @@ drop_at names (n ∷ ns) (suc place) d below =
     let next : suc place + 1 ≡ suc (place + 1) = omega arith in
     rw next (drop_at names ns place d (omega arith))
 
--- a node made and put on the stack
 pub stacked_more :
     (names : NamesView) (nodes : List FlatNode) (place : ℕ) (d : FlatNode)
     (old mid new : List (ℕ × HtmlNode)) (made : HtmlNode) →
@@ -135,7 +134,6 @@ stacked_more names nodes place d old mid new made below before makes puts =
     let here = drop_at names nodes place d below in
     rw (puts, stack_push mid (place, made), here, ← before, ← makes) refl
 
--- a node taken from the stack
 pub popped_before : (past place : ℕ) (n : NodeView) (xs : List PlacedView) →
     nat_lt place past ≡ true → stacked_before past ((place, n) ∷ xs) ≡ n ∷ stacked_before past xs
 unfolding stacked_before
@@ -146,7 +144,6 @@ pub popped_after : (past place : ℕ) (n : NodeView) (xs : List PlacedView) →
 unfolding rest_after
 popped_after past place n xs test = rw test refl
 
--- where the top does not stand before that place, nothing is taken
 pub none_popped : (past : ℕ) (xs : List PlacedView) → is_top_before past xs ≡ false →
     IsPopped past xs xs None
 unfolding stacked_before rest_after

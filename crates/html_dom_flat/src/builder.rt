@@ -4,12 +4,11 @@ ghost use Rattle.std.specs.Prelude.{◌≡◌, true};
 ghost use Rattle.html_dom_flat.specs.FlatViews.{are_given};
 
 use crate::flat_node::{FlatElement, FlatNode};
+use crate::moving::give_back;
 use crate::numbering::{numbered_attrs, set_past};
-use html_dom_tree::{Frame, HtmlAttrs, HtmlElement, HtmlFrame, HtmlNode, Location, Span, Tag};
+use html_dom_tree::{HtmlAttrs, HtmlElement, HtmlNode};
 use html_names::{HtmlTag, NameTable};
-use html_values_css::{Abs, Properties};
 use std::alloc::{AllocError, Global};
-use std::mem;
 
 /// A tree's list while it is made: each element that is not closed yet ends at the place 0.
 #[derive(Drop)]
@@ -28,7 +27,6 @@ impl Builder {
     ghost use Rattle.html_dom_flat.specs.ClosedElements.{closed_at};
     ghost use Rattle.html_dom_flat.specs.Numbering.{AreNumbersOf};
 
-    /// The empty list.
     pub(crate) fn new(alloc: Global) -> Builder
         ensures list { builder_view result ≡ [] }
         ensures count { vec_len result.nodes ≡ 0 }
@@ -39,7 +37,6 @@ impl Builder {
         }
     }
 
-    /// Adds a node.
     #[inline(always)]
     fn push(&mut self, node: FlatNode) -> Result<(), AllocError>
         requires { is_node_given self.old.names node ≡ true }
@@ -51,7 +48,6 @@ impl Builder {
         Ok(())
     }
 
-    /// The numbers of a tag and of the names of attributes, with their values.
     fn numbered(
         &mut self,
         alloc: Global,
@@ -68,7 +64,6 @@ impl Builder {
         Ok((number, pairs))
     }
 
-    /// Sets the end of the element at a place to where the list ends now.
     fn close_element(&mut self, place: usize)
         requires { place < vec_len self.old.nodes }
         ensures list { builder_view self.new
@@ -79,53 +74,75 @@ impl Builder {
         set_past(&mut self.nodes[place], past);
     }
 
-    /// Adds a copy of a node and of all below it.
     #[cycle(flatten)]
     #[tactic(auto, unfolding(crate::specs::Flat::node_flat, crate::specs::Flat::node_count))]
-    fn push_node(&mut self, alloc: Global, node: &HtmlNode) -> Result<(), AllocError>
+    fn move_node(&mut self, alloc: Global, node: HtmlNode) -> Result<(), AllocError>
         ensures list { OnOk result (builder_view self.new
-            ≡ builder_view self.old ++ node_flat (vec_len self.old.nodes) (node_view node.now)) }
+            ≡ builder_view self.old ++ node_flat (vec_len self.old.nodes) (node_view node)) }
         ensures count { OnOk result (vec_len self.new.nodes
-            ≡ vec_len self.old.nodes + node_count (node_view node.now)) }
+            ≡ vec_len self.old.nodes + node_count (node_view node)) }
     {
         match node {
-            HtmlNode::Tag(tag) => self.push(FlatNode::Tag(tag.try_clone()?)),
-            HtmlNode::Text(text, span) => self.push(FlatNode::Text(text.clone()?, *span)),
-            HtmlNode::Frame(frame) => self.push(FlatNode::Frame(frame.try_clone()?)),
-            HtmlNode::Element(element) => self.push_element(alloc, element),
+            HtmlNode::Tag(tag) => self.push(FlatNode::Tag(tag)),
+            HtmlNode::Text(text, span) => self.push(FlatNode::Text(text, span)),
+            HtmlNode::Frame(frame) => self.push(FlatNode::Frame(frame)),
+            HtmlNode::Element(element) => self.move_element(alloc, element),
         }
     }
 
-    /// Adds a copy of an element and of all below it.
     #[cycle(flatten)]
-    pub(crate) fn push_element(
+    pub(crate) fn move_element(
         &mut self,
         alloc: Global,
-        element: &HtmlElement,
+        element: HtmlElement,
     ) -> Result<(), AllocError>
         ensures list { OnOk result (builder_view self.new ≡ builder_view self.old
-            ++ element_flat (vec_len self.old.nodes) (element_view element.now)) }
+            ++ element_flat (vec_len self.old.nodes) (element_view element)) }
         ensures count { OnOk result (vec_len self.new.nodes
-            ≡ vec_len self.old.nodes + 1 + nodes_count (element_view element.now).1) }
+            ≡ vec_len self.old.nodes + 1 + nodes_count (element_view element).1) }
     {
+        let HtmlElement {
+            tag,
+            attrs,
+            css,
+            children,
+            parent,
+            span,
+            pre_span,
+        } = element;
         let place = self.nodes.len();
-        let (tag, attrs) = self.numbered(alloc, &element.tag, element.attrs.try_clone()?)?;
+        let (tag, attrs) = self.numbered(alloc, &tag, attrs)?;
         self.push(FlatNode::Element(FlatElement {
             tag,
             attrs,
-            css: element.css.try_clone()?,
-            parent: element.parent,
-            span: element.span,
-            pre_span: element.pre_span,
+            css,
+            parent,
+            span,
+            pre_span,
             past: 0,
         }))?;
-        self.push_nodes(alloc, &element.children)?;
+        self.move_nodes(alloc, children)?;
         self.close_element(place);
         Ok(())
     }
 
-    /// Adds copies of nodes and of all below them.
+    /// The memory of the nodes that were added is given back on the way.
     #[cycle(flatten)]
+    #[tactic(auto, unfolding(crate::specs::Flat::nodes_flat, crate::specs::Flat::nodes_count))]
+    fn move_nodes(&mut self, alloc: Global, mut nodes: Vec<HtmlNode>) -> Result<(), AllocError>
+        ensures list { OnOk result (builder_view self.new
+            ≡ builder_view self.old ++ nodes_flat (vec_len self.old.nodes) (nodes_view nodes.items)) }
+        ensures count { OnOk result (vec_len self.new.nodes
+            ≡ vec_len self.old.nodes + nodes_count (nodes_view nodes.items)) }
+    {
+        nodes.reverse();
+        while let Some(node) = nodes.pop() {
+            self.move_node(alloc, node)?;
+            give_back(&mut nodes);
+        }
+        Ok(())
+    }
+
     #[tactic(auto, unfolding(crate::specs::Flat::nodes_flat, crate::specs::Flat::nodes_count))]
     pub(crate) fn push_nodes(&mut self, alloc: Global, nodes: &[HtmlNode]) -> Result<(), AllocError>
         ensures list { OnOk result (builder_view self.new
@@ -134,88 +151,8 @@ impl Builder {
             ≡ vec_len self.old.nodes + nodes_count (nodes_view nodes.now)) }
     {
         for node in nodes {
-            self.push_node(alloc, node)?;
+            self.move_node(alloc, node.try_clone()?)?;
         }
         Ok(())
     }
-
-    /// Adds a node and all below it, and leaves nodes with no text and no attributes in their place.
-    #[cycle(flatten_moved)]
-    #[tactic(auto, unfolding(crate::specs::Flat::node_flat, crate::specs::Flat::node_count))]
-    fn move_node(&mut self, alloc: Global, node: &mut HtmlNode) -> Result<(), AllocError>
-        ensures list { OnOk result (builder_view self.new
-            ≡ builder_view self.old ++ node_flat (vec_len self.old.nodes) (node_view node.old)) }
-        ensures count { OnOk result (vec_len self.new.nodes
-            ≡ vec_len self.old.nodes + node_count (node_view node.old)) }
-    {
-        match node {
-            HtmlNode::Tag(tag) => {
-                let end = Tag::End {
-                    location: Location(0),
-                };
-                self.push(FlatNode::Tag(mem::replace(tag, end)))
-            }
-            HtmlNode::Text(text, span) => {
-                self.push(FlatNode::Text(mem::replace(text, String::new(alloc)), *span))
-            }
-            HtmlNode::Frame(frame) => {
-                let blank = blank_frame(alloc, frame.text_size);
-                self.push(FlatNode::Frame(mem::replace(frame, blank)))
-            }
-            HtmlNode::Element(element) => self.move_element(alloc, element),
-        }
-    }
-
-    /// Adds an element and all below it, as `move_node` does.
-    #[cycle(flatten_moved)]
-    pub(crate) fn move_element(
-        &mut self,
-        alloc: Global,
-        element: &mut HtmlElement,
-    ) -> Result<(), AllocError>
-        ensures list { OnOk result (builder_view self.new ≡ builder_view self.old
-            ++ element_flat (vec_len self.old.nodes) (element_view element.old)) }
-        ensures count { OnOk result (vec_len self.new.nodes
-            ≡ vec_len self.old.nodes + 1 + nodes_count (element_view element.old).1) }
-    {
-        let place = self.nodes.len();
-        let attrs = mem::replace(&mut element.attrs, HtmlAttrs::new(alloc));
-        let (tag, attrs) = self.numbered(alloc, &element.tag, attrs)?;
-        self.push(FlatNode::Element(FlatElement {
-            tag,
-            attrs,
-            css: mem::replace(&mut element.css, Properties::new(alloc)),
-            parent: element.parent,
-            span: element.span,
-            pre_span: element.pre_span,
-            past: 0,
-        }))?;
-        self.move_nodes(alloc, &mut element.children)?;
-        self.close_element(place);
-        Ok(())
-    }
-
-    /// Adds nodes and all below them, as `move_node` does.
-    #[cycle(flatten_moved)]
-    #[tactic(auto, unfolding(crate::specs::Flat::nodes_flat, crate::specs::Flat::nodes_count))]
-    fn move_nodes(&mut self, alloc: Global, nodes: &mut [HtmlNode]) -> Result<(), AllocError>
-        ensures list { OnOk result (builder_view self.new
-            ≡ builder_view self.old ++ nodes_flat (vec_len self.old.nodes) (nodes_view nodes.old)) }
-        ensures count { OnOk result (vec_len self.new.nodes
-            ≡ vec_len self.old.nodes + nodes_count (nodes_view nodes.old)) }
-    {
-        for node in nodes.iter_mut() {
-            self.move_node(alloc, node)?;
-        }
-        Ok(())
-    }
-}
-
-/// A frame with nothing in it.
-fn blank_frame(alloc: Global, text_size: Abs) -> HtmlFrame {
-    let inner = Frame {
-        picture: 0,
-        items: Vec::new(alloc),
-    };
-    HtmlFrame::new(alloc, inner, text_size, Span(0))
 }

@@ -6,6 +6,7 @@ ghost use Rattle.html_dom_flat.specs.Sets.{flat_node_is_set};
 
 use crate::builder::Builder;
 use crate::flat_node::FlatNode;
+use crate::moving::flat_tree_of;
 use crate::spelling::spelled_nodes;
 use html_dom_tree::{HtmlElement, HtmlNode};
 use html_names::NameTable;
@@ -65,10 +66,7 @@ impl FlatTree {
         ensures { let e = element_view element.now in
             IfOk result (λ tree. tree_nodes tree ≡ node (element_node e.0 e.1) none) }
     {
-        let mut builder = Builder::new(alloc);
-        builder.push_element(alloc, element)?;
-        let Builder { nodes, names } = builder;
-        Ok(FlatTree { nodes, names })
+        flat_tree_of(alloc, element.try_clone()?)
     }
 
     /// The nodes at all depths, in the order in which they are written.

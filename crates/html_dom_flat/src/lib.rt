@@ -13,4 +13,4 @@ mod spelling;
 
 pub use flat_node::{FlatElement, FlatNode};
 pub use flat_tree::FlatTree;
-pub use moving::flat_tree_of;
+pub use moving::{flat_tree_of, give_back};

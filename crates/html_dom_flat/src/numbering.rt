@@ -9,7 +9,6 @@ use html_dom_tree::HtmlAttrs;
 use html_names::NameTable;
 use std::alloc::{AllocError, Global};
 
-/// The attributes with numbers for names.
 pub(crate) fn numbered_attrs(
     alloc: Global,
     names: &mut NameTable,
@@ -28,7 +27,6 @@ pub(crate) fn numbered_attrs(
     Ok(pairs)
 }
 
-/// Sets where an element ends.
 pub(crate) fn set_past(node: &mut FlatNode, past: usize)
     ensures { node.new ≡ with_end past node.old }
 {

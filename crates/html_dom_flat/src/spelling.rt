@@ -12,7 +12,6 @@ use html_dom_tree::{HtmlAttrs, HtmlElement, HtmlNode};
 use html_names::NameTable;
 use std::alloc::{AllocError, Global};
 
-/// Attributes with names for numbers.
 fn named_attrs(
     alloc: Global,
     names: &NameTable,
@@ -28,7 +27,6 @@ fn named_attrs(
     Ok(HtmlAttrs(attrs))
 }
 
-/// An element with names for numbers, and with these children.
 fn named_element(
     alloc: Global,
     names: &NameTable,
@@ -50,7 +48,6 @@ fn named_element(
     })
 }
 
-/// Whether the top of a stack stands before that place.
 fn is_top_before(stack: &[(usize, HtmlNode)], past: usize) -> bool
     ensures { result ≡ is_top_before past (stack_view stack.now) }
 {
@@ -58,7 +55,6 @@ fn is_top_before(stack: &[(usize, HtmlNode)], past: usize) -> bool
     count > 0 && stack[count - 1].0 < past
 }
 
-/// Takes the top of a stack, if it stands before that place.
 fn pop_before(stack: &mut Vec<(usize, HtmlNode)>, past: usize) -> Option<HtmlNode>
     ensures { IsPopped past (stack_view stack.old.items) (stack_view stack.new.items)
         (option_map node_view result) }
@@ -72,7 +68,6 @@ fn pop_before(stack: &mut Vec<(usize, HtmlNode)>, past: usize) -> Option<HtmlNod
     }
 }
 
-/// Takes the nodes that stand before a place from a stack.
 fn take_before(
     alloc: Global,
     stack: &mut Vec<(usize, HtmlNode)>,
@@ -112,7 +107,6 @@ fn made_node(
     }
 }
 
-/// The stack that is left at the start of a list.
 fn stacked(
     alloc: Global,
     names: &NameTable,
@@ -132,7 +126,6 @@ fn stacked(
     Ok(stack)
 }
 
-/// The nodes that a list spells.
 pub(crate) fn spelled_nodes(
     alloc: Global,
     names: &NameTable,

@@ -54,7 +54,6 @@ answers_are_first_ids x e f l n is =
     (shown_first (element_with_anchors x e).1 (stays_frame_free x e f)) (answers_are_shown x e l n is)
 
 module _ (x : Targets) (none_is : (l : ℕ) → x.is_target l ≡ false) where
-  -- frames ask for nothing
   no_items_starts : (is : FrameItemsView) → items_starts x is ≡ []
   unfolding items_starts
   no_items_starts no_items = refl

@@ -198,7 +198,6 @@ module _ (n : Name) where
         occurrences-append ids (nodes_names e.1) n,
       ))
 
-  -- what is shown comes no more often than all names
   first_count : (attrs : List TextPair) →
       count (option_to_list (first attrs (codes "id"))) ≤ count (all_ids attrs)
   first_count [] = omega arith
@@ -236,7 +235,6 @@ module _ (n : Name) where
         occurrences-append (frame_names f) (nodes_names ns) n,
       )
 
-  -- so one that is shown comes once where all differ
   pub shown_once : (e : ElementView) → are_distinct (element_names e) ≡ true →
       stands_in (shown_names e.1) n ≡ true → count (element_names e) ≡ 1
   shown_once e distinct shown =

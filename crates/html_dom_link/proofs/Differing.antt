@@ -34,7 +34,6 @@ pub at_most_one : (b : Bool) → cond b 1 0 ≤ 1
 at_most_one true = omega arith
 at_most_one false = omega arith
 
--- what stands in a list comes in it
 pub stands_occurs : (ns : List Name) (n : Name) → stands_in ns n ≡ true → 1 ≤ occurrences ns n
 unfolding stands_in
 stands_occurs [] n e = cc
@@ -45,7 +44,6 @@ stands_occurs (m ∷ ms) n e = by (bytes_eq m n) refl e (stands_occurs ms n)
     by true is e so = omega (arith, occurrences-cons m ms n, ap one_if is)
     by false is e so = omega (arith, occurrences-cons m ms n, so e)
 
--- where all differ, each comes at most once, and only what stands there
 pub distinct_once : (ns : List Name) (n : Name) → are_distinct ns ≡ true →
     occurrences ns n ≤ cond (stands_in ns n) 1 0
 unfolding stands_in are_distinct
@@ -70,7 +68,6 @@ distinct_once (m ∷ ms) n d =
     by false is new so =
         omega (arith, occurrences-cons m ms n, ap one_if is, so)
 
--- and the other way round
 pub once_distinct : (ns : List Name) → ((n : Name) → occurrences ns n ≤ 1) → are_distinct ns ≡ true
 unfolding are_distinct
 once_distinct [] once = refl
@@ -85,7 +82,6 @@ once_distinct (m ∷ ms) once =
         absurd (omega (arith, once m, occurrences-cons m ms m, here, stands_occurs ms m is))
     by false is so = so
 
--- a name that is made comes once among those made, and one in use doesn't
 pub new_once : (ms : List Name) (used : Name → Bool) (n : Name) → AreNew used ms →
     occurrences ms n + cond (used n) 1 0 ≤ 1
 new_once [] used n new = omega (arith, occurrences-none n, at_most_one (used n))
@@ -156,7 +152,6 @@ unfolding stands_in
 nothing_used [] = refl
 nothing_used (n ∷ ns) = nothing_used ns
 
--- where nothing is in use the names are new where they differ
 pub new_distinct : (ns : List Name) → are_new (stands_in []) ns ≡ are_distinct ns
 new_distinct ns =
     are_new-parts (stands_in []) ns ∙ ap (λ b. b && are_distinct ns) (nothing_used ns)

@@ -17,7 +17,6 @@ use Rattle.html_dom_link.proofs.ChangedRoots.{root_has_anchors}
 use Rattle.html_dom_link.proofs.Serving.{anchors_serve}
 use Rattle.html_dom_link.proofs.Showing.{answers_are_shown}
 
--- names are new where those in use at the end of the walk are bounded
 pub anchors_are_new : (is_target : ℕ → Bool) (d : DocumentView) (w : Walked) →
     w ≡ element_walk (document_targets is_target d) (document_root d) → IsBounded w.1.used →
     AnchorsAreNew is_target d
@@ -25,7 +24,6 @@ anchors_are_new is_target d w whole b =
     made_in_walk (document_targets is_target d) (document_root d)
     (subst IsBounded (ap (λ (v : Walked). v.1.used) whole) b)
 
--- the answers stand in the new tree
 pub anchors_are_shown : (is_target : ℕ → Bool) (d new : DocumentView) (anchor : ℕ → Option Name) →
     new ≡ document_with_new_anchors is_target d → anchor ≡ document_anchor is_target d →
     AnchorsAreShown anchor new
@@ -35,7 +33,6 @@ anchors_are_shown is_target d new anchor new_is anchor_is l n e =
     (answers_are_shown (document_targets is_target d) (document_root d) l n
     (sym (ap (λ f. f l) anchor_is) ∙ e))
 
--- and they are the names of what serves in it
 pub anchors_are_serving : (is_target : ℕ → Bool) (d new : DocumentView)
     (anchor : ℕ → Option Name) → new ≡ document_with_new_anchors is_target d →
     anchor ≡ document_anchor is_target d → AreServing is_target anchor new
@@ -46,7 +43,6 @@ anchors_are_serving is_target d new anchor new_is anchor_is =
     ∙ (anchors_serve x (document_root d) l
     ∙ ap (λ (r : ElementView). serving_name x r.1 l) (sym (root_has_anchors is_target d))))
 
--- and all names differ where they did
 pub ids_stay_distinct : (is_target : ℕ → Bool) (d new : DocumentView) →
     new ≡ document_with_new_anchors is_target d → AnchorsAreNew is_target d → IdsAreDistinct d →
     IdsAreDistinct new

@@ -121,13 +121,11 @@ names_are_new x e b =
     let used = stands_in (element_names e) in
     all_new cs used (subst IsBounded (all_named cs used) b)
 
--- the walk carries these names
 finished_used : (es : List Event) (g : Groups) →
     (finished g es).used ≡ used_after_all g.used (cuts g.queue es)
 finished_used [] g = refl
 finished_used (e ∷ es) g = finished_used es (step g e)
 
--- so names are new where those in use at the end of the walk are bounded
 pub made_in_walk : (x : Targets) (e : ElementView) → IsBounded (element_walk x e).1.used →
     MadeAreNew x e
 made_in_walk x e b =

@@ -44,12 +44,10 @@ with-append as' bs used = fun_ext (λ n.
     ap (λ b. b || used n) (stands-append as' bs n)
     ∙ or-swap (stands_in as' n) (stands_in bs n) (used n))
 
--- nothing else is in use
 pub with-all : (names : List Name) → with_names names (stands_in []) ≡ stands_in names
 unfolding stands_in
 with-all names = fun_ext (λ n. or-false (stands_in names n))
 
--- a name more
 pub with-more : (n : Name) (ns : List Name) (used : Name → Bool) →
     with_names (n ∷ ns) used ≡ with_names ns (with_used_name n used)
 with-more n ns used = with-append (n ∷ []) ns used ∙ ap (with_names ns) (with-one n used)

@@ -31,13 +31,11 @@ use Rattle.html_dom_link.proofs.Gathering.{stands-append}
 use Rattle.html_dom_link.proofs.LeadingLinks.{left_are_dead, names_stay}
 use Rattle.html_dom_link.proofs.SpelledNames.{leading_hrefs_lead}
 
--- what is no empty name is a name
 pub known_name : (known : Option Name) (name : Name) → some_name known ≡ Some name → known ≡ Some name
 known_name None name e = e
 known_name (Some []) name e = cc
 known_name (Some (c ∷ cs)) name e = e
 
--- an `a` that is open has no `href`
 pub no_href : (is_a : Bool) (attrs : List TextPair) →
     (is_a && not (has_name attrs (codes "href"))) ≡ true → first attrs (codes "href") ≡ None
 no_href is_a attrs e = by (first attrs (codes "href")) (and_parts is_a _ e).1
@@ -182,7 +180,6 @@ texts_in map location name is = by (get location_cmp map (record { 0 = location 
         let same : text_view s ≡ name = cc in
         sym (ap scalars same) ∙ text_is_scalars s
 
--- each link of a document leads that was given an `href`
 pub given_links_lead : (d new : DocumentView) → AnchorsAreTexts d.introspector.anchor →
     new ≡ document_with_links d → KnownAnchorsAreShown d → GivenLinksLead d new
 given_links_lead d new texts is shown =
@@ -232,7 +229,6 @@ links_lead_to_one old new is shown was_distinct =
     (λ link leads. record { among = leads; once = shown_once leads.name root distinct leads.stands })
     _ (document_links_lead old new is shown)
 
--- what is left without an `href` is dead
 pub left_in_document : (d new : DocumentView) → new ≡ document_with_links d →
     links_without (document_root new).1 ≡ document_dead_links d
 left_in_document d new is =
@@ -240,7 +236,6 @@ left_in_document d new is =
     ∙ (ap (λ (e : ElementView). links_without e.1) (root_has_links d)
     ∙ left_are_dead (document_hrefs d) (document_root d).1)
 
--- so where nothing is dead each link leads
 pub every_link_leads : (d : HtmlDocument) (dead : List DeadLink) →
     dead_links_view dead ≡ document_dead_links (document_view d) → dead ≡ [] →
     EveryLinkLeads (document_view d)

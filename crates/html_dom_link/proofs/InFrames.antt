@@ -29,7 +29,6 @@ with_starts-append ss ts w =
     (ap (λ ps. (after_starts ts (after_starts ss w.0), ps))
     (sym (append_assoc w.1 (start_pairs w.0.used ss) (start_pairs u ts))))
 
--- the first item, and then the others
 pub starts_split : (x : Targets) (p : PointView) (c : FrameItemView) (is : FrameItemsView) →
     items_starts x (item p c is) ≡ items_starts x (item p c no_items) ++ items_starts x is
 unfolding items_starts

@@ -58,7 +58,6 @@ names_stay hrefs before (node (frame_node f) ns) =
 abbrev no_hrefs : Hrefs
 no_hrefs dest = None
 
--- an `a` that has got its `href` is open no more
 not_open : (is_a : Bool) (dest : Option ℕ) (span : ℕ) →
     dead_link no_hrefs (if is_a && false then dest else None) span ≡ []
 not_open true dest span = refl

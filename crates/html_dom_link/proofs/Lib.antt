@@ -14,7 +14,6 @@ pub mod LocationMaps
 pub mod MovedRoots
 pub mod Numbers
 pub mod PutPlaces
-mod Rows
 pub mod Seeing
 pub mod Serving
 pub mod Showing

@@ -1,15 +1,13 @@
 -- Links in a list of nodes, one after the other, and names of destinations.
-use Rattle.std.proofs.Common.{◌≡◌, ◌<◌, ℕ, List, [], ◌∷◌, ◌++◌, Bool, Option, None, Some, length, chars, IsUtf8, refl, sym, ap, ◌∙◌, append_assoc, arith}
+use Rattle.std.proofs.Common.{◌≡◌, ◌<◌, ℕ, List, [], ◌∷◌, ◌++◌, Option, None, Some, length, chars, IsUtf8, refl, sym, ap, ◌∙◌, append_assoc, arith}
 use Rattle.std.proofs.lemmas.List.{append-nil}
 use Rattle.std.proofs.lemmas.Str.{chars-nil, encodes-chars}
 use lib.Utf8.{encodes}
 use Rattle.html_dom_tree.specs.Tree.{TextPair, Head, NodeView, element_node, NodesView, none, node, ElementView}
 use Rattle.html_dom_tree.specs.Views.{nodes_of}
 use Rattle.html_dom_document.specs.Documents.{DocumentView, document_root, given_root, root_of, with_root}
-use Rattle.html_dom_link.specs.Links.{Anchors, DeadLinkView, Hrefs, anchor_hrefs, attrs_with_href, dead_link, dest_before, document_hrefs, document_with_links, href_of, name_of, node_dead_links, node_with_links, nodes_dead_links, nodes_with_links, open_dest, root_with_links, some_name}
-use Rattle.html_dom_link.specs.Spellings.{leading_href}
+use Rattle.html_dom_link.specs.Links.{Anchors, DeadLinkView, Hrefs, attrs_with_href, dead_link, dest_before, document_hrefs, document_with_links, href_of, name_of, node_dead_links, node_with_links, nodes_dead_links, nodes_with_links, open_dest, root_with_links, some_name}
 
--- an empty name is none, and any other is one
 pub no_name : (bytes : List ℕ) → length bytes ≡ 0 → some_name (Some (chars bytes)) ≡ None
 no_name [] empty = rw chars-nil refl
 no_name (c ∷ cs) empty = absurd (omega (arith, empty))
@@ -23,18 +21,10 @@ a_name bytes utf8 some = by (chars bytes) refl
         absurd (omega (arith, some, ap length (sym (encodes-chars bytes utf8) ∙ ap encodes empty)))
     by (c ∷ cs) is = refl
 
--- the name of a known destination
 pub name_there : (anchor : Anchors) (dest : Option ℕ) (d : ℕ) (name : Option (List ℕ)) →
     dest ≡ Some d → name ≡ anchor d → some_name name ≡ name_of anchor dest
 name_there anchor dest d name dest_is name_is = rw dest_is (ap some_name name_is)
 
--- the `href` of a destination is that of its name
-pub href_of_name : (is_place : List ℕ → Bool) (anchor : Anchors) (dest : Option ℕ) →
-    leading_href is_place (name_of anchor dest) ≡ href_of (anchor_hrefs is_place anchor) dest
-href_of_name is_place anchor None = refl
-href_of_name is_place anchor (Some d) = refl
-
--- an element whose attributes and whose children have their links
 pub element_has_links : (hrefs : Hrefs) (dest : Option ℕ) (h : Head) (attrs : List TextPair)
     (made kids : NodesView) → attrs ≡ attrs_with_href (href_of hrefs (open_dest h dest)) h.attrs →
     made ≡ nodes_with_links hrefs [] kids →
@@ -115,7 +105,6 @@ one_more_dead hrefs dest before n left rest old new whole behind new_is left_is 
     ∙ (append_assoc old (node_dead_links hrefs (dest_before before) n) others
     ∙ (ap (λ l. old ++ nodes_dead_links hrefs before l) (sym left_is) ∙ told))
 
--- nothing is left
 pub no_more_dead : (hrefs : Hrefs) (before : List NodeView) (old whole : List DeadLinkView) →
     old ++ nodes_dead_links hrefs before none ≡ whole → old ≡ whole
 unfolding nodes_dead_links

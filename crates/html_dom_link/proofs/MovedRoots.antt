@@ -7,14 +7,12 @@ use Rattle.html_dom_link.specs.LinkAnchors.{document_targets, document_with_new_
 use Rattle.html_dom_link.specs.AnchorWalk.{Walked, element_walk}
 use Rattle.html_dom_link.proofs.WholeWalk.{root_written}
 
--- of two elements put in at one place the second stays
 put_twice : (ns : NodesView) (i : ℕ) (a b : ElementView) →
     with_element (with_element ns i a) i b ≡ with_element ns i b
 put_twice none i a b = refl
 put_twice (node n ns) zero a b = refl
 put_twice (node n ns) (suc i) a b = ap (node n) (put_twice ns i a b)
 
--- what is put in at a place where an element stands is there
 put_is_there : (ns : NodesView) (i : ℕ) (old new : ElementView) →
     element_at ns i ≡ Some old → element_at (with_element ns i new) i ≡ Some new
 put_is_there none i old new there = absurd (none-some old there)

@@ -120,7 +120,6 @@ free_is_new label used b = by_test (used (free_name label used)) refl
         let few = b.few in
         absurd (omega (arith, k, few))
 
--- a new name is not in use
 pub new_is_new : (label : Option Name) (used : Name → Bool) → IsBounded used →
     used (new_name label used) ≡ false
 unfolding new_name
@@ -133,7 +132,6 @@ new_is_new (Some (c ∷ cs)) used b = by_test (used (c ∷ cs)) refl
     by_test true e = free_is_new (c ∷ cs) used b
     by_test false e = e
 
--- numbers below the one that is found are in use
 pub below_first : (stem : Name) (used : Name → Bool) (t start m : ℕ) → start ≤ m →
     m < first_free stem used t start → used (name_with_number stem m) ≡ true
 unfolding first_free
@@ -244,7 +242,6 @@ free_within stem used (suc t) n = by_test (used (name_with_number stem n)) (free
     by_test true so = omega (arith, so)
     by_test false so = omega arith
 
--- below the number that is found all are in use
 pub used_below_found : (label : Name) (used : Name → Bool) → AreUsedBelow used label
     (first_free (stem_of label) used (2 ^ 63) (first_number label))
 used_below_found label used =
@@ -266,7 +263,6 @@ found_from label used from so =
     first_free_from (stem_of label) used (2 ^ 63) first from (first + 2 ^ 63) so.from_first refl
     so.within so.below
 
--- nothing is below the first number
 pub none_below_first : (label : Name) (used : Name → Bool) →
     AreUsedBelow used label (first_number label)
 none_below_first label used = record {
@@ -275,7 +271,6 @@ none_below_first label used = record {
   below = λ m l k. absurd (omega (arith, l, k));
 }
 
--- where more is in use
 pub used_below_more : (label : Name) (used more : Name → Bool) (number : ℕ) →
     ((m : Name) → used m ≡ true → more m ≡ true) →
     AreUsedBelow used label number → AreUsedBelow more label number

@@ -40,7 +40,6 @@ places_split (element_node h kids) ns =
 places_split (frame_node f) ns =
     ap (λ l. l ++ nodes_places ns) (sym (append-nil (frame_names f)))
 
--- two parts of the names that are put into a set
 both_put : (as' bs : List Name) (old mid new : Name → Bool) →
     mid ≡ with_names as' old → new ≡ with_names bs mid → new ≡ with_names (as' ++ bs) old
 both_put as' bs old mid new first next =

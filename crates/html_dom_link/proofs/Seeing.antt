@@ -46,7 +46,6 @@ module _ {A : Type 0} (s : Sight A) where
   normal_seen k (node (frame_node f) ns) = normal_seen k ns
 
   module _ (blind : SeesNoAnchors s) where
-    -- a new `id` doesn't matter
     id_seen : (k : Bool) (n : Option Name) (h : Head) (kids rest : NodesView) →
         nodes_seen k (node (element_node (with_id n h) kids) rest)
         ≡ nodes_seen k (node (element_node h kids) rest)
@@ -58,7 +57,6 @@ module _ {A : Type 0} (s : Sight A) where
         ∙ ap (λ l. l ++ nodes_seen k rest)
         (blind.id_seen n h.name h.attrs (inside (s.preserves h.name h.attrs)))
 
-    -- a new element adds nothing
     span_seen : (k : Bool) (n : Name) (span : ℕ) (kids rest : NodesView) →
         nodes_seen k (node (element_node (span_head n span) kids) rest)
         ≡ nodes_seen k kids ++ nodes_seen k rest

@@ -232,7 +232,6 @@ anchors_serve x e l =
     nothing_waits [] = refl
     nothing_waits (s ∷ ss) = nothing_waits ss
 
--- an `href` more changes nothing of that
 pub marks_stay : (x : Targets) (hrefs : Hrefs) (before : List NodeView) (ns : NodesView) →
     marks x (nodes_with_links hrefs before ns) ≡ marks x ns
 unfolding nodes_with_links node_with_links marks

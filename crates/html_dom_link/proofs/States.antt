@@ -92,7 +92,6 @@ finished_answers (e ∷ es) g l =
 abbrev pub named_if : Bool → Name → Option Name → Option Name
 named_if waits n old = if waits then Some n else old
 
--- a location that waits gets the name
 pub answered_is : (n : Name) (ss : List Start) (old : Option Name) (l : ℕ) →
     or_else (last_name (group_answers (Some n) ss) l) old ≡ named_if (is_in_group l ss) n old
 answered_is n [] old l = refl

@@ -42,7 +42,6 @@ walks_on x (node (text_node s span) ns) bs st = rw (walks_on x ns bs _) refl
 walks_on x (node (element_node h kids) ns) bs st = rw (walks_on x ns bs _) refl
 walks_on x (node (frame_node f) ns) bs st = rw (walks_on x ns bs _) refl
 
--- start tags of a frame and then others
 pub after_starts-append : (ss ts : List FrameStart) (st : WalkState) →
     after_starts (ss ++ ts) st ≡ after_starts ts (after_starts ss st)
 after_starts-append [] ts st = refl
@@ -56,13 +55,11 @@ start_pairs-append (s ∷ ss) ts used =
     let n = new_name s.label used in
     ap (λ ps. (s.point, n) ∷ ps) (start_pairs-append ss ts (with_used_name n used))
 
--- one node more at the end of a list
 pub nodes_view-push : (ns : List HtmlNode) (n : HtmlNode) →
     nodes_view (ns ++ n ∷ []) ≡ (nodes_view ns then node (node_view n) none)
 nodes_view-push [] n = refl
 nodes_view-push (m ∷ ns) n = ap (node (node_view m)) (nodes_view-push ns n)
 
--- one node more, and then what follows it
 pub span_placed : (ns : List HtmlNode) (n : HtmlNode) (more : NodesView) →
     (nodes_view (ns ++ n ∷ []) then more) ≡ (nodes_view ns then node (node_view n) more)
 span_placed ns n more =
@@ -91,7 +88,6 @@ pub tag_ended : (x : Targets) (l : ℕ) (st after : WalkState) (made : Option Na
 unfolding walk
 tag_ended x l st after made serves = rw (serves.name, serves.state) refl
 
--- the name that a frame has of its own
 pub own_is : (own : Option (Bor (String Global))) →
     option_map (λ n. text_view n.now) own ≡ optional_text_view (option_copied own)
 own_is None = refl

@@ -69,9 +69,6 @@ pub record IsTaken (end blanks rest whole : List ℕ) : Type 0 where
   pub blank : list_all is_blank blanks ≡ true
   pub told : end ++ without_end_blanks (blanks ++ filter is_kept (chars rest)) ≡ url_end whole
 
-pub nothing_taken : (text : List ℕ) → IsUtf8 text → IsTaken [] [] text (chars text)
-nothing_taken text u = record { utf8 = u; blank = refl; told = refl }
-
 module _ (end blanks rest later whole : List ℕ) (c : ℕ) (so_far : IsTaken end blanks rest whole)
     (parts : rest ≡ encode c ++ later) (u : IsUtf8 later) where
   left : filter is_kept (chars rest) ≡ filter is_kept (c ∷ chars later)
@@ -119,7 +116,6 @@ all_taken end blanks rest whole so_far none =
     (sym (ap chars none ∙ chars-nil))))
     ∙ so_far.told)
 
--- a text is empty where its bytes are
 pub none_unless : (s text : List ℕ) → length s ≡ 0 → chars s ≡ text → [] ≡ unless_empty text
 none_unless [] text e is = ap unless_empty (sym chars-nil ∙ is)
 none_unless (b ∷ bs) text e is = absurd (omega (arith, e))

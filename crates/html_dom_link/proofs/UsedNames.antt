@@ -19,14 +19,12 @@ use Rattle.std.proofs.lemmas.Str.Ascii.{IsAscii-nil, IsAscii-cons}
 use Rattle.std.proofs.Math.Bool.{or-true}
 use Rattle.html_names.specs.Names.{stands_in}
 use Rattle.html_names.specs.Texts.{text_view}
-use Rattle.html_names.proofs.Lists.{bytes_eq-chars}
+use Rattle.html_names.proofs.Lists.{bytes_eq-chars, chars_ascii}
 use lib.Utf8.{encodes}
-use Rattle.html_names.proofs.Lists.{chars_ascii}
 use Rattle.html_names.proofs.Basics.{bytes_eq-sym}
 use Rattle.html_dom_link.specs.NewNames.{Name, name_with_number, stem_of}
 use Rattle.html_dom_link.specs.UsedNames.{is_nothing, AreUsedBelow, IsCounted}
 
--- a text is among the keys where its characters are among theirs
 pub contains_is : (keys : List (String Global)) (bs : List ℕ) → IsUtf8 bs →
     list_any (is_at (λ k. slice_cmp nat_cmp bs (string_bytes k))) keys
     ≡ stands_in (map text_view keys) (chars bs)
@@ -41,7 +39,6 @@ equal_text : (a b : String Global) → string_cmp a b ≡ Equal → text_view a 
 equal_text a b e = ap chars ((bytes_eq-Decides (string_bytes a) (string_bytes b)).0
     (sym (is_eq-slice_cmp (string_bytes a) (string_bytes b)) ∙ ap is_eq e))
 
--- a key more
 pub insert_is : (keys : List (String Global)) (k : String Global) (name : List ℕ) →
     stands_in (map text_view (insert_key string_cmp keys k)) name
     ≡ (bytes_eq (text_view k) name || stands_in (map text_view keys) name)
@@ -81,7 +78,6 @@ insert_is (x ∷ xs) k name = by_order (string_cmp k x) refl (insert_is xs k nam
 dash : IsAscii (codes "-")
 dash = IsAscii-cons 45 [] (omega arith) IsAscii-nil
 
--- a numbered name in characters
 pub numbered_is : (stem : List ℕ) (n : ℕ) → IsUtf8 stem → n < 2 ^ 64 →
     chars (stem ++ (codes "-" ++ decimal n)) ≡ name_with_number (chars stem) n
 numbered_is stem n u l =
@@ -91,7 +87,6 @@ numbered_is stem n u l =
     ∙ (ap (λ t. t ++ chars (decimal n)) (chars-IsAscii (codes "-") dash)
     ∙ ap (λ t. codes "-" ++ t) (chars-IsAscii (decimal n) (IsAscii-decimal n l))))
 
--- a text is empty where its bytes are
 pub nothing_is : (s : String Global) → (length (string_bytes s) == 0) ≡ is_nothing (text_view s)
 nothing_is s = by_bytes (string_bytes s) (encodes-chars (string_bytes s) (IsUtf8-string_bytes s))
   where
@@ -109,7 +104,6 @@ pub stem_of_nothing : (label : Name) → is_nothing label ≡ true → chars (co
 stem_of_nothing [] e = chars_ascii (codes "loc") refl
 stem_of_nothing (c ∷ cs) e = cc
 
--- what is in use stays in use
 pub still_used : (keys : List (String Global)) (k : String Global) (n : Name) →
     stands_in (map text_view keys) n ≡ true →
     stands_in (map text_view (insert_key string_cmp keys k)) n ≡ true

@@ -75,7 +75,6 @@ started_is true l label g =
     ∙ ap (λ ls. record (walk_state g) { waiting = locations_of (g.queue ++ s ∷ []); labels = ls })
     (fun_ext (labels_more g.queue s))
 
--- the first label that waits
 first_waiting_is : (g : Groups) → first_waiting (walk_state g) ≡ waiting_in g.queue
 first_waiting_is g = by_queue g.queue
   where
@@ -84,7 +83,6 @@ first_waiting_is g = by_queue g.queue
     by_queue [] = refl
     by_queue (s ∷ ss) = rw (eq-eqb s.location s.location refl) refl
 
--- what is named
 made_is : (own : Option Name) (q : List Start) (used : Name → Bool) →
     made_now (waiting_in q) own used ≡ made_for own (first_label q) used q
 made_is own [] used = refl
@@ -234,14 +232,12 @@ made_at_end false l q used e = refl
 made_at_end true l [] used e = cc
 made_at_end true l (s ∷ ss) used e = refl
 
--- what is named at a server, by groups
 made_any : (own : Option Name) (g : Groups) →
     made_now (first_waiting (walk_state g)) own g.used
     ≡ made_for own (first_label g.queue) g.used g.queue
 made_any own g =
     ap (λ w. made_now w own g.used) (first_waiting_is g) ∙ made_is own g.queue g.used
 
--- a start tag makes no name
 no_name : (is_target : Bool) (l : ℕ) (label : Option Name) (g : Groups) →
     (naming_at g (start_event is_target l label)).made ≡ None
 no_name true l label g = refl

@@ -56,7 +56,6 @@ node_walked x ns others n old new st after all first_is so_far more =
     ∙ (ap (λ ms. walked_behind old (walk x (nodes_view ms) st)) (sym first_is)
     ∙ so_far)))
 
--- all nodes of a list
 pub nodes_walked : (x : Targets) (ns : List HtmlNode) (made : NodesView) (st : WalkState)
     (all : Walked) → ns ≡ [] → walked_behind made (walk x (nodes_view ns) st) ≡ all →
     (made, st) ≡ all
@@ -123,7 +122,6 @@ node_kept x ns new i d m more st after all h is no_end so_far step =
       ap has_end left ∙ clear.1,
     )
 
--- all nodes of a list, changed where they stand
 pub nodes_kept : (x : Targets) (ns : List HtmlNode) (i : ℕ) (st : WalkState) (all : Walked) →
     length ns ≤ i →
     walked_behind (nodes_view (take i ns)) (walk x (nodes_view (drop i ns)) st) ≡ all →
@@ -150,7 +148,6 @@ root_walked is_target d known named root used w known_is named_is root_is used_i
     ∙ (ap (λ u. walk x top.1 (at_first u)) used_is
     ∙ ap (λ e. walk x top.1 (at_first (stands_in (element_names e)))) (sym named_top))))
 
--- the document with the new root
 pub root_written : (is_target : ℕ → Bool) (d new : DocumentView) (root last : ElementView)
     (w : Walked) → w ≡ element_walk (document_targets is_target d) (document_root d) →
     root_of d.output ≡ Some root → last ≡ (root.0, w.0) →
@@ -166,7 +163,6 @@ root_written is_target d new root last w whole root_is last_is new_is =
     ∙ (one_walk_serves x top).0)) in
     new_is ∙ ap (λ e. record d { output = with_root d.output e }) last_anchored
 
--- the anchors of a document
 pub answers_are : (is_target : ℕ → Bool) (d : DocumentView) (w : Walked) →
     w ≡ element_walk (document_targets is_target d) (document_root d) →
     w.1.answers ≡ document_anchor is_target d

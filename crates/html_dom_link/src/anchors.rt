@@ -113,7 +113,6 @@ pub fn with_link_anchors(
     Ok((document, state.answers))
 }
 
-/// Nodes with anchors, in one walk over a tree whose names are in use, and what it ends with.
 fn walk_over(
     alloc: Global,
     names: AnchorNames,

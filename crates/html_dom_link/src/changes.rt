@@ -10,7 +10,6 @@ use html_names::{attr, tag};
 use std::alloc::{AllocError, Global};
 use std::mem;
 
-/// A new `span` with that `id`.
 #[tactic(auto, unfolding(html_names::specs::Tables::known_attrs, html_names::specs::Tables::known_tags))]
 pub(crate) fn named_span(
     alloc: Global,
@@ -40,7 +39,6 @@ pub(crate) fn name_attrs(attrs: &mut HtmlAttrs, made: Option<String>) -> Result<
     Ok(())
 }
 
-/// A text is put in a new `span` with that `id`.
 pub(crate) fn put_in_span(
     alloc: Global,
     node: &mut HtmlNode,

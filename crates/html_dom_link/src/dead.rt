@@ -62,7 +62,6 @@ pub fn dead_links(alloc: Global, document: &HtmlDocument) -> Result<Vec<DeadLink
     Ok(dead)
 }
 
-/// Adds a link to whose destination no `href` leads.
 fn add_link(
     alloc: Global,
     targets: LinkTargets<'_>,
@@ -84,7 +83,7 @@ fn add_link(
 
 // Each node stands first among the parameters: its depth shows that the calls end.
 
-/// Adds an element, if it is such a link, behind tags with that destination, and those below it.
+/// Adds the element's link, if it is dead behind tags with that destination, and those below it.
 #[cycle(dead)]
 fn add_element(
     element: &HtmlElement,
@@ -104,7 +103,6 @@ fn add_element(
     Ok(())
 }
 
-/// Adds those in a node, behind tags with that destination.
 #[cycle(dead)]
 #[tactic(auto, unfolding(crate::specs::Links::node_dead_links))]
 fn add_node(
@@ -124,7 +122,6 @@ fn add_node(
     }
 }
 
-/// Adds those in the nodes of a list.
 #[cycle(dead)]
 fn add_nodes(
     nodes: &[HtmlNode],

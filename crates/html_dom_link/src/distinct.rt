@@ -39,7 +39,6 @@ pub fn ids_are_distinct(alloc: Global, document: &HtmlDocument) -> Result<bool, 
     are_distinct(alloc, &listed_names(alloc, document.root())?)
 }
 
-/// Whether no name comes twice.
 fn are_distinct(alloc: Global, names: &[&String]) -> Result<bool, AllocError>
     ensures { IfOk result (λ distinct. distinct ≡ are_distinct (names_view names.now)) }
 {

@@ -13,6 +13,7 @@ use crate::changes::name_attrs;
 use crate::nodes::{anchor_frame, anchor_tag, anchor_text, has_end, push_span};
 use crate::sought::Sought;
 use crate::state::Walk;
+use html_dom_flat::give_back;
 use html_dom_tree::{HtmlElement, HtmlNode};
 use html_names::attr;
 use std::alloc::{AllocError, Global};
@@ -38,8 +39,7 @@ fn anchor_element(
     anchor_nodes(&mut element.children, state, alloc, sought)
 }
 
-/// A node is anchored where it stands, with all below it. The answer is the name of the new `span`
-/// that is to follow it.
+/// Answers the name of the new `span` that is to follow the node.
 #[cycle(nodes)]
 fn anchor_node(
     child: &mut HtmlNode,
@@ -60,7 +60,6 @@ fn anchor_node(
     Ok(None)
 }
 
-/// Nodes among which no end tag is are anchored where they stand.
 #[cycle(nodes)]
 fn anchor_in_place(
     nodes: &mut [HtmlNode],
@@ -82,7 +81,7 @@ fn anchor_in_place(
 /// Nodes with anchors, and with the new `span`s that follow end tags.
 #[cycle(nodes)]
 fn with_spans(
-    nodes: Vec<HtmlNode>,
+    mut nodes: Vec<HtmlNode>,
     state: &mut Walk,
     alloc: Global,
     sought: Sought<'_>,
@@ -91,7 +90,9 @@ fn with_spans(
         ≡ walk (targets_view sought.entry) (nodes_view nodes.items) (walk_view state.old)) }
 {
     let mut made = Vec::with_capacity(alloc, nodes.len())?;
-    for mut child in nodes {
+    nodes.reverse();
+    while let Some(mut child) = nodes.pop() {
+        give_back(&mut nodes);
         let name = anchor_node(&mut child, state, alloc, sought)?;
         made.push(child)?;
         push_span(&mut made, alloc, name)?;
@@ -99,7 +100,6 @@ fn with_spans(
     Ok(made)
 }
 
-/// Nodes are anchored, with all below them.
 #[cycle(nodes)]
 pub(crate) fn anchor_nodes(
     nodes: &mut Vec<HtmlNode>,

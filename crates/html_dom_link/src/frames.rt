@@ -44,7 +44,6 @@ fn name_start(
     Ok(())
 }
 
-/// The start tags of targets in an item of a frame get their names.
 #[cycle(frames)]
 #[tactic(auto, unfolding(crate::specs::Events::items_starts))]
 fn name_item(
@@ -67,7 +66,6 @@ fn name_item(
     }
 }
 
-/// The start tags of targets in a frame get their names.
 #[cycle(frames)]
 pub(crate) fn name_frame(
     walk: &mut Walk,

@@ -94,7 +94,6 @@ fn behind_hash(href: &str) -> Option<&str>
     None
 }
 
-/// The end of a URL as it is taken.
 fn url_end(alloc: Global, text: &str) -> Result<Output, AllocError>
     ensures { IfOk result (λ end. end ≡ url_end (chars text.now)) }
 {
@@ -115,7 +114,6 @@ fn url_end(alloc: Global, text: &str) -> Result<Output, AllocError>
     Ok(end)
 }
 
-/// The text, unless it is empty.
 fn unless_empty(text: Output) -> Option<String>
     ensures { option_to_list (option_map text_view result) ≡ unless_empty text }
 {
@@ -123,14 +121,12 @@ fn unless_empty(text: Output) -> Option<String>
     if text.is_empty() { None } else { Some(text) }
 }
 
-/// A fragment as a URL has it.
 fn url_fragment(alloc: Global, fragment: &str) -> Result<String, AllocError>
     ensures { IfOk result (λ text. text_view text ≡ url_fragment (chars fragment.now)) }
 {
     encoding(alloc, fragment, FRAGMENT)
 }
 
-/// Whether what a fragment of a URL decodes to leads to a place or to the top.
 fn leads_decoded(
     alloc: Global,
     places: &BTreeSet<String>,
@@ -150,14 +146,12 @@ fn text_leads(places: &BTreeSet<String>, text: &str) -> bool
     is_place(places, text) || is_top(text)
 }
 
-/// Whether a text is the name of a place.
 fn is_place(places: &BTreeSet<String>, text: &str) -> bool
     ensures { result ≡ used_in places.now (chars text.now) }
 {
     places.contains(text)
 }
 
-/// Whether a text leads to the top of the page.
 fn is_top(text: &str) -> bool
     ensures { result ≡ is_top text.now }
 {

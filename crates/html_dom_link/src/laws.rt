@@ -68,6 +68,7 @@ pub fn no_target_no_change()
 
 /// An `href` that is chosen for the name of a place leads to it; the plain one of
 /// [`href_to`](crate::href_to) does wherever no other place has its spelling as its own name.
+#[tactic(auto, using(crate::proofs::SpelledNames::leading_hrefs_lead, crate::proofs::SpelledNames::plain_hrefs_lead))]
 pub fn hrefs_lead()
     ensures chosen { LeadingHrefsLead }
     ensures plain { PlainHrefsLead }

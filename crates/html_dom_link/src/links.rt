@@ -15,6 +15,7 @@ ghost use Rattle.html_dom_link.specs.Serving.{KnownAnchorsServe};
 use crate::places::place_names;
 use crate::spellings::leading_href;
 use html_dom_document::{HtmlDocument, HtmlIntrospector};
+use html_dom_flat::give_back;
 use html_dom_tree::{HtmlAttrs, HtmlElement, HtmlNode, Location, Tag};
 use html_names::{Refused, attr, tag};
 use std::alloc::{AllocError, Global};
@@ -28,7 +29,6 @@ pub(crate) struct LinkTargets<'a> {
 }
 
 impl LinkTargets<'_> {
-    /// The `href` that leads to a destination, if one does.
     pub(crate) fn href(
         self,
         alloc: Global,
@@ -167,7 +167,6 @@ fn is_open(element: &HtmlElement) -> bool
     element.tag == tag::a && element.attrs.get(&attr::href).is_none()
 }
 
-/// The destination of a link that has no `href`, behind tags with that destination.
 pub(crate) fn open_dest(element: &HtmlElement, dest: Option<Location>) -> Option<Location>
     ensures { option_map (λ l. l.0) result
         ≡ open_dest (element_view element.now).0 (option_map (λ l. l.0) dest) }
@@ -198,7 +197,6 @@ fn attrs_with_href(href: Option<String>, mut attrs: HtmlAttrs) -> Result<HtmlAtt
 
 // Each node stands first among the parameters: its depth shows that the calls end.
 
-/// An element with its `href`, where it is a link that gets one, and with those of all below it.
 #[cycle(link)]
 fn element_with_links(
     element: HtmlElement,
@@ -218,7 +216,6 @@ fn element_with_links(
     })
 }
 
-/// A node with the `href` of each link in it, behind tags with that destination.
 #[cycle(link)]
 #[tactic(auto, unfolding(crate::specs::Links::node_with_links))]
 fn node_with_links(
@@ -239,10 +236,9 @@ fn node_with_links(
     }
 }
 
-/// The nodes of a list, with the `href` of each link.
 #[cycle(link)]
 pub(crate) fn nodes_with_links(
-    nodes: Vec<HtmlNode>,
+    mut nodes: Vec<HtmlNode>,
     alloc: Global,
     targets: LinkTargets<'_>,
 ) -> Result<Vec<HtmlNode>, AllocError>
@@ -251,7 +247,9 @@ pub(crate) fn nodes_with_links(
 {
     let mut made = Vec::with_capacity(alloc, nodes.len())?;
     let mut dest = None;
-    for child in nodes {
+    nodes.reverse();
+    while let Some(child) = nodes.pop() {
+        give_back(&mut nodes);
         let past = dest_past(dest, &child);
         made.push(node_with_links(child, alloc, targets, dest)?)?;
         dest = past;

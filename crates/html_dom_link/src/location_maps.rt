@@ -10,7 +10,6 @@ use html_dom_tree::Location;
 use std::alloc::AllocError;
 use std::collections::BTreeMap;
 
-/// The label that waits at a location, where one does.
 pub(crate) fn label_of(
     labels: &BTreeMap<Location, Option<String>>,
     location: Location,
@@ -24,7 +23,6 @@ pub(crate) fn label_of(
     }
 }
 
-/// A copy of a label. It fails only where an allocation does.
 pub(crate) fn copy_label(label: &Option<String>) -> Result<Option<String>, AllocError>
     ensures { IfOk result (λ copy. optional_text_view copy ≡ optional_text_view label.now) }
 {
@@ -34,7 +32,6 @@ pub(crate) fn copy_label(label: &Option<String>) -> Result<Option<String>, Alloc
     }
 }
 
-/// Keeps a label for a location that has none yet.
 pub(crate) fn put_first_label(
     labels: &mut BTreeMap<Location, Option<String>>,
     location: Location,
@@ -50,7 +47,6 @@ pub(crate) fn put_first_label(
     Ok(())
 }
 
-/// Each location gets the name.
 pub(crate) fn put_each(
     answers: &mut BTreeMap<Location, String>,
     locations: &[Location],
@@ -65,7 +61,6 @@ pub(crate) fn put_each(
     Ok(())
 }
 
-/// A location gets a name.
 pub(crate) fn put_name(
     answers: &mut BTreeMap<Location, String>,
     location: Location,

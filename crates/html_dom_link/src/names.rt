@@ -47,14 +47,12 @@ fn first_free(
     Ok(limit)
 }
 
-/// Whether a name is in use.
 pub(crate) fn is_used(used: &BTreeSet<String>, name: &String) -> bool
     ensures { result ≡ used_in used.now (text_view name.now) }
 {
     used.contains(name.as_str())
 }
 
-/// Puts a name in use.
 pub(crate) fn put_in_use(used: &mut BTreeSet<String>, name: String) -> Result<(), AllocError>
     ensures ok { OnOk result (used_in used.new ≡ with_used_name (text_view name) (used_in used.old)) }
     ensures grows { (n : Name) → used_in used.old n ≡ true → used_in used.new n ≡ true }
@@ -88,7 +86,6 @@ fn label_text(alloc: Global, label: &Option<String>) -> Result<String, AllocErro
 }
 
 impl AnchorNames {
-    /// No name is in use.
     pub(crate) fn new(alloc: Global) -> AnchorNames
         ensures { result.used.keys ≡ [] }
     {
@@ -105,7 +102,6 @@ impl AnchorNames {
         let _ = self.used.len();
     }
 
-    /// Puts a name in use.
     pub(crate) fn put(&mut self, name: &String) -> Result<(), AllocError>
         ensures { OnOk result (used_in self.new.used
             ≡ with_used_name (text_view name.now) (used_in self.old.used)) }
@@ -113,7 +109,6 @@ impl AnchorNames {
         put_in_use(&mut self.used, name.clone()?)
     }
 
-    /// A new name for a label, which is in use then.
     pub(crate) fn make(
         &mut self,
         alloc: Global,
@@ -129,7 +124,6 @@ impl AnchorNames {
         Ok(name)
     }
 
-    /// A new name for a label's text.
     fn new_name(&mut self, alloc: Global, label: String) -> Result<String, AllocError>
         ensures name { IfOk result (λ name. text_view name
             ≡ name_for (text_view label) (used_in self.old.used)) }
@@ -142,7 +136,6 @@ impl AnchorNames {
         }
     }
 
-    /// The stem of a label's text with the first number whose name is free.
     fn free_name(&mut self, alloc: Global, label: String) -> Result<String, AllocError>
         ensures name { IfOk result (λ name. text_view name
             ≡ free_name (text_view label) (used_in self.old.used)) }
@@ -156,7 +149,6 @@ impl AnchorNames {
         Ok(name)
     }
 
-    /// The next number to try for a label's text.
     fn next_number(&self, label: &String) -> u64
         ensures { AreUsedBelow (used_in self.now.used) (text_view label.now) result }
     {
@@ -167,14 +159,12 @@ impl AnchorNames {
     }
 }
 
-/// Whether a text is empty.
 fn is_nothing(text: &String) -> bool
     ensures { result ≡ is_nothing (text_view text.now) }
 {
     text.is_empty()
 }
 
-/// What stands before the number of a name.
 fn stem_of(label: &String) -> &str
     ensures { chars result.now ≡ stem_of (text_view label.now) }
 {
@@ -185,7 +175,6 @@ fn stem_of(label: &String) -> &str
     }
 }
 
-/// The first number of a name.
 fn first_number(label: &String) -> u64
     ensures { result ≡ first_number (text_view label.now) }
 {

@@ -14,7 +14,6 @@ use html_dom_tree::{HtmlAttrs, HtmlElement, HtmlFrame, HtmlNode, Point};
 use html_names::{HtmlAttr, attr};
 use std::alloc::{AllocError, Global};
 
-/// The names of an element and of all below it, in use.
 pub(crate) fn element_names(alloc: Global, element: &HtmlElement) -> Result<AnchorNames, AllocError>
     ensures { IfOk result (λ names. used_in names.used
         ≡ stands_in (element_names (element_view element.now))) }
@@ -37,7 +36,6 @@ pub(crate) fn listed_names(alloc: Global, element: &HtmlElement) -> Result<Vec<&
     Ok(names)
 }
 
-/// Adds the value of a pair that is an `id`.
 #[tactic(auto, unfolding(html_names::specs::Tables::known_attrs))]
 fn add_id<'a>(pair: &'a (HtmlAttr, String), names: &mut Vec<&'a String>) -> Result<(), AllocError>
     ensures { OnOk result (names_view names.new.items
@@ -49,7 +47,6 @@ fn add_id<'a>(pair: &'a (HtmlAttr, String), names: &mut Vec<&'a String>) -> Resu
     Ok(())
 }
 
-/// Adds all values of `id`.
 fn add_ids<'a>(attrs: &'a HtmlAttrs, names: &mut Vec<&'a String>) -> Result<(), AllocError>
     ensures { OnOk result (names_view names.new.items
         ≡ names_view names.old.items ++ all_ids (attrs_view attrs.now)) }
@@ -60,7 +57,6 @@ fn add_ids<'a>(attrs: &'a HtmlAttrs, names: &mut Vec<&'a String>) -> Result<(), 
     Ok(())
 }
 
-/// Adds the names of anchors.
 fn add_anchors<'a>(
     anchors: &'a [(Point, String)],
     names: &mut Vec<&'a String>,
@@ -74,7 +70,6 @@ fn add_anchors<'a>(
     Ok(())
 }
 
-/// Adds a frame's `id`, if it has one.
 fn add_frame_id<'a>(id: &'a Option<String>, names: &mut Vec<&'a String>) -> Result<(), AllocError>
     ensures { OnOk result (names_view names.new.items
         ≡ names_view names.old.items ++ option_to_list (optional_text_view id.now)) }
@@ -85,7 +80,6 @@ fn add_frame_id<'a>(id: &'a Option<String>, names: &mut Vec<&'a String>) -> Resu
     Ok(())
 }
 
-/// Adds the `id` of a frame and its anchors.
 fn add_frame<'a>(frame: &'a HtmlFrame, names: &mut Vec<&'a String>) -> Result<(), AllocError>
     ensures { OnOk result (names_view names.new.items ≡ names_view names.old.items
         ++ nodes_names (node (frame_node (html_frame_view frame.now)) none)) }
@@ -95,7 +89,6 @@ fn add_frame<'a>(frame: &'a HtmlFrame, names: &mut Vec<&'a String>) -> Result<()
     Ok(())
 }
 
-/// Adds the names of an element and of all below it.
 #[cycle(names)]
 fn add_element<'a>(element: &'a HtmlElement, names: &mut Vec<&'a String>) -> Result<(), AllocError>
     ensures { let e = element_view element.now in
@@ -107,7 +100,6 @@ fn add_element<'a>(element: &'a HtmlElement, names: &mut Vec<&'a String>) -> Res
     Ok(())
 }
 
-/// Adds the names of a node and of all below it.
 #[cycle(names)]
 fn add_node<'a>(child: &'a HtmlNode, names: &mut Vec<&'a String>) -> Result<(), AllocError>
     ensures { OnOk result (names_view names.new.items ≡ names_view names.old.items
@@ -121,7 +113,6 @@ fn add_node<'a>(child: &'a HtmlNode, names: &mut Vec<&'a String>) -> Result<(), 
     }
 }
 
-/// Adds the names of nodes and of all below them.
 #[cycle(names)]
 fn add_nodes<'a>(nodes: &'a [HtmlNode], names: &mut Vec<&'a String>) -> Result<(), AllocError>
     ensures { OnOk result (names_view names.new.items

@@ -20,7 +20,6 @@ use crate::state::Walk;
 use html_dom_tree::{HtmlFrame, HtmlNode, Span, Tag};
 use std::alloc::{AllocError, Global};
 
-/// Whether a node is an end tag.
 fn is_end(node: &HtmlNode) -> bool
     ensures { result ≡ is_end (node_view node.now) }
 {
@@ -31,7 +30,6 @@ fn is_end(node: &HtmlNode) -> bool
     }
 }
 
-/// Whether an end tag is among nodes.
 pub(crate) fn has_end(nodes: &[HtmlNode]) -> bool
     ensures { result ≡ list_any (λ n. is_end (node_view n)) nodes.now }
 {
@@ -82,7 +80,6 @@ pub(crate) fn anchor_tag(
     }
 }
 
-/// A frame without an `id` gets the one that was made.
 fn name_frame_id(id: &mut Option<String>, made: Option<String>)
     ensures { optional_text_view id.new
         ≡ or_else (optional_text_view id.old) (optional_text_view made) }
@@ -109,7 +106,6 @@ pub(crate) fn anchor_frame(
     Ok(())
 }
 
-/// Adds a new empty `span`, if it has a name.
 pub(crate) fn push_span(
     made: &mut Vec<HtmlNode>,
     alloc: Global,

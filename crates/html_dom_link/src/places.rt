@@ -29,7 +29,6 @@ pub fn place_names(alloc: Global, root: &HtmlElement) -> Result<BTreeSet<String>
     Ok(names)
 }
 
-/// The first `id` of an element.
 #[tactic(auto, unfolding(html_names::specs::Tables::known_attrs))]
 fn first_id(element: &HtmlElement) -> Option<&String>
     ensures { option_map (λ id. text_view id.now) result ≡ first_id (element_view element.now).0 }
@@ -50,7 +49,6 @@ fn link_name(element: &HtmlElement) -> Option<&String>
     }
 }
 
-/// Adds a name.
 fn add_name(name: &String, names: &mut BTreeSet<String>) -> Result<(), AllocError>
     ensures { OnOk result
         (used_in names.new ≡ with_names (text_view name.now ∷ []) (used_in names.old)) }
@@ -59,7 +57,6 @@ fn add_name(name: &String, names: &mut BTreeSet<String>) -> Result<(), AllocErro
     Ok(())
 }
 
-/// Adds a name, if there is one.
 fn add_optional(name: Option<&String>, names: &mut BTreeSet<String>) -> Result<(), AllocError>
     ensures { OnOk result (used_in names.new ≡ with_names
         (option_to_list (option_map (λ name. text_view name.now) name.entry)) (used_in names.old)) }
@@ -70,7 +67,6 @@ fn add_optional(name: Option<&String>, names: &mut BTreeSet<String>) -> Result<(
     }
 }
 
-/// Adds the names of anchors.
 fn add_anchors(anchors: &[(Point, String)], names: &mut BTreeSet<String>) -> Result<(), AllocError>
     ensures { OnOk result (used_in names.new
         ≡ with_names (anchor_names (anchors_view anchors.now)) (used_in names.old)) }
@@ -81,7 +77,6 @@ fn add_anchors(anchors: &[(Point, String)], names: &mut BTreeSet<String>) -> Res
     Ok(())
 }
 
-/// Adds the id of a frame and the names of its anchors.
 fn add_frame(frame: &HtmlFrame, names: &mut BTreeSet<String>) -> Result<(), AllocError>
     ensures { OnOk result (used_in names.new ≡ with_names
         (nodes_places (node (frame_node (html_frame_view frame.now)) none)) (used_in names.old)) }
@@ -93,7 +88,6 @@ fn add_frame(frame: &HtmlFrame, names: &mut BTreeSet<String>) -> Result<(), Allo
 
 // Each node stands first among the parameters: its depth shows that the calls end.
 
-/// Adds the names of an element and of all below it.
 #[cycle(places)]
 fn add_element(element: &HtmlElement, names: &mut BTreeSet<String>) -> Result<(), AllocError>
     ensures { let e = element_view element.now in OnOk result (used_in names.new
@@ -105,7 +99,6 @@ fn add_element(element: &HtmlElement, names: &mut BTreeSet<String>) -> Result<()
     Ok(())
 }
 
-/// Adds the names of a node and of all below it.
 #[cycle(places)]
 fn add_node(child: &HtmlNode, names: &mut BTreeSet<String>) -> Result<(), AllocError>
     ensures { OnOk result (used_in names.new
@@ -119,7 +112,6 @@ fn add_node(child: &HtmlNode, names: &mut BTreeSet<String>) -> Result<(), AllocE
     }
 }
 
-/// Adds the names of nodes and of all below them.
 #[cycle(places)]
 fn add_nodes(nodes: &[HtmlNode], names: &mut BTreeSet<String>) -> Result<(), AllocError>
     ensures { OnOk result (used_in names.new

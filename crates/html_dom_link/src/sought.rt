@@ -7,7 +7,6 @@ use std::collections::BTreeSet;
 /// The locations that links lead to, and what is known of locations.
 #[derive(Clone, Copy)]
 pub(crate) struct Sought<'a> {
-    /// The locations that links lead to.
     pub(crate) targets: &'a BTreeSet<Location>,
     /// Where locations were recorded.
     pub(crate) known: &'a HtmlIntrospector,

@@ -20,7 +20,6 @@ pub(crate) const FRAGMENT: AsciiSet = ascii_set!(
 /// That set and `%`, so that decoding gives what was encoded.
 pub(crate) const NAME: AsciiSet = ascii_set!(FRAGMENT.add(b'%'));
 
-/// Each byte.
 pub(crate) const ANY: AsciiSet = AsciiSet { mask: !0 };
 
 /// The `href` that leads to a place of the same page by its name, wherever no other place has that
@@ -47,7 +46,6 @@ pub fn href_to(alloc: Global, name: &str) -> Result<String, AllocError>
     href_with(alloc, spelling.as_str())
 }
 
-/// The `href` that leads to a name where these are the names of places, if one does.
 pub(crate) fn leading_href(
     alloc: Global,
     places: &BTreeSet<String>,
@@ -72,7 +70,6 @@ fn href_with(alloc: Global, fragment: &str) -> Result<String, AllocError>
     Ok(href.into_string())
 }
 
-/// Whether a browser encodes a character.
 fn is_in_fragment_set(c: char) -> bool
     ensures { result ≡ is_in_fragment_set c }
 {
@@ -100,21 +97,18 @@ pub(crate) fn encoding(alloc: Global, text: &str, set: AsciiSet) -> Result<Strin
     Ok(made)
 }
 
-/// A name, with what is not left as it is, and `%`, encoded.
 fn name_encoding(alloc: Global, name: &str) -> Result<String, AllocError>
     ensures { IfOk result (λ made. text_view made ≡ encoding is_in_name_set (chars name.now)) }
 {
     encoding(alloc, name, NAME)
 }
 
-/// A name with each byte encoded.
 fn full_encoding(alloc: Global, name: &str) -> Result<String, AllocError>
     ensures { IfOk result (λ made. text_view made ≡ encoding is_any (chars name.now)) }
 {
     encoding(alloc, name, ANY)
 }
 
-/// The plainest spelling of a name.
 #[tactic(auto, unfolding(crate::specs::Spellings::plain_spelling))]
 fn plain_spelling(alloc: Global, name: &str) -> Result<String, AllocError>
     ensures { IfOk result (λ made. text_view made ≡ plain_spelling (chars name.now)) }
@@ -126,7 +120,6 @@ fn plain_spelling(alloc: Global, name: &str) -> Result<String, AllocError>
     }
 }
 
-/// A spelling that none of the places has as its name.
 fn unless_place(places: &BTreeSet<String>, spelling: String) -> Option<String>
     ensures { option_map text_view result
         ≡ unless_place (used_in places.now) (text_view spelling) None }
@@ -138,7 +131,6 @@ fn unless_place(places: &BTreeSet<String>, spelling: String) -> Option<String>
     }
 }
 
-/// The spelling of a name that leads to it where these are the names of places, if one does.
 #[tactic(auto, unfolding(crate::specs::Spellings::leading_spelling))]
 fn leading_spelling(
     alloc: Global,

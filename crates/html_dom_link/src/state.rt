@@ -13,7 +13,6 @@ pub(crate) struct Walk {
     pub(crate) waiting: Vec<Location>,
     /// For each location that waits the label of its first start tag.
     pub(crate) labels: BTreeMap<Location, Option<String>>,
-    /// The names in use.
     pub(crate) names: AnchorNames,
     /// The last name of each location.
     pub(crate) answers: BTreeMap<Location, String>,
@@ -30,7 +29,6 @@ impl Walk {
     ghost use Rattle.html_dom_link.specs.UsedNames.{used_in};
     ghost use Rattle.html_dom_link.specs.WalkViews.{walk_view};
 
-    /// A start tag of a target waits for a server.
     pub(crate) fn queue(
         &mut self,
         location: Location,
@@ -43,7 +41,6 @@ impl Walk {
         put_first_label(&mut self.labels, location, label)
     }
 
-    /// A start tag waits for a server where its location is a target.
     pub(crate) fn start(
         &mut self,
         targets: &BTreeSet<Location>,
@@ -71,7 +68,6 @@ impl Walk {
         }
     }
 
-    /// The walk before the first node, over a tree whose names are in use.
     pub(crate) fn new(alloc: Global, names: AnchorNames) -> Walk
         ensures { walk_view result ≡ at_first (used_in names.used) }
     {
@@ -83,7 +79,6 @@ impl Walk {
         }
     }
 
-    /// A start tag in a frame gets a new name of its own, which is answered.
     pub(crate) fn name_start(
         &mut self,
         alloc: Global,
@@ -100,7 +95,6 @@ impl Walk {
         Ok(name)
     }
 
-    /// All that wait get the name.
     fn answer_all(&mut self, alloc: Global, name: &String) -> Result<(), AllocError>
         ensures { OnOk result (walk_view self.new
             ≡ with_answers (text_view name.now) (walk_view self.old)) }
@@ -111,7 +105,6 @@ impl Walk {
         Ok(())
     }
 
-    /// A server with a name of its own serves all that wait.
     fn serve_with(&mut self, alloc: Global, own: &String) -> Result<Option<String>, AllocError>
         ensures { IfOk result (λ made. Serves (walk_view self.old) (walk_view self.new)
             (Some None) (Some (text_view own.now)) (optional_text_view made)) }
@@ -120,7 +113,6 @@ impl Walk {
         Ok(None)
     }
 
-    /// A new name, made from a label, serves all that wait.
     fn serve_new(
         &mut self,
         alloc: Global,
@@ -134,8 +126,7 @@ impl Walk {
         Ok(Some(name))
     }
 
-    /// A server, which may have a name of its own, serves all that wait. The name that is made for
-    /// it is answered.
+    /// Answers the name that is made for the server, which may have one of its own.
     pub(crate) fn serve(
         &mut self,
         alloc: Global,
@@ -154,8 +145,7 @@ impl Walk {
         }
     }
 
-    /// An end tag serves all that wait, where its location waits. The name that is made is
-    /// answered.
+    /// An end tag serves all that wait, where its location waits.
     pub(crate) fn end(
         &mut self,
         alloc: Global,

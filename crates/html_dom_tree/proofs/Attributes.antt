@@ -49,7 +49,6 @@ module _ (name : List ℕ) where
   at_by true p ps n other rest within = refl
   at_by false p ps n other rest within = rw add-one (rest (omega arith))
 
-  -- a place within the list is where the first value is
   pub first_at : (ps : List Item) (other : Item) →
       let n = place (map pair_view ps) name in
       n < length ps → first (map pair_view ps) name ≡ Some (text_view (get_or ps n other).1)
@@ -64,7 +63,6 @@ module _ (name : List ℕ) where
   past_by true p ps n rest past = absurd (omega arith)
   past_by false p ps n rest past = rest (omega arith)
 
-  -- a place past the list means that the name is not there
   pub first_past : (ps : List Item) →
       length ps ≤ place (map pair_view ps) name → first (map pair_view ps) name ≡ None
   first_past [] past = refl
@@ -76,9 +74,4 @@ module _ (name : List ℕ) where
 pub set_there : (ps : List TextPair) (p : TextPair) (value : List ℕ) → first ps p.0 ≡ Some value →
     with_value ps p.0 p.1 ≡ with_set ps p
 set_there ps p value e =
-    ap (λ o. if is_some o then with_value ps p.0 p.1 else ps ++ p ∷ []) (sym e)
-
-pub set_new : (ps : List TextPair) (p : TextPair) → first ps p.0 ≡ None →
-    ps ++ p ∷ [] ≡ with_set ps p
-set_new ps p e =
     ap (λ o. if is_some o then with_value ps p.0 p.1 else ps ++ p ∷ []) (sym e)

@@ -34,7 +34,6 @@ pub or_else-none : {A : Type 0} (a : Option A) → or_else a None ≡ a
 or_else-none None = refl
 or_else-none (Some x) = refl
 
--- two texts before plain nodes are joined
 pub put_twice : (t u : List ℕ) (ps : Plains) → put_words t (put_words u ps) ≡ put_words (t ++ u) ps
 put_twice [] u ps = refl
 put_twice (c ∷ cs) [] no_plains =

@@ -10,7 +10,6 @@ pub nodes_view-drop : (ns : List HtmlNode) (i : ℕ) (x : HtmlNode) →
     nodes_view (drop i ns) ≡ node (node_view x) (nodes_view (drop (i + 1) ns))
 nodes_view-drop ns i x within is = ap nodes_view (from_place ns i x within is)
 
--- a list with one more is that list with its node last
 pub with_last_view : (ns : List HtmlNode) (x : HtmlNode) →
     nodes_view (ns ++ x ∷ []) ≡ with_last (nodes_view ns) (node_view x)
 with_last_view [] x = refl

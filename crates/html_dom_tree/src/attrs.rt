@@ -119,7 +119,6 @@ impl HtmlAttrs {
         None
     }
 
-    /// The value of the pair at that place, to be changed.
     fn value_mut(&mut self, place: usize) -> &mut String
         requires { place < vec_len self.old.0 }
         ensures* writes_back { sem 𝓛 (Lends the_row text_row self.entry result
@@ -143,7 +142,6 @@ impl HtmlAttrs {
         place
     }
 
-    /// Whether a pair of that name is there.
     fn contains(&self, attr: &HtmlAttr) -> bool
         ensures { result ≡ has_name (attrs_view self.now) attr.now }
     {

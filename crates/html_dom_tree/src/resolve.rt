@@ -88,7 +88,6 @@ fn style_nodes(alloc: Global, nodes: &mut [HtmlNode]) -> Result<(), AllocError>
     Ok(())
 }
 
-/// Puts the css into the attributes, if there is any.
 fn style_attrs(alloc: Global, css: &Properties, attrs: &mut HtmlAttrs) -> Result<(), AllocError>
     ensures { OnOk result (attrs_view attrs.new ≡ styled_attrs css.now (attrs_view attrs.old)) }
 {
@@ -98,7 +97,6 @@ fn style_attrs(alloc: Global, css: &Properties, attrs: &mut HtmlAttrs) -> Result
     put_style(attrs, inline_text(alloc, css)?)
 }
 
-/// The css as the text of a `style` attribute.
 fn inline_text(alloc: Global, css: &Properties) -> Result<String, AllocError>
     ensures { IfOk result (λ text. text_view text ≡ inline_text css.now) }
 {

@@ -6,7 +6,6 @@ use Rattle.html_values_css.specs.declared.cast_fault.CastFault.{CastFault}
 use Rattle.html_flow_convert.specs.ConstructFaults.{cast_faults, faults_view}
 use Rattle.html_flow.specs.Construct.{joined_faults}
 
--- of those that were found, with none left
 pub joined-found : (found : List (CastFault × Span)) (left all : List (CastFault × ℕ))
     → 0 < length found → left ≡ [] → faults_view found ++ left ≡ all
     → joined_faults all ≡ cast_faults (faults_view found) ∷ []

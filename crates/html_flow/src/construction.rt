@@ -74,7 +74,6 @@ pub fn construct(
     })
 }
 
-/// Whether that is the attribute's name.
 #[tactic(auto, using(html_names::proofs::Lists::in_characters))]
 fn is_named(attr: &HtmlAttr, name: &str) -> bool
     ensures { result ≡ bytes_eq attr.now (chars name.now) }
@@ -82,7 +81,6 @@ fn is_named(attr: &HtmlAttr, name: &str) -> bool
     *attr.resolve() == *name
 }
 
-/// The entry for an argument of that name.
 fn entry_for<'a>(
     entries: &'a [(HtmlAttr, AttrType)],
     name: &Option<String>,
@@ -101,7 +99,6 @@ fn entry_for<'a>(
     None
 }
 
-/// What an argument becomes as an attribute of that type.
 fn cast_arg(
     alloc: Global,
     attr_type: &AttrType,
@@ -116,7 +113,6 @@ fn cast_arg(
     }
 }
 
-/// The attributes that the arguments become.
 fn cast_args(
     alloc: Global,
     entries: &[(HtmlAttr, AttrType)],
@@ -145,7 +141,6 @@ fn cast_args(
     }
 }
 
-/// The place of the first argument without a name.
 fn unnamed_at(args: &[Arg]) -> Option<usize>
     ensures place { result ≡ unnamed_at (args_view args.now) }
     ensures within { IfSome result (λ place. place < length args.now) }
@@ -158,7 +153,6 @@ fn unnamed_at(args: &[Arg]) -> Option<usize>
     None
 }
 
-/// A body of one text.
 fn text_body(alloc: Global, text: &String, span: Span) -> Result<Vec<Pair>, ConstructFault>
     ensures { Gives (λ made. items_view made.items) result
         (text_items (text_view text.now) span.0) [] }
@@ -201,7 +195,6 @@ fn own_or(value: ArgValue, plain: Vec<Pair>) -> Vec<Pair>
     }
 }
 
-/// Takes an argument out of the arguments as the body.
 fn take_at(
     alloc: Global,
     raw: bool,
@@ -221,7 +214,6 @@ fn take_at(
     Ok(own_or(value, plain))
 }
 
-/// Takes the argument that is the body out of the arguments.
 fn take_body(
     alloc: Global,
     tag: &HtmlTag,

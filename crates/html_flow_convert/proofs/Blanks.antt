@@ -75,25 +75,21 @@ ends_by true made left n e h = passes_tag made left n e h
 ends_by false made left n e h =
     ends_at_other made [] left n refl (or_from (is_blank_node n) (is_tag n) h e)
 
--- a node that doesn't belong to the run ends it
 pub run_ends : (made run left : List NodeView) (n : NodeView) → begins_with_tag run ≡ false →
     goes_on run n ≡ false →
     runs_of made run (n ∷ left) ≡ runs_of ((made ++ run_nodes run) ++ n ∷ []) [] left
 run_ends made [] left n h other = ends_by (is_tag n) made left n refl other
 run_ends made (m ∷ run) left n h other = ends_at_other made (m ∷ run) left n h other
 
--- at the end
 pub runs_end : (made run : List NodeView) → begins_with_tag run ≡ false →
     runs_of made run [] ≡ made ++ run_nodes run
 unfolding blank_front after_front
 runs_end made run h = rw (append-nil run, run_is run h, append-nil) refl
 
--- blanks that are kept
 pub kept_run : (ns : List NodeView) → are_kept (filter is_blank_node ns) ≡ true →
     run_nodes ns ≡ element_node (pre_wrap_head (first_span ns)) (nodes_of ns) ∷ []
 kept_run ns e = rw e refl
 
--- blanks that collapse
 pub left_run : (ns : List NodeView) → are_kept (filter is_blank_node ns) ≡ false → run_nodes ns ≡ ns
 left_run ns e = rw e refl
 
@@ -117,7 +113,6 @@ mutual
   runs_stay (element_node h ks ∷ ns) e = ap (λ l. element_node h ks ∷ l) (runs_stay ns e)
   runs_stay (frame_node f ∷ ns) e = ap (λ l. frame_node f ∷ l) (runs_stay ns e)
 
-  -- the run that goes on has one space
   run_stays : (ns : List NodeView) → has_kept_run true ns ≡ false →
       (filter is_blank_node (blank_front ns) ≡ []) × (ns ≡ blank_front ns ++ after_front ns)
   run_stays [] e = (refl, refl)

@@ -10,7 +10,6 @@ use Rattle.html_flow_convert.specs.declared.item.Item.TheFolds.{fold-roll-HtmlEl
 use Rattle.html_flow_convert.specs.declared.item.Item.TheViews.{out-HtmlElem, roll-HtmlElem}
 use Rattle.html_flow_convert.specs.declared.item.Pair.{Pair}
 
--- a list with one more is that list with its item last
 pub with_last_view : (ps : List Pair) (p : Pair) →
     items_view (ps ++ p ∷ []) ≡ with_last (items_view ps) (pair_view p)
 with_last_view [] p = refl

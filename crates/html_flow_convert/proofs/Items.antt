@@ -47,13 +47,11 @@ module _ (pairs later : List Pair) (p : Pair) (is : pairs ≡ p ∷ later) where
     unfolding item_too_deep
     joined = rw (so_deep, so_far) (ap (items_too_deep depth limit) (sym split) ∙ held)
 
-    -- an item that does not stand too deep is passed
     pub none_passed : item_too_deep own_depth own_limit (item_view p.item) ≡ [] →
         items_too_deep depth limit others ≡ all
     none_passed none =
         ap (λ l. l ++ items_too_deep depth limit others) (sym none) ∙ joined
 
-    -- the first in an item is the first of all
     pub first_left : (e : FlowFault) →
         IsFirst e (item_too_deep own_depth own_limit (item_view p.item)) → IsFirst e all
     first_left e first = subst (IsFirst e) joined (first_of_more e _ _ first)

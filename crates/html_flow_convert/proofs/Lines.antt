@@ -23,7 +23,6 @@ use Rattle.html_flow_convert.proofs.Looks.{element_seen, is_entered_by}
 
 -- one answer after the other
 
--- a border at the start changes nothing
 after_border : (ts : List Thing) → bare_after None ts ≡ bare_after (Some border) ts
 unfolding bare_after
 after_border [] = refl
@@ -47,7 +46,6 @@ answers_step last.Visible look.Border ts = after_border ts
 answers_step (last.Space in_line) look.Border ts = ap (λ bs. (in_line && false) ∷ bs) (after_border ts)
 answers_step l next ts = refl
 
--- nothing stands after the end, as before a border
 pub answers_end : (l : Last) → answer_before l look.Border ≡ answers_left l []
 unfolding bare_after
 answers_end last.Border = refl

@@ -69,7 +69,6 @@ pub block_text : IsUtf8 (codes "block")
 unfolding lib.Utf8.encode
 block_text = (codes "block", (refl, refl))
 
--- the text is that word of ASCII
 pub bytes_eq-word : (text word : List ℕ) → is_ascii word ≡ true → IsUtf8 text → IsUtf8 word
     → bytes_eq (chars text) word ≡ bytes_eq text word
 bytes_eq-word text word ascii utf8 own =

@@ -50,7 +50,6 @@ pub opened_things : (h : Head) (inside : List Thing) → is_entered h ≡ true �
 unfolding is_entered
 opened_things h inside e = opened_by (is_border_element h) (is_replaced h.name) h.pre_span inside e
 
--- each space has an answer
 answer_count : (before : Option Thing) (ts : List Thing) →
     length (bare_after before ts) ≡ space_count ts
 unfolding bare_after

@@ -12,7 +12,6 @@ one_of d [] = refl
 one_of d (c ∷ []) = sym (and-true (c == d))
 one_of d (c ∷ e ∷ cs) = sym (and-false (c == d))
 
--- the bytes are that one where the characters are
 pub one_byte : (d : ℕ) (text : List ℕ) → d < 128 → IsUtf8 text → is_one d (chars text) ≡ is_one d text
 one_byte d text small u =
     let ascii : IsAscii (d ∷ []) = IsAscii-cons d [] small IsAscii-nil in

@@ -1,10 +1,9 @@
 -- Stretches of a text where white space collapses, as they grow.
 use Rattle.std.proofs.Common.{◌≡◌, ℕ, ◌-◌, ◌<◌, Bool, true, false, ◌&&◌, ◌||◌, ◌==◌, List, [], ◌∷◌, ◌++◌, IsTrue, Option, None, Some, chars, length, map, take, refl, sym, ap, ◌∙◌, arith, append-nil, append_assoc}
-use Rattle.std.proofs.lemmas.Bool.{agree_below_at, false≢true, true≢false}
+use Rattle.std.proofs.lemmas.Bool.{agree_below_at, false≢true, true≢false, and_parts, and_from}
 use Rattle.std.proofs.lemmas.Bool.Decides.{nat_tests}
 use Rattle.std.proofs.lemmas.List.{map-append, nil_from_length}
 use Rattle.std.proofs.lemmas.Str.{IsUtf8-nil, IsUtf8-append, IsUtf8-encode, chars-append, chars-nil, chars_past_char, scalars-chars, encodes-chars}
-use Rattle.std.proofs.lemmas.Bool.{and_parts, and_from}
 use Rattle.std.specs.Str.{IsUtf8}
 use Rattle.html_names.specs.Characters.{is_ignorable}
 use Rattle.html_names.proofs.Basics.{chars-encode, front_taken}
@@ -13,7 +12,6 @@ use Rattle.html_flow_convert.specs.Pieces.{PieceView, stretch, alone, line_break
 use Rattle.html_flow_convert.specs.TextStretches.{with_stretch}
 use lib.Utf8.{scalar, scalars, encode, encodes}
 
--- each ASCII character is shown
 pub ascii_shown : (c : ℕ) → c < 128 → is_ignorable c ≡ false
 unfolding is_ignorable
 ascii_shown c small = agree_below_at is_ignorable (λ _. false) 128 c refl small
@@ -108,7 +106,6 @@ stretch_ends ends rest text none held h =
     let empty = nil_from_length rest none in
     one_stretch (chars text) (sym (rw (empty, chars-nil) at held) ∙ h)
 
--- a piece of another kind ends a stretch
 before_alone : (cs : List ℕ) (d : ℕ) (ps : List PieceView) →
     with_stretch cs (alone d ∷ ps) ≡ with_stretch cs [] ++ alone d ∷ ps
 before_alone [] d ps = refl
@@ -139,20 +136,17 @@ outside : (front : List ℕ) (before : Option ℕ) (c : ℕ) (ps : List PieceVie
 outside front before c ps none =
     outside_by (c == 13) (c == 10) (is_carriage_return before) front before c ps refl refl refl none
 
--- a character more in the stretch
 stretch_more : (cs : List ℕ) (c : ℕ) (ps : List PieceView) →
     with_stretch (cs ++ c ∷ []) ps ≡ with_stretch cs (in_stretch c ps)
 stretch_more [] c ps = refl
 stretch_more (d ∷ cs) c ps = ap (in_stretch d) (stretch_more cs c ps)
 
--- no carriage return stands in a stretch
 return_apart : (before : Option ℕ) (c : ℕ) (after : List ℕ) →
     is_in_stretch before c after ≡ true → (c == 13) ≡ true → ⊥
 return_apart before c after h e =
     let is : c ≡ 13 = grind (arith, nat_tests) in
     false≢true (rw is at h)
 
--- the first character of a text
 pub first_scalar : (bs rest : List ℕ) (c : ℕ) → IsUtf8 bs → bs ≡ encode c ++ rest → scalar c ≡ true
 first_scalar bs rest c u e =
     (and_parts (scalar c) (scalars (chars rest))

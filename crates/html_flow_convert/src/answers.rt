@@ -12,17 +12,14 @@ use crate::look::{Look, element_look, text_look};
 use html_dom_tree::{HtmlElement, HtmlNode};
 use std::alloc::{AllocError, Global};
 
-/// Nodes that are gone through.
 #[derive(Drop)]
 struct Walk {
     /// For each lone space but one that stands last, whether it is bare.
     bare: Vec<bool>,
-    /// What stands last.
     last: Last,
 }
 
 impl Walk {
-    /// Goes on to what looks like that.
     fn see(&mut self, look: Look) -> Result<(), AllocError>
         ensures { OnOk result (walk_view self.new ≡ walk_on (walk_view self.old) (look_things look [])) }
     {
@@ -31,7 +28,6 @@ impl Walk {
         Ok(())
     }
 
-    /// Goes through nodes.
     #[cycle(walk)]
     fn see_nodes(&mut self, nodes: &[HtmlNode]) -> Result<(), AllocError>
         ensures { OnOk result (walk_view self.new
@@ -43,7 +39,6 @@ impl Walk {
         Ok(())
     }
 
-    /// Goes on to a node.
     #[cycle(walk)]
     #[tactic(auto, using(crate::proofs::Looks::text_seen), unfolding(crate::specs::BareSpaces::node_things, crate::specs::Walks::walk_on))]
     fn see_node(&mut self, node: &HtmlNode) -> Result<(), AllocError>
@@ -58,7 +53,6 @@ impl Walk {
         }
     }
 
-    /// Goes on to an element.
     #[cycle(walk)]
     fn see_element(&mut self, element: &HtmlElement) -> Result<(), AllocError>
         ensures { let inside = nodes_things (nodes_view element.now.children.items) in
@@ -73,7 +67,6 @@ impl Walk {
     }
 }
 
-/// What an element looks like.
 fn look_of(element: &HtmlElement) -> Look
     ensures { result ≡ head_look (head_of element.now) }
 {
@@ -93,7 +86,6 @@ pub(crate) fn answers_for(alloc: Global, nodes: &[HtmlNode]) -> Result<Vec<bool>
     Ok(walk.bare)
 }
 
-/// Whether all answers are that the space is bare.
 pub(crate) fn are_bare(answers: &[bool]) -> bool
     ensures { result ≡ list_all (λ bare. bare) answers.now }
 {

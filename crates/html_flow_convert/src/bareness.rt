@@ -25,7 +25,6 @@ pub struct Bareness {
     pub turns: usize,
 }
 
-/// What a node of a list looks like.
 fn flat_look(names: &NameTable, node: &FlatNode) -> Look
     requires { is_node_given names.now node.now ≡ true }
     ensures { result ≡ flat_look (flat_node_view names.now node.now) }
@@ -51,7 +50,6 @@ fn place_past(node: &FlatNode, place: usize) -> usize
     }
 }
 
-/// The place of the next node to look at.
 fn next_place(node: &FlatNode, look: Look, place: usize) -> usize
     requires { place + 1 < 2 ^ 64 }
     ensures { result ≡ next_place place look node.now }

@@ -150,7 +150,6 @@ pub fn convert_items(
     convert_list(alloc, items, level, setting)
 }
 
-/// The nodes of a list.
 #[cycle(convert)]
 fn convert_list(
     alloc: Global,
@@ -231,7 +230,6 @@ fn push_item(
     }
 }
 
-/// Adds the node of an element item.
 #[cycle(convert)]
 fn push_element(
     alloc: Global,
@@ -270,7 +268,6 @@ fn push_element(
     Ok(push_made(nodes, made)?)
 }
 
-/// Adds an element.
 fn push_made(nodes: &mut Vec<HtmlNode>, element: HtmlElement) -> Result<(), AllocError>
     ensures { OnOk result (map node_view nodes.new.items ≡ map node_view nodes.old.items
         ++ element_node (head_of element) (nodes_view element.children.items) ∷ []) }
@@ -279,7 +276,6 @@ fn push_made(nodes: &mut Vec<HtmlNode>, element: HtmlElement) -> Result<(), Allo
     Ok(())
 }
 
-/// The attributes of an element of that name, with a role.
 fn attrs_with_role(
     alloc: Global,
     tag: &HtmlTag,
@@ -295,7 +291,6 @@ fn attrs_with_role(
     Ok(attrs)
 }
 
-/// Adds a role, where there is one.
 #[tactic(auto, unfolding(html_names::specs::Tables::known_attrs))]
 fn push_role(alloc: Global, attrs: &mut HtmlAttrs, role: Option<&str>) -> Result<(), AllocError>
     ensures { OnOk result (attrs_view attrs.new
@@ -307,7 +302,6 @@ fn push_role(alloc: Global, attrs: &mut HtmlAttrs, role: Option<&str>) -> Result
     Ok(attrs.push(attr::role, String::from_str(alloc, role)?)?)
 }
 
-/// Adds the node of a tag.
 fn push_tag(nodes: &mut Vec<HtmlNode>, tag: Tag) -> Result<(), AllocError>
     ensures { OnOk result
         (map node_view nodes.new.items ≡ map node_view nodes.old.items ++ tag_node (tag_view tag) ∷ []) }
@@ -316,7 +310,6 @@ fn push_tag(nodes: &mut Vec<HtmlNode>, tag: Tag) -> Result<(), AllocError>
     Ok(())
 }
 
-/// Adds a text.
 fn push_string(nodes: &mut Vec<HtmlNode>, text: String, span: Span) -> Result<(), AllocError>
     ensures { OnOk result (map node_view nodes.new.items ≡ map node_view nodes.old.items
         ++ text_node (text_view text) span.0 ∷ []) }
@@ -325,7 +318,6 @@ fn push_string(nodes: &mut Vec<HtmlNode>, text: String, span: Span) -> Result<()
     Ok(())
 }
 
-/// Adds a text of ASCII.
 fn push_literal(
     alloc: Global,
     nodes: &mut Vec<HtmlNode>,
@@ -339,7 +331,6 @@ fn push_literal(
     push_string(nodes, String::from_str(alloc, text)?, span)
 }
 
-/// Adds the nodes of a text item.
 fn push_text(
     alloc: Global,
     nodes: &mut Vec<HtmlNode>,
@@ -356,7 +347,6 @@ fn push_text(
     }
 }
 
-/// Adds the node of a line break.
 fn push_break(
     alloc: Global,
     nodes: &mut Vec<HtmlNode>,
@@ -375,7 +365,6 @@ fn push_break(
     }
 }
 
-/// Adds the node of a frame item.
 fn push_frame(alloc: Global, nodes: &mut Vec<HtmlNode>, frame: FrameElem) -> Result<(), AllocError>
     ensures { OnOk result (map node_view nodes.new.items ≡ map node_view nodes.old.items
         ++ frame_item_node (frame_elem_view frame) ∷ []) }
@@ -386,7 +375,6 @@ fn push_frame(alloc: Global, nodes: &mut Vec<HtmlNode>, frame: FrameElem) -> Res
     Ok(())
 }
 
-/// The css of what is laid out as a block.
 fn block_css(alloc: Global) -> Result<Properties, AllocError>
     ensures { IfOk result (λ css. css ≡ (codes "display", codes "block") ∷ []) }
 {
@@ -411,7 +399,6 @@ fn finish(
     }
 }
 
-/// The same where white space collapses.
 fn finish_list(
     alloc: Global,
     nodes: Vec<HtmlNode>,

@@ -25,7 +25,6 @@ pub(crate) fn items_too_deep(items: &[Pair], depth: usize, limit: usize) -> Opti
     None
 }
 
-/// The same of an item.
 #[cycle(depth)]
 fn item_too_deep(item: &Item, depth: usize, limit: usize) -> Option<Span>
     requires within { depth ≤ limit }
@@ -45,7 +44,6 @@ fn item_too_deep(item: &Item, depth: usize, limit: usize) -> Option<Span>
     }
 }
 
-/// The same of the body of an item with that span.
 #[cycle(depth)]
 fn body_too_deep(body: &Option<Vec<Pair>>, span: Span, depth: usize, limit: usize) -> Option<Span>
     requires within { depth ≤ limit }

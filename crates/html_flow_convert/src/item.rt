@@ -186,7 +186,6 @@ pub fn push_located(
     Ok(())
 }
 
-/// Adds an item to a list that has room for it.
 fn push_reserved(items: &mut Vec<Pair>, item: Item)
     requires { vec_len items.old < vec_capacity items.old }
     ensures added { pairs_view items.new.items
@@ -478,7 +477,6 @@ impl HtmlElem {
     }
 }
 
-/// A copy of a body and all inside.
 #[cycle(copy)]
 fn copy_body(body: &Option<Vec<Pair>>) -> Result<Option<Vec<Pair>>, AllocError>
     ensures { IfOk result (λ copy. body_view copy ≡ body_view body.now) }
@@ -489,7 +487,6 @@ fn copy_body(body: &Option<Vec<Pair>>) -> Result<Option<Vec<Pair>>, AllocError>
     Ok(Some(copied_pairs(*pairs.allocator(), pairs)?))
 }
 
-/// A copy of items and all inside.
 #[cycle(copy)]
 pub(crate) fn copied_pairs(alloc: Global, pairs: &[Pair]) -> Result<Vec<Pair>, AllocError>
     ensures { IfOk result (λ copies. pairs_view copies.items ≡ pairs_view pairs.now) }

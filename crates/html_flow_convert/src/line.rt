@@ -11,7 +11,6 @@ use std::alloc::AllocError;
 pub(crate) enum Last {
     /// A border, or nothing.
     Border,
-    /// Something visible.
     Visible,
     /// A lone space, and whether what stands before it is there and no border.
     Space(bool),
@@ -25,7 +24,6 @@ impl Last {
         !matches!(self, Last::Border)
     }
 
-    /// What stands last after one more.
     pub(crate) fn after(self, next: Look) -> Last
         ensures { result ≡ last_after self next }
     {

@@ -19,9 +19,7 @@ use std::alloc::{AllocError, Global};
 /// What becomes of `display` in the css of a node.
 #[derive(Clone, Copy)]
 enum DisplayChange {
-    /// It goes.
     Removed,
-    /// It has that value.
     SetTo(&'static str),
 }
 
@@ -38,21 +36,18 @@ impl DisplayChange {
     }
 }
 
-/// Whether the node is a tag.
 fn is_tag(node: &HtmlNode) -> bool
     ensures { result ≡ is_tag (node_view node.now) }
 {
     matches!(node, HtmlNode::Tag(_))
 }
 
-/// Whether all nodes are tags.
 fn are_tags(nodes: &[HtmlNode]) -> bool
     ensures { result ≡ list_all (λ node. is_tag (node_view node)) nodes.now }
 {
     nodes.iter().all(|node| is_tag(node))
 }
 
-/// The node, if it is an element or frame.
 fn element_or_frame(node: &HtmlNode) -> Option<&HtmlNode>
     ensures { option_map (λ lone. node_view lone.now) result ≡ lone_alone (node_view node.now) }
 {
@@ -78,7 +73,6 @@ fn lone_node(nodes: &[HtmlNode]) -> Option<&HtmlNode>
     None
 }
 
-/// Whether the element is a formula.
 #[tactic(auto, unfolding(html_names::specs::Tables::known_tags))]
 fn is_math(element: &HtmlElement) -> bool
     ensures { result ≡ is_math (head_of element.now) }
@@ -86,7 +80,6 @@ fn is_math(element: &HtmlElement) -> bool
     element.tag == tag::mathml::math
 }
 
-/// Whether the text is `block`.
 fn is_block(text: &String) -> bool
     ensures { result ≡ bytes_eq (text_view text.now) (codes "block") }
 {
@@ -104,7 +97,6 @@ fn is_shown_as_block(element: &HtmlElement) -> bool
     }
 }
 
-/// The change of a lone element of a box.
 #[tactic(auto, using(crate::proofs::LoneNodes::inline_math_word))]
 fn element_box_change(element: &HtmlElement) -> DisplayChange
     ensures { change_view result ≡ box_change (element_node (head_of element.now) none) }
@@ -116,7 +108,6 @@ fn element_box_change(element: &HtmlElement) -> DisplayChange
     }
 }
 
-/// The change of a lone node of a box.
 fn box_change(node: &HtmlNode) -> DisplayChange
     ensures { change_view result ≡ box_change (node_view node.now) }
 {
@@ -126,7 +117,6 @@ fn box_change(node: &HtmlNode) -> DisplayChange
     }
 }
 
-/// The change of the lone node of a box's body, if it has one.
 fn change_in_box(body: &[HtmlNode]) -> Option<DisplayChange>
     ensures { option_map change_view result ≡ box_change_of (lone_node (nodes_view body.now)) }
 {
@@ -164,7 +154,6 @@ fn element_block_change(element: &HtmlElement) -> Option<DisplayChange>
     }
 }
 
-/// The change of a lone node of a block, if it can stand for the block.
 fn block_change(node: &HtmlNode) -> Option<DisplayChange>
     ensures { option_map change_view result ≡ block_change (node_view node.now) }
 {
@@ -175,14 +164,12 @@ fn block_change(node: &HtmlNode) -> Option<DisplayChange>
     }
 }
 
-/// The change of the lone node of a block's body, if it has one that can stand for the block.
 fn change_in_block(body: &[HtmlNode]) -> Option<DisplayChange>
     ensures { option_map change_view result ≡ block_change_of (lone_node (nodes_view body.now)) }
 {
     block_change(lone_node(body)?)
 }
 
-/// The element with its css changed.
 fn element_displayed(
     alloc: Global,
     mut element: HtmlElement,
@@ -216,7 +203,6 @@ fn node_displayed(
     }
 }
 
-/// Adds nodes with their css changed.
 fn push_displayed(
     alloc: Global,
     nodes: &mut Vec<HtmlNode>,
@@ -232,7 +218,6 @@ fn push_displayed(
     Ok(())
 }
 
-/// Adds an element with these nodes in it.
 fn push_around(
     nodes: &mut Vec<HtmlNode>,
     element: HtmlElement,
@@ -245,7 +230,6 @@ fn push_around(
     Ok(())
 }
 
-/// The css `display: inline-block`.
 fn inline_block_css(alloc: Global) -> Result<Properties, AllocError>
     ensures { IfOk result (λ css. css ≡ (codes "display", codes "inline-block") ∷ []) }
 {
@@ -253,7 +237,6 @@ fn inline_block_css(alloc: Global) -> Result<Properties, AllocError>
     Ok(Properties::new(alloc).with("display", value)?)
 }
 
-/// A `span` that is a box.
 #[tactic(auto, unfolding(html_names::specs::Tables::known_tags))]
 fn box_element(alloc: Global, span: Span) -> Result<HtmlElement, AllocError>
     ensures { IfOk result (λ element. head_of element ≡ box_head span.0) }
@@ -266,7 +249,6 @@ fn box_element(alloc: Global, span: Span) -> Result<HtmlElement, AllocError>
     )
 }
 
-/// A `div` that is a block.
 #[tactic(auto, unfolding(html_names::specs::Tables::known_tags))]
 fn block_element(alloc: Global, span: Span) -> HtmlElement
     ensures { head_of result ≡ block_head span.0 }

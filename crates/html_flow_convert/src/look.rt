@@ -15,23 +15,19 @@ use html_names::charsets::is_default_ignorable;
 use html_names::{HtmlTag, tag};
 use html_values_css::{Properties, Property};
 
-/// What a node looks like.
 #[derive(Clone, Copy)]
 pub(crate) enum Look {
     /// The end of a line.
     Border,
-    /// Something visible in a line.
     Visible,
     /// A lone space.
     Space,
-    /// Nothing.
     Nothing,
     /// What stands in it.
     Inside,
 }
 
 impl Look {
-    /// Whether it is what stands in it.
     pub(crate) fn is_inside(self) -> bool
         ensures { result ≡ is_inside self }
     {
@@ -39,7 +35,6 @@ impl Look {
     }
 }
 
-/// Whether the text is that one of ASCII.
 pub(crate) fn is_text(text: &str, expected: &'static str) -> bool
     requires { IsTrue (is_ascii expected.now) }
     ensures { result ≡ bytes_eq (chars text.now) expected.now }
@@ -47,14 +42,12 @@ pub(crate) fn is_text(text: &str, expected: &'static str) -> bool
     text == expected
 }
 
-/// Whether it is `display` with the value `block`.
 fn is_display_block(property: &Property) -> bool
     ensures { result ≡ is_display_block (property_view property.now) }
 {
     is_text(property.name.as_str(), "display") && is_text(property.value.as_str(), "block")
 }
 
-/// Whether one of the properties is `display` with the value `block`.
 fn has_display_block(list: &[Property]) -> bool
     ensures { result ≡ list_any (λ p. is_display_block (property_view p)) list.now }
 {
@@ -68,7 +61,6 @@ pub fn makes_block(css: &Properties) -> bool
     has_display_block(css.as_slice())
 }
 
-/// What an element of that name and css looks like.
 pub(crate) fn element_look(name: &HtmlTag, css: &Properties, pre_span: bool) -> Look
     ensures { result ≡ element_look name.now css.now pre_span }
 {
@@ -83,7 +75,6 @@ pub(crate) fn element_look(name: &HtmlTag, css: &Properties, pre_span: bool) -> 
     }
 }
 
-/// Whether an element is looked into.
 #[tactic(auto, using(crate::proofs::Looks::is_entered_by))]
 pub(crate) fn is_entered(element: &HtmlElement) -> bool
     ensures { result ≡ is_entered (head_of element.now) }
@@ -91,7 +82,6 @@ pub(crate) fn is_entered(element: &HtmlElement) -> bool
     element_look(&element.tag, &element.css, element.pre_span).is_inside()
 }
 
-/// Whether the character is not shown by default.
 #[tactic(auto, using(crate::proofs::Stretching::ascii_shown))]
 fn is_hidden_char(c: char) -> bool
     ensures { result ≡ is_ignorable c }
@@ -99,14 +89,12 @@ fn is_hidden_char(c: char) -> bool
     !c.is_ascii() && is_default_ignorable(c)
 }
 
-/// Whether no character of the text is shown by default.
 fn is_hidden(text: &str) -> bool
     ensures { result ≡ list_all is_ignorable (chars text.now) }
 {
     text.chars().all(|c| is_hidden_char(c))
 }
 
-/// What a text looks like.
 pub(crate) fn text_look(text: &str) -> Look
     ensures { result ≡ text_look (chars text.now) }
 {

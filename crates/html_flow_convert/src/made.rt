@@ -5,7 +5,7 @@ ghost use Rattle.html_dom_tree.specs.Tree.{element_node, none};
 ghost use Rattle.html_dom_tree.specs.Views.{element_view, head_of, node_view, nodes_view};
 ghost use Rattle.html_flow_convert.specs.Nodes.{made_head, pre_wrap_head};
 
-use html_dom_tree::{HtmlElement, HtmlNode, Span};
+use html_dom_tree::{HtmlAttrs, HtmlElement, HtmlNode, Span};
 use html_names::tag;
 use html_values_css::Properties;
 use std::alloc::{AllocError, Global};
@@ -18,7 +18,6 @@ pub fn break_element(alloc: Global, span: Span) -> HtmlElement
     HtmlElement::new(alloc, tag::br).spanned(span)
 }
 
-/// The css `white-space: pre-wrap`.
 fn pre_wrap_css(alloc: Global) -> Result<Properties, AllocError>
     ensures { IfOk result (λ css. css ≡ (codes "white-space", codes "pre-wrap") ∷ []) }
 {
@@ -26,8 +25,7 @@ fn pre_wrap_css(alloc: Global) -> Result<Properties, AllocError>
     Ok(Properties::new(alloc).with("white-space", kept)?)
 }
 
-/// A `span` in which white space stays, without children. Each character of the texts directly in it
-/// is written as a character reference.
+/// Each character of the texts directly in it is written as a character reference.
 #[tactic(auto, unfolding(html_names::specs::Tables::known_tags))]
 pub(crate) fn pre_wrap_span(alloc: Global, span: Span) -> Result<HtmlElement, AllocError>
     ensures { IfOk result (λ element. head_of element ≡ pre_wrap_head span.0) }
@@ -35,11 +33,11 @@ pub(crate) fn pre_wrap_span(alloc: Global, span: Span) -> Result<HtmlElement, Al
     let mut element = HtmlElement::new(alloc, tag::span)
         .with_css(pre_wrap_css(alloc)?)
         .spanned(span);
+    element.attrs = HtmlAttrs(Vec::with_capacity(alloc, 1)?); // the css becomes a `style`
     element.pre_span = true;
     Ok(element)
 }
 
-/// The element with these children in place of its own.
 pub(crate) fn element_of(mut element: HtmlElement, children: Vec<HtmlNode>) -> HtmlNode
     ensures { node_view result ≡ element_node (head_of element) (nodes_view children.items) }
 {

@@ -3,7 +3,6 @@
 ghost use Rattle.std.specs.Prelude.{◌≡◌, ◌<◌, chars};
 ghost use Rattle.html_flow_convert.specs.Nodes.{is_one};
 
-/// Whether the text is that one character of ASCII.
 #[tactic(auto, using(crate::proofs::SingleChars::one_byte))]
 pub(crate) fn is_one(c: u8, text: &str) -> bool
     requires { c < 128 }

@@ -24,7 +24,6 @@ fn is_normal(c: char) -> bool
     }
 }
 
-/// Whether there is a character, and it is normal.
 fn is_normal_there(c: Option<char>) -> bool
     ensures { result ≡ is_normal_there c }
 {
@@ -34,21 +33,18 @@ fn is_normal_there(c: Option<char>) -> bool
     }
 }
 
-/// Whether the text begins with a normal character.
 fn begins_normal(text: &str) -> bool
     ensures { result ≡ is_normal_there (first_char (chars text.now)) }
 {
     is_normal_there(text.chars().next())
 }
 
-/// Whether the character stands in a stretch, where it stands between `before` and `after`.
 fn is_in_stretch(before: Option<char>, c: char, after: &str) -> bool
     ensures { result ≡ is_in_stretch before c (chars after.now) }
 {
     is_normal(c) || (c == ' ' && is_normal_there(before) && begins_normal(after))
 }
 
-/// Whether a character, normal or not, goes on with a text that ends in a normal one or not.
 fn goes_on(is_normal: bool, c: char, ends_normal: bool) -> bool
     ensures { result ≡ (is_normal || ((c == 32) && ends_normal)) }
 {
@@ -70,7 +66,6 @@ fn is_stretch(text: &str) -> bool
     ends_normal
 }
 
-/// Adds a text. Where an allocation fails, the list stays as it was.
 fn push_text(nodes: &mut Vec<HtmlNode>, text: String, span: Span) -> Result<(), AllocError>
     ensures added { OnOk result (map node_view nodes.new.items
         ≡ map node_view nodes.old.items ++ text_node (text_view text) span.0 ∷ []) }
@@ -80,8 +75,6 @@ fn push_text(nodes: &mut Vec<HtmlNode>, text: String, span: Span) -> Result<(), 
     Ok(())
 }
 
-/// Adds the text of a stretch, if it has any character. Where an allocation fails, the list stays as
-/// it was.
 fn push_stretch(
     alloc: Global,
     nodes: &mut Vec<HtmlNode>,
@@ -98,7 +91,6 @@ fn push_stretch(
     Ok(())
 }
 
-/// A text of one character.
 fn one_char(alloc: Global, c: char) -> Result<String, AllocError>
     ensures { IfOk result (λ text. text_view text ≡ c ∷ []) }
 {
@@ -107,8 +99,7 @@ fn one_char(alloc: Global, c: char) -> Result<String, AllocError>
     Ok(text)
 }
 
-/// Adds the node of a character that stands outside of stretches. The line feed after a carriage
-/// return has none. Where an allocation fails, the list stays as it was.
+/// The line feed after a carriage return has no node.
 fn push_outside(
     alloc: Global,
     nodes: &mut Vec<HtmlNode>,
@@ -129,8 +120,6 @@ fn push_outside(
     Ok(())
 }
 
-/// Adds the nodes of a text where white space collapses, by its pieces. Where an allocation fails, the
-/// list has what it had, and after it a beginning of the nodes.
 fn push_pieces(
     alloc: Global,
     nodes: &mut Vec<HtmlNode>,

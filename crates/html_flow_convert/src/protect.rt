@@ -15,7 +15,6 @@ use html_dom_tree::{HtmlElement, HtmlNode};
 use std::alloc::{AllocError, Global};
 use std::mem;
 
-/// Answers for lone spaces in order.
 #[derive(Drop)]
 struct Answers {
     /// For each space, whether it is bare.
@@ -25,7 +24,6 @@ struct Answers {
 }
 
 impl Answers {
-    /// Uses the next answer: whether the space is bare.
     fn next_is_bare(&mut self) -> bool
         ensures answer { result ≡ is_bare (answers_view self.old) }
         ensures rest { answers_view self.new ≡ drop 1 (answers_view self.old) }
@@ -39,21 +37,19 @@ impl Answers {
     }
 }
 
-/// A text is put into an element that keeps its white space.
 fn keep_text(alloc: Global, node: &mut HtmlNode) -> Result<(), AllocError>
     ensures { (text : List ℕ) → (span : ℕ) → node_view node.old ≡ text_node text span →
         OnOk result (node_view node.new ≡ text_by_answer false text span) }
 {
     if let HtmlNode::Text(text, span) = node {
         let text = mem::replace(text, String::new(alloc));
-        let mut children = Vec::new(alloc);
+        let mut children = Vec::with_capacity(alloc, 1)?;
         children.push(HtmlNode::text(text, *span))?;
         *node = element_of(pre_wrap_span(alloc, *span)?, children);
     }
     Ok(())
 }
 
-/// A lone space that is not bare is put into an element of its own.
 fn protect_space(
     alloc: Global,
     node: &mut HtmlNode,
@@ -72,7 +68,6 @@ fn protect_space(
 
 // Each node stands first among the parameters: its depth shows that the calls end.
 
-/// In a node, each lone space that is not bare is put into an element of its own.
 #[cycle(protect)]
 #[tactic(auto, unfolding(crate::specs::BareSpaces::node_things, crate::specs::Protected::node_by_answers))]
 fn protect_node(node: &mut HtmlNode, alloc: Global, answers: &mut Answers) -> Result<(), AllocError>
@@ -93,7 +88,6 @@ fn protect_node(node: &mut HtmlNode, alloc: Global, answers: &mut Answers) -> Re
     }
 }
 
-/// In an element that is looked into, each lone space that is not bare is put into one of its own.
 #[cycle(protect)]
 fn protect_element(
     element: &mut HtmlElement,
@@ -113,7 +107,6 @@ fn protect_element(
     protect_nodes(&mut element.children, alloc, answers)
 }
 
-/// In nodes, each lone space that is not bare is put into an element of its own.
 #[cycle(protect)]
 fn protect_nodes(
     nodes: &mut [HtmlNode],

@@ -1,6 +1,6 @@
 //! Runs of blanks.
 
-ghost use Rattle.std.specs.Prelude.{◌≡◌, ◌≤◌, ◌++◌, false, OnOk, IfOk, length, map, take, drop};
+ghost use Rattle.std.specs.Prelude.{◌≡◌, ◌++◌, [], false, OnOk, IfOk, map};
 ghost use Rattle.std.specs.List.{filter};
 ghost use Rattle.html_dom_tree.specs.Views.{node_view};
 ghost use Rattle.html_flow_convert.specs.Nodes.{is_tag};
@@ -9,10 +9,11 @@ ghost use Rattle.html_flow_convert.specs.Runs.{is_space, is_tab, is_blank_node, 
 
 use crate::made::{element_of, pre_wrap_span};
 use crate::one::is_one;
+use html_dom_flat::give_back;
 use html_dom_tree::{HtmlNode, Span};
 use std::alloc::{AllocError, Global};
+use std::mem;
 
-/// Whether the node is a text of exactly one space.
 fn is_space(node: &HtmlNode) -> bool
     ensures { result ≡ is_space (node_view node.now) }
 {
@@ -22,7 +23,6 @@ fn is_space(node: &HtmlNode) -> bool
     }
 }
 
-/// Whether the node is a text of exactly one tab.
 fn is_tab(node: &HtmlNode) -> bool
     ensures { result ≡ is_tab (node_view node.now) }
 {
@@ -32,21 +32,18 @@ fn is_tab(node: &HtmlNode) -> bool
     }
 }
 
-/// Whether the node is a text of exactly one space or tab.
 fn is_blank(node: &HtmlNode) -> bool
     ensures { result ≡ is_blank_node (node_view node.now) }
 {
     is_space(node) || is_tab(node)
 }
 
-/// Whether the node is a tag.
 fn is_tag(node: &HtmlNode) -> bool
     ensures { result ≡ is_tag (node_view node.now) }
 {
     matches!(node, HtmlNode::Tag(_))
 }
 
-/// Whether the node belongs to the run before it, which may be empty.
 fn goes_on(run: &[HtmlNode], node: &HtmlNode) -> bool
     ensures { result ≡ goes_on (map node_view run.now) (node_view node.now) }
 {
@@ -79,23 +76,27 @@ fn first_span(nodes: &[HtmlNode]) -> Span
     Span(0)
 }
 
-/// Ends the run from that place on: its nodes are put into a `span` that keeps them, if its blanks are
-/// kept.
-fn end_run(alloc: Global, made: &mut Vec<HtmlNode>, start: usize) -> Result<(), AllocError>
-    requires { start ≤ length made.old.items }
-    ensures { OnOk result (map node_view made.new.items ≡ map node_view (take start made.old.items)
-        ++ run_nodes (map node_view (drop start made.old.items))) }
+/// Ends a run: its nodes are taken, and put into a `span` that keeps them, if its blanks are kept.
+fn end_run(
+    alloc: Global,
+    made: &mut Vec<HtmlNode>,
+    run: &mut Vec<HtmlNode>,
+) -> Result<(), AllocError>
+    ensures made { OnOk result (map node_view made.new.items
+        ≡ map node_view made.old.items ++ run_nodes (map node_view run.old.items)) }
+    ensures ended { OnOk result (run.new.items ≡ []) }
 {
-    if !are_kept(&made[start..]) {
+    if !are_kept(run) {
+        made.append(run)?;
         return Ok(());
     }
-    let run = made.split_off(start)?;
-    let span = first_span(&run);
-    made.push(element_of(pre_wrap_span(alloc, span)?, run))?;
+    let mut kept = mem::replace(run, Vec::new(alloc));
+    kept.shrink_to_fit();
+    let span = first_span(&kept);
+    made.push(element_of(pre_wrap_span(alloc, span)?, kept))?;
     Ok(())
 }
 
-/// Whether the blanks of a run are kept.
 fn has_kept_run(nodes: &[HtmlNode]) -> bool
     ensures { result ≡ has_kept_run false (map node_view nodes.now) }
 {
@@ -114,25 +115,26 @@ fn has_kept_run(nodes: &[HtmlNode]) -> bool
 /// up to another node. The `span` has the first span of its nodes that is not 0. It fails only where
 /// an allocation does.
 ///
-/// Cost: grows with the number of nodes; each is moved twice at most, and none where no run is kept.
-pub fn keep_runs(alloc: Global, nodes: Vec<HtmlNode>) -> Result<Vec<HtmlNode>, AllocError>
+/// Cost: grows with the number of nodes; none is moved where no run is kept. The memory of those that
+/// were moved is given back on the way.
+pub fn keep_runs(alloc: Global, mut nodes: Vec<HtmlNode>) -> Result<Vec<HtmlNode>, AllocError>
     ensures { IfOk result (λ made.
         map node_view made.items ≡ nodes_with_runs (map node_view nodes.items)) }
 {
     if !has_kept_run(&nodes) {
         return Ok(nodes);
     }
-    let mut made = Vec::with_capacity(alloc, nodes.len())?;
-    let mut start = 0;
-    for node in nodes {
-        if goes_on(&made[start..], &node) {
-            made.push(node)?;
+    let (mut made, mut run) = (Vec::new(alloc), Vec::new(alloc));
+    nodes.reverse();
+    while let Some(node) = nodes.pop() {
+        give_back(&mut nodes);
+        if goes_on(&run, &node) {
+            run.push(node)?;
         } else {
-            end_run(alloc, &mut made, start)?;
+            end_run(alloc, &mut made, &mut run)?;
             made.push(node)?;
-            start = made.len();
         }
     }
-    end_run(alloc, &mut made, start)?;
+    end_run(alloc, &mut made, &mut run)?;
     Ok(made)
 }

@@ -15,18 +15,14 @@ use html_names::{HtmlTag, tag};
 /// How a list of items stands.
 #[derive(Clone, Copy)]
 pub(crate) struct Setting<'a> {
-    /// What becomes of white space.
     pub(crate) whitespace: Whitespace,
-    /// The role of its items.
     pub(crate) role: Option<&'a str>,
-    /// How deep it stands.
     pub(crate) depth: usize,
     /// How deep a list may stand.
     pub(crate) limit: usize,
 }
 
 impl<'a> Setting<'a> {
-    /// That of an item with that role of its own.
     pub(crate) fn with_role(self, own: &'a Role) -> Setting<'a>
         ensures whitespace { result.whitespace ≡ self.entry.whitespace }
         ensures role { role_text result.role
@@ -42,7 +38,6 @@ impl<'a> Setting<'a> {
         Setting { role, ..self }
     }
 
-    /// That of the body of such an element in it, apart from its depth.
     pub(crate) fn inside(self, element: &HtmlElem) -> Setting<'a>
         ensures whitespace { result.whitespace
             ≡ body_whitespace self.entry.whitespace (elem_view element.now).0 }
@@ -68,14 +63,12 @@ impl<'a> Setting<'a> {
         }
     }
 
-    /// Whether a list one deeper stands too deep.
     pub(crate) fn is_deepest(self) -> bool
         ensures { result ≡ nat_lt self.entry.limit (self.entry.depth + 1) }
     {
         self.depth >= self.limit
     }
 
-    /// That of a list one deeper.
     pub(crate) fn deeper(self) -> Setting<'a>
         requires { self.depth < 10000 }
         ensures whitespace { result.whitespace ≡ self.entry.whitespace }
@@ -98,7 +91,6 @@ pub(crate) fn passes_role(tag: &HtmlTag) -> bool
     *tag == tag::p
 }
 
-/// Whether white space stays in the element.
 #[tactic(auto, unfolding(html_names::specs::Tables::known_tags))]
 fn is_preformatted(tag: &HtmlTag) -> bool
     ensures { result ≡ is_preformatted tag.now }
@@ -106,7 +98,6 @@ fn is_preformatted(tag: &HtmlTag) -> bool
     *tag == tag::pre || tag::is_raw(tag) || tag::is_escapable_raw(tag)
 }
 
-/// The level of the element's body.
 pub(crate) fn body_level(element: &HtmlElem) -> ConversionLevel
     ensures { result ≡ body_level (elem_view element.now).0 }
 {
@@ -117,7 +108,6 @@ pub(crate) fn body_level(element: &HtmlElem) -> ConversionLevel
     }
 }
 
-/// Whether the element has lines of its own by default.
 fn has_lines(tag: &HtmlTag) -> bool
     ensures { result ≡ shows_border (default_display tag.now) }
 {

@@ -15,7 +15,6 @@ use Rattle.html_names.specs.declared.name.Name.TheVariants.{Known, Own}
 use Rattle.html_names.specs.declared.table.TheConstants.{KINDS, DISPLAYS}
 use Rattle.html_names.specs.declared.table.kinds.TheConstants.{VOID, RAW, ESCAPABLE_RAW, FOREIGN_SELF_CLOSING, MATHML, TOKEN, METADATA, SECTIONING, HEADING, PHRASING, FLOW_BESIDE_PHRASING, NOT_PALPABLE, EMBEDDED, INTERACTIVE, SCRIPT_SUPPORTING, REPLACED, LINE_BREAK}
 
--- columns that agree, agree at each place
 at_place : {A B C : Type 0} (f : A → C) (g : B → C) (as' : List A) (bs : List B) (a : A) (b : B)
     (n : ℕ) → map f as' ≡ map g bs → n < length bs → f (get_or as' n a) ≡ g (get_or bs n b)
 at_place f g as' [] a b n e h = absurd (omega arith)

@@ -18,7 +18,6 @@ pub digits_ascii : (ds : List ℕ) → AllDigits 16 ds → IsAscii ds
 digits_ascii [] h = IsAscii-nil
 digits_ascii (c ∷ cs) h = IsAscii-cons c cs (digit_ascii c h.0) (digits_ascii cs h.1)
 
--- hexadecimal digits are their own characters
 pub chars-digits : (n : ℕ) → n < 2 ^ 32 → chars (digits 16 false n) ≡ digits 16 false n
 chars-digits n h =
     let numeral = (digits_is_IsNumeral 16 false (omega arith) (omega arith) n (omega arith)).0 in

@@ -98,7 +98,6 @@ chars-tag t h = chars_ascii t (tag_ascii t h)
 
 pub ruleset constants = (chars-tag, chars_ascii)
 
--- the first of at most one fault is that one
 pub some_first : (o : Option NameFault) (f : NameFault) (rest : List NameFault) →
     option_to_list o ≡ f ∷ rest → o ≡ Some f
 some_first None f rest e = cc

@@ -76,7 +76,6 @@ made count table p long (Some m) text (Own s) v at e = absurd e
 made count table p long None text (Known n) v at e = absurd e
 made count table p long None text (Own s) v at e = (rw e (v, at), e)
 
--- a text without a place is not in the table
 pub unknown : (table : List (List ℕ)) (text : List ℕ) (place : Option ℕ) → place ≡ None →
     IsLookup table text place → stands_in table text ≡ false
 unknown table text (Some n) e at = cc

@@ -15,7 +15,6 @@ below_step : (b s : Bool) (k count : ℕ) → (s ≡ true → k < count) → (b 
 below_step true s k count below h = omega arith
 below_step false s k count below h = omega (arith, below h)
 
--- a name that stands among names has a number below their count
 pub number_below : (names : List (List ℕ)) (name : List ℕ) → stands_in names name ≡ true →
     number_in names name < length names
 unfolding stands_in number_in
@@ -29,7 +28,6 @@ next_step : (b s : Bool) (k count : ℕ) → (s ≡ false → k ≡ count) → (
 next_step true s k count next h = cc
 next_step false s k count next h = omega (arith, next h)
 
--- one that does not, has the next
 pub number_next : (names : List (List ℕ)) (name : List ℕ) → stands_in names name ≡ false →
     number_in names name ≡ length names
 unfolding stands_in number_in
@@ -44,7 +42,6 @@ name_step : (n name : List ℕ) (ns : List (List ℕ)) (b s : Bool) (k : ℕ) �
 name_step n name ns true s k e there h = (bytes_eq-Decides n name).0 e
 name_step n name ns false s k e there h = rw (add-one k) (there h)
 
--- what stands at the number of a name is the name
 pub name_at-number : (names : List (List ℕ)) (name : List ℕ) → stands_in names name ≡ true →
     name_at names (number_in names name) ≡ name
 unfolding stands_in number_in
@@ -53,14 +50,12 @@ name_at-number (n ∷ ns) name h =
     name_step n name ns (bytes_eq n name) (stands_in ns name) (number_in ns name) refl
     (name_at-number ns name) h
 
--- names that are added leave the first as they are
 pub name_at-append : (names more : List (List ℕ)) (number : ℕ) → number < length names →
     name_at (names ++ more) number ≡ name_at names number
 name_at-append [] more number h = absurd (omega arith)
 name_at-append (n ∷ ns) more zero h = refl
 name_at-append (n ∷ ns) more (suc number) h = name_at-append ns more number (omega arith)
 
--- and the next after them is the first that is added
 pub name_at-last : (names : List (List ℕ)) (name : List ℕ) →
     name_at (names ++ name ∷ []) (length names) ≡ name
 name_at-last [] name = refl
@@ -176,13 +171,11 @@ number_in-with_name names name other h =
     let told = with_name-appends names name in
     rw told.1 (number_in-append names told.0 other h)
 
--- names of one number are equal
 pub one_number : (names : List (List ℕ)) (a b : List ℕ) → stands_in names a ≡ true →
     stands_in names b ≡ true → number_in names a ≡ number_in names b → a ≡ b
 one_number names a b h l e =
     sym (name_at-number names a h) ∙ (ap (name_at names) e ∙ name_at-number names b l)
 
--- numbers that are asked for one after another are equal where the names are
 pub equal_numbers : (names : List (List ℕ)) (a b : List ℕ) →
     (number_in names a ≡ number_in (with_name names a) b → a ≡ b)
     × (a ≡ b → number_in names a ≡ number_in (with_name names a) b)
@@ -197,14 +190,12 @@ equal_numbers names a b =
       λ e. sym (number_in-told names a) ∙ ap (number_in one) e,
     )
 
--- a number stays when another name is told
 pub number_later : (names : List (List ℕ)) (name other : List ℕ) →
     number_in (with_name (with_name names name) other) name ≡ number_in names name
 number_later names name other =
     number_in-with_name (with_name names name) other name (stands_in-told names name)
     ∙ number_in-told names name
 
--- a first name that is told stays, so that a second time it is not told again
 pub stands_in-both : (names : List (List ℕ)) (name other : List ℕ) →
     stands_in (with_name (with_name names name) other) name ≡ true
 stands_in-both names name other =
@@ -228,13 +219,11 @@ where_told names name number true h e =
     (is, rw is (number_below names name h), with_name-stands names name h)
 where_told names name number false h e = cc
 
--- a name that is found has its number, and is told
 told_where : (names : List (List ℕ)) (name : List ℕ) (number : ℕ) →
     Some number ≡ number_where names name →
     (number ≡ number_in names name) × (number < length names) × (with_name names name ≡ names)
 told_where names name number e = where_told names name number (stands_in names name) refl e
 
--- a new name gets the last number
 last_below : (names after : List (List ℕ)) (name : List ℕ) (number : ℕ) → number ≡ length names →
     after ≡ names ++ name ∷ [] → number < length after
 last_below names after name number counted added =

@@ -16,7 +16,6 @@ use Rattle.html_names.specs.NumberMaps.{number_of, HoldsNone, number_where, IsNu
 use Rattle.html_names.proofs.Ascending.{stands}
 use Rattle.html_names.proofs.NameTables.{number_next, name_at-append, name_at-last, number_in-append, number_in-last, stands_in-last}
 
--- where no name has a number, an empty list is numbered
 pub fresh : (count : ℕ) (table : List (List ℕ)) (is_valid : ℕ → Bool) (numbers : NumberMap)
     (names : List (List ℕ)) → names ≡ [] → HoldsNone numbers →
     IsNumbering count table is_valid numbers names
@@ -38,7 +37,6 @@ numbered_at names name number false numbered new h e =
     let last : number ≡ length names = omega arith in
     rw (last, name_at-last names name) (number_in-last names name ∙ number_next names name new)
 
--- names stay numbered with a new one at the end
 pub numbered : (names : List (List ℕ)) (name : List ℕ) → IsNumbered names →
     stands_in names name ≡ false → IsNumbered (names ++ name ∷ [])
 numbered names name all new number h =

@@ -13,7 +13,6 @@ use Rattle.html_names.specs.Starts.{is_started, all_started, are_starts}
 use Rattle.html_names.proofs.Lists.{stands_in-chars, chars_ascii}
 use Rattle.html_names.proofs.Ascending.{ascii_at}
 
--- no start lies beyond the end
 start_within : (starts : List ℕ) (n letter : ℕ) → list_all (λ s. nat_le s n) starts ≡ true →
     get_or starts letter 0 ≤ n
 start_within [] n letter h = omega arith
@@ -50,7 +49,6 @@ differs starts names t k true s l h e =
     let started : is_started starts k t ≡ true = rw is at (started_at starts 0 names k k l (omega arith) s) in
     sym e ∙ h started
 
--- a text stands in the table only where a name of it starts
 absent : (starts : List ℕ) (names : List (List ℕ)) (t : List ℕ) → are_starts starts names ≡ true →
     ((k : ℕ) → is_started starts k t ≡ true → bytes_eq (get_or names k []) t ≡ false) →
     stands_in names t ≡ false

@@ -40,14 +40,12 @@ impl Model for HtmlAttr {
     ghost invariant = { λ t. IsHeld attr_count known_attrs is_attr_char t.name };
 }
 
-/// The first character that may not stand in an attribute name.
 fn first_bad(text: &str) -> Option<char>
     ensures { result ≡ find (λ c. not (is_attr_char c)) (chars text.now) }
 {
     text.chars().find(|c| !is_valid_in_attribute_name(*c))
 }
 
-/// The first that is wrong with the text as an attribute name.
 #[tactic(auto, using(crate::proofs::Faults::attr_tests))]
 fn fault_of(text: &str) -> Option<NameFault>
     ensures { result ≡ attr_fault (chars text.now) }
@@ -61,15 +59,12 @@ fn fault_of(text: &str) -> Option<NameFault>
     None
 }
 
-/// The place of the text among the known attributes, where it stands there.
 fn place_of(text: &str) -> Option<u8>
     ensures { IsLookup known_attrs (chars text.now) result }
 {
     place_in(&ATTRS, &ATTR_STARTS, text)
 }
 
-/// The first that is wrong with the text as an attribute name, which has that place where it is
-/// known.
 #[tactic(auto, using(crate::proofs::Known::attr_faultless))]
 fn fault_at(place: Option<u8>, text: &str) -> Option<NameFault>
     requires { IsLookup known_attrs (chars text.now) place }
@@ -126,7 +121,6 @@ impl HtmlAttr {
         HtmlAttr::make(alloc, place_of(text), text)
     }
 
-    /// The name of a valid text, which has that place where it is known.
     fn make(alloc: Global, place: Option<u8>, text: &str) -> Result<HtmlAttr, AllocError>
         requires place { IsLookup known_attrs (chars text.now) place }
         requires valid { IsOf is_attr_char (chars text.now) }

@@ -52,28 +52,24 @@ const RESERVED: [&str; 8] = [
     "missing-glyph",
 ];
 
-/// The first character that may not stand in a tag name.
 fn first_bad(text: &str) -> Option<char>
     ensures { result ≡ find (λ c. not (is_tag_char c)) (chars text.now) }
 {
     text.chars().find(|c| !is_valid_in_tag_name(*c))
 }
 
-/// Whether a hyphen stands in the text.
 fn has_hyphen(text: &str) -> bool
     ensures { result ≡ list_any is_hyphen (chars text.now) }
 {
     text.chars().any(|c| c == '-')
 }
 
-/// Whether an ASCII capital stands in the text.
 fn has_capital(text: &str) -> bool
     ensures { result ≡ list_any is_capital (chars text.now) }
 {
     text.chars().any(|c| c.is_ascii_uppercase())
 }
 
-/// Whether the text begins with a small ASCII letter.
 fn starts_lower(text: &str) -> bool
     ensures { result ≡ is_lower (slice_index (chars text.now) 0) }
 {
@@ -83,7 +79,6 @@ fn starts_lower(text: &str) -> bool
     }
 }
 
-/// Whether HTML keeps the name for SVG and MathML.
 #[tactic(auto, unfolding(crate::specs::Names::is_reserved))]
 fn is_reserved(text: &str) -> bool
     ensures { result ≡ is_reserved (chars text.now) }
@@ -107,7 +102,6 @@ fn custom_fault(text: &str) -> Option<NameFault>
     None
 }
 
-/// The first that is wrong with the text as a tag name.
 #[tactic(auto, using(crate::proofs::Faults::tag_tests))]
 fn fault_of(text: &str) -> Option<NameFault>
     ensures { result ≡ tag_fault (chars text.now) }
@@ -124,14 +118,12 @@ fn fault_of(text: &str) -> Option<NameFault>
     None
 }
 
-/// The place of the text among the known tags, where it stands there.
 fn place_of(text: &str) -> Option<u8>
     ensures { IsLookup known_tags (chars text.now) result }
 {
     place_in(&TAGS, &TAG_STARTS, text)
 }
 
-/// The first that is wrong with the text as a tag name, which has that place where it is known.
 #[tactic(auto, using(crate::proofs::Known::tag_faultless))]
 fn fault_at(place: Option<u8>, text: &str) -> Option<NameFault>
     requires { IsLookup known_tags (chars text.now) place }
@@ -190,7 +182,6 @@ impl HtmlTag {
         HtmlTag::make(alloc, place_of(text), text)
     }
 
-    /// The name of a valid text, which has that place where it is known.
     fn make(alloc: Global, place: Option<u8>, text: &str) -> Result<HtmlTag, AllocError>
         requires place { IsLookup known_tags (chars text.now) place }
         requires valid { IsOf is_tag_char (chars text.now) }

@@ -130,7 +130,6 @@ pub fn is_foreign(tag: &HtmlTag) -> bool
     is_mathml(tag)
 }
 
-/// Whether the element is flow content and no phrasing content.
 #[tactic(auto, using(crate::proofs::ByTable::flow_beside_phrasing_by_table))]
 fn is_flow_beside_phrasing(tag: &HtmlTag) -> bool
     ensures { result ≡ kinds.is_flow_beside_phrasing tag.now }
@@ -138,7 +137,6 @@ fn is_flow_beside_phrasing(tag: &HtmlTag) -> bool
     tag.name.is_of(FLOW_BESIDE_PHRASING)
 }
 
-/// Whether the element is flow content that is not palpable.
 #[tactic(auto, using(crate::proofs::ByTable::not_palpable_by_table))]
 fn is_not_palpable(tag: &HtmlTag) -> bool
     ensures { result ≡ kinds.is_not_palpable tag.now }

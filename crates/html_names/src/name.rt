@@ -8,7 +8,6 @@ use crate::property::Display;
 use crate::table::{DISPLAYS, KINDS};
 use std::alloc::{AllocError, Global};
 
-/// A name as it is held.
 #[derive(Drop)]
 pub(crate) enum Name {
     /// The place of a known name in its table.
@@ -22,7 +21,6 @@ impl Name {
     ghost use Rattle.html_names.specs.ByNumber.{name_has, name_display};
     ghost use Rattle.html_names.specs.Held.{IsMade, same_held, IsOwn, IsCopy};
 
-    /// The name's text.
     #[tactic(auto, using(crate::proofs::Held::known_text))]
     pub(crate) fn as_str(&self, table: &'static [&'static str]) -> &str
         requires ascii { IsTrue (are_ascii (texts table.now)) }
@@ -36,8 +34,6 @@ impl Name {
     }
 
     /// The name of that text: its place where one is given, else the text itself.
-    ///
-    /// A known name takes no memory.
     pub(crate) fn make(alloc: Global, place: Option<u8>, text: &str) -> Result<Name, AllocError>
         ensures name { IfOk result (IsMade place (chars text.now)) }
         ensures memory { OnErr result (place ≡ None) }
@@ -48,7 +44,6 @@ impl Name {
         }
     }
 
-    /// Whether both are held by one place, or by equal texts.
     pub(crate) fn is_same(&self, other: &Name) -> bool
         ensures { result ≡ same_held self.now other.now }
     {
@@ -60,7 +55,6 @@ impl Name {
         }
     }
 
-    /// A copy. One of a known name takes no memory.
     pub(crate) fn try_clone(&self) -> Result<Name, AllocError>
         ensures copy { IfOk result (λ name. IsCopy name self.now) }
         ensures memory { OnErr result (IsOwn self.now) }
@@ -82,7 +76,6 @@ impl Name {
         }
     }
 
-    /// The default display of the known tag of that name.
     pub(crate) fn display(&self) -> Option<Display>
         requires { IsWithin tag_count self.now }
         ensures { result ≡ name_display self.now }
@@ -94,8 +87,7 @@ impl Name {
     }
 }
 
-/// The place of the text in a table, in characters. It is looked for among the names that begin
-/// with its first letter.
+/// Only the names that begin with the text's first letter are looked at.
 pub(crate) fn place_in(table: &[&'static str], starts: &[u8; 27], text: &str) -> Option<u8>
     requires ascii { IsTrue (are_ascii (texts table.now)) }
     requires starts { IsTrue (are_starts starts.now (texts table.now)) }
@@ -114,7 +106,6 @@ pub(crate) fn place_in(table: &[&'static str], starts: &[u8; 27], text: &str) ->
     None
 }
 
-/// Whether the text is one of the list.
 #[tactic(auto, unfolding(crate::specs::Names::stands_in))]
 fn stands_in(names: &[&'static str], text: &str) -> bool
     ensures { result ≡ stands_in (texts names.now) text.now }
@@ -127,7 +118,6 @@ fn stands_in(names: &[&'static str], text: &str) -> bool
     false
 }
 
-/// Whether the text is one of the list, in characters.
 #[tactic(auto, using(crate::proofs::Lists::in_characters))]
 pub(crate) fn is_one_of(names: &[&'static str], text: &str) -> bool
     requires { IsTrue (are_ascii (texts names.now)) }

@@ -91,7 +91,6 @@ impl NameTable {
         self.add_tag(tag)
     }
 
-    /// The next number, for a tag that has none.
     fn add_tag(&mut self, tag: &HtmlTag) -> Result<usize, AllocError>
         requires { stands_in self.old.tags tag.now ≡ false }
         ensures { Numbers result self.old.tags self.new.tags tag.now self.old self.new
@@ -122,7 +121,6 @@ impl NameTable {
         self.add_attr(attr)
     }
 
-    /// The next number, for an attribute that has none.
     fn add_attr(&mut self, attr: &HtmlAttr) -> Result<usize, AllocError>
         requires { stands_in self.old.attrs attr.now ≡ false }
         ensures { Numbers result self.old.attrs self.new.attrs attr.now self.old self.new

@@ -193,13 +193,10 @@ macro_rules! kind_column {
     ($($name:literal: [$($display:ident)?] $kinds:expr,)*) => { [$($kinds),*] };
 }
 
-/// The known tags.
 pub(crate) const TAGS: [&str; 142] = tag_rows!(name_column);
 
-/// The default display of each tag.
 pub(crate) static DISPLAYS: [Option<Display>; 142] = tag_rows!(display_column);
 
-/// The kinds of each tag.
 pub(crate) static KINDS: [u32; 142] = tag_rows!(kind_column);
 
 /// The places of `TAGS` at which the names with each first letter begin, and the end.
@@ -211,7 +208,6 @@ pub(crate) const TAG_STARTS: [u8; 27] = [
 /// The place of `annotation-xml`, the only known tag that is a reserved name.
 pub(crate) const RESERVED_TAG: u8 = 4;
 
-/// The known attributes.
 #[rattlefmt::skip]
 pub(crate) const ATTRS: [&str; 206] = [
     "abbr", "accent", "accentunder", "accept", "accept-charset", "accesskey", "action", "allow",

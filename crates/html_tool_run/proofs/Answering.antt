@@ -14,8 +14,8 @@ use Rattle.html_tool_spell.specs.Refusals.{Gives, IsFirst}
 use Rattle.html_tool_spell.specs.Spelling.{IsTold}
 use Rattle.html_tool_spell.specs.declared.fault.Fault.{Fault}
 use Rattle.html_tool_spell.specs.declared.fault.Fault.TheVariants.{OutOfMemory, BadInput, Refused}
-use Rattle.html_tool_spell.specs.declared.fault.Place.{Place}
-use Rattle.html_tool_spell.specs.declared.fault.Place.TheVariants.{Unknown, Text, Form}
+use Rattle.html_tool_spell.specs.declared.fault.InputPlace.{InputPlace}
+use Rattle.html_tool_spell.specs.declared.fault.InputPlace.TheVariants.{Unknown, Text, Form}
 
 first_said : (refusals : List Refusal) (text : List ℕ) (f : Fault) → IsFirst f refusals
     → Says (first_refusal_or_text refusals text) f
@@ -23,7 +23,6 @@ first_said refusals text OutOfMemory h = tt
 first_said refusals text (BadInput place) h = absurd h
 first_said refusals text (Refused number span) h = rw h.1 refl
 
--- the text or its first refusal is answered where no name is refused
 pub text_said : (names others : List Refusal) (text : List ℕ) (r : Result (String Global) Fault)
     → names ≡ [] → Gives text_view r text others
     → GivesAnswer r (first_refusal_or_text (names ++ others) text)
@@ -33,8 +32,7 @@ text_said names others text (Ok s) named given =
     rw (named, given.clean, same) refl
 text_said names others text (Err f) named given = rw named (first_said others text f given.fault)
 
--- and else what is wrong with the spelling
-left_said : {A : Type 0} (answer : A → Answer) (wanted : Left A) (place : Place)
+left_said : {A : Type 0} (answer : A → Answer) (wanted : Left A) (place : InputPlace)
     → IsLeft wanted place → answer_to answer wanted ≡ bad_input place
 left_said answer wanted Unknown h = absurd h
 left_said answer wanted (Text line column) h = absurd h
@@ -48,8 +46,7 @@ name_said names others text wanted (BadInput place) h = left_said _ wanted place
 name_said names others text (Err n) (Refused number span) h = absurd h
 name_said names others text (Ok a) (Refused number span) h = rw h.1 refl
 
--- and where the input is no JSON
-text_place : (place : Place) → IsInText place → (at : TextPlace) × (in_text at ≡ place)
+text_place : (place : InputPlace) → IsInText place → (at : TextPlace) × (in_text at ≡ place)
 text_place Unknown h = absurd h
 text_place (Text line column) h = ((line, column), refl)
 text_place (Form n) h = absurd h
@@ -62,7 +59,6 @@ no_json_said answer wanted (BadInput place) h =
     (told.0, rw h.1 (ap bad_input told.1))
 no_json_said answer wanted (Refused number span) h = absurd h
 
--- the answer to the value of an input is that to the input
 pub json_said : (answer : Data → Answer) (wanted : Option Data) (d : Data)
     (r : Result (String Global) Fault) → wanted ≡ Some d → GivesAnswer r (answer d)
     → GivesAnswerAt r (λ at. answer_if (in_text at) answer wanted)

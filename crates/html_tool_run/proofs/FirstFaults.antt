@@ -55,7 +55,6 @@ construct_is kind.OutOfMemory = refl
 construct_is (kind.Casts fs) = casts_are fs.items
 construct_is (kind.BodyKind span) = refl
 
--- the first fault is the first refusal
 pub first_fault_view : (e : ExportFault) (fs : List ExportFaultView) → IsFirstView e fs
     → IsFirst (export_refusal e) (map fault_refusal fs)
 first_fault_view fault.OutOfMemory fs h = tt
@@ -78,7 +77,6 @@ first_fault_view (fault.Construct f) fs h =
     (refused_first (construct.number_of f, construct.span_of f) _ fs h (construct_is f))
 first_fault_view (fault.Syntax span) fs h = refused_first (25, span.0) _ fs h refl
 
--- and so it is where faults are seen as pure values afterwards
 seen_first : (e : ExportFault) (fs : List ExportFault) → export.IsFirst e fs
     → IsFirstView e (map export_fault_view fs)
 seen_first fault.OutOfMemory fs h = tt

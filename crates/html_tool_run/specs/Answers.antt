@@ -23,8 +23,8 @@ use Rattle.html_tool_spell.specs.Spelled.{spelled_element}
 use Rattle.html_tool_spell.specs.SpelledItems.{spelled_items}
 use Rattle.html_tool_run.specs.Words.{wanted_task}
 use Rattle.html_tool_run.specs.Writing.{AppendsBeginning}
-use Rattle.html_tool_spell.specs.declared.fault.Place.{Place}
-use Rattle.html_tool_spell.specs.declared.fault.Place.TheVariants.{Unknown, Text, Form}
+use Rattle.html_tool_spell.specs.declared.fault.InputPlace.{InputPlace}
+use Rattle.html_tool_spell.specs.declared.fault.InputPlace.TheVariants.{Unknown, Text, Form}
 use Rattle.html_tool_run.specs.declared.recorded.LastCall.{LastCall}
 use Rattle.html_tool_run.specs.declared.recorded.LastCall.TheVariants as last_call
 use Rattle.html_tool_run.specs.declared.status.Status.{Status}
@@ -43,13 +43,13 @@ pub record Answer : Type 0 where
   pub status : Status
   pub line : List ℕ
 
-abbrev pub bad_input_line : Place → List ℕ
+abbrev pub bad_input_line : InputPlace → List ℕ
 bad_input_line Unknown = codes "bad input\n"
 bad_input_line (Text line column) = codes "bad input at line "
     ++ (decimal line ++ (codes " column " ++ (decimal column ++ codes "\n")))
 bad_input_line (Form n) = codes "bad input at " ++ (decimal n ++ codes "\n")
 
-abbrev pub bad_input : Place → Answer
+abbrev pub bad_input : InputPlace → Answer
 bad_input place = record { status = BadInput; line = bad_input_line place }
 
 -- the first of several spans, 0 if there is none
@@ -133,7 +133,7 @@ value_answer Tree pretty d = answer_to (tree_answer pretty) (spelled_element d)
 value_answer Doc pretty d = answer_to (doc_answer pretty) (spelled_items d)
 
 -- the answer to something, or bad input at that place where there is nothing
-abbrev pub answer_if : {A : Type 0} → Place → (answer : A → Answer) → Option A → Answer
+abbrev pub answer_if : {A : Type 0} → InputPlace → (answer : A → Answer) → Option A → Answer
 answer_if place answer None = bad_input place
 answer_if place answer (Some a) = answer a
 
@@ -142,7 +142,7 @@ answer_if place answer (Some a) = answer a
 abbrev pub TextPlace : Type 0
 TextPlace = ℕ × ℕ
 
-abbrev pub in_text : TextPlace → Place
+abbrev pub in_text : TextPlace → InputPlace
 in_text at = Text at.0 at.1
 
 unfoldable pub input_answer : Task → (pretty : Bool) (input : List ℕ) → TextPlace → Answer

@@ -1,12 +1,17 @@
 -- What is answered to an input that spells a document.
-use Rattle.std.specs.Prelude.{ℕ, List, ◌++◌, map, if◌then◌else◌}
+use Rattle.std.specs.Prelude.{ℕ, List, [], ◌++◌, map, Option, Some, None, option_map, Result, Ok, Err, String, if◌then◌else◌}
+use Rattle.std.specs.declared.alloc.Global.{Global}
+use Rattle.html_dom_link.specs.Links.{DeadLinkView, document_dead_links}
 use Rattle.typst_html_encode.specs.FaultViews.{ExportFaultView}
 use Rattle.typst_html_encode.specs.FrameWriters.{no_frames}
 use Rattle.typst_html_export.specs.Exported.{export_faults, export_text, export_linked_faults, export_linked_text}
+use Rattle.typst_html_export.specs.Linked.{linked_document}
 use Rattle.html_tool_run.specs.Answers.{Answer, TextPlace, in_text, answer_if, answer_to, fault_refusal, first_refusal_or_text, options_of}
 use Rattle.html_tool_spell.specs.Json.{json_of}
+use Rattle.html_tool_spell.specs.LeftForms.{Left}
 use Rattle.html_tool_spell.specs.NameRefusals.{Refusal}
 use Rattle.html_tool_spell.specs.SpelledDocuments.{Spelling, names_refusals, spelled_document}
+use Rattle.html_tool_run.specs.declared.documents.DocumentText.{DocumentText}
 use Rattle.html_tool_run.specs.declared.documents.Settings.{Settings}
 
 -- the text of a document, with its links resolved where that is wanted
@@ -32,3 +37,21 @@ document_answer w s =
 unfoldable pub document_input_answer : Settings → (input : List ℕ) → TextPlace → Answer
 document_input_answer w input at =
     answer_if (in_text at) (λ d. answer_to (document_answer w) (spelled_document d)) (json_of input)
+
+-- the links of a document that lead nowhere, where links are wanted
+abbrev pub dead_links : Settings → Spelling → List DeadLinkView
+dead_links w s = if w.links then document_dead_links (linked_document s.0 s.1.0 s.1.1) else []
+
+-- those of the document that is spelled, if one is
+abbrev pub dead_links_in : Settings → Option (Left Spelling) → List DeadLinkView
+dead_links_in w None = []
+dead_links_in w (Some (Err n)) = []
+dead_links_in w (Some (Ok s)) = dead_links w s
+
+unfoldable pub input_dead_links : Settings → (input : List ℕ) → List DeadLinkView
+input_dead_links w input = dead_links_in w (option_map spelled_document (json_of input))
+
+-- the text alone of what is given
+abbrev pub text_given : {E : Type 0} → Result DocumentText E → Result (String Global) E
+text_given (Ok made) = Ok made.text
+text_given (Err e) = Err e

@@ -17,8 +17,8 @@ mod status;
 mod whole;
 mod words;
 
-pub use documents::{Settings, text_of_document};
-pub use html_tool_spell::{Fault, Place, element_in, items_in};
+pub use documents::{DocumentText, Settings, text_of_document};
+pub use html_tool_spell::{Fault, InputPlace, element_in, items_in};
 pub use program::{run, run_recorded, text_of_input};
 pub use recorded::{LastCall, Recorded, WriteFailed};
 pub use status::Status;

@@ -13,7 +13,7 @@ ghost use Rattle.html_tool_run.specs.Replies.{GivesAnswer, GivesAnswerAt, GivesA
 ghost use Rattle.html_tool_spell.specs.Spelled.{spelled_element};
 ghost use Rattle.html_tool_spell.specs.SpelledItems.{spelled_items};
 ghost use Rattle.html_tool_run.specs.Words.{texts_of, wanted_task};
-ghost use Rattle.html_tool_spell.specs.declared.fault.Place.TheVariants.{Unknown};
+ghost use Rattle.html_tool_spell.specs.declared.fault.InputPlace.TheVariants.{Unknown};
 
 use crate::recorded::{LastCall, Recorded, WriteFailed};
 use crate::status::Status;
@@ -22,7 +22,7 @@ use crate::words::{Task, wanted_task};
 use html_dom_document::DocumentInfo;
 use html_dom_tree::{HtmlElement, Span};
 use html_flow_convert::Pair;
-use html_tool_spell::{Fault, Place, into_element, into_items, parse};
+use html_tool_spell::{Fault, InputPlace, into_element, into_items, parse};
 use serde_json::Value;
 use std::alloc::{AllocError, Global};
 use std::io::{Read, Write};
@@ -59,7 +59,6 @@ fn read_all<R: Read>(alloc: Global, reader: &mut R) -> Option<Vec<u8>>
     None
 }
 
-/// A status, and the bytes that go with it.
 #[derive(Drop)]
 pub(crate) struct Reply {
     status: Status,
@@ -73,16 +72,16 @@ fn make_reply(alloc: Global, status: Status, text: &[u8]) -> Result<Reply, Alloc
     Ok(Reply { status, text })
 }
 
-fn bad_input(alloc: Global, place: Place) -> Result<Reply, AllocError>
+fn bad_input(alloc: Global, place: InputPlace) -> Result<Reply, AllocError>
     ensures { IfOk result (λ reply. IsReply reply (bad_input place)) }
 {
     match place {
-        Place::Unknown => make_reply(alloc, Status::BadInput, b"bad input\n"),
-        Place::Text(line, column) => {
+        InputPlace::Unknown => make_reply(alloc, Status::BadInput, b"bad input\n"),
+        InputPlace::Text(line, column) => {
             let told = format!(in alloc; "bad input at line {line} column {column}\n")?;
             make_reply(alloc, Status::BadInput, told.as_bytes())
         }
-        Place::Form(number) => {
+        InputPlace::Form(number) => {
             let told = format!(in alloc; "bad input at {number}\n")?;
             make_reply(alloc, Status::BadInput, told.as_bytes())
         }
@@ -97,7 +96,6 @@ fn refused(alloc: Global, number: u8, span: Span) -> Result<Reply, AllocError>
     make_reply(alloc, Status::Refused, line.as_bytes())
 }
 
-/// The reply that a text is, or that says why there is none.
 fn reply_of(alloc: Global, text: Result<String, Fault>) -> Result<Reply, AllocError>
     ensures { (answer : Answer) → GivesAnswer text answer → IfOk result (λ reply. IsReply reply answer) }
 {
@@ -112,7 +110,6 @@ fn reply_of(alloc: Global, text: Result<String, Fault>) -> Result<Reply, AllocEr
     }
 }
 
-/// A fault of a tree or of items.
 pub(crate) fn fault_of(fault: &ExportFault) -> Fault
     ensures { result ≡ export_refusal fault.now }
 {
@@ -122,7 +119,6 @@ pub(crate) fn fault_of(fault: &ExportFault) -> Fault
     }
 }
 
-/// The text of an element.
 #[tactic(auto, using(crate::proofs::FirstFaults::first_faults))]
 fn element_text(alloc: Global, element: HtmlElement, pretty: bool) -> Result<String, Fault>
     ensures { Gives text_view result (tree_text pretty (element_view element))
@@ -135,7 +131,6 @@ fn element_text(alloc: Global, element: HtmlElement, pretty: bool) -> Result<Str
     }
 }
 
-/// The text of items.
 #[tactic(auto, using(crate::proofs::FirstFaults::first_faults))]
 fn items_text(alloc: Global, items: Vec<Pair>, pretty: bool) -> Result<String, Fault>
     ensures { Gives text_view result (doc_text pretty (items_view items.items))
@@ -149,7 +144,6 @@ fn items_text(alloc: Global, items: Vec<Pair>, pretty: bool) -> Result<String, F
     }
 }
 
-/// The text of the tree that a value spells.
 fn spelled_tree(alloc: Global, value: Value, pretty: bool) -> Result<String, Fault>
     ensures { GivesAnswer result (answer_to (tree_answer pretty) (spelled_element (view value))) }
 {
@@ -157,7 +151,6 @@ fn spelled_tree(alloc: Global, value: Value, pretty: bool) -> Result<String, Fau
     element_text(alloc, element, pretty)
 }
 
-/// The text of the items that a value spells.
 fn spelled_doc(alloc: Global, value: Value, pretty: bool) -> Result<String, Fault>
     ensures { GivesAnswer result (answer_to (doc_answer pretty) (spelled_items (view value))) }
 {
@@ -165,7 +158,6 @@ fn spelled_doc(alloc: Global, value: Value, pretty: bool) -> Result<String, Faul
     items_text(alloc, items, pretty)
 }
 
-/// The text of what a value spells.
 fn value_text(alloc: Global, value: Value, task: Task, pretty: bool) -> Result<String, Fault>
     ensures { GivesAnswer result (value_answer task pretty (view value)) }
 {
@@ -179,12 +171,12 @@ fn value_text(alloc: Global, value: Value, task: Task, pretty: bool) -> Result<S
 /// it, or why it writes none.
 ///
 /// Where an allocation fails, that is the fault, whatever the input is. Else an input that is no UTF-8
-/// or no JSON value, or that spells no tree or no items, is bad, with the [`Place`]; and what it spells
+/// or no JSON value, or that spells no tree or no items, is bad, with the [`InputPlace`]; and what it spells
 /// is refused by the first refusal, with the span of what is refused: the number of its list in the
 /// input, from 1 on. The cost is that of a run.
 ///
 /// ```
-/// use html_tool_run::{Fault, Place, Task, text_of_input};
+/// use html_tool_run::{Fault, InputPlace, Task, text_of_input};
 /// use typst_html::Span;
 ///
 /// let alloc = rt.alloc();
@@ -193,9 +185,9 @@ fn value_text(alloc: Global, value: Value, task: Task, pretty: bool) -> Result<S
 /// let fault = text_of_input(alloc, br#"["el","P Q",[],[]]"#, Task::Tree, false);
 /// assert!(rt; fault == Err(Fault::Refused(2, Span(1)))); // no tag has a name with a space
 /// let fault = text_of_input(alloc, br#"["el","p",[],[["text",7]]]"#, Task::Tree, false);
-/// assert!(rt; fault == Err(Fault::BadInput(Place::Form(2)))); // the second list is no text
+/// assert!(rt; fault == Err(Fault::BadInput(InputPlace::Form(2)))); // the second list is no text
 /// let fault = text_of_input(alloc, br#"["el","p",[],[]"#, Task::Tree, false);
-/// assert!(rt; fault == Err(Fault::BadInput(Place::Text(1, 15)))); // a bracket is missing
+/// assert!(rt; fault == Err(Fault::BadInput(InputPlace::Text(1, 15)))); // a bracket is missing
 /// ```
 pub fn text_of_input(alloc: Global, input: &[u8], task: Task, pretty: bool) -> Result<String, Fault>
     ensures { GivesAnswerAt result (input_answer task pretty input.now) }
@@ -204,7 +196,7 @@ pub fn text_of_input(alloc: Global, input: &[u8], task: Task, pretty: bool) -> R
     value_text(alloc, value, task, pretty)
 }
 
-/// The text of what an input spells. The input is gone before anything is made of its value.
+/// The input is gone before anything is made of its value.
 fn answer(alloc: Global, input: Vec<u8>, task: Task, pretty: bool) -> Result<String, Fault>
     ensures { GivesAnswerAt result (input_answer task pretty input.items) }
 {
@@ -213,7 +205,7 @@ fn answer(alloc: Global, input: Vec<u8>, task: Task, pretty: bool) -> Result<Str
     value_text(alloc, value, task, pretty)
 }
 
-/// The text that is wanted. A reader that fails counts as want of memory.
+/// A reader that fails counts as want of memory.
 fn wanted<R: Read>(alloc: Global, reader: &mut R, words: &[String]) -> Result<String, Fault>
     ensures answers { GivesAnswerOn (texts_of words.now) (R.remaining reader.old) result }
     ensures wrong_words { wanted_task (texts_of words.now) ≡ None
@@ -221,7 +213,7 @@ fn wanted<R: Read>(alloc: Global, reader: &mut R, words: &[String]) -> Result<St
     ensures unread { wanted_task (texts_of words.now) ≡ None → reader.new ≡ reader.old }
 {
     let Some((task, pretty)) = wanted_task(words) else {
-        return Err(Fault::BadInput(Place::Unknown));
+        return Err(Fault::BadInput(InputPlace::Unknown));
     };
     match read_all(alloc, reader) {
         Some(input) => answer(alloc, input, task, pretty),
@@ -229,7 +221,6 @@ fn wanted<R: Read>(alloc: Global, reader: &mut R, words: &[String]) -> Result<St
     }
 }
 
-/// Writes the reply, and says how that ended.
 fn tell<W: Write>(writer: &mut W, last: &mut LastCall, reply: &Reply) -> Status
     ensures { EndsAs (reply_answer reply.now) result
         (W.contents writer.old) (W.contents writer.new) last.new }
@@ -240,7 +231,6 @@ fn tell<W: Write>(writer: &mut W, last: &mut LastCall, reply: &Reply) -> Status
     }
 }
 
-/// The run, which leaves how the last call on the writer ended.
 fn run_on<R: Read, W: Write>(
     alloc: Global,
     reader: &mut R,

@@ -7,7 +7,6 @@ ghost use Rattle.html_tool_run.specs.Writing.{WritesAll};
 use crate::recorded::{LastCall, WriteFailed};
 use std::io::Write;
 
-/// Writes some of the bytes, at least one, and answers how many.
 pub(crate) fn write_some<W: Write>(
     writer: &mut W,
     last: &mut LastCall,
@@ -32,7 +31,6 @@ pub(crate) fn write_some<W: Write>(
     }
 }
 
-/// Flushes the writer.
 pub(crate) fn flush<W: Write>(writer: &mut W, last: &mut LastCall) -> Result<(), WriteFailed>
     ensures flushed { IfOk result (λ _. last.new ≡ LastCall.Flushed) }
     ensures failed { OnErr result (last.new ≡ LastCall.Failed) }

@@ -34,7 +34,6 @@ pub fn wanted_task(words: &[String]) -> Option<(Task, bool)>
     Some((task, pretty))
 }
 
-/// The task of that word.
 fn task_of(word: &str) -> Option<Task>
     ensures { result ≡ task_of word.now }
 {
@@ -45,7 +44,6 @@ fn task_of(word: &str) -> Option<Task>
     }
 }
 
-/// Whether pretty text is wanted, where the words after the task are right.
 fn wants_pretty(options: &[String]) -> Option<bool>
     ensures { result ≡ wants_pretty (texts_of options.now) }
 {

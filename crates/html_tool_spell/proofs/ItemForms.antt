@@ -79,7 +79,6 @@ pub item_view-Box : (items : Vec Pair Global) (span : Span)
     ≡ flow.box_item (flow.present (flow_views.items_view items.items)) span.0
 item_view-Box items span = search (rules, the_lemmas)
 
--- an item of a list has the role of the list
 pub pair_view-inner : (i : Item)
     → flow_views.pair_view (record { item = i; role = Inherit })
     ≡ (flow_views.item_view i, flow.inherits)

@@ -42,7 +42,6 @@ node_kinds k fields n = by (bytes_eq k (codes "block")) refl (bytes_eq k (codes 
     by false p true q = rw ((bytes_eq-Decides k (codes "box")).0 q) refl
     by false p false q = rw (p, q) (simp (from_part-if, if-same) refl)
 
--- the item of a list, by its kind
 pub item_form-kind : (vs : List Value) (n : ℕ) → flow.item_form (items_view vs) n
     ≡ from_part n (λ kind. item_of_kind kind (items_view (drop 1 vs)) n)
     (list_kind (items_view vs))
@@ -55,7 +54,6 @@ item_form-kind (v ∷ vs) n = by (as_str (view v))
     by None = refl
     by (Some k) = item_kinds k (items_view vs) n
 
--- the node of a list, by its kind
 pub form-kind : (vs : List Value) (n : ℕ) → tree.form (items_view vs) n
     ≡ from_part n (λ kind. node_of_kind kind (items_view (drop 1 vs)) n)
     (list_kind (items_view vs))

@@ -49,7 +49,6 @@ pub own_first : IsOwnFirst element_made name_refusals all_name_refusals
 unfolding name_refusals
 own_first span tag pairs kids = refl
 
--- what is refused in a node is refused in an element
 told_node : (w : NodeView) (n code : ℕ) (span : Span)
     → IsFirst (Refused code span) (name_refusals w)
     → IsOkAnd (element_of (w, n)) (λ e. IsFirst (Refused code span) (element_refusals e))

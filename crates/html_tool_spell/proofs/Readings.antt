@@ -14,8 +14,8 @@ use Rattle.html_tool_spell.specs.Reading.{first_of, IsWrong, IsRead, Reads, with
 use Rattle.html_tool_spell.specs.Refusals.{IsFirst}
 use Rattle.html_tool_spell.specs.declared.fault.Fault.{Fault}
 use Rattle.html_tool_spell.specs.declared.fault.Fault.TheVariants.{OutOfMemory, BadInput, Refused}
-use Rattle.html_tool_spell.specs.declared.fault.Place.{Place}
-use Rattle.html_tool_spell.specs.declared.fault.Place.TheVariants.{Unknown, Text, Form}
+use Rattle.html_tool_spell.specs.declared.fault.InputPlace.{InputPlace}
+use Rattle.html_tool_spell.specs.declared.fault.InputPlace.TheVariants.{Unknown, Text, Form}
 use Rattle.html_tool_spell.specs.declared.reader.Reader.{Reader}
 
 pub first_of_nil : (o : Option (ℕ × Span)) → first_of o [] ≡ o
@@ -28,15 +28,13 @@ first_of_more (Some r) rs ss = refl
 first_of_more None [] ss = refl
 first_of_more None (r ∷ rs) ss = refl
 
--- where nothing is refused in the end, nothing was before
 pub first_of_none : (o : Option (ℕ × Span)) (rs : List Refusal) → first_of o rs ≡ None
     → (o ≡ None) × (rs ≡ [])
 first_of_none (Some r) rs h = absurd (cc)
 first_of_none None [] h = (refl, refl)
 first_of_none None (r ∷ rs) h = absurd (cc)
 
--- what leaves the form in a part leaves that of the whole
-left_by : {A B : Type 0} (o : Left A) (p : Left B) (place : Place)
+left_by : {A B : Type 0} (o : Left A) (p : Left B) (place : InputPlace)
     → ((n : ℕ) → o ≡ Err n → p ≡ Err n) → IsLeft o place → IsLeft p place
 left_by o p Unknown f h = absurd h
 left_by o p (Text line column) f h = absurd h

@@ -39,7 +39,6 @@ told_bodies told made others s t u code span first clear is a b =
     (refused_whole both_refusals (a.whole, b.whole) (Ok ((a.whole, b.whole), u.lists)) s u code span
     clear is r)
 
--- what is missing before the first list leaves the form there
 pub missing_told : {A B : Type 0} (refusals : B → List Refusal) (made : A → Left B)
     (wanted : Option A) (f : Fault) → IsMissing wanted f
     → IsTold refusals (from_part 0 made wanted) f

@@ -1,8 +1,8 @@
 -- What a JSON value spells, or where the form is left: how many lists of nodes or items are opened up to
 -- the first value that is not what the form wants.
 use Rattle.std.specs.Prelude.{◌≡◌, ℕ, Option, Some, None, Result, Ok, Err}
-use Rattle.html_tool_spell.specs.declared.fault.Place.{Place}
-use Rattle.html_tool_spell.specs.declared.fault.Place.TheVariants.{Unknown, Text, Form}
+use Rattle.html_tool_spell.specs.declared.fault.InputPlace.{InputPlace}
+use Rattle.html_tool_spell.specs.declared.fault.InputPlace.TheVariants.{Unknown, Text, Form}
 
 -- something that is spelled, or the place where the form is left
 abbrev pub Left : Type 0 → Type 0
@@ -23,13 +23,13 @@ from_part n f (Some a) = f a
 from_part n f None = Err n
 
 -- the form is left at that place
-abbrev pub IsLeft : {A : Type 0} → Left A → Place → Type 0
+abbrev pub IsLeft : {A : Type 0} → Left A → InputPlace → Type 0
 IsLeft wanted Unknown = ⊥
 IsLeft wanted (Text line column) = ⊥
 IsLeft wanted (Form n) = wanted ≡ Err n
 
 -- the text is no JSON at that place
-abbrev pub IsInText : Place → Type 0
+abbrev pub IsInText : InputPlace → Type 0
 IsInText Unknown = ⊥
 IsInText (Text line column) = Unit {0}
 IsInText (Form n) = ⊥

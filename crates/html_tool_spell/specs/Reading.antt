@@ -21,7 +21,7 @@ use Rattle.html_tool_spell.specs.LeftForms.{Left, IsLeft, IsInText, from_part}
 use Rattle.html_tool_spell.specs.NameRefusals.{Refusal, refusals, pairs_refusals, name_refusals, all_name_refusals, item_refusals, items_refusals}
 use Rattle.html_tool_spell.specs.declared.fault.Fault.{Fault}
 use Rattle.html_tool_spell.specs.declared.fault.Fault.TheVariants.{OutOfMemory, BadInput, Refused}
-use Rattle.html_tool_spell.specs.declared.fault.Place.TheVariants.{Form}
+use Rattle.html_tool_spell.specs.declared.fault.InputPlace.TheVariants.{Form}
 use Rattle.html_tool_spell.specs.declared.reader.Reader.{Reader}
 
 -- the first refusal, of what was refused before and then these

@@ -7,7 +7,7 @@ ghost use Rattle.html_tool_spell.specs.SpelledDocuments.{nothing_told, spelled_d
 ghost use Rattle.html_tool_spell.specs.SpelledDocuments.{told_at, with_known, with_member};
 ghost use Rattle.html_tool_spell.specs.Spelling.{GivesSpelledDocument, told_view};
 
-use crate::fault::{Fault, Place};
+use crate::fault::{Fault, InputPlace};
 use crate::field::{named_field, with_field};
 use crate::items::list_of;
 use crate::reader::Reader;
@@ -19,16 +19,12 @@ use std::alloc::Global;
 /// What an object tells of a document.
 #[derive(Drop)]
 pub(crate) struct Told {
-    /// What is known.
     info: DocumentInfo,
-    /// The items, as they stand there.
     items: Value,
-    /// The footnotes, as they stand there.
     footnotes: Value,
 }
 
 impl Told {
-    /// Nothing is known, and there are no items and no footnotes.
     fn new(alloc: Global) -> Told
         ensures { told_view result ≡ nothing_told }
     {
@@ -40,12 +36,11 @@ impl Told {
     }
 }
 
-/// What a value tells of a document.
 fn told_at(alloc: Global, value: Value) -> Result<Told, Fault>
     ensures { ReadsField told_view result (told_at (view value)) }
 {
     let Value::Object(members) = value else {
-        return Err(Fault::BadInput(Place::Form(0)));
+        return Err(Fault::BadInput(InputPlace::Form(0)));
     };
     let mut told = Told::new(alloc);
     for (name, value) in members {
@@ -54,7 +49,6 @@ fn told_at(alloc: Global, value: Value) -> Result<Told, Fault>
     Ok(told)
 }
 
-/// What is told, and one member more.
 fn with_member(alloc: Global, told: Told, name: &str, value: Value) -> Result<Told, Fault>
     ensures { ReadsField told_view result (with_member (told_view told) name.now (view value)) }
 {
@@ -71,11 +65,10 @@ fn with_member(alloc: Global, told: Told, name: &str, value: Value) -> Result<To
     }
 }
 
-/// What is told, and one field more.
 fn with_known(alloc: Global, told: Told, name: &str, value: Value) -> Result<Told, Fault>
     ensures { ReadsField told_view result (with_known (told_view told) name.now (view value)) }
 {
-    let field = named_field(name).ok_or(Fault::BadInput(Place::Form(0)))?;
+    let field = named_field(name).ok_or(Fault::BadInput(InputPlace::Form(0)))?;
     let info = with_field(alloc, told.info, field, value)?;
     Ok(Told { info, ..told })
 }
@@ -100,7 +93,6 @@ pub fn document_in(alloc: Global, value: Value) -> Result<SpelledDocument, Fault
     document_by(alloc, told)
 }
 
-/// The document of what is told.
 fn document_by(alloc: Global, told: Told) -> Result<SpelledDocument, Fault>
     ensures { GivesSpelledDocument result (spelling_from (told_view told)) }
 {

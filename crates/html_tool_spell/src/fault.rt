@@ -4,7 +4,7 @@ use std::alloc::{AllocError, AllocFailed};
 
 /// Where an input is bad.
 #[derive(Clone, Copy, Debug, PartialEq, Eq)]
-pub enum Place {
+pub enum InputPlace {
     /// No place is told: the words or the numbers of the call are wrong, or a page is not read.
     Unknown,
     /// The text is no JSON value, or no UTF-8: the line, from 1 on, and the column, in bytes from 1 on,
@@ -22,7 +22,7 @@ pub enum Fault {
     /// An allocation failed.
     OutOfMemory,
     /// There is no JSON value, or it spells nothing.
-    BadInput(Place),
+    BadInput(InputPlace),
     /// The value spells something that is refused: the number of the first fault, and its span.
     Refused(u8, Span),
 }

@@ -9,7 +9,7 @@ ghost use Rattle.html_tool_spell.specs.Fields.{text_at};
 ghost use Rattle.html_tool_spell.specs.Reading.{ReadsField};
 ghost use Rattle.html_tool_spell.specs.SpelledDocuments.{named_field, texts_at, with_field, with_region};
 
-use crate::fault::{Fault, Place};
+use crate::fault::{Fault, InputPlace};
 use crate::fields::text_at;
 use html_dom_document::{DocumentInfo, Locale};
 use serde_json::Value;
@@ -18,21 +18,14 @@ use std::alloc::Global;
 /// What a member of an object tells of a document.
 #[derive(Clone, Copy)]
 pub(crate) enum Field {
-    /// Its title.
     Title,
-    /// What it is about.
     Description,
-    /// Who wrote it.
     Authors,
-    /// The words by which it is found.
     Keywords,
-    /// Its language.
     Lang,
-    /// The region in which the language is spoken.
     Region,
 }
 
-/// The field of that name.
 pub(crate) fn named_field(name: &str) -> Option<Field>
     ensures { result ≡ named_field name.now }
 {
@@ -47,7 +40,6 @@ pub(crate) fn named_field(name: &str) -> Option<Field>
     }
 }
 
-/// What is known, and one field more.
 pub(crate) fn with_field(
     alloc: Global,
     mut info: DocumentInfo,
@@ -67,19 +59,17 @@ pub(crate) fn with_field(
     Ok(info)
 }
 
-/// The text that a value is.
 fn known_text(value: Value) -> Result<String, Fault>
     ensures { ReadsField text_view result (text_at (view value)) }
 {
-    text_at(value).ok_or(Fault::BadInput(Place::Form(0)))
+    text_at(value).ok_or(Fault::BadInput(InputPlace::Form(0)))
 }
 
-/// The texts that a value is a list of.
 fn texts_at(alloc: Global, value: Value) -> Result<Vec<String>, Fault>
     ensures { ReadsField (λ texts. texts_view texts.items) result (texts_at (view value)) }
 {
     let Value::Array(values) = value else {
-        return Err(Fault::BadInput(Place::Form(0)));
+        return Err(Fault::BadInput(InputPlace::Form(0)));
     };
     let mut texts = Vec::with_capacity(alloc, values.len())?;
     for value in values {
@@ -88,7 +78,6 @@ fn texts_at(alloc: Global, value: Value) -> Result<Vec<String>, Fault>
     Ok(texts)
 }
 
-/// The region of a language.
 fn with_region(given: Option<Locale>, region: String) -> Result<Locale, Fault>
     ensures { ReadsField locale_view result
         (with_region (option_map locale_view given) (text_view region)) }
@@ -98,6 +87,6 @@ fn with_region(given: Option<Locale>, region: String) -> Result<Locale, Fault>
             lang,
             region: Some(region),
         }),
-        None => Err(Fault::BadInput(Place::Form(0))),
+        None => Err(Fault::BadInput(InputPlace::Form(0))),
     }
 }

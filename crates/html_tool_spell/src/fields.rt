@@ -4,13 +4,11 @@ ghost use Rattle.std.specs.Prelude.{◌≡◌, ◌≢◌, length, drop, option_m
 ghost use Rattle.serde_json.specs.View.{view, items_view};
 ghost use Rattle.html_dom_tree.specs.Tree.{TextPair};
 ghost use Rattle.html_dom_tree.specs.Views.{tag_view, text_view};
-ghost use Rattle.html_tool_spell.specs.Fields.{text_at, pair_at, pair_form, text_form};
-ghost use Rattle.html_tool_spell.specs.Fields.{start_form, end_form, no_fields};
+ghost use Rattle.html_tool_spell.specs.Fields.{text_at, pair_at, pair_form, text_form, start_form, end_form, no_fields};
 
 use html_dom_tree::{Location, Tag};
 use serde_json::Value;
 
-/// The text that a value is.
 pub(crate) fn text_at(value: Value) -> Option<String>
     ensures { option_map text_view result ≡ text_at (view value) }
 {
@@ -20,7 +18,6 @@ pub(crate) fn text_at(value: Value) -> Option<String>
     }
 }
 
-/// The values of a list that has so many.
 pub(crate) fn parts_of<const N: usize>(list: Vec<Value>) -> Option<[Value; N]>
     ensures made { IfSome result (λ parts. (parts ≡ list.items) × (length list.items ≡ N)) }
     ensures other { IfNone result (length list.items ≢ N) }
@@ -28,7 +25,6 @@ pub(crate) fn parts_of<const N: usize>(list: Vec<Value>) -> Option<[Value; N]>
     <[Value; N]>::try_from(list).ok()
 }
 
-/// The text of a text's list.
 #[tactic(auto, using(crate::proofs::Forms::forms))]
 pub(crate) fn text_in(list: Vec<Value>) -> Option<String>
     ensures { option_map text_view result ≡ text_form (items_view (drop 1 list.items)) }
@@ -37,7 +33,6 @@ pub(crate) fn text_in(list: Vec<Value>) -> Option<String>
     text_at(text)
 }
 
-/// The two texts that a value is a list of.
 pub(crate) fn pair_in(value: Value) -> Option<(String, String)>
     ensures { option_map (λ p. (text_view p.0, text_view p.1)) result ≡ pair_at (view value) }
 {
@@ -47,7 +42,6 @@ pub(crate) fn pair_in(value: Value) -> Option<(String, String)>
     }
 }
 
-/// The two texts of a list.
 #[tactic(auto, using(crate::proofs::Forms::forms))]
 fn pair_of(parts: Vec<Value>) -> Option<(String, String)>
     ensures { option_map (λ p. (text_view p.0, text_view p.1)) result
@@ -57,7 +51,6 @@ fn pair_of(parts: Vec<Value>) -> Option<(String, String)>
     texts_at(name, value)
 }
 
-/// The texts that two values are.
 fn texts_at(name: Value, value: Value) -> Option<(String, String)>
     ensures { option_map {U = TextPair} (λ p. (text_view p.0, text_view p.1)) result
         ≡ option_and_then (λ n. option_map (λ v. (n, v)) (text_at (view value)))
@@ -66,7 +59,6 @@ fn texts_at(name: Value, value: Value) -> Option<(String, String)>
     Some((text_at(name)?, text_at(value)?))
 }
 
-/// The tag of a start's list.
 #[tactic(auto, using(crate::proofs::Forms::forms))]
 pub(crate) fn start_in(list: Vec<Value>) -> Option<Tag>
     ensures { option_map tag_view result ≡ start_form (items_view (drop 1 list.items)) }
@@ -83,7 +75,6 @@ pub(crate) fn start_in(list: Vec<Value>) -> Option<Tag>
     })
 }
 
-/// The tag of an end's list.
 #[tactic(auto, using(crate::proofs::Forms::forms))]
 pub(crate) fn end_in(list: Vec<Value>) -> Option<Tag>
     ensures { option_map tag_view result ≡ end_form (items_view (drop 1 list.items)) }
@@ -96,7 +87,6 @@ pub(crate) fn end_in(list: Vec<Value>) -> Option<Tag>
     })
 }
 
-/// Nothing, where the list has no fields.
 #[tactic(auto, using(crate::proofs::Forms::forms))]
 pub(crate) fn nothing_in(list: Vec<Value>) -> Option<()>
     ensures { result ≡ no_fields (items_view (drop 1 list.items)) }

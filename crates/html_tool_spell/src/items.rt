@@ -43,7 +43,6 @@ pub fn into_items(alloc: Global, value: Value) -> Result<Vec<Pair>, Fault>
     }
 }
 
-/// The item that a value spells.
 #[cycle(spell)]
 fn item_of(reader: &mut Reader, value: Value) -> Result<Item, Fault>
     ensures { ReadsItem result (spelled_item (view value) reader.old.lists) reader.old reader.new }
@@ -67,7 +66,6 @@ fn opened_item(reader: &mut Reader, list: Vec<Value>) -> Result<Item, Fault>
     }
 }
 
-/// The item of that list, which is of that kind.
 #[cycle(spell)]
 fn form_of(reader: &mut Reader, kind: Kind, list: Vec<Value>) -> Result<Item, Fault>
     ensures { ReadsItem result (item_of_kind kind (items_view (drop 1 list.items)) reader.old.lists)
@@ -151,7 +149,6 @@ fn element_of(reader: &mut Reader, list: Vec<Value>) -> Result<Item, Fault>
     }
 }
 
-/// The element of that name, those attributes and that list of items.
 #[cycle(spell)]
 fn element_with(reader: &mut Reader, name: Value, pairs: Value, list: Value) -> Result<Item, Fault>
     ensures { ReadsItem result (element_from (element_made reader.old.lists) reader.old.lists
@@ -193,7 +190,6 @@ fn box_of(reader: &mut Reader, list: Vec<Value>) -> Result<Item, Fault>
     Ok(Item::Box(Some(body_of(reader, list)?), span))
 }
 
-/// The items of a body that is the only field.
 #[cycle(spell)]
 #[tactic(auto, using(crate::proofs::ItemForms::item_forms))]
 fn body_of(reader: &mut Reader, list: Vec<Value>) -> Result<Vec<Pair>, Fault>
@@ -209,7 +205,6 @@ fn body_of(reader: &mut Reader, list: Vec<Value>) -> Result<Vec<Pair>, Fault>
     }
 }
 
-/// The items that a list spells.
 #[cycle(spell)]
 pub(crate) fn list_of(reader: &mut Reader, value: Value) -> Result<Vec<Pair>, Fault>
     ensures { ReadsItems result (list_at (view value) reader.old.lists) reader.old reader.new }

@@ -1,7 +1,7 @@
 ghost use Rattle.html_tool_spell.specs.Json.{json_of};
 ghost use Rattle.html_tool_spell.specs.Reading.{ReadsJson};
 
-use crate::{Fault, Place};
+use crate::{Fault, InputPlace};
 use serde_json::{Category, Value};
 use std::alloc::Global;
 
@@ -15,7 +15,7 @@ pub fn parse(alloc: Global, bytes: &[u8]) -> Result<Value, Fault>
         Ok(value) => Ok(value),
         Err(fault) => match fault.classify() {
             Category::Memory => Err(Fault::OutOfMemory),
-            _ => Err(Fault::BadInput(Place::Text(fault.line(), fault.column()))),
+            _ => Err(Fault::BadInput(InputPlace::Text(fault.line(), fault.column()))),
         },
     }
 }

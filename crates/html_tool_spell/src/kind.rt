@@ -9,23 +9,14 @@ use serde_json::Value;
 /// What a list spells.
 #[derive(Clone, Copy)]
 pub(crate) enum Kind {
-    /// A text.
     Text,
-    /// An element.
     Element,
-    /// A block.
     Block,
-    /// A box.
     Box,
-    /// The start of a tag.
     Start,
-    /// The end of a tag.
     End,
-    /// A space.
     Space,
-    /// A line break.
     Break,
-    /// A hole.
     Hole,
 }
 
@@ -39,7 +30,6 @@ pub(crate) fn list_kind(list: &[Value]) -> Option<Kind>
     }
 }
 
-/// The kind of that name.
 #[tactic(auto, unfolding(crate::specs::FormKinds::named_kind))]
 fn named_kind(name: &str) -> Option<Kind>
     ensures { result ≡ named_kind name.now }

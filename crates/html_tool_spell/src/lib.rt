@@ -20,7 +20,7 @@ mod nodes;
 mod reader;
 
 pub use documents::{SpelledDocument, document_in};
-pub use fault::{Fault, Place};
+pub use fault::{Fault, InputPlace};
 pub use items::{into_items, items_in};
 pub use json::parse;
 pub use nodes::{element_in, into_element};

@@ -7,11 +7,10 @@ ghost use Rattle.html_dom_tree.specs.Views.{tag_view};
 ghost use Rattle.html_tool_spell.specs.Fields.{leaf, text_at, pairs_at, element_from};
 ghost use Rattle.html_tool_spell.specs.FormKinds.{node_of_kind};
 ghost use Rattle.html_tool_spell.specs.Reading.{AddsNode, ReadsNode, ReadsNodes};
-ghost use Rattle.html_tool_spell.specs.Spelled.{spelled_element, spelled_node, form, spelled_text};
-ghost use Rattle.html_tool_spell.specs.Spelled.{element_form, element_made, list_at};
+ghost use Rattle.html_tool_spell.specs.Spelled.{spelled_element, spelled_node, form, spelled_text, element_form, element_made, list_at};
 ghost use Rattle.html_tool_spell.specs.Spelling.{GivesElement};
 
-use crate::fault::{Fault, Place};
+use crate::fault::{Fault, InputPlace};
 use crate::fields::{end_in, parts_of, start_in, text_at, text_in};
 use crate::kind::{Kind, list_kind};
 use crate::reader::Reader;
@@ -41,12 +40,11 @@ pub fn into_element(alloc: Global, value: Value) -> Result<HtmlElement, Fault>
     match node {
         HtmlNode::Element(element) => Ok(element),
         HtmlNode::Tag(_) | HtmlNode::Text(_, _) | HtmlNode::Frame(_) => {
-            Err(Fault::BadInput(Place::Form(1)))
+            Err(Fault::BadInput(InputPlace::Form(1)))
         }
     }
 }
 
-/// The node that a value spells.
 fn node_in(reader: &mut Reader, value: Value) -> Result<HtmlNode, Fault>
     ensures { ReadsNode result (spelled_node (view value) reader.old.lists) reader.old reader.new }
 {
@@ -55,7 +53,6 @@ fn node_in(reader: &mut Reader, value: Value) -> Result<HtmlNode, Fault>
     Ok(nodes.swap_remove(0))
 }
 
-/// Adds the node that a value spells to nodes that have room for it.
 #[cycle(spell)]
 fn push_node(reader: &mut Reader, nodes: &mut Vec<HtmlNode>, value: Value) -> Result<(), Fault>
     requires { vec_len nodes.old < vec_capacity nodes.old }
@@ -82,7 +79,6 @@ fn push_list(reader: &mut Reader, nodes: &mut Vec<HtmlNode>, list: Vec<Value>) -
     }
 }
 
-/// Adds the node of that list, which is of that kind.
 #[cycle(spell)]
 fn push_form(
     reader: &mut Reader,
@@ -151,7 +147,6 @@ fn push_element(
     }
 }
 
-/// Adds the element of that name, those attributes and that list of children.
 #[cycle(spell)]
 fn push_element_with(
     reader: &mut Reader,
@@ -184,7 +179,6 @@ fn push_element_with(
     Ok(())
 }
 
-/// The nodes that a list spells.
 #[cycle(spell)]
 fn list_of(reader: &mut Reader, value: Value) -> Result<Vec<HtmlNode>, Fault>
     ensures { ReadsNodes result (list_at (view value) reader.old.lists) reader.old reader.new }

@@ -7,9 +7,9 @@ ghost use Rattle.html_names.specs.Names.{tag_fault, attr_fault};
 ghost use Rattle.html_tool_spell.specs.Fields.{pairs_at, pair_at};
 ghost use Rattle.html_tool_spell.specs.Reading.{IsWant, Notes, ReadsName, ReadsPair, ReadsPairs};
 ghost use Rattle.html_tool_spell.specs.declared.fault.Fault.TheVariants.{BadInput};
-ghost use Rattle.html_tool_spell.specs.declared.fault.Place.TheVariants.{Form};
+ghost use Rattle.html_tool_spell.specs.declared.fault.InputPlace.TheVariants.{Form};
 
-use crate::fault::{Fault, Place};
+use crate::fault::{Fault, InputPlace};
 use crate::fields::pair_in;
 use html_dom_tree::{HtmlAttrs, Span};
 use html_names::{HtmlAttr, HtmlTag, NameFault, attr, tag};
@@ -29,7 +29,6 @@ pub(crate) struct Reader {
 }
 
 impl Reader {
-    /// The reader before anything is read.
     pub(crate) fn new(alloc: Global) -> Reader
         ensures lists { result.lists ≡ 0 }
         ensures refused { result.refused ≡ None }
@@ -41,19 +40,16 @@ impl Reader {
         }
     }
 
-    /// The allocator.
     pub(crate) fn alloc(&self) -> Global {
         self.alloc
     }
 
-    /// The first name that was refused.
     pub(crate) fn refused(&self) -> Option<(u8, Span)>
         ensures { result ≡ self.now.refused }
     {
         self.refused
     }
 
-    /// Opens the next list.
     pub(crate) fn open(&mut self) -> Result<(), Fault>
         ensures lists { OnOk result (self.new.lists ≡ self.old.lists + 1) }
         ensures refused { self.new.refused ≡ self.old.refused }
@@ -74,7 +70,7 @@ impl Reader {
     pub(crate) fn left(&self) -> Fault
         ensures { result ≡ BadInput (Form self.now.lists) }
     {
-        Fault::BadInput(Place::Form(self.lists))
+        Fault::BadInput(InputPlace::Form(self.lists))
     }
 
     /// Remembers the fault of a name of the element with that span, unless another was before it.
@@ -92,7 +88,6 @@ impl Reader {
         }
     }
 
-    /// The tag name of that text, or another where it is refused.
     pub(crate) fn tag(&mut self, text: &str, span: Span) -> Result<HtmlTag, Fault>
         ensures { ReadsName tag_fault span result (chars text.now) self.old self.new }
     {
@@ -105,7 +100,6 @@ impl Reader {
         }
     }
 
-    /// The attribute name of that text, or another where it is refused.
     fn attr(&mut self, text: &str, span: Span) -> Result<HtmlAttr, Fault>
         ensures { ReadsName attr_fault span result (chars text.now) self.old self.new }
     {
@@ -118,7 +112,6 @@ impl Reader {
         }
     }
 
-    /// The attributes of the element with that span.
     pub(crate) fn pairs(&mut self, value: Value, span: Span) -> Result<HtmlAttrs, Fault>
         ensures { ReadsPairs span result (pairs_at (view value)) self.old self.new }
     {
@@ -132,7 +125,6 @@ impl Reader {
         Ok(HtmlAttrs(pairs))
     }
 
-    /// An attribute of the element with that span.
     fn pair(&mut self, value: Value, span: Span) -> Result<(HtmlAttr, String), Fault>
         ensures { ReadsPair span result (pair_at (view value)) self.old self.new }
     {

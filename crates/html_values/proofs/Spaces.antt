@@ -51,7 +51,6 @@ count_is (suc n) unit h f =
     let above = decimal_nonempty (suc n) f in
     (omega (arith, above, length-append (decimal (suc n)) unit), refl)
 
--- a count is added after its gap
 pub spaced-count : (xs unit : List ℕ) (n : ℕ) → 0 < n → n < 2 ^ 64
     → (gap_after xs ++ decimal n) ++ unit ≡ texts_with_gap xs (count_text n unit)
 spaced-count xs unit n h f =

@@ -172,7 +172,6 @@ impl AttrType {
 }
 
 impl ListType {
-    /// The text of an array, or of a value that stands for an array of itself.
     #[cycle(cast)]
     fn cast(&self, alloc: Global, value: &Value) -> Result<String, CastFault>
         ensures { GivesCast text_answer result (cast (list_type_view self.now) (value_view value.now)) }
@@ -201,7 +200,6 @@ impl ListType {
         }
     }
 
-    /// The texts of an array's items.
     #[cycle(cast)]
     fn texts(&self, alloc: Global, items: &[Value]) -> Result<Vec<String>, CastFault>
         ensures { GivesTexts result self.now.separator
@@ -216,7 +214,6 @@ impl ListType {
     }
 }
 
-/// What the first type that is for a value makes of it.
 #[cycle(cast)]
 fn cast_by_first(
     alloc: Global,

@@ -15,7 +15,6 @@ use html_names::output::Output;
 use html_values_css::CastFault;
 use std::alloc::{AllocError, Global};
 
-/// Whether a text is one of these.
 #[tactic(auto, unfolding(html_names::specs::Names::stands_in))]
 pub(crate) fn is_among(text: &str, texts: &[String]) -> bool
     ensures { result ≡ stands_in (texts_view texts.now) (chars text.now) }
@@ -35,7 +34,6 @@ fn is_same(a: &str, b: &str) -> bool
     *a == *b
 }
 
-/// A text that is one of these.
 pub(crate) fn allowed_text(texts: &[String], value: &Value) -> Result<String, CastFault>
     ensures { GivesCast text_answer result
         (strings_cast (texts_view texts.now) (value_view value.now)) }
@@ -52,7 +50,6 @@ pub(crate) fn allowed_text(texts: &[String], value: &Value) -> Result<String, Ca
     }
 }
 
-/// The text that was made, or the empty one.
 pub(crate) fn text_or_empty(alloc: Global, made: Option<String>) -> String
     ensures { item_answer (option_answer made) ≡ text_answer result }
 {
@@ -62,14 +59,12 @@ pub(crate) fn text_or_empty(alloc: Global, made: Option<String>) -> String
     }
 }
 
-/// Whether a text holds a character.
 fn holds(text: &str, separator: char) -> bool
     ensures { result ≡ list_any (λ c. c == separator) (chars text.now) }
 {
     text.chars().any(|c| c == separator)
 }
 
-/// A text that does not hold the separator.
 pub(crate) fn without_separator(text: String, separator: char) -> Result<String, CastFault>
     ensures { item_text separator (text_answer text) ≡ text_result result }
 {
@@ -90,7 +85,6 @@ fn push_separator(text: &mut Output, separator: char) -> Result<(), AllocError>
     Ok(())
 }
 
-/// Texts with the separator between them.
 pub(crate) fn join(alloc: Global, texts: &[String], separator: char) -> Result<String, AllocError>
     ensures { IsText result (join_by (λ t. t) (list_separator_text separator) (texts_view texts.now)) }
 {
@@ -102,7 +96,6 @@ pub(crate) fn join(alloc: Global, texts: &[String], separator: char) -> Result<S
     Ok(text.into_string())
 }
 
-/// Adds texts, each after the separator.
 fn push_others(text: &mut Output, others: &[String], separator: char) -> Result<(), AllocError>
     ensures { OnOk result (text.new ≡ text.old
         ++ flat_map (λ t. list_separator_text separator ++ t) (texts_view others.now)) }

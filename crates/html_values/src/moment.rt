@@ -64,7 +64,6 @@ fn is_year(year: i16) -> bool
     (1..=9999).contains(&year)
 }
 
-/// Adds a date.
 fn push_date(text: &mut Output, date: &Date) -> Result<(), AllocError>
     requires { IsTrue (year_fits date.now.year) }
     ensures { OnOk result (text.new ≡ text.old ++ date_text date.now) }
@@ -78,7 +77,6 @@ fn push_date(text: &mut Output, date: &Date) -> Result<(), AllocError>
     text.push_two_digits(date.day().unsigned_abs())
 }
 
-/// Adds a time.
 fn push_time(text: &mut Output, time: &Time) -> Result<(), AllocError>
     ensures { OnOk result (text.new ≡ text.old ++ time_text time.now) }
 {

@@ -61,7 +61,6 @@ pub enum NativeType {
 }
 
 impl NativeType {
-    /// Whether the type is for values of this kind.
     pub(crate) fn castable(self, value: &Value) -> bool
         ensures { result ≡ native_castable self (value_view value.now) }
     {
@@ -86,7 +85,6 @@ impl NativeType {
         }
     }
 
-    /// The text of a value of this type.
     pub(crate) fn cast(self, alloc: Global, value: &Value) -> Result<String, CastFault>
         ensures { GivesCast text_answer result (native_cast self (value_view value.now)) }
     {
@@ -114,7 +112,6 @@ impl NativeType {
         }
     }
 
-    /// The text of none.
     fn cast_none(self, alloc: Global) -> Result<String, CastFault>
         ensures { GivesCast text_answer result (native_cast self none_value) }
     {
@@ -126,7 +123,6 @@ impl NativeType {
         }
     }
 
-    /// The text of a Boolean.
     fn cast_bool(self, alloc: Global, on: bool) -> Result<String, CastFault>
         ensures { GivesCast text_answer result (native_cast self (bool_value on)) }
     {
@@ -138,7 +134,6 @@ impl NativeType {
         }
     }
 
-    /// The text of a whole number.
     fn cast_int(self, alloc: Global, n: i64) -> Result<String, CastFault>
         ensures { GivesCast text_answer result (native_cast self (int_value n)) }
     {
@@ -150,7 +145,6 @@ impl NativeType {
         }
     }
 
-    /// The text of a text.
     fn cast_str(self, alloc: Global, text: &String) -> Result<String, CastFault>
         ensures { GivesCast text_answer result (native_cast self (str_value (text_view text.now))) }
     {
@@ -161,7 +155,6 @@ impl NativeType {
         }
     }
 
-    /// The text of a moment.
     fn cast_datetime(self, alloc: Global, moment: &Moment) -> Result<String, CastFault>
         ensures { GivesCast text_answer result (native_cast self (datetime_value moment.now)) }
     {
@@ -171,7 +164,6 @@ impl NativeType {
         }
     }
 
-    /// The text of a direction.
     fn cast_dir(self, alloc: Global, dir: Dir) -> Result<String, CastFault>
         ensures { GivesCast text_answer result (native_cast self (dir_value dir)) }
     {
@@ -181,7 +173,6 @@ impl NativeType {
         }
     }
 
-    /// The text of an image.
     fn cast_image(
         self,
         alloc: Global,
@@ -197,7 +188,6 @@ impl NativeType {
         }
     }
 
-    /// The text of an array.
     fn cast_array(self, alloc: Global, items: &[Value]) -> Result<String, CastFault>
         ensures { GivesCast text_answer result
             (native_cast self (array_value (values_view items.now))) }
@@ -209,7 +199,6 @@ impl NativeType {
     }
 }
 
-/// A number from 0 on.
 fn natural(n: i64) -> Result<u64, CastFault>
     ensures { Finds (λ made. made) NumberRange result (natural n) }
 {
@@ -219,7 +208,6 @@ fn natural(n: i64) -> Result<u64, CastFault>
     }
 }
 
-/// A number from 1 on.
 fn positive(n: i64) -> Result<NonZeroU64, CastFault>
     ensures { Finds non_zero_u64_get NumberRange result (positive n) }
 {
@@ -229,7 +217,6 @@ fn positive(n: i64) -> Result<NonZeroU64, CastFault>
     }
 }
 
-/// The one character of a text.
 fn only_char(text: &str) -> Result<char, CastFault>
     ensures { GivesCast (λ c. gives (c ∷ [])) result (one_char (chars text.now)) }
 {
@@ -240,7 +227,6 @@ fn only_char(text: &str) -> Result<char, CastFault>
     }
 }
 
-/// A horizontal direction.
 fn horizontal(dir: Dir) -> Result<HorizontalDir, CastFault>
     ensures { GivesCast (λ made. gives (horizontal_text made)) result (horizontal dir) }
 {
@@ -251,7 +237,6 @@ fn horizontal(dir: Dir) -> Result<HorizontalDir, CastFault>
     }
 }
 
-/// A whole number.
 fn integer(value: &Value) -> Result<i64, CastFault>
     ensures { Finds (λ n. n) WrongKind result (int_of (value_view value.now)) }
 {
@@ -261,7 +246,6 @@ fn integer(value: &Value) -> Result<i64, CastFault>
     }
 }
 
-/// The size that two whole numbers give.
 fn icon_size(items: &[Value]) -> Result<IconSize, CastFault>
     ensures { GivesCast (λ size. gives (size_text size.width size.height)) result
         (icon_size (values_view items.now)) }
@@ -277,7 +261,6 @@ fn icon_size(items: &[Value]) -> Result<IconSize, CastFault>
     })
 }
 
-/// Whether a text has no character.
 #[tactic(auto, using(crate::proofs::Commas::empty_chars))]
 fn is_empty(src: &str) -> bool
     ensures { result ≡ (length (chars src.now) == 0) }
@@ -285,7 +268,6 @@ fn is_empty(src: &str) -> bool
     src.is_empty()
 }
 
-/// Whether the first character is a comma.
 #[tactic(auto, using(crate::proofs::Commas::first_chars))]
 fn begins_with_comma(src: &str) -> bool
     ensures { result ≡ (slice_index (chars src.now) 0 == 44) }
@@ -293,7 +275,6 @@ fn begins_with_comma(src: &str) -> bool
     src.starts_with(',')
 }
 
-/// Whether the last character is a comma.
 #[tactic(auto, using(crate::proofs::Commas::last_chars))]
 fn ends_with_comma(src: &str) -> bool
     ensures { result ≡ (slice_index (chars src.now) (length (chars src.now) - 1) == 44) }
@@ -308,7 +289,6 @@ fn is_bad_source(src: &str) -> bool
     is_empty(src) || begins_with_comma(src) || ends_with_comma(src)
 }
 
-/// An image with a source and perhaps a width.
 fn candidate(src: &String, width: Option<i64>) -> Result<ImageCandidate, CastFault>
     ensures { GivesCast candidate_answer result (image (text_view src.now) width) }
 {

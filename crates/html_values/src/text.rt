@@ -7,7 +7,6 @@ ghost use Rattle.html_values.specs.Attributes.{IsText};
 
 use std::alloc::{AllocError, Global};
 
-/// The empty text.
 #[tactic(auto, using(std::proofs::StrCases::chars_of_empty))]
 pub(crate) fn empty(alloc: Global) -> String
     ensures { text_view result ≡ [] }
@@ -15,7 +14,6 @@ pub(crate) fn empty(alloc: Global) -> String
     String::new(alloc)
 }
 
-/// A text of ASCII.
 #[tactic(auto, using(html_names::proofs::Lists::chars_ascii))]
 pub(crate) fn ascii(alloc: Global, text: &str) -> Result<String, AllocError>
     requires { IsTrue (is_ascii text.now) }

@@ -23,7 +23,6 @@ power_above k = omega (arith, one-le-pow k 10 (omega arith))
 pred_is : (k : ℕ) → suc k - 1 ≡ k
 pred_is k = omega arith
 
--- the first digit of a fraction, and the others
 pub fraction_digits-step : (k n : ℕ) → 0 < k → 0 < n → fraction_digits k n
     ≡ (48 + n / 10 ^ (k - 1)) ∷ fraction_digits (k - 1) (n % 10 ^ (k - 1))
 fraction_digits-step zero n h p = absurd (omega arith)
@@ -63,7 +62,6 @@ sign_ascii (negsuc m) (suc n) = IsAscii-cons 45 [] (omega arith) IsAscii-nil
 pub whole_fits : (k : ℕ) (z : ℤ) → IsQuantity z → nearest_hundreds z / 10 ^ k < 2 ^ 64
 whole_fits k z q = let above = power_above k in omega (arith, div-le_self (nearest_hundreds z) (10 ^ k), q)
 
--- the text of a quantity is its own characters
 pub fixed_chars : (k : ℕ) (z : ℤ) → IsQuantity z → chars (fixed_text k z) ≡ fixed_text k z
 fixed_chars k z q =
     let above = power_above k in

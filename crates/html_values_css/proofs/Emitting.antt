@@ -9,7 +9,6 @@ use Rattle.html_values_css.specs.declared.sink.Warning.{Warning}
 use Rattle.html_values_css.proofs.Beginnings.{StartsWith-same, StartsWith-append}
 use Rattle.html_values_css.proofs.Giving.{not_begun, interrupted_more}
 
--- neither list has a warning
 both_none : (first second : List Warning) → first ++ second ≡ [] → (first ≡ []) × (second ≡ [])
 both_none [] second none = (refl, none)
 both_none (w ∷ ws) second none = absurd (cc)
@@ -53,7 +52,6 @@ refused_emits {S} {takes} {q} {r} {a} {b} {x} {first} {e} {e'} y second emitted 
       given = interrupted_more takes a.sink b.sink first second at.given;
     }
 
--- a refusal before anything was done
 pub nothing_yet : {S : Type 0} {takes : SinkAnswers S} (old : WriterState S) (text : List ℕ)
     (ws : List Warning) (e : AllocError)
     → Emits takes (Err e) old old text ws

@@ -19,7 +19,6 @@ use Rattle.html_values_css.specs.declared.property.Property.{Property}
 use Rattle.html_values_css.specs.contracts.property.PropertyPartialEq.TheImpl as block
 use Rattle.html_values_css.specs.contracts.property.PropertyHash.TheImpl as hashing
 
--- two tests that decide the parts of pairs decide the pairs
 pub pairs_decide : {A B : Type 0} {a b : A} {c d : B} (first second : Bool) →
     Decides first (a ≡ b) → Decides second (c ≡ d) →
     Decides (first && second) (◌≡◌ {A = A × B} (a, c) (b, d))

@@ -33,7 +33,6 @@ module _ {S : Type 0} (takes : SinkAnswers S) where
   interrupted_then old middle new (w ∷ ws) second (next, took, left) broken =
       inr (inr (next, took, interrupted_then next middle new ws second left broken))
 
-  -- after a refused call no more is handed
   pub interrupted_more : (old new : S) (first second : List Warning)
       → Interrupted takes old first new → Interrupted takes old (first ++ second) new
   interrupted_more old new [] second same = not_begun old new second same
@@ -42,7 +41,6 @@ module _ {S : Type 0} (takes : SinkAnswers S) where
   interrupted_more old new (w ∷ ws) second (inr (inr (next, took, left))) =
       inr (inr (next, took, interrupted_more next new ws second left))
 
-  -- a call that went well, and then another
   pub hands_then : {A E : Type 0} (r : Result A E) (old middle new : S)
       (first second : List Warning)
       → Given takes old first middle → Hands takes r middle second new
@@ -50,7 +48,6 @@ module _ {S : Type 0} (takes : SinkAnswers S) where
   hands_then (Ok a) = given_then
   hands_then (Err e) = interrupted_then
 
-  -- what was handed to another list first is handed on
   pub given_on : (old new : S) (handed ws : List Warning) → handed ≡ ws
       → Given takes old handed new → Given takes old ws new
   given_on old new handed ws same given = subst (λ list. Given takes old list new) same given

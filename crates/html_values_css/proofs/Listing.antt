@@ -29,7 +29,6 @@ module _ {A K X : Type 0} {R : K → K → Ordering} (o : IsTotalOrder R) (f : A
   turned_back : (x y : K) → R x y ≡ Greater → R y x ≡ Less
   turned_back x y h = o.antisymm y x ∙ ap ordering_reverse h
 
-  -- a fact of all keys, at one
   at_index : (P : K → Type 0) (l : List A) (i : ℕ) (d : A) → AllByRecursion P (keys_of (map f l))
       → i < length l → P (key (get_or l i d))
   at_index P [] i d all h = absurd (omega (arith, h))
@@ -47,7 +46,6 @@ module _ {A K X : Type 0} {R : K → K → Ordering} (o : IsTotalOrder R) (f : A
       rw e (adjacent l (sorted_tail R (key a) (keys_of (map f l)) s) k d (omega arith)
       (omega (arith, high)))
 
-  -- the keys before one that is found are smaller
   before_found : (l : List A) (name : K) (at : ℕ) → Listed l → at < length l
       → HoldsAt (λ a. R name (key a) ≡ Equal) l at
       → AllWithin (λ a. R name (key a) ≡ Greater) l 0 at
@@ -63,7 +61,6 @@ module _ {A K X : Type 0} {R : K → K → Ordering} (o : IsTotalOrder R) (f : A
       before_found l name at (sorted_tail R (key a) (keys_of (map f l)) sorted)
       (omega (arith, within)) equal k d (omega arith) (omega (arith, high))
 
-  -- what a binary search answers
   pub searched : (l : List A) (name : K) (r : Result ℕ ℕ) → Listed l → IsSearchInRange r (length l)
       → IsBinarySearchResult (λ a. R (key a) name) l r
       → MatchResult r (IsFound R key l name) (IsGap R key l name)

@@ -16,7 +16,6 @@ use Rattle.html_values_css.specs.declared.sink.Warning.{Warning}
 use Rattle.html_values_css.proofs.Giving.{hands_then}
 use Rattle.html_values_css.proofs.Beginnings.{StartsWith-append, StartsWith-trans, rest_of}
 
--- a text whose characters begin with those of another begins with it
 grown : (b d : List ℕ) → IsUtf8 b → IsUtf8 d → StartsWith (chars d) (chars b) → d ≡ b
     ++ encodes (drop (length (chars b)) (chars d))
 grown b d utf8_b utf8_d begins =
@@ -39,7 +38,6 @@ parted : (at : ℕ) (b : List ℕ) → IsUtf8 (take at b) → chars b ≡ chars 
 parted at b u = ap chars (sym (take-append-drop at b)) ∙ chars-append (take at b) (drop at b) u
 
 module _ (at : ℕ) (b d : List ℕ) (u : IsUtf8 (take at b)) (front : take at d ≡ take at b) where
-  -- what is appended to the text is appended to what stands after the place
   from_grown : (t : List ℕ) → chars d ≡ chars b ++ t → chars (drop at d) ≡ chars (drop at b) ++ t
   from_grown t e =
       let split_d : chars d ≡ chars (take at b) ++ chars (drop at d) =
@@ -111,7 +109,6 @@ Adds-then {S} {takes} r a b d t with_opening ws emitted added = record {
       (hands_then takes r a.sink b.sink d.sink ws [] emitted.given added.given);
 }
 
--- what a part appends, behind the opening, is the sum with that part
 pub with_appended : (parts : Parts) (own : List ℕ) (p : Part)
     → with_opening parts (own ++ next_part_text parts p) ≡ with_part parts own p
 with_appended Zero own p = refl
@@ -130,11 +127,9 @@ opens parts a b second text f same = record {
   given = same;
 }
 
--- nothing stands after the end
 pub nothing_after : (b : List ℕ) (n : ℕ) → n ≡ length b → chars (drop n b) ≡ []
 nothing_after b n e = ap chars (drop_all n b (omega (arith, e))) ∙ chars-nil
 
--- the text begins with what stands before the place
 pub begins_before : (at : ℕ) (b : List ℕ) → IsUtf8 (take at b)
     → StartsWith (chars b) (chars (take at b))
 begins_before at b u = rw (parted at b u) (StartsWith-append (chars (take at b))

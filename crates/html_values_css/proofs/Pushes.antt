@@ -98,7 +98,6 @@ set_to : (ps : List TextPair) (p : TextPair) (q : List ℕ) → value_of (with_v
 set_to ps p q = push_sets ps p.0 p.1 q ∙ ap (λ b. cond b (Some p.1) (value_of ps q))
     (sym (same_test q p.0))
 
--- the last value that was pushed, or else the old one
 last_value : (ps : List TextPair) (old : List TextPair) (q : List ℕ)
     → IsDistinct (eq_by_cmp by_name) (keys_of ps) → value_of (properties_after old ps) q
     ≡ option_or (value_of ps q) (value_of old q)

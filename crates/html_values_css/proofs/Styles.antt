@@ -97,7 +97,6 @@ inline_chars (p ∷ ps) =
     ∙ ap (λ t. t ++ chars (following_bytes ps)) (declaration_chars p)
     ∙ ap (λ t. declaration (property_view p) ++ t) (following_chars ps)
 
--- the characters of the bytes are the text
 pub inline_characters : (ps : List Property) → chars (encodes (inline_text (list_view ps)))
     ≡ inline_text (list_view ps)
 inline_characters ps = ap chars (inline_is ps) ∙ inline_chars ps

@@ -64,7 +64,6 @@ zero_step : (z : Bool) (p : Part) (ps : List Part) → written_sum Zero [] ps �
 zero_step true p ps h = h
 zero_step false p ps h = after_one ps p.text ∙ first_is p (shown ps)
 
--- written part by part, a sum has its text
 pub sums : (ps : List Part) → written_sum Zero [] ps ≡ sum_text ps
 sums [] = refl
 sums (p ∷ ps) = zero_step (is_zero p.number) p ps (sums ps)
@@ -73,7 +72,6 @@ either : (b : Bool) (warnings : List Warning) → warnings ≡ [] → (if b then
 either true warnings none = refl
 either false warnings none = none
 
--- a quantity never warns
 pub never_warns : (parts : Parts) (text : ℤ → List ℕ) (z : ℤ)
     → next_warnings parts (quantity_part text z) ≡ []
 never_warns Zero text z = either (is_zero z) [] refl

@@ -88,7 +88,6 @@ percents_2 (suc n) h = rw (
       (omega arith),
 ) (omega arith)
 
--- whole digits, and the text behind them
 unsigned_is : (ds rest : List ℕ) → 0 < length ds → AllDigits 10 ds → Ends rest
     → unsigned_value (digits_of (ds ++ rest)) (after_digits (ds ++ rest))
     ≡ behind (digits_value 10 ds * 1000000) rest
@@ -96,7 +95,6 @@ unsigned_is [] rest h a e = absurd (omega (arith, h))
 unsigned_is (d ∷ ds) rest h a e = rw (digits_first (d ∷ ds) rest a e, digits_past (d ∷ ds) rest a e)
     refl
 
--- what begins with a digit has no sign
 without_sign : (ds rest : List ℕ) → 0 < length ds → AllDigits 10 ds → part_value (ds ++ rest)
     ≡ unsigned_value (digits_of (ds ++ rest)) (after_digits (ds ++ rest))
 without_sign [] rest h a = absurd (omega (arith, h))

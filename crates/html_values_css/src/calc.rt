@@ -101,7 +101,6 @@ impl Parts {
         }
     }
 
-    /// What closes the sum.
     fn closing(self) -> &'static str
         ensures { result.now ≡ sum_end self }
     {
@@ -218,7 +217,6 @@ impl<S: WarningSink> CssWriter<S> {
         self.open_sum(start, parts)
     }
 
-    /// Appends a part to the sum that begins at `start`.
     fn append_from<T: CalcPart>(
         &mut self,
         start: usize,

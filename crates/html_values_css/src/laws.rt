@@ -12,32 +12,38 @@ use crate::{
 };
 
 /// A push gives its name that value, and no other name another.
+#[tactic(auto, using(crate::proofs::Pushes::push_sets))]
 pub fn push_sets()
     ensures { PushSets }
 {}
 
 /// The values of the names decide the list of properties.
+#[tactic(auto, using(crate::proofs::Pushes::values_decide))]
 pub fn values_decide()
     ensures { ValuesDecide }
 {}
 
 /// After a remove its name has no value, and the others have theirs.
+#[tactic(auto, using(crate::proofs::Pushes::remove_clears))]
 pub fn remove_clears()
     ensures { RemoveClears }
 {}
 
 /// Pushed in any order, distinct names give the same properties and the same text.
+#[tactic(auto, using(crate::proofs::Pushes::any_order))]
 pub fn any_order()
     ensures { AnyOrder }
 {}
 
 /// The css text of a length is worth, unit by unit, its parts, each rounded to four decimals.
+#[tactic(auto, using(crate::proofs::Worth::length_value))]
 pub fn length_value()
     ensures { LengthValue }
 {}
 
 /// The css text of a relative length is worth, unit by unit, its parts, each rounded: the ratio to
 /// two decimals of a percent, the others to four decimals.
+#[tactic(auto, using(crate::proofs::Worth::rel_value))]
 pub fn rel_value()
     ensures { RelValue }
 {}
@@ -48,11 +54,13 @@ pub fn rounds_to_nearest()
 {}
 
 /// What a sum writes part by part is its text.
+#[tactic(auto, using(crate::proofs::Summing::sums))]
 pub fn sum_is_written()
     ensures { SumWritten }
 {}
 
 /// A vector that is given warnings has them at its end, in order.
+#[tactic(auto, using(crate::proofs::Giving::given_vector))]
 pub fn given_vector()
     ensures { GivenVector }
 {}

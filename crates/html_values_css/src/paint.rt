@@ -27,7 +27,6 @@ pub struct Rgba {
 impl Rgba {
     ghost use Rattle.html_values_css.specs.Colors.{color_text};
 
-    /// The css text.
     fn hex(self, alloc: Global) -> Result<String, AllocError>
         ensures { IfOk result (λ text. text_view text ≡ color_text self) }
     {
@@ -52,7 +51,6 @@ fn push_alpha(text: &mut String, alpha: u8) -> Result<(), AllocError>
     push_byte(text, alpha)
 }
 
-/// Appends a byte in two small hexadecimal digits.
 fn push_byte(text: &mut String, byte: u8) -> Result<(), AllocError>
     ensures text { OnOk result (string_bytes text.new ≡ string_bytes text.old ++ hex_byte byte) }
     ensures fits { byte < 256 }

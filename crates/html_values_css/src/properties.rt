@@ -89,7 +89,6 @@ impl Properties {
         }
     }
 
-    /// The allocator of the properties.
     pub(crate) fn allocator(&self) -> Global {
         *self.list.allocator()
     }
@@ -152,7 +151,6 @@ impl Hash for Properties {
     }
 }
 
-/// Where the property of that name stands, or where it would stand.
 fn search(list: &[Property], name: &str) -> Result<usize, usize>
     requires { IsListed (list_view list.now) }
     ensures { MatchResult result (IsFound by_name property_name list.now (chars name.now))
@@ -168,7 +166,6 @@ fn compare(property: &Property, name: &str) -> Ordering
     property.name.as_str().cmp(name)
 }
 
-/// Gives a name that value.
 fn put(list: &mut Vec<Property>, name: &str, value: String) -> Result<(), Refused<String>>
     requires { IsListed (list_view list.old.items) }
     ensures ok { OnOk result (list_view list.new.items ≡ with_value (list_view list.old.items)
@@ -185,7 +182,6 @@ fn put(list: &mut Vec<Property>, name: &str, value: String) -> Result<(), Refuse
     }
 }
 
-/// Inserts a name that is new, with its value, at an index.
 fn put_at(
     list: &mut Vec<Property>,
     at: usize,
@@ -209,7 +205,6 @@ fn put_at(
     }
 }
 
-/// Takes a name and its value out.
 fn take_out(list: &mut Vec<Property>, name: &str)
     requires { IsListed (list_view list.old.items) }
     ensures { list_view list.new.items ≡ without (list_view list.old.items) (chars name.now) }
@@ -232,7 +227,6 @@ fn copies(list: &Vec<Property>) -> Result<Vec<Property>, AllocError>
     Ok(copies)
 }
 
-/// Whether two lists have the same names and values.
 fn same_list(a: &[Property], b: &[Property]) -> bool
     ensures { IsTrue result ↔ (list_view a.now ≡ list_view b.now) }
 {

@@ -110,7 +110,6 @@ impl<S: WarningSink> WarningSink for &mut S {
     }
 }
 
-/// Hands each warning to the sink.
 pub(crate) fn pass_on<S: WarningSink>(warnings: &[Warning], sink: &mut S) -> Result<(), AllocError>
     ensures { Hands (TakesWarning S.warnings S.borrow S.emit_gives) result sink.old warnings.now sink.new }
 {

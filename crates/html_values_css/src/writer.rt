@@ -56,7 +56,6 @@ impl<S: WarningSink> CssWriter<S> {
         self.text.push_str(text)
     }
 
-    /// Appends a text of ASCII.
     #[tactic(auto, using(html_names::proofs::Lists::chars_ascii))]
     pub(crate) fn write_ascii(&mut self, text: &str) -> Result<(), AllocError>
         requires { IsTrue (is_ascii text.now) }
@@ -66,7 +65,6 @@ impl<S: WarningSink> CssWriter<S> {
         self.write(text)
     }
 
-    /// Appends the text that `fixed` makes of a number of millionths.
     #[tactic(auto, using(crate::proofs::Emitting::nothing_yet))]
     pub(crate) fn write_fixed(&mut self, millionths: i64, decimals: u32) -> Result<(), AllocError>
         requires few { decimals < 5 }
@@ -98,7 +96,6 @@ impl<S: WarningSink> CssWriter<S> {
         Ok(())
     }
 
-    /// Inserts a text into the writer's own text, at a byte's index.
     pub(crate) fn insert(&mut self, at: usize, text: &str) -> Result<(), AllocError>
         requires seam { ∥ IsUtf8 (take at (string_bytes self.old.text)) ∥₁ }
         requires within { at ≤ length (string_bytes self.old.text) }

@@ -15,7 +15,7 @@ use typst_html::{
     bare_spaces, construct, convert_to_nodes, create_link_anchors, dead_fragments, dead_links,
     export, export_linked, href_to, html, html_block_fragment, html_document,
     html_document_for_bundle, html_in_bundle, ids_are_distinct, page_text, push_located, read_html,
-    repeated_ids, resolve_inline_styles, resolve_links, tag, with_resolved_links,
+    read_page, repeated_ids, resolve_inline_styles, resolve_links, tag, with_resolved_links,
 };
 
 /// A fault that each fault of this project becomes by `?`. What a refused call gives back differs from
@@ -124,6 +124,7 @@ fn check_pages<E: Fault>(alloc: Global) -> Result<(), E> {
     let _ = html(alloc, &document, &options, &())?;
     let page = html_in_bundle(alloc, document.root(), &options, &())?;
     let _ = read_html(alloc, page.as_str(), 50)?;
+    let _ = read_page(alloc, page.as_bytes(), 50)?;
     Ok(())
 }
 
@@ -171,38 +172,49 @@ fn make_elements<E: Fault>(alloc: Global) -> Result<(), E> {
     Ok(())
 }
 
+fn make_all<E>(alloc: Global) -> Result<(), E>
+where
+    E: Fault
+        + From<AllocFailed<HtmlNode>>
+        + From<AllocFailed<Pair>>
+        + From<Refused<AttrType>>
+        + From<Refused<HtmlDocument>>
+        + From<Refused<HtmlElem>>
+        + From<Refused<HtmlElement>>
+        + From<Refused<PropertiesBuilder<()>>>
+        + From<Refused<String>>
+        + From<Refused<(HtmlAttr, String)>>
+        + From<Refused<(HtmlAttrs, HtmlAttrs)>>
+        + From<Refused<(HtmlElem, HtmlAttr, Option<String>)>>
+        + From<Refused<(HtmlElem, HtmlAttr, String)>>
+        + From<Refused<(HtmlElem, Pair)>>
+        + From<Refused<(HtmlElement, HtmlAttr, String)>>
+        + From<Refused<(HtmlElement, HtmlNode)>>
+        + From<Refused<(HtmlOutput, DocumentInfo)>>
+        + From<Refused<(Option<String>, Item)>>
+        + From<Refused<(Properties, String)>>,
+{
+    make_names::<E>(alloc)?;
+    make_css::<E>(alloc)?;
+    build_trees::<E>(alloc)?;
+    link_documents::<E>(alloc)?;
+    check_pages::<E>(alloc)?;
+    list_items::<E>(alloc)?;
+    export_items::<E>(alloc)?;
+    make_elements(alloc)
+}
+
 #[test]
 fn with_the_fault_of_this_project(rt: HostRuntime) -> Result<(), ExportFault> {
-    make_names::<ExportFault>(rt.alloc())?;
-    make_css::<ExportFault>(rt.alloc())?;
-    build_trees::<ExportFault>(rt.alloc())?;
-    link_documents::<ExportFault>(rt.alloc())?;
-    check_pages::<ExportFault>(rt.alloc())?;
-    list_items::<ExportFault>(rt.alloc())?;
-    export_items::<ExportFault>(rt.alloc())?;
-    make_elements(rt.alloc())
+    make_all(rt.alloc())
 }
 
 #[test]
 fn with_any_error(rt: HostRuntime) -> anyhow::Result<()> {
-    make_names::<anyhow::Error>(rt.alloc())?;
-    make_css::<anyhow::Error>(rt.alloc())?;
-    build_trees::<anyhow::Error>(rt.alloc())?;
-    link_documents::<anyhow::Error>(rt.alloc())?;
-    check_pages::<anyhow::Error>(rt.alloc())?;
-    list_items::<anyhow::Error>(rt.alloc())?;
-    export_items::<anyhow::Error>(rt.alloc())?;
-    make_elements(rt.alloc())
+    make_all(rt.alloc())
 }
 
 #[test]
 fn with_the_fault_of_tests(rt: HostRuntime) -> Result<(), Fail> {
-    make_names::<Fail>(rt.alloc())?;
-    make_css::<Fail>(rt.alloc())?;
-    build_trees::<Fail>(rt.alloc())?;
-    link_documents::<Fail>(rt.alloc())?;
-    check_pages::<Fail>(rt.alloc())?;
-    list_items::<Fail>(rt.alloc())?;
-    export_items::<Fail>(rt.alloc())?;
-    make_elements(rt.alloc())
+    make_all(rt.alloc())
 }

@@ -13,12 +13,10 @@ pub(crate) fn assert_css<T: ToCss>(rt: &impl Tester, value: &T, wanted: &str) ->
     Ok(())
 }
 
-/// Asserts what a sink has received.
 pub(crate) fn assert_warned(rt: &impl Tester, warnings: &[Warning], wanted: &[Warning]) {
     assert_eq!(rt; warnings, wanted);
 }
 
-/// Asserts that the properties are written so.
 pub(crate) fn assert_inline(alloc: Global, properties: &Properties, wanted: &str) -> TestResult {
     assert_text(&properties.to_inline().to_string(alloc)?, wanted)
 }

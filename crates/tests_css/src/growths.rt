@@ -66,7 +66,6 @@ const COLOR: Rgba = Rgba {
     a: 4,
 };
 
-/// Two points.
 fn width() -> Abs {
     Abs::from_millionths(2_000_000)
 }

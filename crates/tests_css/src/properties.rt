@@ -6,7 +6,6 @@ use std::alloc::{AllocError, Global};
 use std::hash::{DefaultHasher, Hash, Hasher};
 use tests_asserts::{TestResult, assert_text};
 
-/// Properties, pushed in that order.
 fn css_of(alloc: Global, pairs: &[(&str, &str)]) -> Result<Properties, AllocError> {
     let mut css = Properties::new(alloc);
     for (name, value) in pairs {
@@ -32,7 +31,6 @@ fn names_are_listed_by_their_bytes(rt: HostRuntime) -> TestResult {
     assert_inline(rt.alloc(), &properties, "-a: 1; Z: 1; a: 1; ab: 1; é: 1")
 }
 
-/// A name that is pushed again.
 static REPEATED: [(&str, &str); 3] = [("display", "block"), ("color", "red"), ("display", "none")];
 
 #[test]
@@ -44,7 +42,6 @@ fn a_name_has_its_last_value(rt: HostRuntime) -> TestResult {
     assert_text(&slice[0].name, "color")
 }
 
-/// What a hasher makes of properties.
 fn hash_of(properties: &Properties) -> u64 {
     let mut hasher = DefaultHasher::new();
     properties.hash(&mut hasher);

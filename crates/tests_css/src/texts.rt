@@ -94,7 +94,6 @@ fn a_ratio_and_a_length(rt: HostRuntime) -> TestResult {
     Ok(())
 }
 
-/// Adds a sum of these millionths of an em and of a point, and finishes it if that is wanted.
 fn add_sum(out: &mut CssWriter<()>, em: Em, abs: Abs, is_finished: bool) -> Result<(), AllocError> {
     let mut sum = out.calc();
     sum.sum(&em)?;

@@ -31,13 +31,11 @@ impl WarningSink for Shelf {
     }
 }
 
-/// An empty shelf with that room.
 fn empty_shelf(alloc: Global, room: usize) -> Shelf {
     let taken = Vec::new(alloc);
     Shelf { taken, room }
 }
 
-/// Two paints, one after another.
 #[derive(Drop)]
 struct Pair(Paint, Paint);
 
@@ -126,7 +124,6 @@ fn a_caller_may_fail(rt: HostRuntime) -> TestResult {
     Ok(())
 }
 
-/// Warnings and their texts.
 const TEXTS: [(Warning, &str); 2] = [
     (Warning::Gradient, "gradient was ignored during HTML export"),
     (Warning::Tiling, "tiling was ignored during HTML export"),

@@ -1,14 +1,10 @@
-//! Tests of trees, flat trees, positions and documents, and of calls on them whose growths of memory
-//! are refused, over public calls.
+//! Tests of trees, flat trees, positions and documents, over public calls: one call of each, what the
+//! definitions mean, and large trees.
 #![tactic(auto)]
 
 #[cfg(test)]
 mod documents;
 #[cfg(test)]
-mod dom;
-#[cfg(test)]
-mod flat;
-#[cfg(test)]
-mod growths;
-#[cfg(test)]
 mod places;
+#[cfg(test)]
+mod trees;

@@ -5,8 +5,7 @@ use html_dom_tree::{Frame, FrameItem, HtmlElement, HtmlFrame, HtmlNode, Location
 use html_names::tag;
 use html_values_css::Abs;
 use std::alloc::{AllocError, Global};
-use std::collections::{BTreeMap, BTreeSet};
-use tests_asserts::{TestResult, Tester, assert_debug, assert_number, assert_text};
+use tests_asserts::{TestResult, Tester, assert_debug, assert_number};
 use tests_given::{nested, point, start, text_of};
 
 /// A node for each word: `-` a start tag, `<` a `span`, any other a text.
@@ -48,7 +47,6 @@ fn runs_of_texts_count_once(rt: HostRuntime) -> TestResult {
     Ok(())
 }
 
-/// The position of that element.
 fn position<'a>(
     rt: &impl Tester,
     introspector: &'a HtmlIntrospector,
@@ -59,38 +57,8 @@ fn position<'a>(
         .expect(rt, "a position")
 }
 
-/// Asserts the path of that element.
 fn assert_path(rt: &impl Tester, introspector: &HtmlIntrospector, location: u64, wanted: &[usize]) {
     assert!(rt; position(rt, introspector, location).path() == wanted);
-}
-
-/// A document with an empty head, and `<p>a<em></em></p>` in its body, with a start tag of 9 in `em`.
-fn document(alloc: Global) -> Result<HtmlNode, AllocError> {
-    let em = HtmlElement::new(alloc, tag::em).with_child(HtmlNode::from(start(9, None)))?;
-    let p = HtmlElement::new(alloc, tag::p).with_text(alloc, "a")?;
-    let p = p.with_child(HtmlNode::from(em))?;
-    let body = HtmlElement::new(alloc, tag::body).with_child(HtmlNode::from(p))?;
-    let head = HtmlNode::from(HtmlElement::new(alloc, tag::head));
-    let html = HtmlElement::new(alloc, tag::html).with_child(head)?;
-    Ok(HtmlNode::from(html.with_child(HtmlNode::from(body))?))
-}
-
-/// The root is no part of a path, and a text counts as a child.
-#[test]
-fn paths_go_down_from_the_root(rt: HostRuntime) -> TestResult {
-    let introspector = HtmlIntrospector::new(rt.alloc(), &[document(rt.alloc())?])?;
-    assert_path(&rt, &introspector, 9, &[1, 0, 1, 0]);
-    assert!(rt; position(&rt, &introspector, 9).point().is_none());
-    assert!(rt; introspector.position(Location(1)).is_none());
-    Ok(())
-}
-
-/// Of two start tags of one element, the first is recorded.
-#[test]
-fn the_first_start_is_recorded(rt: HostRuntime) -> TestResult {
-    let nodes = nodes(rt.alloc(), &["<", "-", "<", "-"])?;
-    assert_path(&rt, &HtmlIntrospector::new(rt.alloc(), &nodes)?, 1, &[1]);
-    Ok(())
 }
 
 /// A text and a frame, which holds a start tag of 3, which links to 4, and a group, which holds one
@@ -107,88 +75,23 @@ fn framed(alloc: Global) -> Result<Vec<HtmlNode>, AllocError> {
     Ok(vec![in alloc; text_of(alloc, "a", 0)?, HtmlNode::from(frame)]?)
 }
 
-/// Asserts that the element starts at that path and point.
-fn assert_point(rt: &impl Tester, introspector: &HtmlIntrospector, location: u64, point: Point) {
+fn assert_point(rt: &impl Tester, introspector: &HtmlIntrospector, location: u64, wanted: Point) {
     assert_path(rt, introspector, location, &[1]);
-    assert!(rt; position(rt, introspector, location).point() == Some(point));
-}
-
-/// Asserts that a set has just these locations.
-fn assert_set(rt: &impl Tester, set: &BTreeSet<Location>, wanted: &[u64]) -> TestResult {
-    assert_number(set.len(), wanted.len())?;
-    for location in wanted {
-        assert!(rt; set.contains(&Location(*location)));
-    }
-    Ok(())
-}
-
-/// Asserts where start tags and links in frames lead.
-fn assert_targets(
-    rt: &impl Tester,
-    introspector: &HtmlIntrospector,
-    all: &[u64],
-    framed: &[u64],
-) -> TestResult {
-    assert_set(rt, &introspector.link_targets()?, all)?;
-    assert_set(rt, introspector.frame_link_targets(), framed)
+    assert!(rt; position(rt, introspector, location).point() == Some(wanted));
 }
 
 /// A group does not move what is in it.
 #[test]
 fn tags_in_frames_have_points_and_targets(rt: HostRuntime) -> TestResult {
-    let mut nodes = framed(rt.alloc())?;
+    let alloc = rt.alloc();
+    let mut nodes = framed(alloc)?;
     nodes.push(HtmlNode::from(start(1, Some(2))))?;
-    let introspector = HtmlIntrospector::new(rt.alloc(), &nodes)?;
+    let introspector = HtmlIntrospector::new(alloc, &nodes)?;
     assert_point(&rt, &introspector, 3, point(1, 0));
     assert_point(&rt, &introspector, 5, point(1, 0));
-    assert_targets(&rt, &introspector, &[2, 4, 6], &[6])
-}
-
-/// Gives that element an anchor, in place of all that were there.
-fn set_anchor(
-    alloc: Global,
-    introspector: &mut HtmlIntrospector,
-    location: u64,
-    text: &str,
-) -> TestResult {
-    let mut anchors = BTreeMap::new(alloc);
-    anchors.insert(Location(location), String::from_str(alloc, text)?)?;
-    introspector.set_anchors(anchors);
-    Ok(())
-}
-
-/// Asserts the anchor of that element.
-fn assert_anchor(
-    rt: &impl Tester,
-    introspector: &HtmlIntrospector,
-    location: u64,
-    wanted: &str,
-) -> TestResult {
-    let anchor = introspector.anchor(Location(location));
-    assert_text(anchor.expect(rt, "an anchor"), wanted)
-}
-
-#[test]
-fn anchors_are_set(rt: HostRuntime) -> TestResult {
-    let mut introspector = HtmlIntrospector::new(rt.alloc(), &[])?;
-    assert!(rt; introspector.anchor(Location(1)).is_none());
-    set_anchor(rt.alloc(), &mut introspector, 1, "loc-1")?;
-    assert_anchor(&rt, &introspector, 1, "loc-1")?;
-    set_anchor(rt.alloc(), &mut introspector, 2, "loc-2")?;
-    assert_anchor(&rt, &introspector, 2, "loc-2")?;
-    assert!(rt; introspector.anchor(Location(1)).is_none());
-    Ok(())
-}
-
-#[test]
-fn copies_know_the_same(rt: HostRuntime) -> TestResult {
-    let mut introspector = HtmlIntrospector::new(rt.alloc(), &framed(rt.alloc())?)?;
-    set_anchor(rt.alloc(), &mut introspector, 1, "loc-1")?;
-    let copy = introspector.try_clone()?;
-    assert_point(&rt, &copy, 3, point(1, 0));
-    assert_targets(&rt, &copy, &[4, 6], &[6])?;
-    assert_anchor(&rt, &copy, 1, "loc-1")?;
-    assert_debug(rt.alloc(), &copy, "HtmlIntrospector(..)")
+    let all = "{Location(2), Location(4), Location(6)}";
+    assert_debug(alloc, &introspector.link_targets()?, all)?;
+    assert_debug(alloc, introspector.frame_link_targets(), "{Location(6)}")
 }
 
 /// That many `span`, each after a text, and a start tag.

@@ -11,7 +11,6 @@ fn show(shown: &mut String, fault: &ExportFault) -> Result<(), AllocError> {
     write!(shown, "{} at {}: {fault}\n", fault.number(), fault.span().0)
 }
 
-/// Faults with their numbers, their spans and their texts.
 const FAULTS: &str = "\
     0 at 0: out of memory\n\
     8 at 7: items are nested too deeply\n\

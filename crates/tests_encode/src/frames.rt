@@ -84,7 +84,6 @@ type Row = (
     &'static str,
 );
 
-/// Asserts what writing returns.
 fn assert_rows(rt: &impl Tester, options: &HtmlOptions, rows: &[Row]) -> TestResult {
     for (name, count, plain, pretty, refused, wanted) in rows {
         let (plain, pretty, refused) = (*plain, *pretty, *refused);
@@ -183,7 +182,6 @@ fn writers_that_write_nothing(rt: HostRuntime) -> TestResult {
     Ok(())
 }
 
-/// As many lines that are each the same, with that between two of them.
 fn lines(alloc: Global, line: &str, count: u32, between: &str) -> Result<String, AllocError> {
     let mut text = String::from_str(alloc, line)?;
     for _ in 1..count {

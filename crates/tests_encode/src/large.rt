@@ -47,7 +47,6 @@ fn a_list_of_100000(rt: HostRuntime) -> TestResult {
     assert_length(&rt, &list, &PRETTY, 1_300_027)
 }
 
-/// A text of that many `x`.
 pub(crate) fn long_text(alloc: Global, length: u32) -> Result<String, AllocError> {
     let mut text = String::new(alloc);
     for _ in 0..length {

@@ -12,18 +12,15 @@ use std::process::Abort;
 use tests_given::{point, start};
 use typst_html_export::html_document;
 
-/// A text on the heap.
 fn text_of(rt: &impl Abort, alloc: Global, text: &str) -> String {
     String::from_str(alloc, text).expect(rt, "memory for a text")
 }
 
-/// The document of items of which nothing else is known.
 fn document_of(rt: &impl Abort, alloc: Global, items: &[Pair]) -> HtmlDocument {
     let info = DocumentInfo::new(alloc);
     html_document(alloc, items, &info, &[], 50).expect(rt, "a document")
 }
 
-/// Adds a start tag of that location that leads to that one.
 fn add_start(rt: &impl Abort, items: &mut Vec<Pair>, location: u64, dest: u64) {
     let start = start(location, Some(dest));
     items
@@ -31,7 +28,6 @@ fn add_start(rt: &impl Abort, items: &mut Vec<Pair>, location: u64, dest: u64) {
         .expect(rt, "memory for a tag");
 }
 
-/// A place in a frame.
 fn place() -> Point {
     point(3, 0)
 }
@@ -57,7 +53,6 @@ fn add_framed(rt: &impl Abort, alloc: Global, items: &mut Vec<Pair>) {
         .expect(rt, "memory for a frame");
 }
 
-/// The children of that child.
 fn children_at(nodes: &[HtmlNode], place: usize) -> Option<&[HtmlNode]> {
     match nodes.get(place) {
         Some(HtmlNode::Element(element)) => Some(&element.children),
@@ -65,7 +60,6 @@ fn children_at(nodes: &[HtmlNode], place: usize) -> Option<&[HtmlNode]> {
     }
 }
 
-/// The frame at the end of a document's body.
 fn last_frame(document: &HtmlDocument) -> Option<&HtmlFrame> {
     match children_at(&document.root().children, 1)?.last()? {
         HtmlNode::Frame(frame) => Some(frame),
@@ -73,13 +67,11 @@ fn last_frame(document: &HtmlDocument) -> Option<&HtmlFrame> {
     }
 }
 
-/// Asserts the anchor of a location.
 fn assert_anchor(rt: &impl Abort, document: &HtmlDocument, location: u64, wanted: &str) {
     let anchor = document.introspector().anchor(Location(location));
     assert_eq!(rt; anchor.expect(rt, "an anchor").as_str(), wanted);
 }
 
-/// Asserts the `id` of a frame.
 fn assert_id(rt: &impl Abort, frame: &HtmlFrame, wanted: &str) {
     let id = frame.id.as_ref().expect(rt, "an id");
     assert_eq!(rt; id.as_str(), wanted);
@@ -106,14 +98,12 @@ fn anchors_in_frames(rt: HostRuntime) {
     assert_anchor(&rt, &document, 7, "loc-2");
 }
 
-/// Adds a link to that location.
 fn add_link(rt: &impl Abort, alloc: Global, items: &mut Vec<Pair>, location: u64, dest: u64) {
     add_start(rt, items, location, dest);
     let link = HtmlElem::new(alloc, tag::a);
     items.push(Pair::from(link)).expect(rt, "memory for a link");
 }
 
-/// Asserts the `href` of the link at that place.
 fn assert_href(rt: &impl Abort, nodes: &[HtmlNode], place: usize, wanted: &str) {
     let Some(HtmlNode::Element(link)) = nodes.get(place) else {
         rt.abort();
@@ -136,7 +126,6 @@ fn links_lead_into_frames(rt: HostRuntime) {
     assert_href(&rt, body, 3, "#loc-2");
 }
 
-/// A frame with that `id`, and with an anchor of that name.
 fn frame_of(rt: &impl Abort, alloc: Global, id: &str, anchor: &str) -> HtmlFrame {
     let inner = Frame {
         picture: 1,

@@ -1,15 +1,13 @@
-//! Tests of items and construction.
+//! Tests of construction.
 
 mod attributes;
 mod bodies;
-mod faults;
-mod items;
 
 use html_dom_tree::Span;
 use html_flow::{
     Arg, ArgValue, Args, ConstructFault, ElementInfo, HtmlElem, Item, Pair, Role, construct,
 };
-use html_values::Value;
+use html_values::{CastFault, Value};
 use std::alloc::{AllocError, Global};
 use tests_asserts::{TestResult, assert_text};
 
@@ -40,7 +38,6 @@ fn value_of(alloc: Global, sample: Sample) -> Result<ArgValue, AllocError> {
     })
 }
 
-/// The arguments that a table means.
 fn args_of(alloc: Global, rows: &[Row]) -> Result<Args, AllocError> {
     let mut items = Vec::new(alloc);
     for (name, span, sample) in rows {
@@ -68,7 +65,6 @@ fn show_pair(shown: &mut String, pair: &Pair) -> Result<(), AllocError> {
     }
 }
 
-/// An element in words.
 fn show_element(shown: &mut String, element: &HtmlElem) -> Result<(), AllocError> {
     write!(shown, "{}", element.tag)?;
     for (name, value) in &element.attrs.0 {
@@ -84,7 +80,6 @@ fn show_element(shown: &mut String, element: &HtmlElem) -> Result<(), AllocError
     write!(shown, " at {}", element.span.0)
 }
 
-/// A refusal in words: the faults with their spans.
 fn show_fault(shown: &mut String, fault: &ConstructFault) -> Result<(), AllocError> {
     match fault {
         ConstructFault::Casts(faults) => {
@@ -112,8 +107,30 @@ fn shown(alloc: Global, info: &ElementInfo, args: &mut Args) -> Result<String, A
     Ok(shown)
 }
 
-/// Asserts what constructing of these arguments returns, in words.
 fn assert_made(alloc: Global, info: &ElementInfo, rows: &[Row], wanted: &str) -> TestResult {
     let mut args = args_of(alloc, rows)?;
     assert_text(&shown(alloc, info, &mut args)?, wanted)
+}
+
+/// Faults with their numbers and their texts.
+const FAULTS: &str = "\
+    18: arguments could not be cast\n\
+    0: arguments could not be cast\n\
+    24: the body has the wrong kind\n\
+    0: out of memory\n";
+
+#[test]
+fn numbers_and_texts_of_faults(rt: HostRuntime) -> TestResult {
+    let (mut shown, span) = (String::new(rt.alloc()), Span(7));
+    let casts = vec![in rt.alloc(); (CastFault::NumberRange, span)]?;
+    let faults = [
+        ConstructFault::Casts(casts),
+        ConstructFault::Casts(Vec::new(rt.alloc())),
+        ConstructFault::BodyKind { span },
+        ConstructFault::OutOfMemory,
+    ];
+    for fault in &faults {
+        write!(shown, "{}: {fault}\n", fault.number())?;
+    }
+    assert_text(&shown, FAULTS)
 }

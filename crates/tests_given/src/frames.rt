@@ -31,7 +31,6 @@ pub fn point(right: u8, down: u8) -> Point {
     }
 }
 
-/// A place in a frame.
 fn place() -> Point {
     let (x, y) = (Abs::from_millionths(1), Abs::from_millionths(2));
     Point { x, y }

@@ -21,7 +21,6 @@ const KEPT_SIZES: usize = 65;
 /// How many blocks of `SPARE_SIZE` are held back, to be taken in small blocks.
 const SPARES: usize = 8;
 
-/// The size of such a block.
 const SPARE_SIZE: usize = 1 << 16;
 
 /// All the memory there is, in blocks.

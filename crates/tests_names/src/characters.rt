@@ -9,7 +9,6 @@ static IGNORABLE: [u32; 34] = [
     0xffa0, 0xfff0, 0xfff8, 0x1bca0, 0x1bca3, 0x1d173, 0x1d17a, 0xe0000, 0xe0fff,
 ];
 
-/// Whether one of the ranges has the character of that code.
 fn is_listed(code: u32) -> bool {
     let mut ranges = IGNORABLE.chunks_exact(2);
     ranges.any(|range| matches!(range, [first, last] if *first <= code && code <= *last))

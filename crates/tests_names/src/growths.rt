@@ -9,7 +9,6 @@ use tests_growth::{refuses, refuses_copy, refuses_kept};
 /// How many letters fill the text of an `Output` that got them one by one.
 const FULL: usize = 32;
 
-/// A name that is not known.
 const OWN_NAME: &str = "an-own-name";
 
 #[test]

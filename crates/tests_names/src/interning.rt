@@ -6,7 +6,6 @@ use std::collections::HashMap;
 use std::fmt::{Debug, Display};
 use tests_asserts::{TestResult, assert_debug, assert_text};
 
-/// Texts that are no tag names.
 const BAD_TAGS: [(&str, NameFault); 8] = [
     ("", NameFault::EmptyTag),
     ("a_b", NameFault::BadTagChar('_')),
@@ -18,7 +17,6 @@ const BAD_TAGS: [(&str, NameFault); 8] = [
     ("annotation-xml", NameFault::Reserved),
 ];
 
-/// Texts that are no attribute names.
 const BAD_ATTRS: [(&str, NameFault); 3] = [
     ("", NameFault::EmptyAttr),
     ("a b", NameFault::BadAttrChar(' ')),
@@ -35,7 +33,6 @@ fn refused_names(rt: HostRuntime) {
     }
 }
 
-/// Asserts what a value is shown as, for users and for programmers.
 fn assert_shown<T: Display + Debug>(alloc: Global, value: &T, wanted: &str) -> TestResult {
     assert_text(&value.to_string(alloc)?, wanted)?;
     assert_debug(alloc, value, wanted)
@@ -78,7 +75,6 @@ fn names_are_keys(rt: HostRuntime) -> TestResult {
     Ok(())
 }
 
-/// Each fault.
 const FAULTS: [NameFault; 8] = [
     NameFault::OutOfMemory,
     NameFault::EmptyTag,
@@ -90,7 +86,7 @@ const FAULTS: [NameFault; 8] = [
     NameFault::BadAttrChar(' '),
 ];
 
-/// Their numbers and texts.
+/// The numbers and texts of `FAULTS`.
 const TEXTS: &str = "\
     0: out of memory\n\
     1: tag name must not be empty\n\

@@ -59,7 +59,6 @@ static KINDS: [&str; 19] = [
     small span strong sub sup textarea time u var video wbr",
 ];
 
-/// What each kind says of the tag.
 fn answers(tag: &HtmlTag) -> [bool; 19] {
     [
         tag::is_void(tag),
@@ -111,7 +110,6 @@ static DEFAULTS: [&str; 19] = [
     "inline-table: mtable",
 ];
 
-/// Whether the list of names, with white space between, has the name.
 fn holds(list: &str, name: &str) -> bool {
     list.split_whitespace().any(|other| other == name)
 }

@@ -12,7 +12,6 @@ fn assert_tag(rt: &impl Tester, names: &mut NameTable, text: &str, number: usize
     assert_text(names.tag_at(number).resolve(), text)
 }
 
-/// Asserts the same of an attribute.
 fn assert_attr(rt: &impl Tester, names: &mut NameTable, text: &str, number: usize) -> TestResult {
     let attr = HtmlAttr::intern(rt.alloc(), text)?;
     assert_number(names.attr(&attr)?, number)?;
@@ -26,7 +25,6 @@ static TAGS: (&str, [usize; 9]) = (
     [0, 1, 0, 2, 3, 1, 4, 5, 2],
 );
 
-/// Attributes in that order, and their numbers.
 static ATTRS: (&str, [usize; 7]) = ("wrap p class data-x p data-y wrap", [0, 1, 2, 3, 1, 4, 0]);
 
 #[test]

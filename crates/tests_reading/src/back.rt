@@ -7,10 +7,8 @@ use std::alloc::Global;
 use typst_html_encode::{HtmlOptions, html_in_bundle};
 use typst_html_read::read_html;
 
-/// How deep elements may stand that are read.
 const DEPTH_LIMIT: usize = 10_000;
 
-/// The tree that a text spells.
 fn tree_of(alloc: Global, text: &str) -> Option<HtmlElement> {
     read_html(alloc, text, DEPTH_LIMIT).ok()
 }

@@ -15,7 +15,6 @@ pub fn normal_of(alloc: Global, element: &HtmlElement) -> Result<HtmlElement, Al
     Ok(normal)
 }
 
-/// The children of the normal form of an element with these.
 #[cycle(normal)]
 fn normal_nodes(alloc: Global, nodes: &[HtmlNode]) -> Result<Vec<HtmlNode>, AllocError> {
     let mut normals = Vec::new(alloc);

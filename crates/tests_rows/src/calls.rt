@@ -1,6 +1,6 @@
 //! What a row gives, by its first word. `N` is a number, and words in brackets may be left out.
 //!
-//! Of items, of which [`given`](crate::given) says how they are spelled:
+//! Of items, of which `tests_rows_items` says how they are spelled:
 //!
 //! - `nodes LEVEL SPACE [depth=N] [limit=N] [role=TEXT]`, where the level is `block` or `inline` and white
 //!   space `normal` or `pre`: what stands in a `body` of the nodes that they become. The depth is 0, the
@@ -12,7 +12,8 @@
 //! - `items-text`: what is visible of their document, written plain and pretty
 //!
 //! Of items, or of an object with `items`, `footnotes`, and what is known of a document (`title`,
-//! `description`, `authors`, `keywords`, `lang`, `region`), each with `[limit=N]`:
+//! `description`, `authors`, `keywords`, `lang`, `region`) as `html_tool_spell` reads it, each with
+//! `[limit=N]`:
 //!
 //! - `document`: what stands in the body, or the whole text where more is known than nothing
 //! - `links`: the same with links resolved
@@ -26,37 +27,45 @@
 //! - `read [limit=N]`: the text of the tree that is read, `same` where that is the input; `none at N, L:C`
 //!   where nothing is read from there on: how many bytes of the page stand before, line and column;
 //!   `too deep at N, L:C`
+//! - `read-page [limit=N]`: the same by `read_page`
 //! - `page-text`: what is visible: each text in brackets, objects, `/` for a line break, `|` for an edge
 //! - `dead-fragments`, `repeated-ids`: path and name of each
 //!
 //! A refusal is `refused`, its number, `at` and its span.
 
-use crate::row::Row;
 use crate::{checks, documents, nodes, pages, runs};
 use anyhow::Result;
 use std::alloc::Global;
+use tests_rows_run::{Caller, Row};
 
-/// What the row gives.
-pub(crate) fn output(alloc: Global, row: &Row<'_>) -> Result<String> {
-    let Some(call) = row.words.first() else {
-        return runs::output(alloc, row);
-    };
-    match *call {
-        "nodes" => nodes::converted(alloc, row),
-        "block-fragment" | "inline-fragment" | "math-fragment" => nodes::fragment(alloc, row, call),
-        "spans" => nodes::spans(alloc, row),
-        "bare" => nodes::bare(alloc, row),
-        "document" => documents::text(alloc, row),
-        "links" => documents::linked_text(alloc, row),
-        "anchors" => documents::anchors(alloc, row),
-        "positions" => documents::positions(alloc, row),
-        "dead-links" => checks::dead_link_list(alloc, row),
-        "distinct-ids" => checks::have_distinct_ids(alloc, row),
-        "read" => pages::read(alloc, row),
-        "page-text" => pages::text(alloc, row),
-        "items-text" => pages::items_text(alloc, row),
-        "dead-fragments" => checks::dead_fragment_list(alloc, row),
-        "repeated-ids" => checks::repeated_id_list(alloc, row),
-        _ => runs::output(alloc, row),
+#[derive(Clone, Copy)]
+pub(crate) struct Library;
+
+impl Caller for Library {
+    fn output(&self, alloc: Global, row: &Row<'_>) -> Result<String> {
+        let Some(call) = row.words.first() else {
+            return runs::output(alloc, row);
+        };
+        match *call {
+            "nodes" => nodes::converted(alloc, row),
+            "block-fragment" | "inline-fragment" | "math-fragment" => nodes::fragment(
+                alloc, row, call,
+            ),
+            "spans" => nodes::spans(alloc, row),
+            "bare" => nodes::bare(alloc, row),
+            "document" => documents::text(alloc, row),
+            "links" => documents::linked_text(alloc, row),
+            "anchors" => documents::anchors(alloc, row),
+            "positions" => documents::positions(alloc, row),
+            "dead-links" => checks::dead_link_list(alloc, row),
+            "distinct-ids" => checks::have_distinct_ids(alloc, row),
+            "read" => pages::read(alloc, row),
+            "read-page" => pages::read_strictly(alloc, row),
+            "page-text" => pages::text(alloc, row),
+            "items-text" => pages::items_text(alloc, row),
+            "dead-fragments" => checks::dead_fragment_list(alloc, row),
+            "repeated-ids" => checks::repeated_id_list(alloc, row),
+            _ => runs::output(alloc, row),
+        }
     }
 }

@@ -2,12 +2,14 @@
 
 use crate::documents::{Given, separate};
 use crate::pages::root_of;
-use crate::row::Row;
 use anyhow::{Result, ensure};
+use html_dom_check::{dead_fragments, repeated_ids};
+use html_dom_document::HtmlDocument;
+use html_dom_link::{dead_links, ids_are_distinct};
 use std::alloc::Global;
-use typst_html::{HtmlDocument, dead_fragments, dead_links, ids_are_distinct, repeated_ids};
+use tests_rows_run::Row;
 
-/// Span and destination of each dead link, the same before and after links were given an `href`.
+/// The same before and after links were given an `href`.
 pub(crate) fn dead_link_list(alloc: Global, row: &Row<'_>) -> Result<String> {
     let given = Given::new(alloc, row)?;
     let before = dead_links_of(alloc, &given.document()?)?;
@@ -25,7 +27,7 @@ fn dead_links_of(alloc: Global, document: &HtmlDocument) -> Result<String> {
     Ok(links)
 }
 
-/// Whether the ids differ, before and after links were given an `href`.
+/// The same before and after links were given an `href`.
 pub(crate) fn have_distinct_ids(alloc: Global, row: &Row<'_>) -> Result<String> {
     let given = Given::new(alloc, row)?;
     let before = ids_are_distinct(alloc, &given.document()?)?;
@@ -34,7 +36,6 @@ pub(crate) fn have_distinct_ids(alloc: Global, row: &Row<'_>) -> Result<String> 
     Ok(format!(in alloc; "{before}")?)
 }
 
-/// Path and name of each link to a fragment that is not there.
 pub(crate) fn dead_fragment_list(alloc: Global, row: &Row<'_>) -> Result<String> {
     let mut text = String::new(alloc);
     for link in &dead_fragments(alloc, &root_of(alloc, row)?)? {
@@ -43,7 +44,6 @@ pub(crate) fn dead_fragment_list(alloc: Global, row: &Row<'_>) -> Result<String>
     Ok(text)
 }
 
-/// Path and name of each id that stands before.
 pub(crate) fn repeated_id_list(alloc: Global, row: &Row<'_>) -> Result<String> {
     let mut text = String::new(alloc);
     for place in &repeated_ids(alloc, &root_of(alloc, row)?)? {

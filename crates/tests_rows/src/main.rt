@@ -24,105 +24,20 @@
 mod calls;
 mod checks;
 mod documents;
-mod given;
 mod nodes;
 mod pages;
-mod row;
 mod runs;
 
-use crate::row::Row;
-use anyhow::{Context, Result, ensure};
+use crate::calls::Library;
 use std::process::ExitCode;
-use std::{env, fs};
-
-/// How many characters of a text are printed at most.
-const MOST_PRINTED: usize = 2000;
+use tests_rows_run::run_files;
 
 fn main(rt: HostRuntime) -> ExitCode {
-    match run(&rt) {
+    match run_files(&rt, &Library) {
         Ok(code) => code,
         Err(error) => {
             let _ = eprintln!(rt; "tests_rows: {error:#}");
             ExitCode::FAILURE
         }
-    }
-}
-
-/// How many rows were run, and how many of them gave something else than their output.
-#[derive(Clone, Copy)]
-struct Counts {
-    rows: u64,
-    wrong: u64,
-}
-
-/// Runs the rows of all files.
-fn run(rt: &HostRuntime) -> Result<ExitCode> {
-    let mut counts = Counts { rows: 0, wrong: 0 };
-    for name in &names(rt)? {
-        run_file(rt, name, &mut counts).context(format_args!("{name}"))?;
-    }
-    let Counts { rows, wrong } = counts;
-    ensure!(rows != 0, "no rows");
-    if wrong == 0 {
-        println!(rt; "{rows} rows, each gives its output")?;
-        return Ok(ExitCode::SUCCESS);
-    }
-    println!(rt; "{rows} rows, {wrong} of them give something else")?;
-    Ok(ExitCode::FAILURE)
-}
-
-/// The names of the files with rows: the words, or else all in this folder, sorted.
-fn names(rt: &HostRuntime) -> Result<Vec<String>> {
-    let mut names: Vec<String> = env::args(rt)?.skip(1).collect(rt.alloc())?;
-    if names.is_empty() {
-        for entry in fs::read_dir(rt, ".")? {
-            let entry = entry?;
-            let name = entry.file_name();
-            if name.ends_with(".rows") {
-                names.push(name.to_string(rt.alloc())?)?;
-            }
-        }
-        names.sort()?;
-    }
-    Ok(names)
-}
-
-/// Runs the rows of a file.
-fn run_file(rt: &HostRuntime, name: &str, counts: &mut Counts) -> Result<()> {
-    let text = fs::read_to_string(rt, name)?;
-    let mut number = 0u64;
-    for line in text.lines() {
-        number = number.saturating_add(1);
-        let row = Row::from_line(rt.alloc(), line);
-        let row = row.context(format_args!("line {number}"))?;
-        if let Some(row) = row {
-            counts.rows = counts.rows.saturating_add(1);
-            if !gives_its_output(rt, name, number, &row)? {
-                counts.wrong = counts.wrong.saturating_add(1);
-            }
-        }
-    }
-    Ok(())
-}
-
-/// Whether the row gives its output. What it gives in its place is printed.
-fn gives_its_output(rt: &HostRuntime, name: &str, number: u64, row: &Row<'_>) -> Result<bool> {
-    let given = match calls::output(rt.alloc(), row) {
-        Ok(given) => given,
-        Err(error) => format!(in rt.alloc(); "error: {error:#}")?,
-    };
-    if given == row.output {
-        return Ok(true);
-    }
-    println!(rt; "{name}:{number}: {}", shortened(&given))?;
-    println!(rt; "    in place of {}", shortened(&row.output))?;
-    Ok(false)
-}
-
-/// The first characters of a text.
-fn shortened(text: &str) -> &str {
-    match text.char_indices().nth(MOST_PRINTED) {
-        Some((end, _)) => text.get(..end).unwrap_or(text),
-        None => text,
     }
 }

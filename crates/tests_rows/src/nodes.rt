@@ -1,22 +1,23 @@
 //! What items become as nodes.
 
-use crate::given::items_in;
-use crate::row::Row;
 use crate::runs::inner_text;
 use anyhow::{Result, bail, ensure};
+use html_dom_flat::FlatTree;
+use html_dom_tree::{HtmlElement, HtmlNode, Span, resolve_inline_styles};
+use html_flow_convert::{
+    ConversionLevel, FlowFault, Whitespace, bare_spaces, convert_to_nodes, html_block_fragment,
+    html_inline_fragment, html_math_fragment, is_depth_limit,
+};
+use html_names::tag;
 use std::alloc::{AllocError, Global};
 use tests_frames::OneText;
-use tests_reading::reads_back;
-use typst_html::{
-    ConversionLevel, FlatTree, FlowFault, HtmlElement, HtmlNode, HtmlOptions, Span, Whitespace,
-    bare_spaces, convert_to_nodes, html_block_fragment, html_in_bundle, html_inline_fragment,
-    html_math_fragment, is_depth_limit, resolve_inline_styles, tag,
-};
+use tests_rows_items::items_in;
+use tests_rows_run::Row;
+use typst_html_encode::{HtmlOptions, html_in_bundle};
 
 /// How deep the bodies of items may stand where that is not said.
 const DEPTH_LIMIT: usize = 50;
 
-/// The nodes of the row's items, or why there are none.
 fn nodes_of(
     alloc: Global,
     row: &Row<'_>,
@@ -31,7 +32,6 @@ fn nodes_of(
     Ok(convert_to_nodes(alloc, &items, level, space, role, depth, limit))
 }
 
-/// What stands in a `body` of the nodes of the row's items.
 pub(crate) fn converted(alloc: Global, row: &Row<'_>) -> Result<String> {
     let (level, space) = match row.words.as_slice() {
         [_, "block", "normal", ..] => (ConversionLevel::Block, Whitespace::Normal),
@@ -43,7 +43,6 @@ pub(crate) fn converted(alloc: Global, row: &Row<'_>) -> Result<String> {
     html_or_refusal(alloc, nodes_of(alloc, row, level, space)?)
 }
 
-/// The same of a fragment.
 pub(crate) fn fragment(alloc: Global, row: &Row<'_>, call: &str) -> Result<String> {
     let items = items_in(alloc, &row.input)?;
     let limit = row.number("limit", DEPTH_LIMIT)?;
@@ -58,10 +57,8 @@ pub(crate) fn fragment(alloc: Global, row: &Row<'_>, call: &str) -> Result<Strin
     html_or_refusal(alloc, nodes)
 }
 
-/// The span of a fragment.
 const FRAGMENT: Span = Span(9);
 
-/// What stands in a `body` of these nodes, or the refusal.
 fn html_or_refusal(alloc: Global, nodes: Result<Vec<HtmlNode>, FlowFault>) -> Result<String> {
     match nodes {
         Ok(nodes) => html_of(alloc, nodes),
@@ -70,20 +67,14 @@ fn html_or_refusal(alloc: Global, nodes: Result<Vec<HtmlNode>, FlowFault>) -> Re
     }
 }
 
-/// What stands in a `body` of these nodes. The text is read back.
 fn html_of(alloc: Global, nodes: Vec<HtmlNode>) -> Result<String> {
     let mut body = HtmlElement::new(alloc, tag::body).with_children(nodes);
     resolve_inline_styles(alloc, &mut body)?;
-    let options = HtmlOptions::default();
-    let text = html_in_bundle(alloc, &body, &options, &OneText::new(alloc)?)?;
-    ensure!(
-        reads_back(alloc, &body, &options, &text),
-        "not read back: {text}"
-    );
+    let frames = OneText::new(alloc)?;
+    let text = html_in_bundle(alloc, &body, &HtmlOptions::default(), &frames)?;
     inner_text(alloc, &text, ("<!DOCTYPE html><body>", "</body>"))
 }
 
-/// The spans of the nodes of the row's items, those of an element's children in brackets.
 pub(crate) fn spans(alloc: Global, row: &Row<'_>) -> Result<String> {
     let nodes = nodes_of(alloc, row, ConversionLevel::Block, Whitespace::Normal)??;
     let mut spans = String::new(alloc);

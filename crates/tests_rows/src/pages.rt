@@ -1,37 +1,51 @@
 //! Pages that are read, and what is visible of them.
 
-use crate::given::items_in;
-use crate::row::Row;
 use crate::runs::inner_text;
 use anyhow::{Result, ensure};
+use html_dom_document::DocumentInfo;
+use html_dom_tree::HtmlElement;
+use html_flow_convert::is_depth_limit;
 use std::alloc::Global;
-use typst_html::{
-    DocumentInfo, HtmlElement, HtmlOptions, ReadFault, Shown, export, html_in_bundle,
-    is_depth_limit, page_text, read_html,
-};
+use tests_rows_items::items_in;
+use tests_rows_run::Row;
+use typst_html_encode::{HtmlOptions, html_in_bundle};
+use typst_html_export::export;
+use typst_html_page::{Shown, page_text};
+use typst_html_read::{ReadFault, read_html, read_page};
 
 /// How deep elements may stand where that is not said.
 const DEEPEST: usize = 10_000;
 
 const DOCUMENT_TYPE: &str = "<!DOCTYPE html>";
 
-/// The page whose text behind the document type is the row's input.
 fn page_of(alloc: Global, row: &Row<'_>) -> Result<String> {
     Ok(format!(in alloc; "{DOCUMENT_TYPE}{}", row.text()?)?)
 }
 
-/// The tree of the row's page.
 pub(crate) fn root_of(alloc: Global, row: &Row<'_>) -> Result<HtmlElement> {
     Ok(read_html(alloc, &page_of(alloc, row)?, DEEPEST)?)
 }
 
-/// The text of the tree that the row's page is read as, or the place from which on it is not read: how
-/// many bytes stand before, line and column.
 pub(crate) fn read(alloc: Global, row: &Row<'_>) -> Result<String> {
-    let page = page_of(alloc, row)?;
+    let text = page_of(alloc, row)?;
     let limit = row.number("limit", DEEPEST)?;
     ensure!(is_depth_limit(limit), "no limit");
-    let root = match read_html(alloc, &page, limit) {
+    read_text(alloc, text.as_bytes(), read_html(alloc, &text, limit))
+}
+
+/// The same of what `read_page` reads.
+pub(crate) fn read_strictly(alloc: Global, row: &Row<'_>) -> Result<String> {
+    let mut page = Vec::new(alloc);
+    page.extend_from_slice(DOCUMENT_TYPE.as_bytes())?;
+    page.extend_from_slice(&row.input)?;
+    let limit = row.number("limit", DEEPEST)?;
+    ensure!(is_depth_limit(limit), "no limit");
+    read_text(alloc, &page, read_page(alloc, &page, limit))
+}
+
+/// What is told of a page that is read, or is not.
+fn read_text(alloc: Global, page: &[u8], read: Result<HtmlElement, ReadFault>) -> Result<String> {
+    let root = match read {
         Ok(root) => root,
         Err(ReadFault::TooDeep { place }) => {
             return Ok(format!(in alloc; "too deep at {}, {place}", place.offset)?);
@@ -42,18 +56,16 @@ pub(crate) fn read(alloc: Global, row: &Row<'_>) -> Result<String> {
         Err(fault) => return Err(fault.into()),
     };
     let text = html_in_bundle(alloc, &root, &HtmlOptions::default(), &())?;
-    if text == page {
+    if text.as_bytes() == page {
         return Ok(String::from_str(alloc, "same")?);
     }
     inner_text(alloc, &text, (DOCUMENT_TYPE, ""))
 }
 
-/// What is visible of the row's page.
 pub(crate) fn text(alloc: Global, row: &Row<'_>) -> Result<String> {
     visible_text(alloc, &root_of(alloc, row)?)
 }
 
-/// What is visible of the document of the row's items, written plain and pretty.
 pub(crate) fn items_text(alloc: Global, row: &Row<'_>) -> Result<String> {
     let plain = exported_text(alloc, row, false)?;
     let pretty = exported_text(alloc, row, true)?;
@@ -68,8 +80,6 @@ fn exported_text(alloc: Global, row: &Row<'_>, pretty: bool) -> Result<String> {
     visible_text(alloc, &read_html(alloc, &text, DEEPEST)?)
 }
 
-/// What is visible of a tree: each text in brackets, an object by its tag, `/` for a line break and `|`
-/// for an edge.
 fn visible_text(alloc: Global, root: &HtmlElement) -> Result<String> {
     let page = page_text(alloc, root)?;
     let mut text = String::new(alloc);

@@ -9,11 +9,9 @@ use tests_growth::refuses_lent;
 /// How many bytes are written at most.
 const ROOM: usize = 4096;
 
-/// A tree.
 const TREE: &str =
     r#"["el","div",[["id","x"]],[["text","one & two"],["el","p",[],[["text","three"]]]]]"#;
 
-/// Items of a document.
 const ITEMS: &str = concat!(
     r##"[["el","p",[],[["text","Two  eggs"],["el","a",[["href","#loc-1"]],[["text","below"]]],"##,
     r##"["start",1,2],["end",1]]],["start",2],["el","p",[],[["text","three"]]],["end",2]]"##,

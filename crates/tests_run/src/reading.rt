@@ -65,7 +65,6 @@ fn is_blank(text: &str) -> bool {
     text.chars().all(|c| matches!(c, '\t' | '\n' | '\r' | ' '))
 }
 
-/// The tree that a text spells.
 fn tree_of(rt: &impl Abort, alloc: Global, text: &str) -> Option<HtmlElement> {
     match read_html(alloc, text, 50) {
         Ok(root) => Some(root),
@@ -104,7 +103,6 @@ fn assert_changed(rt: &impl Abort, alloc: Global, before: &str, c: char, behind:
     assert!(rt; !is_read || reads_again(alloc, &page), "{page}");
 }
 
-/// Asserts the same for each character that is one byte.
 fn assert_each_changed(rt: &impl Abort, alloc: Global, c: char) {
     for at in 0..PAGE.len() {
         let behind = PAGE.get(at.saturating_add(1)..);

@@ -8,7 +8,6 @@ use std::process::Abort;
 // A test that calls a few small functions is proved in a second or two; the time grows with the
 // square of what one function does itself.
 
-/// The program's words.
 pub(crate) fn words(rt: &impl Abort, alloc: Global, list: &[&str]) -> Vec<String> {
     let mut words = Vec::new(alloc);
     for word in list {
@@ -18,7 +17,6 @@ pub(crate) fn words(rt: &impl Abort, alloc: Global, list: &[&str]) -> Vec<String
     words
 }
 
-/// The status of a run with those words, and what was written.
 pub(crate) fn answer<R: Read>(
     rt: &impl Abort,
     alloc: Global,

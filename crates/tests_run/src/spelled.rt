@@ -1,6 +1,6 @@
 //! What JSON values spell, apart from a run.
 
-use html_tool_run::{Fault, Place, element_in, items_in};
+use html_tool_run::{Fault, InputPlace, element_in, items_in};
 use serde_json::Value;
 use std::alloc::Global;
 use std::process::Abort;
@@ -31,7 +31,7 @@ fn a_refused_value_stays(rt: HostRuntime) {
     for _ in 0..2 {
         let refused = Some(Fault::Refused(2, Span(2)));
         assert!(rt; items_in(alloc, &value).err() == refused);
-        assert!(rt; element_in(alloc, &value).err() == Some(Fault::BadInput(Place::Form(1))));
+        assert!(rt; element_in(alloc, &value).err() == Some(Fault::BadInput(InputPlace::Form(1))));
     }
     assert!(rt; value == value_of(&rt, alloc, text));
 }

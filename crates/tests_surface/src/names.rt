@@ -39,8 +39,9 @@ mod values {
 /// The program, in html_tool_run.
 mod program {
     use html_tool_run::{
-        Fault, LastCall, Place, Recorded, Settings, Status, Task, WriteFailed, element_in,
-        items_in, run, run_recorded, text_of_document, text_of_input, wanted_task, words_of,
+        DocumentText, Fault, InputPlace, LastCall, Recorded, Settings, Status, Task, WriteFailed,
+        element_in, items_in, run, run_recorded, text_of_document, text_of_input, wanted_task,
+        words_of,
     };
 }
 
@@ -68,7 +69,7 @@ mod all_calls {
         dead_fragments, dead_links, export, export_linked, fragment_in, fragment_leads, href_to,
         html, html_block_fragment, html_document, html_document_for_bundle, html_in_bundle,
         html_inline_fragment, html_math_fragment, ids_are_distinct, is_depth_limit, laws, output,
-        page_text, place_names, property, push_located, read_html, repeated_ids,
+        page_text, place_names, property, push_located, read_html, read_page, repeated_ids,
         resolve_inline_styles, resolve_links, tag, with_resolved_links,
     };
 }

@@ -1,6 +1,6 @@
 //! The traits of public types. Each function that does nothing is there for its bounds.
 
-use html_tool_run::{Fault, LastCall, Place as InputPlace, Settings, Status, Task, WriteFailed};
+use html_tool_run::{Fault, InputPlace, LastCall, Settings, Status, Task, WriteFailed};
 use std::alloc::{AllocError, Global};
 use std::collections::HashMap;
 use std::error::Error;

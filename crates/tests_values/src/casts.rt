@@ -6,7 +6,6 @@ use html_values::{AttrType, CastFault, ListType, NativeType};
 use std::alloc::{AllocError, Global};
 use tests_asserts::{TestResult, assert_text};
 
-/// The type of one of those texts.
 fn strings(alloc: Global, texts: &[&str]) -> Result<AttrType, AllocError> {
     let mut allowed = Vec::new(alloc);
     for text in texts {
@@ -23,7 +22,6 @@ static PRESENCES: [(Sample, &str); 4] = [
     (Sample::None, "16"),
 ];
 
-/// Values, and what a cast to `auto` or `none` returns.
 static AUTO_OR_NONE: [(Sample, &str); 3] = [
     (Text("none"), "'none'"),
     (Text("no"), "17"),
@@ -40,7 +38,6 @@ fn presence_and_listed_texts(rt: HostRuntime) -> TestResult {
     Ok(())
 }
 
-/// Values, and what a cast to a whole number or `auto` returns.
 static NUMBER_OR_AUTO: [(Sample, &str); 3] = [
     (Text("auto"), "'auto'"),
     (Text("x"), "16"),
@@ -71,13 +68,11 @@ fn types_with_presence(rt: HostRuntime) {
     assert!(rt; !AttrType::Native(NativeType::TrueFalse).has_presence());
 }
 
-/// The type of several texts with that separator.
 fn texts_by(alloc: Global, separator: char, shorthand: bool) -> Result<AttrType, AllocError> {
     let inner = AttrType::Native(NativeType::Str);
     Ok(AttrType::List(ListType::new(alloc, inner, separator, shorthand)?))
 }
 
-/// Arrays, and what a cast to texts between commas returns.
 static BY_COMMAS: [(&[Sample], &str); 2] = [(&[Text("a"), Text("b")], "'a, b'"), (&[], "''")];
 
 /// Arrays may be cast whatever their items.
@@ -111,7 +106,6 @@ fn separated_by_spaces(rt: HostRuntime) -> TestResult {
     )
 }
 
-/// Each fault.
 const FAULTS: [CastFault; 9] = [
     CastFault::OutOfMemory,
     CastFault::WrongKind,
@@ -124,7 +118,7 @@ const FAULTS: [CastFault; 9] = [
     CastFault::YearRange,
 ];
 
-/// Their numbers and texts.
+/// The numbers and texts of `FAULTS`.
 const TEXTS: &str = "\
     0: out of memory\n\
     16: the value has the wrong kind\n\

@@ -32,7 +32,6 @@ fn moments_and_durations(rt: HostRuntime) {
     assert!(rt; !equal_durations(Duration(1), Duration(2)));
 }
 
-/// An icon of that size.
 fn icon(width: u64, height: u64) -> IconSize {
     IconSize { width, height }
 }

@@ -11,7 +11,6 @@ use std::num::{NonZeroI64, NonZeroU64};
 use tests_asserts::TestResult;
 use tests_growth::{refuses, refuses_given};
 
-/// A colour.
 const RED: Rgba = Rgba {
     r: 255,
     g: 0,
@@ -74,7 +73,6 @@ fn assert_cast(alloc: Global, attr_type: &AttrType, value: &Value, wanted: &str)
     })
 }
 
-/// Asserts it of a cast to a type of one kind.
 fn assert_native(alloc: Global, native: NativeType, value: Value, wanted: &str) -> TestResult {
     assert_cast(alloc, &AttrType::Native(native), &value, wanted)
 }
@@ -103,7 +101,6 @@ fn casts(rt: HostRuntime) -> TestResult {
     Ok(())
 }
 
-/// A value that is a text.
 fn text_of(alloc: Global, text: &str) -> Result<Value, AllocError> {
     Ok(Value::Str(String::from_str(alloc, text)?))
 }

@@ -56,7 +56,6 @@ static CASTS: [(NativeType, Sample, &str); 37] = [
     (NativeType::HorizontalDir, Sample::Dir(Dir::BTT), "20"),
 ];
 
-/// Images with and without a width, and what casts of them return.
 static IMAGES: [(Sample, &str); 9] = [
     (Image("x.png", Some(480)), "'x.png 480w'"),
     (Image("x.png", Some(1)), "'x.png 1w'"),
@@ -96,7 +95,6 @@ fn casts(rt: HostRuntime) -> TestResult {
     assert_array_casts(rt.alloc(), &AttrType::Native(NativeType::IconSize), &SIZES)
 }
 
-/// Asserts what a cast of the value to the type returns, in words.
 fn assert_native(alloc: Global, native_type: NativeType, value: Value, wanted: &str) -> TestResult {
     assert_cast(alloc, &AttrType::Native(native_type), &value, wanted)
 }
@@ -109,12 +107,10 @@ fn spans_of_time_and_colours(rt: HostRuntime) -> TestResult {
     assert_native(rt.alloc(), NativeType::Color, red, "'#ff001080'")
 }
 
-/// Asserts what a cast of the moment returns, in words.
 fn assert_moment(alloc: Global, moment: Moment, wanted: &str) -> TestResult {
     assert_native(alloc, NativeType::Datetime, Value::Datetime(moment), wanted)
 }
 
-/// Years, months and days, and what casts of them return.
 static DATES: [(i16, i8, i8, &str); 5] = [
     (2024, 2, 9, "'2024-02-09'"),
     (1, 12, 31, "'0001-12-31'"),

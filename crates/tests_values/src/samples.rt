@@ -16,7 +16,6 @@ pub(crate) enum Sample {
     Image(&'static str, Option<i64>),
 }
 
-/// The value that a table means.
 pub(crate) fn value_of(alloc: Global, sample: Sample) -> Result<Value, AllocError> {
     Ok(match sample {
         Sample::None => Value::None,
@@ -32,7 +31,6 @@ pub(crate) fn value_of(alloc: Global, sample: Sample) -> Result<Value, AllocErro
     })
 }
 
-/// An array of such values.
 pub(crate) fn array_of(alloc: Global, samples: &[Sample]) -> Result<Value, AllocError> {
     let mut items = Vec::new(alloc);
     for sample in samples {
@@ -50,7 +48,6 @@ fn shown(alloc: Global, answer: Result<Option<String>, CastFault>) -> Result<Str
     }
 }
 
-/// Asserts what a cast of the value to the type returns, in words.
 pub(crate) fn assert_cast(
     alloc: Global,
     attr_type: &AttrType,
@@ -60,7 +57,6 @@ pub(crate) fn assert_cast(
     assert_text(&shown(alloc, attr_type.cast(alloc, value))?, wanted)
 }
 
-/// Asserts that each cast to the type returns what stands beside the value.
 pub(crate) fn assert_casts(
     alloc: Global,
     attr_type: &AttrType,
@@ -72,7 +68,6 @@ pub(crate) fn assert_casts(
     Ok(())
 }
 
-/// Asserts that each cast of an array to the type returns what stands beside its items.
 pub(crate) fn assert_array_casts(
     alloc: Global,
     attr_type: &AttrType,

@@ -8,12 +8,10 @@ use std::alloc::Global;
 use std::num::{NonZeroI64, NonZeroU64};
 use tests_asserts::{TestResult, assert_text};
 
-/// Asserts that the value has that text as an attribute.
 pub(crate) fn assert_attr<T: IntoAttr>(alloc: Global, value: &T, wanted: &str) -> TestResult {
     assert_text(&value.into_attr(alloc)?, wanted)
 }
 
-/// Seconds, and their texts.
 static DURATIONS: [(u64, &str); 7] = [
     (59, "59s"),
     (60, "1m"),

@@ -17,6 +17,8 @@ pub use Rattle.typst_html_read.specs.PlainElements
 pub use Rattle.typst_html_read.specs.ReadFaults
 pub use Rattle.typst_html_read.specs.ReadLaws
 pub use Rattle.typst_html_read.specs.LimitedReading
+pub use Rattle.typst_html_read.specs.Misreadings
+pub use Rattle.typst_html_read.specs.PageReading
 pub use Rattle.typst_html_read.specs.BegunReferences
 pub use Rattle.typst_html_read.specs.Places
 pub use Rattle.typst_html_page.specs.PageLaws

@@ -148,3 +148,4 @@ pub use typst_html_page::page_text;
 pub use typst_html_read::Place;
 pub use typst_html_read::ReadFault;
 pub use typst_html_read::read_html;
+pub use typst_html_read::read_page;

@@ -1,2 +1,3 @@
+mod DeadLinks
 pub mod Pages
 mod Faults

@@ -1,57 +1,59 @@
 -- What is found in a page has a text, and what is answered where a page is read, and where it is not.
-use Rattle.std.proofs.Common.{◌≡◌, ℕ, List, [], ◌∷◌, Bool, true, false, codes, chars, Ok, Err, String, string_bytes, refl}
+use Rattle.std.proofs.Common.{◌≡◌, ℕ, List, [], ◌∷◌, ◌++◌, Bool, true, Ok, Err, String, string_bytes, refl, append_assoc}
 use Rattle.std.specs.declared.alloc.Global.{Global}
-use Rattle.std.specs.Str.{is_utf8, IsUtf8}
-use Rattle.std.proofs.lemmas.Str.{IsUtf8-from_is_utf8, is_utf8-from_IsUtf8, encodes-chars, IsUtf8-string_bytes}
+use Rattle.std.proofs.lemmas.Str.{encodes-chars, IsUtf8-string_bytes}
 use lib.Utf8.{encodes}
-use Rattle.serde_json.specs.Written.{compact_text, has_float}
-use Rattle.html_dom_check.specs.Fragments.{dead_fragments}
-use Rattle.html_dom_check.specs.PlacedTexts.{Placed}
-use Rattle.html_dom_check.specs.RepeatedIds.{repeated_ids}
-use Rattle.html_dom_tree.specs.Tree.{ElementView}
+use Rattle.serde_json.specs.Data.{Data, string, object, member, no_members}
+use Rattle.serde_json.specs.View.{items_of}
+use Rattle.serde_json.specs.Written.{comma_if, compact_text, items_text}
 use Rattle.html_dom_tree.specs.Views.{element_view, text_view}
 use Rattle.html_dom_tree.specs.declared.node.HtmlElement.{HtmlElement}
-use Rattle.typst_html_encode.specs.Reader.{read}
 use Rattle.typst_html_read.specs.Endings.{Gives}
-use Rattle.typst_html_read.specs.LimitedReading.{too_deep}
-use Rattle.typst_html_read.specs.LimitedReading as reading
-use Rattle.typst_html_read.specs.PlainElements.{accepted}
+use Rattle.typst_html_read.specs.PageReading.{page_text, page_element, page_too_deep, page_unread}
 use Rattle.typst_html_read.specs.declared.fault.ReadFault.{ReadFault}
 use Rattle.typst_html_read.specs.declared.fault.ReadFault.TheVariants.{OutOfMemory, TooDeep, Syntax}
 use Rattle.typst_html_c.specs.declared.reply.Reply.{Reply}
-use Rattle.typst_html_c.specs.PageFindings.{path_data, findings, tree_findings, text, deep, unreadable, bad, Told, Tells, refused, unread, failed, IsTold, text_told, page_told, unread_reply}
+use Rattle.typst_html_c.specs.PageFindings.{tree_findings, text, Told, Tells, refused, unread, failed, IsTold, page_told, unread_reply}
 
 pub text_written : (s : String Global) → encodes (text_view s) ≡ string_bytes s
 text_written s = encodes-chars (string_bytes s) (IsUtf8-string_bytes s)
 
-path_no_float : (path : List ℕ) → has_float (path_data path) ≡ false
-path_no_float [] = refl
-path_no_float (n ∷ ns) = path_no_float ns
+-- the text of an object with two members, by its parts
+two_members : (old first there second here a b c d e f g : List ℕ) →
+    a ≡ old ++ 123 ∷ [] → b ≡ a ++ (first ++ 58 ∷ []) → c ≡ b ++ there → d ≡ c ++ 44 ∷ [] →
+    e ≡ d ++ (second ++ 58 ∷ []) → f ≡ e ++ here → g ≡ f ++ 125 ∷ [] →
+    g ≡ old ++ 123 ∷ (first ++ 58 ∷ (there ++ 44 ∷ (second ++ 58 ∷ (here ++ 125 ∷ []))))
+two_members old first there second here a b c d e f g p q r s t u v =
+    rw (v, u, t, s, r, q, p) (simp append_assoc)
 
-findings_no_float : (name : List ℕ) (ps : List Placed) → has_float (findings name ps) ≡ false
-findings_no_float name [] = refl
-findings_no_float name (p ∷ ps) = rw (path_no_float p.0) (findings_no_float name ps)
+pub object_text : (old n m : List ℕ) (x y : Data) (a b c d e f g : List ℕ) →
+    a ≡ old ++ 123 ∷ [] → b ≡ a ++ (compact_text (string n) ++ 58 ∷ []) →
+    c ≡ b ++ compact_text x → d ≡ c ++ 44 ∷ [] →
+    e ≡ d ++ (compact_text (string m) ++ 58 ∷ []) → f ≡ e ++ compact_text y → g ≡ f ++ 125 ∷ [] →
+    g ≡ old ++ compact_text (object (member n x (member m y no_members)))
+object_text old n m x y =
+    two_members old (compact_text (string n)) (compact_text x) (compact_text (string m)) (compact_text y)
 
-pub no_float : (e : ElementView) → has_float (tree_findings e) ≡ false
-no_float e = rw (
-  findings_no_float (codes "fragment") (dead_fragments e),
-  findings_no_float (codes "id") (repeated_ids e),
-) refl
+-- one more item of a list
+pub one_more_item : (later : Bool) (d : Data) (ds : List Data) (all a b c : List ℕ) →
+    a ++ items_text later (items_of (d ∷ ds)) ≡ all → b ≡ a ++ comma_if later →
+    c ≡ b ++ compact_text d → c ++ items_text true (items_of ds) ≡ all
+one_more_item later d ds all a b c before p q = rw (q, p, append_assoc, append_assoc) before
 
 -- a page that is read, and one that is not
-pub read_told : (limit : ℕ) (page : List ℕ) (root : HtmlElement)
-    → Gives (Ok root) page (accepted (read page)) (too_deep limit page) (reading.unread page)
-    → text_told limit page ≡ text (compact_text (tree_findings (element_view root)))
-unfolding text_told
-read_told limit page root g = rw (g.clean, ← g.made) refl
+module _ (limit : ℕ) (page : List ℕ) where
+  pub read_told : (root : HtmlElement) → Gives (Ok root) (page_text page) (page_element page)
+      (page_too_deep limit page) (page_unread page)
+      → page_told page limit ≡ text (compact_text (tree_findings (element_view root)))
+  unfolding page_told
+  read_told root g = rw (g.clean, ← g.made) refl
 
-pub fault_told : (limit : ℕ) (page : List ℕ) (f : ReadFault)
-    → Gives (Err f) page (accepted (read page)) (too_deep limit page) (reading.unread page)
-    → IsTold (text_told limit page) f
-unfolding text_told
-fault_told limit page OutOfMemory g = tt
-fault_told limit page (TooDeep place) g = rw (g.fault.2, g.fault.3) refl
-fault_told limit page (Syntax place) g = rw (g.fault.1, g.fault.0, g.fault.2) refl
+  pub fault_told : (f : ReadFault) → Gives (Err f) (page_text page) (page_element page)
+      (page_too_deep limit page) (page_unread page) → IsTold (page_told page limit) f
+  unfolding page_told
+  fault_told OutOfMemory g = tt
+  fault_told (TooDeep place) g = rw (g.fault.2, g.fault.3) refl
+  fault_told (Syntax place) g = rw (g.fault.1, g.fault.0, g.fault.2) refl
 
 -- the reply to a fault tells it
 pub fault_replied : (told : Told) (old : List ℕ) (reply : Reply) (new : List ℕ) (f : ReadFault)
@@ -59,18 +61,3 @@ pub fault_replied : (told : Told) (old : List ℕ) (reply : Reply) (new : List �
 fault_replied told old reply new OutOfMemory is r kept = failed r kept
 fault_replied told old reply new (TooDeep place) is r kept = refused place is r kept
 fault_replied told old reply new (Syntax place) is r kept = unread place is r kept
-
-pub text_page : (limit : ℕ) (page : List ℕ) → IsUtf8 page
-    → page_told page limit ≡ text_told limit (chars page)
-text_page limit page utf8 = rw (is_utf8-from_IsUtf8 page utf8)
-
-by_test : (limit : ℕ) (page : List ℕ) (b : Bool) → is_utf8 page ≡ b → (IsUtf8 page → ⊥)
-    → page_told page limit ≡ bad
-by_test limit page true is no_text = absurd (no_text (IsUtf8-from_is_utf8 page is))
-by_test limit page false is no_text = rw is
-
-pub no_text_page : (limit : ℕ) (page : List ℕ) → (IsUtf8 page → ⊥)
-    → page_told page limit ≡ bad
-no_text_page limit page no_text = by_test limit page _ refl no_text
-
-pub ruleset pages = (text_page, no_text_page)

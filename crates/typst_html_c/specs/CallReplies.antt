@@ -1,12 +1,13 @@
 -- What a call replies, and what it leaves in the caller's buffer.
-use Rattle.std.specs.Prelude.{◌≡◌, ◌==◌, ◌&&◌, ℕ, Bool, true, false, List, ◌++◌, length, drop, nat_le, Option, Some, None, option_map, option_and_then, if◌then◌else◌}
+use Rattle.std.specs.Prelude.{◌≡◌, ◌==◌, ◌&&◌, ℕ, Bool, true, false, List, [], ◌∷◌, ◌++◌, length, drop, nat_le, Option, Some, None, option_map, option_and_then, if◌then◌else◌}
+use Rattle.html_dom_link.specs.Links.{DeadLinkView}
 use Rattle.html_tool_run.specs.Answers.{Answer, TextPlace, bad_input, refused_answer, answer_if, task_answer}
-use Rattle.html_tool_run.specs.DocumentAnswers.{document_input_answer}
+use Rattle.html_tool_run.specs.DocumentAnswers.{document_input_answer, input_dead_links}
 use Rattle.html_tool_run.specs.declared.documents.Settings.{Settings}
 use Rattle.html_tool_spell.specs.declared.fault.Fault.{Fault}
 use Rattle.html_tool_spell.specs.declared.fault.Fault.TheVariants.{OutOfMemory, BadInput, Refused}
-use Rattle.html_tool_spell.specs.declared.fault.Place.{Place}
-use Rattle.html_tool_spell.specs.declared.fault.Place.TheVariants.{Unknown, Text, Form}
+use Rattle.html_tool_spell.specs.declared.fault.InputPlace.{InputPlace}
+use Rattle.html_tool_spell.specs.declared.fault.InputPlace.TheVariants.{Unknown, Text, Form}
 use Rattle.html_tool_run.specs.declared.status.Status.TheVariants.{Done}
 use Rattle.html_tool_run.specs.declared.words.Task.{Task}
 use Rattle.html_tool_run.specs.declared.words.Task.TheVariants.{Tree, Doc}
@@ -54,6 +55,15 @@ document_call_answer layout links limit input at =
     answer_if Unknown (λ settings. document_input_answer settings input at)
     (wanted_settings layout links limit)
 
+-- the links of that document that lead nowhere; none where a number is wrong
+abbrev pub dead_links_with : Option Settings → (input : List ℕ) → List DeadLinkView
+dead_links_with None input = []
+dead_links_with (Some settings) input = input_dead_links settings input
+
+abbrev pub call_dead_links : (layout links limit : ℕ) (input : List ℕ) → List DeadLinkView
+call_dead_links layout links limit input =
+    dead_links_with (wanted_settings layout links limit) input
+
 abbrev pub without_text : (status number span : ℕ) → Reply
 without_text status number span = record {
   length = 0;
@@ -65,7 +75,7 @@ without_text status number span = record {
 }
 
 -- an input that is bad at that place
-abbrev pub bad_reply : Place → Reply
+abbrev pub bad_reply : InputPlace → Reply
 bad_reply Unknown = without_text 2 0 0
 bad_reply (Text line column) = record (without_text 2 0 0) { line = line; column = column }
 bad_reply (Form n) = without_text 2 0 n
@@ -99,10 +109,27 @@ pub data Replies (a : Answer) (old : List ℕ) (reply : Reply) (new : List ℕ) 
       → new ≡ buffer_with bytes old → Replies a old reply new
   refused : (number span : ℕ) → a ≡ refused_answer (number, span)
       → reply ≡ without_text 1 number span → new ≡ old → Replies a old reply new
-  bad : (place : Place) → a ≡ bad_input place → reply ≡ bad_reply place → new ≡ old
+  bad : (place : InputPlace) → a ≡ bad_input place → reply ≡ bad_reply place → new ≡ old
       → Replies a old reply new
   failed : reply ≡ without_text 3 0 0 → new ≡ old → Replies a old reply new
 
 -- so it replies for some place in the input
 abbrev pub RepliesAt : (TextPlace → Answer) → (old : List ℕ) (reply : Reply) (new : List ℕ) → Type 0
 RepliesAt answer old reply new = (at : TextPlace) × Replies (answer at) old reply new
+
+-- a text in which these links lead nowhere has status 5 in place of 0, and the span of the first
+abbrev pub with_dead_links : List DeadLinkView → Reply → Reply
+with_dead_links [] reply = reply
+with_dead_links (link ∷ links) reply =
+    if reply.status == 0 then record reply { status = 5; span = link.0 } else reply
+
+-- so it replies where these links lead nowhere
+abbrev pub RepliesWith : List DeadLinkView → Answer → (old : List ℕ) (reply : Reply) (new : List ℕ)
+    → Type 0
+RepliesWith links answer old reply new =
+    (plain : Reply) × Replies answer old plain new × (reply ≡ with_dead_links links plain)
+
+abbrev pub RepliesWithAt : List DeadLinkView → (TextPlace → Answer) → (old : List ℕ) (reply : Reply)
+    (new : List ℕ) → Type 0
+RepliesWithAt links answer old reply new =
+    (at : TextPlace) × RepliesWith links (answer at) old reply new

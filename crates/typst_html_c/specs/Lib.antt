@@ -1,2 +1,3 @@
 pub mod CallReplies
+pub mod DeadLinks
 pub mod PageFindings

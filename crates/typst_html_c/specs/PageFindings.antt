@@ -1,8 +1,7 @@
 -- What is wrong with the links of a page, as JSON:
 --     {"dead_fragments":[{"fragment":t,"path":[n,..]},..],"repeated_ids":[{"id":t,"path":[n,..]},..]}
-use Rattle.std.specs.Prelude.{◌≡◌, ℕ, List, [], ◌∷◌, map, chars, codes, if◌then◌else◌, Option, Some, None, Result, MatchResult, String, string_bytes}
+use Rattle.std.specs.Prelude.{◌≡◌, ℕ, List, [], ◌∷◌, map, codes, Option, Some, None, Result, MatchResult, String, string_bytes}
 use Rattle.std.specs.declared.alloc.Global.{Global}
-use Rattle.std.specs.Str.{is_utf8}
 use lib.Utf8.{encodes}
 use Rattle.serde_json.specs.Data.{Data, number, string, array, object, unsigned, member, no_members}
 use Rattle.serde_json.specs.View.{items_of}
@@ -11,11 +10,8 @@ use Rattle.html_dom_check.specs.Fragments.{dead_fragments}
 use Rattle.html_dom_check.specs.PlacedTexts.{Placed}
 use Rattle.html_dom_check.specs.RepeatedIds.{repeated_ids}
 use Rattle.html_dom_tree.specs.Tree.{ElementView}
-use Rattle.typst_html_encode.specs.Reader.{read}
-use Rattle.typst_html_read.specs.LimitedReading.{too_deep}
-use Rattle.typst_html_read.specs.LimitedReading as reading
+use Rattle.typst_html_read.specs.PageReading.{page_text, page_element, page_too_deep, page_unread}
 use Rattle.typst_html_read.specs.Places.{place_at}
-use Rattle.typst_html_read.specs.PlainElements.{accepted}
 use Rattle.typst_html_read.specs.declared.fault.ReadFault.{ReadFault}
 use Rattle.typst_html_read.specs.declared.fault.ReadFault.TheVariants.{OutOfMemory, TooDeep, Syntax}
 use Rattle.typst_html_read.specs.declared.place.Place.{Place}
@@ -44,26 +40,24 @@ tree_findings e = object (
     member (codes "repeated_ids") (findings (codes "id") (repeated_ids e)) no_members))
 
 -- what is told of a page: its findings, the place of what stands too deep or from which on nothing is
--- read, or that it is no text or that the limit is wrong
+-- read, or that the limit is wrong
 pub data Told : Type 0 where
   text : (bytes : List ℕ) → Told
   deep : (place : Place) → Told
   unreadable : (place : Place) → Told
   bad : Told
 
--- by the places that stand too deep, the element that is read, and the place from which on nothing is
+-- by the characters of a page, the places that stand too deep, the element that is read, and the place
+-- from which on nothing is
 abbrev pub told_of : (page : List ℕ) → (too_deep : List ℕ) → Option ElementView → (unread : ℕ) → Told
 told_of page (n ∷ ns) element unread = deep (place_at page n)
 told_of page [] (Some e) unread = text (compact_text (tree_findings e))
 told_of page [] None unread = unreadable (place_at page unread)
 
--- of the characters of a page
-unfoldable pub text_told : (limit : ℕ) → (page : List ℕ) → Told
-text_told limit page = told_of page (too_deep limit page) (accepted (read page)) (reading.unread page)
-
 -- of its bytes
-abbrev pub page_told : (page : List ℕ) → (limit : ℕ) → Told
-page_told page limit = if is_utf8 page then text_told limit (chars page) else bad
+unfoldable pub page_told : (page : List ℕ) → (limit : ℕ) → Told
+page_told page limit =
+    told_of (page_text page) (page_too_deep limit page) (page_element page) (page_unread page)
 
 abbrev pub told_within : (page : List ℕ) → (limit : Option ℕ) → Told
 told_within page None = bad
@@ -91,7 +85,7 @@ pub data Tells (told : Told) (old : List ℕ) (reply : Reply) (new : List ℕ) :
       Tells told old reply new
   unread : (place : Place) → told ≡ unreadable place → reply ≡ placed 2 0 place → new ≡ old →
       Tells told old reply new
-  no_page : told ≡ bad → reply ≡ without_text 2 0 0 → new ≡ old → Tells told old reply new
+  no_limit : told ≡ bad → reply ≡ without_text 2 0 0 → new ≡ old → Tells told old reply new
   failed : reply ≡ without_text 3 0 0 → new ≡ old → Tells told old reply new
 
 -- why a page is not read, as a reply

@@ -1,43 +1,28 @@
 //! What is wrong with the links of a page, as JSON.
 
-ghost use Rattle.std.specs.Prelude.{◌≡◌, ◌≤◌, chars, codes, string_bytes, IfOk};
-ghost use Rattle.serde_json.specs.View.{view};
-ghost use Rattle.serde_json.specs.Written.{compact_text};
-ghost use Rattle.html_dom_check.specs.Findings.{dead_fragment_view, dead_view, repeated_id_view, repeated_view};
+ghost use Rattle.std.specs.Prelude.{◌≡◌, ◌≤◌, ◌++◌, codes, decimal, string_bytes, IfOk, OnOk};
+ghost use Rattle.serde_json.specs.Data.{string};
+ghost use Rattle.serde_json.specs.Written.{comma_if, compact_text};
+ghost use Rattle.html_dom_check.specs.Findings.{dead_view, repeated_view};
 ghost use Rattle.html_dom_tree.specs.Views.{element_view};
-ghost use Rattle.typst_html_c.specs.PageFindings.{Told, Tells, GivesTold, check_told, page_told, text_told};
-ghost use Rattle.typst_html_c.specs.PageFindings.{finding, findings, path_data, text_and_path, tree_findings, unread_reply};
+ghost use Rattle.typst_html_c.specs.PageFindings.{Told, Tells, GivesTold, check_told, page_told};
+ghost use Rattle.typst_html_c.specs.PageFindings.{findings, path_data, text_and_path, tree_findings, unread_reply};
 
 use crate::numbers::page_limit_of;
 use crate::reply::{BAD_INPUT, OUT_OF_MEMORY, REFUSED, Reply, placed, put, without_text};
 use html_dom_check::{DeadFragment, RepeatedId, dead_fragments, repeated_ids};
 use html_dom_tree::HtmlElement;
-use serde_json::{Value, json};
+use serde_json::Value;
 use std::alloc::{AllocError, Global};
-use std::str;
-use typst_html_read::{ReadFault, read_html};
+use typst_html_read::{ReadFault, read_page};
 
-/// The reply of a call that checks a page, whose findings are copied into the buffer, where they fit.
 pub(crate) fn reply_to_page(alloc: Global, limit: u32, page: &[u8], output: &mut [u8]) -> Reply
     ensures answered { Tells (check_told limit page.now) output.old result output.new }
     ensures kept { ¬ (result.status ≡ 0) → output.new ≡ output.old }
 {
     match page_limit_of(limit) {
-        Some(limit) => reply_within(alloc, page, limit, output),
+        Some(limit) => reply_with_findings(page_findings(alloc, page, limit), output),
         None => without_text(BAD_INPUT, 0, 0),
-    }
-}
-
-/// The same, where the limit is right.
-fn reply_within(alloc: Global, page: &[u8], limit: usize, output: &mut [u8]) -> Reply
-    requires some_limit { 1 ≤ limit }
-    requires low_limit { limit ≤ 10000 }
-    ensures answered { Tells (page_told page.now limit) output.old result output.new }
-    ensures kept { ¬ (result.status ≡ 0) → output.new ≡ output.old }
-{
-    match str::from_utf8(page) {
-        Ok(text) => reply_with_findings(text_findings(alloc, text, limit), output),
-        Err(_) => without_text(BAD_INPUT, 0, 0),
     }
 }
 
@@ -53,7 +38,6 @@ fn reply_with_findings(findings: Result<String, ReadFault>, output: &mut [u8]) -
     }
 }
 
-/// Why a page is not read, as a reply.
 fn unread_reply(fault: ReadFault) -> Reply
     ensures { result ≡ unread_reply fault }
 {
@@ -64,96 +48,134 @@ fn unread_reply(fault: ReadFault) -> Reply
     }
 }
 
-/// What is wrong with the links of a page that has this text, as JSON.
-fn text_findings(alloc: Global, text: &str, limit: usize) -> Result<String, ReadFault>
+fn page_findings(alloc: Global, page: &[u8], limit: usize) -> Result<String, ReadFault>
     requires some_limit { 1 ≤ limit }
     requires low_limit { limit ≤ 10000 }
-    ensures { GivesTold result (text_told limit (chars text.now)) }
+    ensures { GivesTold result (page_told page.now limit) }
 {
-    match read_html(alloc, text, limit) {
+    match read_page(alloc, page, limit) {
         Ok(root) => Ok(tree_findings(alloc, &root)?),
         Err(fault) => Err(fault),
     }
 }
 
-/// What is wrong with the links of a tree, as JSON.
+/// What is wrong with the links of a tree, as JSON. The findings of one kind are gone before the other's
+/// are sought.
 fn tree_findings(alloc: Global, root: &HtmlElement) -> Result<String, AllocError>
     ensures { IfOk result (λ text.
         string_bytes text ≡ compact_text (tree_findings (element_view root.now))) }
 {
-    let value = tree_value(alloc, root)?;
-    Ok(value.to_string(alloc)?)
+    let mut text = String::new(alloc);
+    text.push_str("{")?;
+    push_name(alloc, &mut text, "dead_fragments")?;
+    push_dead(alloc, &mut text, &dead_fragments(alloc, root)?)?;
+    text.push_str(",")?;
+    push_name(alloc, &mut text, "repeated_ids")?;
+    push_repeated(alloc, &mut text, &repeated_ids(alloc, root)?)?;
+    text.push_str("}")?;
+    Ok(text)
 }
 
-fn tree_value(alloc: Global, root: &HtmlElement) -> Result<Value, AllocError>
-    ensures { IfOk result (λ value. view value ≡ tree_findings (element_view root.now)) }
+fn push_dead(alloc: Global, text: &mut String, dead: &[DeadFragment]) -> Result<(), AllocError>
+    ensures { OnOk result (string_bytes text.new
+        ≡ string_bytes text.old ++ compact_text (findings (codes "fragment") (dead_view dead.now))) }
 {
-    let dead = dead_values(alloc, &dead_fragments(alloc, root)?)?;
-    let repeated = repeated_values(alloc, &repeated_ids(alloc, root)?)?;
-    json!(in alloc; {"dead_fragments": dead, "repeated_ids": repeated})
-}
-
-fn dead_values(alloc: Global, dead: &[DeadFragment]) -> Result<Value, AllocError>
-    ensures { IfOk result (λ value. view value
-        ≡ findings (codes "fragment") (dead_view dead.now)) }
-{
-    let mut values = Vec::with_capacity(alloc, dead.len())?;
+    text.push_str("[")?;
+    let mut later = false;
     for link in dead {
-        values.push(dead_value(alloc, link)?)?;
+        push_comma_if(text, later)?;
+        push_finding(alloc, text, "fragment", &link.fragment, &link.path)?;
+        later = true;
     }
-    Ok(Value::Array(values))
+    text.push_str("]")?;
+    Ok(())
 }
 
-#[tactic(auto, using(crate::proofs::Pages::text_written))]
-fn dead_value(alloc: Global, link: &DeadFragment) -> Result<Value, AllocError>
-    ensures { IfOk result (λ value. view value
-        ≡ finding (codes "fragment") (dead_fragment_view link.now)) }
+fn push_repeated(
+    alloc: Global,
+    text: &mut String,
+    repeated: &[RepeatedId],
+) -> Result<(), AllocError>
+    ensures { OnOk result (string_bytes text.new
+        ≡ string_bytes text.old ++ compact_text (findings (codes "id") (repeated_view repeated.now))) }
 {
-    let path = path_value(alloc, &link.path)?;
-    fragment_value(alloc, &link.fragment, path)
-}
-
-fn fragment_value(alloc: Global, fragment: &str, path: Value) -> Result<Value, AllocError>
-    ensures { IfOk result (λ value. view value
-        ≡ text_and_path (codes "fragment") fragment.now (view path)) }
-{
-    json!(in alloc; {"fragment": fragment, "path": path})
-}
-
-fn repeated_values(alloc: Global, repeated: &[RepeatedId]) -> Result<Value, AllocError>
-    ensures { IfOk result (λ value. view value
-        ≡ findings (codes "id") (repeated_view repeated.now)) }
-{
-    let mut values = Vec::with_capacity(alloc, repeated.len())?;
+    text.push_str("[")?;
+    let mut later = false;
     for place in repeated {
-        values.push(repeated_value(alloc, place)?)?;
+        push_comma_if(text, later)?;
+        push_finding(alloc, text, "id", &place.id, &place.path)?;
+        later = true;
     }
-    Ok(Value::Array(values))
+    text.push_str("]")?;
+    Ok(())
 }
 
-#[tactic(auto, using(crate::proofs::Pages::text_written))]
-fn repeated_value(alloc: Global, place: &RepeatedId) -> Result<Value, AllocError>
-    ensures { IfOk result (λ value. view value
-        ≡ finding (codes "id") (repeated_id_view place.now)) }
+/// Adds a finding: what is told, under that name, and a path.
+fn push_finding(
+    alloc: Global,
+    text: &mut String,
+    name: &str,
+    told: &str,
+    path: &[usize],
+) -> Result<(), AllocError>
+    ensures { OnOk result (string_bytes text.new ≡ string_bytes text.old
+        ++ compact_text (text_and_path name.now told.now (path_data path.now))) }
 {
-    let path = path_value(alloc, &place.path)?;
-    id_value(alloc, &place.id, path)
+    text.push_str("{")?;
+    push_name(alloc, text, name)?;
+    push_string(alloc, text, told)?;
+    text.push_str(",")?;
+    push_name(alloc, text, "path")?;
+    push_path(text, path)?;
+    text.push_str("}")?;
+    Ok(())
 }
 
-fn id_value(alloc: Global, id: &str, path: Value) -> Result<Value, AllocError>
-    ensures { IfOk result (λ value. view value
-        ≡ text_and_path (codes "id") id.now (view path)) }
+fn push_name(alloc: Global, text: &mut String, name: &str) -> Result<(), AllocError>
+    ensures { OnOk result (string_bytes text.new
+        ≡ string_bytes text.old ++ (compact_text (string name.now) ++ codes ":")) }
 {
-    json!(in alloc; {"id": id, "path": path})
+    push_string(alloc, text, name)?;
+    text.push_str(":")?;
+    Ok(())
 }
 
-/// The indices of a path.
-fn path_value(alloc: Global, path: &[usize]) -> Result<Value, AllocError>
-    ensures { IfOk result (λ value. view value ≡ path_data path.now) }
+fn push_path(text: &mut String, path: &[usize]) -> Result<(), AllocError>
+    ensures { OnOk result (string_bytes text.new
+        ≡ string_bytes text.old ++ compact_text (path_data path.now)) }
 {
-    let mut values = Vec::with_capacity(alloc, path.len())?;
+    text.push_str("[")?;
+    let mut later = false;
     for index in path {
-        values.push(Value::from(*index))?;
+        push_comma_if(text, later)?;
+        push_number(text, *index)?;
+        later = true;
     }
-    Ok(Value::Array(values))
+    text.push_str("]")?;
+    Ok(())
+}
+
+fn push_number(text: &mut String, n: usize) -> Result<(), AllocError>
+    ensures { OnOk result (string_bytes text.new ≡ string_bytes text.old ++ decimal n) }
+{
+    write!(text, "{n}")?;
+    Ok(())
+}
+
+fn push_comma_if(text: &mut String, later: bool) -> Result<(), AllocError>
+    ensures { OnOk result (string_bytes text.new ≡ string_bytes text.old ++ comma_if later) }
+{
+    if later {
+        text.push_str(",")?;
+    }
+    Ok(())
+}
+
+fn push_string(alloc: Global, text: &mut String, told: &str) -> Result<(), AllocError>
+    ensures { OnOk result (string_bytes text.new
+        ≡ string_bytes text.old ++ compact_text (string told.now)) }
+{
+    let value = Value::String(String::from_str(alloc, told)?);
+    text.push_str(value.to_string(alloc)?.as_str())?;
+    Ok(())
 }

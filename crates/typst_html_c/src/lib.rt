@@ -5,29 +5,34 @@
 //! by a status: the slices alone have to be there, each as a pointer and a length.
 #![tactic(auto)]
 
-ghost use Rattle.std.specs.Prelude.{◌≡◌};
+ghost use Rattle.std.specs.Prelude.{◌≡◌, IfOk};
+ghost use Rattle.html_dom_link.specs.DeadLinks.{dead_links_view};
+ghost use Rattle.html_tool_run.specs.DocumentAnswers.{text_given};
 ghost use Rattle.html_tool_run.specs.Replies.{GivesAnswerAt};
-ghost use Rattle.typst_html_c.specs.CallReplies.{RepliesAt, document_call_answer, write_answer};
+ghost use Rattle.typst_html_c.specs.CallReplies.{RepliesAt, RepliesWithAt, call_dead_links, document_call_answer, write_answer};
+ghost use Rattle.typst_html_c.specs.DeadLinks.{dead_links_answer};
 ghost use Rattle.typst_html_c.specs.PageFindings.{Tells, check_told};
 
+mod dead_links;
 mod findings;
 mod numbers;
 mod reply;
 
+use dead_links::dead_links_text;
 use findings::reply_to_page;
-use html_tool_run::{Fault, Place, text_of_document, text_of_input};
+use html_tool_run::{DocumentText, Fault, InputPlace, text_of_document, text_of_input};
 use numbers::{wanted_settings, wanted_task};
 pub use reply::Reply;
-use reply::reply_with;
+use reply::{reply_with, reply_with_document};
 use std::alloc::Global;
 
 /// The version of these calls. It grows by one where a call or a status changes its meaning.
-const VERSION: u32 = 3;
+const VERSION: u32 = 4;
 
 /// The version of these calls, to be compared with the one of the header that a caller was made by.
 #[unsafe(no_mangle)]
 pub extern "C" fn typst_html_version() -> u32
-    ensures { result ≡ 3 }
+    ensures { result ≡ 4 }
 {
     VERSION
 }
@@ -38,7 +43,7 @@ fn text_of(alloc: Global, kind: u8, layout: u8, input: &[u8]) -> Result<String, 
 {
     match wanted_task(kind, layout) {
         Some((task, pretty)) => text_of_input(alloc, input, task, pretty),
-        None => Err(Fault::BadInput(Place::Unknown)),
+        None => Err(Fault::BadInput(InputPlace::Unknown)),
     }
 }
 
@@ -46,7 +51,7 @@ fn text_of(alloc: Global, kind: u8, layout: u8, input: &[u8]) -> Result<String, 
 /// items (kind 1), plain (layout 0) or pretty (layout 1), and copies it into the buffer, where it
 /// fits. The text is that which the program writes.
 ///
-/// What the buffer holds beyond the text stays, and so does all of it where the status is not 0.
+/// What the buffer holds beyond the text stays, and so does all of it where there is no text in it.
 /// Status 4 says by `length` how long a buffer the text takes; a second call with one makes the text
 /// once more. A bad input bears its place: the line and the column where it is no JSON, and else by
 /// `span` the list in which the form is left. Another kind or layout is bad input without a place.
@@ -64,19 +69,20 @@ pub extern "C" fn typst_html_write(
     reply_with(text_of(alloc, kind, layout, input), output)
 }
 
-/// The text of the document that the input spells, where the numbers are right.
 fn text_of_settings(
     alloc: Global,
     layout: u8,
     links: u8,
     limit: u32,
     input: &[u8],
-) -> Result<String, Fault>
-    ensures { GivesAnswerAt result (document_call_answer layout links limit input.now) }
+) -> Result<DocumentText, Fault>
+    ensures text { GivesAnswerAt (text_given result) (document_call_answer layout links limit input.now) }
+    ensures dead { IfOk result (λ made.
+        dead_links_view made.dead_links.items ≡ call_dead_links layout links limit input.now) }
 {
     match wanted_settings(layout, links, limit) {
         Some(settings) => text_of_document(alloc, input, &settings),
-        None => Err(Fault::BadInput(Place::Unknown)),
+        None => Err(Fault::BadInput(InputPlace::Unknown)),
     }
 }
 
@@ -84,6 +90,10 @@ fn text_of_settings(
 /// document, its items and its footnotes. It is plain (layout 0) or pretty (layout 1), its links stay
 /// as they are (links 0) or get the `href` of their destination (links 1), and bodies may stand as
 /// deep as the limit says, from 1 to 10,000. The text is copied into the buffer, where it fits.
+///
+/// A link to whose destination no `href` leads, as where the document has no such place, stays without
+/// one. Where there is such a link the status is 5 in place of 0, with the span of the first;
+/// [`typst_html_dead_links`] lists them all.
 ///
 /// The members are those of [`text_of_document`]: `title`, `description`, `authors`, `keywords`,
 /// `lang`, `region`, `items` and `footnotes`. Another member, layout, number for links or limit is bad
@@ -97,11 +107,44 @@ pub extern "C" fn typst_html_document(
     input: &[u8],
     output: &mut [u8],
 ) -> Reply
-    ensures answered { RepliesAt (document_call_answer layout links limit input.now) output.old result output.new }
+    ensures answered { RepliesWithAt (call_dead_links layout links limit input.now)
+        (document_call_answer layout links limit input.now) output.old result output.new }
+    ensures kept { ¬ (result.status ≡ 0) → ¬ (result.status ≡ 5) → output.new ≡ output.old }
+{
+    let made = text_of_settings(alloc, layout, links, limit, input);
+    reply_with_document(made, output)
+}
+
+/// The links that lead nowhere in the document that the input spells, as JSON.
+fn dead_links_of(alloc: Global, limit: u32, input: &[u8]) -> Result<String, Fault>
+    ensures { GivesAnswerAt result (dead_links_answer limit input.now) }
+{
+    let made = text_of_settings(alloc, 0, 1, limit, input)?;
+    Ok(dead_links_text(alloc, &made.dead_links)?)
+}
+
+/// Tells in JSON which links lead nowhere in the document that the input spells, where links get the
+/// `href` of their destination: those that stay without one in the text of [`typst_html_document`] with
+/// links 1. The text is copied into the buffer, where it fits:
+///
+/// ```json
+/// {"dead_links":[{"destination":7,"span":3}]}
+/// ```
+///
+/// They stand in document order, each with the location that it would lead to and the span of its `a`.
+/// Input, limit and refusals are those of [`typst_html_document`], buffers and replies those of
+/// [`typst_html_write`].
+#[unsafe(no_mangle)]
+pub extern "C" fn typst_html_dead_links(
+    alloc: Global,
+    limit: u32,
+    input: &[u8],
+    output: &mut [u8],
+) -> Reply
+    ensures answered { RepliesAt (dead_links_answer limit input.now) output.old result output.new }
     ensures kept { ¬ (result.status ≡ 0) → output.new ≡ output.old }
 {
-    let text = text_of_settings(alloc, layout, links, limit, input);
-    reply_with(text, output)
+    reply_with(dead_links_of(alloc, limit, input), output)
 }
 
 /// Reads a page, and tells in JSON which links to fragments of the page lead nowhere, and which ids
@@ -113,11 +156,11 @@ pub extern "C" fn typst_html_document(
 ///
 /// How many there are is how long each list is. A path is the index of each child on the way from
 /// the root, texts counted. The page is read as
-/// [`read_html`](typst_html_read::read_html) reads it: one that is not read is bad input, and the reply
-/// has the place from which on it is not: how many bytes stand before, its line and its column. Where an
-/// element would stand deeper than the limit, that is refused as number 8, with the place of its start
-/// tag. A page that is no UTF-8, or a limit that is not from 1 to 1,000, is bad input without a place.
-/// Buffers and replies are those of [`typst_html_write`].
+/// [`read_page`](typst_html_read::read_page) reads it, so not where a browser is known to take it apart
+/// otherwise: one that is not read is bad input, and the reply has the place from which on it is not: how
+/// many bytes stand before, its line and its column. Where an element would stand deeper than the
+/// limit, that is refused as number 8, with the place of its start tag. A limit that is not from 1 to
+/// 1,000 is bad input without a place. Buffers and replies are those of [`typst_html_write`].
 #[unsafe(no_mangle)]
 pub extern "C" fn typst_html_check(
     alloc: Global,

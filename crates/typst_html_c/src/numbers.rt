@@ -1,8 +1,7 @@
 //! What numbers stand for.
 
 ghost use Rattle.std.specs.Prelude.{◌≡◌};
-ghost use Rattle.typst_html_c.specs.CallReplies.{limit_of, page_limit_of, pretty_of, task_of, yes_or_no};
-ghost use Rattle.typst_html_c.specs.CallReplies.{wanted_settings, wanted_task};
+ghost use Rattle.typst_html_c.specs.CallReplies.{limit_of, page_limit_of, pretty_of, task_of, yes_or_no, wanted_settings, wanted_task};
 
 use html_tool_run::{Settings, Task};
 
@@ -13,7 +12,6 @@ pub(crate) fn wanted_task(kind: u8, layout: u8) -> Option<(Task, bool)>
     Some((task_of(kind)?, pretty_of(layout)?))
 }
 
-/// The task of that kind.
 fn task_of(kind: u8) -> Option<Task>
     ensures { result ≡ task_of kind }
 {
@@ -35,14 +33,12 @@ pub(crate) fn wanted_settings(layout: u8, links: u8, limit: u32) -> Option<Setti
     })
 }
 
-/// Whether pretty text is wanted by that layout.
 fn pretty_of(layout: u8) -> Option<bool>
     ensures { result ≡ pretty_of layout }
 {
     yes_or_no(layout)
 }
 
-/// What a number says.
 fn yes_or_no(number: u8) -> Option<bool>
     ensures { result ≡ yes_or_no number }
 {
@@ -64,7 +60,6 @@ pub(crate) fn page_limit_of(limit: u32) -> Option<usize>
     }
 }
 
-/// How deep the bodies of items may stand.
 pub(crate) fn limit_of(limit: u32) -> Option<usize>
     ensures { result ≡ limit_of limit }
 {

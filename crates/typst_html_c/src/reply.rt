@@ -1,14 +1,19 @@
 //! Replies, and texts in the caller's buffer.
 
-ghost use Rattle.std.specs.Prelude.{◌≡◌};
+ghost use Rattle.std.specs.Prelude.{◌≡◌, List, IfOk};
+ghost use Rattle.html_dom_link.specs.DeadLinks.{dead_links_view};
 ghost use Rattle.html_tool_run.specs.Answers.{Answer};
+ghost use Rattle.html_tool_run.specs.DocumentAnswers.{text_given};
 ghost use Rattle.html_tool_run.specs.Replies.{GivesAnswer};
+ghost use Rattle.html_dom_link.specs.Links.{DeadLinkView};
 ghost use Rattle.typst_html_c.specs.CallReplies.{Replies, bad_reply, fault_reply, text_reply, buffer_with, without_text};
+ghost use Rattle.typst_html_c.specs.CallReplies.{RepliesWith, with_dead_links};
 ghost use Rattle.typst_html_c.specs.PageFindings.{placed};
 
+use html_dom_link::DeadLink;
 use html_dom_tree::Span;
-use html_tool_run::{Fault, Place};
-use typst_html_read::Place as PagePlace;
+use html_tool_run::{DocumentText, Fault, InputPlace};
+use typst_html_read::Place;
 
 /// How a call ended.
 #[repr(C)]
@@ -16,16 +21,16 @@ use typst_html_read::Place as PagePlace;
 pub struct Reply {
     /// How many bytes the text has; 0 where there is none.
     pub length: usize,
-    /// The span of what is refused; 0 where nothing is, or where what is refused has none. Of a bad
-    /// input: where the form is left, as [`Place::Form`] says. Of a page that is not read: how many bytes
-    /// stand before the place from which on it is not.
+    /// The span of what is refused, or of the first link that leads nowhere; 0 where nothing is and all
+    /// lead, or where that has none. Of a bad input: where the form is left, as [`InputPlace::Form`] says. Of
+    /// a page that is not read: how many bytes stand before the place from which on it is not.
     pub span: u64,
     /// The line of a bad input that is no JSON, or of that place in a page, counted from 1; else 0.
     pub line: usize,
-    /// The column there: of an input as [`Place::Text`] says, of a page in characters, counted from 1.
+    /// The column there: of an input as [`InputPlace::Text`] says, of a page in characters, counted from 1.
     pub column: usize,
     /// 0: the text is in the buffer; 1: refused; 2: bad input; 3: an allocation failed; 4: the buffer
-    /// is too short for the text.
+    /// is too short for the text; 5: the text is in the buffer, and links in it lead nowhere.
     pub status: u8,
     /// The number of the refusal; 0 where nothing is refused.
     pub number: u8,
@@ -40,6 +45,8 @@ pub(crate) const BAD_INPUT: u8 = 2;
 pub(crate) const OUT_OF_MEMORY: u8 = 3;
 
 const TOO_SHORT: u8 = 4;
+
+const DEAD_LINKS: u8 = 5;
 
 /// The reply of a call that has no text.
 pub(crate) fn without_text(status: u8, number: u8, span: u64) -> Reply
@@ -56,7 +63,7 @@ pub(crate) fn without_text(status: u8, number: u8, span: u64) -> Reply
 }
 
 /// The reply of a call that has no text, because of what stands in a page at that place.
-pub(crate) fn placed(status: u8, number: u8, place: PagePlace) -> Reply
+pub(crate) fn placed(status: u8, number: u8, place: Place) -> Reply
     ensures { result ≡ placed status number place }
 {
     Reply {
@@ -89,22 +96,20 @@ pub(crate) fn put(text: &[u8], output: &mut [u8]) -> Reply
     }
 }
 
-/// The reply to an input that is bad at that place.
-fn bad_reply(place: Place) -> Reply
+fn bad_reply(place: InputPlace) -> Reply
     ensures { result ≡ bad_reply place }
 {
     match place {
-        Place::Unknown => without_text(BAD_INPUT, 0, 0),
-        Place::Text(line, column) => Reply {
+        InputPlace::Unknown => without_text(BAD_INPUT, 0, 0),
+        InputPlace::Text(line, column) => Reply {
             line,
             column,
             ..without_text(BAD_INPUT, 0, 0)
         },
-        Place::Form(number) => without_text(BAD_INPUT, 0, number),
+        InputPlace::Form(number) => without_text(BAD_INPUT, 0, number),
     }
 }
 
-/// Why there is no text, as a reply.
 fn fault_reply(fault: Fault) -> Reply
     ensures { result ≡ fault_reply fault }
 {
@@ -124,5 +129,37 @@ pub(crate) fn reply_with(text: Result<String, Fault>, output: &mut [u8]) -> Repl
     match text {
         Ok(text) => put(text.as_bytes(), output),
         Err(fault) => fault_reply(fault),
+    }
+}
+
+/// The reply of a call that made a document's text, which is copied into the buffer, where it fits, or
+/// none.
+pub(crate) fn reply_with_document(made: Result<DocumentText, Fault>, output: &mut [u8]) -> Reply
+    ensures answered { (answer : Answer) (links : List DeadLinkView) →
+        GivesAnswer (text_given made) answer →
+        IfOk made (λ made. dead_links_view made.dead_links.items ≡ links) →
+        RepliesWith links answer output.old result output.new }
+    ensures kept { ¬ (result.status ≡ 0) → ¬ (result.status ≡ 5) → output.new ≡ output.old }
+{
+    match made {
+        Ok(document) => {
+            let reply = put(document.text.as_bytes(), output);
+            with_dead_links(&document.dead_links, reply)
+        }
+        Err(fault) => fault_reply(fault),
+    }
+}
+
+/// A reply that also tells that these links lead nowhere, if there is a text in the buffer.
+fn with_dead_links(links: &[DeadLink], reply: Reply) -> Reply
+    ensures { result ≡ with_dead_links (dead_links_view links.now) reply }
+{
+    match links.first() {
+        Some(link) if reply.status == DONE => Reply {
+            status: DEAD_LINKS,
+            span: link.span.0,
+            ..reply
+        },
+        _ => reply,
     }
 }

@@ -1,4 +1,7 @@
-use super::{typst_html_check, typst_html_document, typst_html_version, typst_html_write};
+use super::{
+    typst_html_check, typst_html_dead_links, typst_html_document, typst_html_version,
+    typst_html_write,
+};
 use crate::Reply;
 
 const PARAGRAPH: &[u8] = br#"["el","p",[],[["text","a < b"]]]"#;
@@ -74,8 +77,8 @@ fn bad_input_is_told_with_its_place(rt: HostRuntime) {
 }
 
 #[test]
-fn the_version_is_3(rt: HostRuntime) {
-    assert_eq!(rt; typst_html_version(), 3);
+fn the_version_is_4(rt: HostRuntime) {
+    assert_eq!(rt; typst_html_version(), 4);
 }
 
 const TIDES: &[u8] = br#"{
@@ -93,6 +96,47 @@ fn a_document_has_what_is_known_footnotes_and_links(rt: HostRuntime) {
     assert!(rt; text.starts_with(br#"<!DOCTYPE html><html lang="de-AT"><head>"#));
     let body = br##"<body><a href="#loc-1">Ebbe</a><h2 id="loc-1"></h2><p>1</p></body></html>"##;
     assert!(rt; text.ends_with(body));
+}
+
+/// Links to nowhere in the items and in the footnotes.
+const LOST: &[u8] = br#"{"items":[["start",1,9],["el","a",[],[["text","x"]]]],
+    "footnotes":[["start",2,8],["el","a",[],[]]]}"#;
+
+#[test]
+fn a_document_with_dead_links_is_written_and_tells_the_first(rt: HostRuntime) {
+    let mut output = [b'.'; 1000];
+    let short = typst_html_document(rt.alloc(), 0, 1, 50, LOST, &mut output[..9]);
+    assert_eq!(rt; (short.status, short.span), (4, 0));
+    assert!(rt; &output[..] == [b'.'; 1000].as_slice());
+    let reply = typst_html_document(rt.alloc(), 0, 1, 50, LOST, &mut output);
+    assert_eq!(rt; (reply.status, reply.number, reply.span), (5, 0, 2));
+    assert_eq!(rt; reply.length, short.length);
+    assert!(rt; &output[..reply.length].ends_with(b"<body><a>x</a><a></a></body></html>"));
+    let as_they_are = typst_html_document(rt.alloc(), 0, 0, 50, LOST, &mut output);
+    assert_eq!(rt; (as_they_are.status, as_they_are.span), (0, 0));
+}
+
+#[test]
+fn dead_links_are_listed(rt: HostRuntime) {
+    let found = br#"{"dead_links":[{"destination":9,"span":2},{"destination":8,"span":5}]}"#;
+    for (limit, input, status, text) in [
+        (50, LOST, 0, found.as_slice()),
+        (50, TIDES, 0, br#"{"dead_links":[]}"#.as_slice()),
+        (0, LOST, 2, b"".as_slice()),
+        (50, b"[]".as_slice(), 2, b"".as_slice()),
+        (
+            50,
+            br#"{"items":[["el","br",[],[["space"]]]]}"#.as_slice(),
+            1,
+            b"".as_slice(),
+        ),
+    ] {
+        let mut output = [b'.'; 80];
+        let reply = typst_html_dead_links(rt.alloc(), limit, input, &mut output);
+        assert_eq!(rt; (reply.status, reply.length), (status, text.len()));
+        assert!(rt; output.starts_with(text));
+        assert!(rt; &output[text.len()..] == &[b'.'; 80][text.len()..]);
+    }
 }
 
 #[test]
@@ -179,7 +223,9 @@ fn a_page_that_is_not_read_is_told_with_its_place(rt: HostRuntime) {
         (1_001, page, 2, 0, 0, 0, 0),
         (50, &page[..24], 2, 0, 24, 2, 4),
         (50, b"<p></p>", 2, 0, 1, 1, 2),
-        (50, b"\xff", 2, 0, 0, 0, 0),
+        (50, b"\xff", 2, 0, 0, 1, 1),
+        (50, b"<!DOCTYPE html><p>\n\xc3", 2, 0, 19, 2, 1),
+        (50, b"<!DOCTYPE html><A></A>", 2, 0, 17, 1, 18),
         (50, b"", 2, 0, 0, 1, 1),
     ] {
         let reply = typst_html_check(rt.alloc(), limit, page, &mut [0; 4]);

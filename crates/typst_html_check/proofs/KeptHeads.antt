@@ -55,11 +55,9 @@ new_style (p ∷ ps) attrs = by (first attrs (codes "style"))
     by None = more_behind attrs ((codes "style", inline_text (p ∷ ps)) ∷ []) (codes "href") refl
     by (Some value) = new_value attrs (codes "style") _ (codes "href")
 
--- an element that is no hyperlink stays none with a style
 pub styled_head : (h : Head) → HeadIsNoHyperlink h → HeadIsNoHyperlink (head_with_style h)
 styled_head h e = ap (λ b. bytes_eq h.name (codes "a") && b) (new_style h.css h.attrs) ∙ e
 
--- and with a role
 pub head_with_role : (role : RoleText) (h : ElemHead) → is_hyperlink h.name h.attrs ≡ false →
     HeadIsNoHyperlink (element_head role h)
 head_with_role role h e = by (passes_role h.name)

@@ -51,7 +51,6 @@ module _ (bs after : List ℕ) (i j : ℕ) (u : IsUtf8 bs) (found : FindsChar 60
       ap (ending.holds_closing name) all
       ∙ holds_past (47 ∷ map to_ascii_lowercase name) found.0.0 (chars after) found.0.2
 
--- in a text without `<`
 pub holds_none : (name bs : List ℕ) → IsUtf8 bs → FindsChar 60 bs None →
     ending.holds_closing name (chars bs) ≡ false
 holds_none name bs u found =

@@ -15,7 +15,6 @@ escaped_text-append e [] t = refl
 escaped_text-append e (c ∷ s) t = ap (λ l. char_text e c ++ l) (escaped_text-append e s t)
     ∙ sym (append_assoc (char_text e c) (escaped_text e s) (escaped_text e t))
 
--- raw text is written as it is
 pub escaped_text-raw : (s : List ℕ) → escaped_text escaping.Raw s ≡ s
 escaped_text-raw [] = refl
 escaped_text-raw (c ∷ s) = ap (λ l. c ∷ l) (escaped_text-raw s)

@@ -16,7 +16,6 @@ pair_given names e pairs i d pair given all below is =
     (subst (λ ps. list_all (is_pair_given names) ps ≡ true) (sym all) (given_pairs names e given))
     below)
 
--- a node of a given list
 pub node_given : (names : NamesView) (nodes : List FlatNode) (i : ℕ) (d node : FlatNode) →
     are_given names nodes ≡ true → i < length nodes → node ≡ get_or nodes i d →
     is_node_given names node ≡ true

@@ -28,7 +28,6 @@ line_ascii = is_ascii_is LINE.now refl
 pub line_length : length LINE.now ≡ 129
 line_length = refl
 
--- the spaces of a few levels, and an indent of so many
 pub few_levels : (n : ℕ) → n ≤ 64 → slice_range LINE.now 1 (1 + 2 * n) ≡ spaces n
 few_levels n h = (bytes_eq-Decides (slice_range LINE.now 1 (1 + 2 * n)) (spaces n)).0
     (agree_below_at (λ k. bytes_eq (slice_range LINE.now 1 (1 + 2 * k)) (spaces k)) (λ k. true) 65 n
@@ -40,7 +39,6 @@ short_line n h = (bytes_eq-Decides (slice_range LINE.now 0 (1 + 2 * n)) (indent 
     (agree_below_at (λ k. bytes_eq (slice_range LINE.now 0 (1 + 2 * k)) (indent k)) (λ k. true) 65 n
     refl (omega arith))
 
--- some levels, and those that are left
 pub levels_left : (old new text : List ℕ) (m n : ℕ) → m ≤ n → new ≡ old ++ text → text ≡ spaces m →
     new ++ spaces (n - m) ≡ old ++ spaces n
 levels_left old new text m n h e t =

@@ -52,7 +52,6 @@ border_closed us = (refl, λ b. refl)
 nothing_closed : IsClosed []
 nothing_closed = (refl, λ b. refl)
 
--- a border before lists that are the same after a border
 before_border : (due : Bool) (us vs : List Atom) → SameAfter due us vs →
     Same (border ∷ us) (border ∷ vs)
 before_border due us vs s = (refl, λ b. ap (λ l. edge ∷ l) (s.1 false (λ e. refl)))

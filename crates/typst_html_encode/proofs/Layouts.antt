@@ -8,7 +8,6 @@ abbrev pub begun : List (List ℕ) → Bool
 begun [] = false
 begun (l ∷ ls) = true
 
--- one line more
 pub by_lines_more : (b : Bool) (i : List ℕ) (ls : List (List ℕ)) (l : List ℕ) →
     by_lines b i (ls ++ l ∷ []) ≡ by_lines b i ls ++ ((if b || begun ls then i else []) ++ l)
 by_lines_more true i [] l = ap (λ s. i ++ s) (append-nil l)
@@ -25,7 +24,6 @@ begun_more true ls l = refl
 begun_more false [] l = refl
 begun_more false (x ∷ xs) l = refl
 
--- what is asked last may be asked first
 pub last_first : (a b c d : Bool) → (d || (a || (b || c))) ≡ (a || (b || (c || d)))
 last_first true b c true = refl
 last_first true b c false = refl

@@ -150,7 +150,6 @@ ends_behind names nodes first index flat d e below is spells element =
       to = omega (arith, n.later, to);
     }
 
--- behind the last there is nothing that wants it
 pub at_end : (names : NamesView) (nodes : List FlatNode) (place index : ℕ) → length nodes ≤ index →
     nodes_want_pretty (spelled_nodes place (flat_nodes_view names (drop index nodes))) ≡ false
 unfolding spelled_nodes
@@ -271,7 +270,6 @@ module _ (names : NamesView) (nodes : List FlatNode) (place : ℕ) (flat d : Fla
     end_by (Frame b) = refl
     end_by (Element e) = refl
 
-  -- the children as the program has them
   pub kids_view : (past : ℕ) (kids : List FlatNode) → past ≡ end_of (place + 1) flat →
       kids ≡ take (past - (place + 1)) (drop (place + 1) nodes) →
       flat_nodes_view names kids ≡ take (place_after place here - (place + 1)) others

@@ -56,7 +56,6 @@ joined_is (node (element_node h kids) ns) b t =
     ∙ ap (λ n. b then n) (before_element t h.name h.attrs (nodes_normal kids) (nodes_normal ns)))))
 joined_is (node (frame_node x) ns) b t = joined_is ns b t
 
--- where the children are texts and tags alone
 pub texts_alone : (e : Escaping) (ns : NodesView) → nodes_raw_faults e ns ≡ [] →
     put_words (nodes_raw_text ns) no_plains ≡ nodes_normal ns
 unfolding nodes_normal

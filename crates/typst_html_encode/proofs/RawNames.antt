@@ -17,7 +17,6 @@ module _ (P : List ℕ → Type 0) where
   raw_by false true name x y p q h = subst P (bytes_eq-same (codes "style") name q) y
   raw_by false false name x y p q h = absurd (false≢true h)
 
-  -- of raw elements it holds where it does of both
   pub of_raw : (name : List ℕ) → P (codes "script") → P (codes "style") → is_raw name ≡ true →
       P name
   unfolding is_raw stands_in

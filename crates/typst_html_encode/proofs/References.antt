@@ -36,7 +36,6 @@ numeric_is : (c : ℕ) → numeric c ≡ codes "&#x" ++ (digits 16 false c ++ co
 unfolding numeric
 numeric_is c = refl
 
--- the number of the digits that are written
 pub numbered-digits : (c : ℕ) → scalar c ≡ true → 0 < c → numbered_char (digits 16 false c) ≡ Some c
 numbered-digits c s h =
     let small = scalar_fits c s in

@@ -20,19 +20,16 @@ pub common_small : (c : ℕ) → is_common c ≡ true → c < 128
 unfolding is_common
 common_small c h = grind (arith, nat_tests)
 
--- a common character passes a test that each of them passes
 by_table : (p : ℕ → Bool) (c : ℕ) → is_common c ≡ true →
     (is_common c && p c) ≡ is_common c → p c ≡ true
 by_table p c h e = (and_parts (is_common c) (p c) (e ∙ h)).1
 
--- a common character is plain where not each is a reference
 common_plain : (e : Escaping) (c : ℕ) → is_common c ≡ true → is_plain e c ≡ not (is_reference e)
 unfolding is_common
 common_plain escaping.Reference c h = refl
 common_plain e c h = by_table (is_plain e) c h
     (agree_below_at (λ d. is_common d && is_plain e d) is_common 128 c refl (common_small c h))
 
--- a stretch is written as it is
 pub escaped_plain : (e : Escaping) (cs ds : List ℕ) → all (is_plain e) cs ≡ true →
     escaped_text e (cs ++ ds) ≡ cs ++ escaped_text e ds
 escaped_plain e [] ds h = refl
@@ -42,7 +39,6 @@ escaped_plain e (c ∷ cs) ds h =
     (and_parts (stands_as_is e c) (not (is_bad e c)) both.0).0 in
     rw (as_is, escaped_plain e cs ds both.1) refl
 
--- and no character of it is wrong
 pub faults_plain : (e : Escaping) (span : ℕ) (cs ds : List ℕ) → all (is_plain e) cs ≡ true →
     text_faults e span (cs ++ ds) ≡ text_faults e span ds
 faults_plain e span [] ds h = refl
@@ -52,7 +48,6 @@ faults_plain e span (c ∷ cs) ds h =
     not-true (is_bad e c) (and_parts (stands_as_is e c) (not (is_bad e c)) both.0).1 in
     rw (good, faults_plain e span cs ds both.1) refl
 
--- common characters are ASCII, a byte each
 pub common_ascii : (bs : List ℕ) → all is_common bs ≡ true → IsAscii bs
 common_ascii [] h = IsAscii-nil
 common_ascii (b ∷ bs) h =
@@ -67,7 +62,6 @@ common_all e o (b ∷ bs) h =
     and_from (is_plain e b) (all (is_plain e) bs) (common_plain e b both.0 ∙ ap not o)
     (common_all e o bs both.1)
 
--- nothing is passed
 pub passes_none : (e : Escaping) (text : List ℕ) → IsUtf8 text → PassesPlain e text text
 passes_none e text u = record {
   front = [];
@@ -77,7 +71,6 @@ passes_none e text u = record {
   plain = ap (all (is_plain e)) chars-nil;
 }
 
--- more is passed
 passes_more : (e : Escaping) (text rest front left : List ℕ) → PassesPlain e text rest →
     rest ≡ front ++ left → IsUtf8 front → IsUtf8 left → all (is_plain e) (chars front) ≡ true →
     PassesPlain e text left
@@ -90,7 +83,6 @@ passes_more e text rest front left h split u v plain = record {
       ∙ all_append (is_plain e) (chars h.front) (chars front) h.plain plain;
 }
 
--- one character more
 pub passes_char : (e : Escaping) (text rest left : List ℕ) (c : ℕ) → PassesPlain e text rest →
     rest ≡ encode c ++ left → is_plain e c ≡ true → IsUtf8 left → PassesPlain e text left
 passes_char e text rest left c h split plain u =
@@ -98,7 +90,6 @@ passes_char e text rest left c h split plain u =
     passes_more e text rest (encode c) left h split (IsUtf8-encode c valid) u
     (ap (all (is_plain e)) (chars-encode c valid) ∙ and_from (is_plain e c) true plain refl)
 
--- common characters more, where not each character is a reference
 pub passes_common : (e : Escaping) (text rest left : List ℕ) → is_reference e ≡ false →
     PassesPlain e text rest → PassesCommon rest left → IsUtf8 left → PassesPlain e text left
 passes_common e text rest left o h more u =
@@ -136,7 +127,6 @@ passed_four text at u within h passed =
     subst (Passed text) {x = at + 3 + 1} {y = at + 4} (omega arith)
     (passed_one text (at + 3) u (omega (arith, within)) last.1 three)
 
--- a stretch ends before a byte that is no common character, and at the end of the text
 pub begins_at : (text : List ℕ) (at : ℕ) → is_common (get_or text at 0) ≡ false
     → begins_common (drop at text) ≡ false
 begins_at [] zero h = refl

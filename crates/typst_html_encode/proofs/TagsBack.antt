@@ -80,7 +80,6 @@ attr_named name attrs s [] h = absurd h
 attr_named name attrs s (c ∷ cs) h = ap (λ t. run t cs) (attr_first name attrs s c h.0)
     ∙ grows (λ xs. AttrName name attrs xs s) is_attr_char (attr_more name attrs s) (c ∷ []) cs h.1
 
--- after a name it goes on as after a value
 attr_ends : (name : List ℕ) (attrs : List TextPair) (n : List ℕ) (s : List Open) (c : ℕ) →
     is_attr_char c ≡ false → eqb c 61 ≡ false →
     step (AttrName name attrs n s) c ≡ step (Quoted name (attrs ++ (n, []) ∷ []) s) c

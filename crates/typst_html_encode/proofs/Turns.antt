@@ -29,7 +29,6 @@ nothing_flat ns place e = nothing_left ns (sym (length_all place ns) ∙ ap leng
 ends_now : (past place : ℕ) → past ≡ place → IsFalse (past == place) → ⊥
 ends_now past place e later = grind (arith, nat_tests, e, later)
 
--- a beginning is written, and the others are left
 begun : (text indent first inner end left new_text all : List ℕ) →
     new_text ≡ text ++ (indent ++ first) →
     text ++ (indent ++ ((first ++ (inner ++ end)) ++ left)) ≡ all →
@@ -85,7 +84,6 @@ module _ {place : ℕ} {f : FlatNodeView} {fs others : List FlatNodeView} {n : N
       let long = length_all (place + 1) (node_children n) in
       omega (arith, c.after, count_children n, long)
 
-  -- the children of a node stand between it and the place after it
   pub children_taken : take (place_after place f - (place + 1)) fs ≡ inner
   children_taken = rw (inner_count, c.flat) (take-append_seam inner others)
 
@@ -292,7 +290,6 @@ module _ {frames : Frames} {outer : Margin} {whole : NodesView} {start : List �
       named_after one others = stands.named
           (rest_named_first frames outer here next.others stands.rest next.first one others)
 
-      -- a node that is written whole
       pub passes : {new_text : List ℕ} → node_is_entered here ≡ false →
           WritesNode frames outer opened due here text new_text →
           IsAt frames outer whole start after (due_after due here) opened
@@ -312,7 +309,6 @@ module _ {frames : Frames} {outer : Margin} {whole : NodesView} {start : List �
                 (skipped_named frames pre_span margin.pretty here skipped w.named w.clean);
           }
 
-      -- a fault of a node is the first that is left
       pub refused : (e : ExportFault) → IsFirst e (turn_faults frames outer opened here) →
           IsFirst e (nodes_faults frames false outer.pretty whole)
       refused e is =

@@ -22,7 +22,6 @@ use Rattle.html_dom_flat.specs.Flat.{FlatNodeView, node_count, nodes_count, node
 
 -- a node that the walk enters, and one that it does not
 
--- the walk enters an element of nodes that is more than its start tag
 entered_is : (once : Bool) (kind : ContentKind) →
     (not once && by_kind kind false false true) ≡ true → (once ≡ false) × (kind ≡ Nodes)
 entered_is true kind e = cc
@@ -122,7 +121,6 @@ first_in_element frames pre_span pretty h ns e true entered is =
 first_in_element frames pre_span pretty h ns e false entered is =
     subst (IsFirst e) (sym (skipped_faults frames pre_span pretty (element_node h ns) entered)) is
 
--- the faults of what is written first come before those of what stands inside
 pub first_in_node : (frames : Frames) (pre_span pretty : Bool) (n : NodeView) (e : ExportFault) →
     IsFirst e (first_faults frames pre_span pretty n) →
     IsFirst e (node_faults frames pre_span pretty n)

@@ -4,7 +4,6 @@ ghost use Rattle.std.specs.Prelude.{◌≡◌, ◌∷◌, chars, map};
 ghost use Rattle.std.specs.Char.{to_ascii_lowercase};
 ghost use Rattle.typst_html_encode.specs.ClosingTags as ending;
 
-/// Whether the character ends the name in a closing tag.
 #[tactic(auto, unfolding(crate::specs::ClosingTags::is_tag_end))]
 fn is_tag_end(c: char) -> bool
     ensures { result ≡ ending.is_tag_end c }
@@ -42,7 +41,6 @@ fn closes(name: &str, text: &str) -> bool
     }
 }
 
-/// Whether the text holds the closing tag of an element of that name, in any ASCII case.
 pub(crate) fn holds_closing(name: &str, text: &str) -> bool
     ensures { result ≡ ending.holds_closing (chars name.now) (chars text.now) }
 {

@@ -22,7 +22,6 @@ fn is_common(byte: u8) -> bool
     COMMON[byte as usize] != 0
 }
 
-/// Whether the four bytes from that place on are common characters.
 fn are_common(bytes: &[u8], at: usize) -> bool
     requires { at + 4 ≤ length bytes.now }
     ensures { result ≡ (is_common (get_or bytes.now at 0)

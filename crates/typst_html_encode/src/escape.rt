@@ -29,14 +29,12 @@ pub(crate) enum Escaping {
     Raw,
 }
 
-/// Whether the character can't be written so.
 fn is_bad(escaping: Escaping, c: char) -> bool
     ensures { result ≡ is_bad escaping c }
 {
     !is_w3c_text_char(c) || (matches!(escaping, Escaping::Reference) && c == '\r')
 }
 
-/// Writes a character as a reference.
 #[tactic(auto, unfolding(crate::specs::References::numeric), using(crate::proofs::BlankReferences::reference_steps))]
 fn write_reference(out: &mut Output, c: char) -> Result<(), AllocError>
     ensures { OnOk result (out.new ≡ out.old ++ reference_to c) }
@@ -57,7 +55,6 @@ fn write_reference(out: &mut Output, c: char) -> Result<(), AllocError>
     }
 }
 
-/// Whether the character stands as it is; the others are written as references.
 fn stands_as_is(escaping: Escaping, c: char) -> bool
     ensures { result ≡ stands_as_is escaping c }
 {
@@ -69,7 +66,6 @@ fn stands_as_is(escaping: Escaping, c: char) -> bool
     }
 }
 
-/// Writes a character that can be written.
 fn write_good(out: &mut Output, escaping: Escaping, c: char) -> Result<(), AllocError>
     ensures { OnOk result (out.new ≡ out.old ++ char_text escaping c) }
 {
@@ -80,7 +76,6 @@ fn write_good(out: &mut Output, escaping: Escaping, c: char) -> Result<(), Alloc
     }
 }
 
-/// Writes a character, or says that it can't be written.
 fn write_char(out: &mut Output, escaping: Escaping, c: char, span: Span) -> Result<(), ExportFault>
     ensures { Adds result out.old out.new (char_text escaping c) (char_faults escaping span.0 c) }
 {
@@ -116,7 +111,6 @@ fn past_plain(escaping: Escaping, text: &str) -> &str
     rest
 }
 
-/// Writes what stands at the start of a text and is written as it is, and gives the rest.
 fn write_plain<'a>(
     out: &mut Output,
     escaping: Escaping,
@@ -132,7 +126,6 @@ fn write_plain<'a>(
     Ok(rest)
 }
 
-/// Writes a text, or says which of its characters can't be written.
 pub(crate) fn write_text(
     out: &mut Output,
     escaping: Escaping,

@@ -109,7 +109,6 @@ pub fn html_of<F: FrameWriter>(
     tree_html(alloc, &tree, options, frames)
 }
 
-/// The HTML text of a flat tree that is one element and what is in it.
 fn tree_html<F: FrameWriter>(
     alloc: Global,
     tree: &FlatTree,

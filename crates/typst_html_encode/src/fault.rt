@@ -146,7 +146,6 @@ fn first_span(spans: &[Span]) -> Span
     }
 }
 
-/// Whether two faults are of one kind, with the same character, names and spans.
 fn same_fault(a: &ExportFault, b: &ExportFault) -> bool
     ensures { IsTrue result ↔ (export_fault_view a.now ≡ export_fault_view b.now) }
 {
@@ -184,7 +183,6 @@ fn same_fault(a: &ExportFault, b: &ExportFault) -> bool
     }
 }
 
-/// Whether two lists of spans are equal.
 fn same_spans(a: &[Span], b: &[Span]) -> bool
     ensures { IsTrue result ↔ (spans_view a.now ≡ spans_view b.now) }
 {

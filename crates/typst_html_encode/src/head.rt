@@ -13,35 +13,30 @@ use html_names::HtmlTag;
 use html_names::property::Display;
 
 impl<'a> ElementHead<'a> {
-    /// Its name.
     pub(crate) fn tag(&self) -> &'a HtmlTag
         ensures { result.now ≡ (head_view self.now).name }
     {
         self.names.tag_at(self.flat.tag)
     }
 
-    /// Whether its start tag closes itself.
     pub(crate) fn is_foreign_self_closing(&self) -> bool
         ensures { result ≡ is_foreign_self_closing (head_view self.now).name }
     {
         self.names.is_foreign_self_closing(self.flat.tag)
     }
 
-    /// Whether it is its start tag alone.
     pub(crate) fn ends_at_once(&self) -> bool
         ensures { result ≡ ends_at_once (head_view self.now) }
     {
         self.is_foreign_self_closing() || self.names.is_void(self.flat.tag)
     }
 
-    /// Its default display.
     pub(crate) fn default_display(&self) -> Option<Display>
         ensures { result ≡ default_display (head_view self.now).name }
     {
         self.names.default_for(self.flat.tag)
     }
 
-    /// What may stand between its tags.
     pub(crate) fn content_kind(&self) -> ContentKind
         ensures { result ≡ content_kind (head_view self.now).name }
     {

@@ -26,7 +26,6 @@ fn first_levels(level: usize) -> usize
     level.min(MOST_LEVELS)
 }
 
-/// The spaces of a few levels.
 fn few_spaces(levels: usize) -> &'static str
     requires { levels ≤ 64 }
     ensures { result.now ≡ spaces levels }
@@ -34,7 +33,6 @@ fn few_spaces(levels: usize) -> &'static str
     &LINE[1..1 + 2 * levels]
 }
 
-/// A line feed, and the spaces of a few levels.
 fn short_indent(levels: usize) -> &'static str
     requires { levels ≤ 64 }
     ensures { result.now ≡ indent levels }
@@ -42,7 +40,6 @@ fn short_indent(levels: usize) -> &'static str
     &LINE[..1 + 2 * levels]
 }
 
-/// Adds two spaces a level.
 #[tactic(auto, using(crate::proofs::Indents::spaces_ascii))]
 fn push_spaces(out: &mut Output, level: usize) -> Result<(), AllocError>
     ensures { OnOk result (out.new ≡ out.old ++ spaces level) }
@@ -66,7 +63,6 @@ pub(crate) fn push_indent(out: &mut Output, level: usize) -> Result<(), AllocErr
     push_spaces(out, level - levels)
 }
 
-/// Adds an indent where asked.
 pub(crate) fn push_indent_if(out: &mut Output, asked: bool, level: usize) -> Result<(), AllocError>
     ensures { OnOk result (out.new ≡ out.old ++ indent_where asked level) }
 {
@@ -76,7 +72,6 @@ pub(crate) fn push_indent_if(out: &mut Output, asked: bool, level: usize) -> Res
     Ok(())
 }
 
-/// Adds a line feed where asked.
 pub(crate) fn push_feed_if(out: &mut Output, asked: bool) -> Result<(), AllocError>
     ensures { OnOk result (out.new ≡ out.old ++ feed_where asked) }
 {
@@ -86,7 +81,6 @@ pub(crate) fn push_feed_if(out: &mut Output, asked: bool) -> Result<(), AllocErr
     Ok(())
 }
 
-/// Adds the lines of a text, with an indent between them, and before the first where asked.
 pub(crate) fn push_lines(
     out: &mut Output,
     text: &str,

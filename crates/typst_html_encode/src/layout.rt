@@ -25,15 +25,13 @@ use std::alloc::AllocError;
 /// How far in a node stands.
 #[derive(Clone, Copy)]
 pub(crate) struct Margin {
-    /// Whether pretty writing is on.
     pub(crate) pretty: bool,
     /// How many levels deep the node stands, the root on level 0.
     pub(crate) level: usize,
 }
 
 impl Margin {
-    /// The margin of the children. A level that no number counts is refused: so deep a tree would
-    /// not fit into memory.
+    /// A level that no number counts is refused: so deep a tree would not fit into memory.
     pub(crate) fn deeper(self) -> Result<Margin, AllocError>
         ensures { IfOk result (λ margin. margin ≡ deeper self) }
     {
@@ -46,7 +44,6 @@ impl Margin {
         }
     }
 
-    /// The margin of an element with the mode of its children.
     pub(crate) fn inside(self, element: &Element) -> Margin
         ensures { result ≡
             margin_inside self (head_view element.now.head) (siblings_view element.now.children) }
@@ -69,7 +66,6 @@ fn is_of_lines(display: Option<Display>) -> bool
     }
 }
 
-/// Whether pretty writing is allowed inside elements of that name.
 #[tactic(auto, unfolding(html_names::specs::Tables::known_tags, crate::specs::Layout::allows_pretty_inside))]
 fn allows_pretty_inside(head: &ElementHead) -> bool
     ensures { result ≡ allows_pretty_inside (head_view head.now).name }
@@ -80,7 +76,6 @@ fn allows_pretty_inside(head: &ElementHead) -> bool
         || *tag == tag::head
 }
 
-/// Whether the text is that one of ASCII.
 fn is_text(text: &String, expected: &'static str) -> bool
     requires { IsTrue (is_ascii expected.now) }
     ensures { result ≡ bytes_eq expected.now (text_view text.now) }
@@ -88,7 +83,6 @@ fn is_text(text: &String, expected: &'static str) -> bool
     expected == text.as_str()
 }
 
-/// Whether the first value of `display` is `block`.
 #[tactic(auto, unfolding(html_names::specs::Tables::known_attrs), using(crate::proofs::Given::pair_given))]
 fn shows_as_block(head: &ElementHead) -> bool
     ensures { result ≡
@@ -103,8 +97,10 @@ fn shows_as_block(head: &ElementHead) -> bool
     false
 }
 
-/// Whether the element wants lines of its own.
-#[tactic(auto, unfolding(html_names::specs::Tables::known_tags, crate::specs::Layout::wants_pretty_around), using(crate::proofs::Layouts::last_first))]
+#[rattlefmt::skip]
+#[tactic(auto,
+    unfolding(html_names::specs::Tables::known_tags, crate::specs::Layout::wants_pretty_around),
+    using(crate::proofs::Layouts::last_first))]
 fn wants_pretty_around(head: &ElementHead) -> bool
     ensures { result ≡ wants_pretty_around (head_view head.now) }
 {
@@ -130,7 +126,6 @@ fn node_wants_pretty(names: &NameTable, flat: &FlatNode) -> bool
     }
 }
 
-/// Whether a node among them wants pretty writing.
 #[tactic(auto, using(crate::proofs::NextSiblings::next_left))]
 fn nodes_want_pretty(siblings: &Siblings) -> bool
     ensures { result ≡ nodes_want_pretty (siblings_view siblings.now) }
@@ -149,7 +144,6 @@ fn nodes_want_pretty(siblings: &Siblings) -> bool
     false
 }
 
-/// Whether the children are written pretty where pretty writing is on.
 #[tactic(auto, unfolding(crate::specs::Layout::is_pretty_inside))]
 fn is_pretty_inside(element: &Element) -> bool
     ensures { result ≡ is_pretty_inside (head_view element.now.head)
@@ -170,7 +164,6 @@ pub(crate) fn has_indent(due: bool, child: &Node) -> bool
     }
 }
 
-/// Whether an indent is due before the next child.
 pub(crate) fn due_after(due: bool, child: &Node) -> bool
     ensures { result ≡ due_after due (node_view child.now) }
 {
@@ -204,7 +197,6 @@ pub(crate) fn is_by_lines(head: &ElementHead) -> bool
     *head.tag() == tag::style || !has_other_type(head)
 }
 
-/// Whether the text holds a backquote.
 fn holds_backquote(text: &str) -> bool
     ensures { result ≡ list_any (λ c. c == 96) (chars text.now) }
 {

@@ -8,7 +8,6 @@ use crate::siblings::{Node, Siblings};
 use html_dom_flat::FlatNode;
 use html_names::NameTable;
 
-/// The nodes from one place up to another.
 fn between(nodes: &[FlatNode], from: usize, to: usize) -> &[FlatNode]
     requires ordered { from ≤ to }
     requires within { to ≤ length nodes.now }
@@ -27,7 +26,6 @@ fn end_of(node: &FlatNode, next: usize) -> usize
     }
 }
 
-/// The node that stands at a place of the nodes of a tree, with all that stands in it.
 pub(crate) fn node_at<'a>(names: &'a NameTable, nodes: &'a [FlatNode], place: usize) -> Node<'a>
     requires within { place < length nodes.now }
     requires given { are_given names.now nodes.now ≡ true }

@@ -14,7 +14,6 @@ use std::marker::Model;
 /// An element that the walk has entered.
 #[derive(Clone, Copy)]
 pub(crate) struct OpenElement<'a> {
-    /// Its name.
     pub(crate) tag: &'a HtmlTag,
     /// Whether the texts directly in it are written as references alone.
     pub(crate) pre_span: bool,
@@ -22,7 +21,6 @@ pub(crate) struct OpenElement<'a> {
     pub(crate) past: usize,
     /// Its level, and whether its children are written pretty.
     pub(crate) margin: Margin,
-    /// Whether an indent is due after it.
     pub(crate) due_after: bool,
 }
 
@@ -45,7 +43,6 @@ impl<'a> Model for OpenElements<'a> {
 }
 
 impl<'a> OpenElements<'a> {
-    /// No element.
     pub(crate) fn new(alloc: Global) -> Self
         ensures { result ≡ [] }
     {
@@ -54,7 +51,6 @@ impl<'a> OpenElements<'a> {
         }
     }
 
-    /// Enters an element.
     pub(crate) fn push(&mut self, element: OpenElement<'a>) -> Result<(), AllocError>
         ensures { OnOk result (self.new ≡ open_element_view element.entry ∷ self.old) }
     {
@@ -62,7 +58,6 @@ impl<'a> OpenElements<'a> {
         Ok(())
     }
 
-    /// Leaves the innermost element.
     fn pop(&mut self) -> Option<OpenElement<'a>>
         ensures some { IfSome result (λ element. self.old ≡ open_element_view element ∷ self.new) }
         ensures none { IfNone result (self.old ≡ []) }
@@ -71,7 +66,6 @@ impl<'a> OpenElements<'a> {
         self.items.pop()
     }
 
-    /// Leaves the innermost element if it ends at that place.
     pub(crate) fn pop_at(&mut self, place: usize) -> Option<OpenElement<'a>>
         ensures some { IfSome result (λ element. self.old ≡ open_element_view element ∷ self.new) }
         ensures at { IfSome result (λ element. element.past ≡ place) }
@@ -85,7 +79,6 @@ impl<'a> OpenElements<'a> {
         }
     }
 
-    /// Whether texts in the innermost element are written as references alone.
     pub(crate) fn pre_span(&self) -> bool
         ensures { result ≡ next_pre_span self.now }
     {
@@ -95,7 +88,6 @@ impl<'a> OpenElements<'a> {
         }
     }
 
-    /// The margin of a child of the innermost element, or of a node outside of all.
     pub(crate) fn margin(&self, outer: Margin) -> Result<Margin, AllocError>
         ensures { IfOk result (λ margin. margin ≡ next_margin outer self.now) }
     {
@@ -105,7 +97,6 @@ impl<'a> OpenElements<'a> {
         }
     }
 
-    /// Whether an indent stands before a child of the innermost element.
     pub(crate) fn has_indent(&self, due: bool, node: &Node) -> bool
         ensures { result ≡ next_has_indent self.now due (node_view node.now) }
     {

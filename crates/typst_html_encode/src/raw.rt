@@ -22,7 +22,6 @@ use html_names::HtmlTag;
 use html_names::output::Output;
 use std::alloc::{AllocError, Global};
 
-/// Writes the content of a raw element.
 pub(crate) fn write_raw(
     out: &mut Output,
     element: &Element,
@@ -54,7 +53,6 @@ fn checked_text(element: &Element) -> Result<String, ExportFault>
     Ok(text)
 }
 
-/// The text of a raw element: that of its children, joined.
 fn joined(alloc: Global, children: &Siblings) -> Result<String, ExportFault>
     ensures { Gives result
         (nodes_raw_text (siblings_view children.now))
@@ -65,7 +63,6 @@ fn joined(alloc: Global, children: &Siblings) -> Result<String, ExportFault>
     Ok(out.into_string())
 }
 
-/// Writes the children of a raw or an escapable raw element.
 pub(crate) fn write_children(
     out: &mut Output,
     escaping: Escaping,
@@ -81,7 +78,6 @@ pub(crate) fn write_children(
     Ok(())
 }
 
-/// Writes a child of a raw or an escapable raw element: a text.
 fn write_child(out: &mut Output, escaping: Escaping, child: &FlatNode) -> Result<(), ExportFault>
     ensures { (names : NamesView) → let n = node_with (flat_node_view names child.now) none in
         Adds result out.old out.new
@@ -95,7 +91,6 @@ fn write_child(out: &mut Output, escaping: Escaping, child: &FlatNode) -> Result
     }
 }
 
-/// Writes a raw text, on lines of its own where pretty writing puts it there.
 fn write_joined(
     out: &mut Output,
     element: &Element,
@@ -112,7 +107,6 @@ fn write_joined(
     }
 }
 
-/// Writes a raw text on lines of its own.
 #[tactic(auto, unfolding(crate::specs::Layout::lines_text))]
 fn write_lines(
     out: &mut Output,

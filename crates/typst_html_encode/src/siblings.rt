@@ -27,7 +27,6 @@ pub(crate) struct Siblings<'a> {
 /// A node of a flat tree, with all that stands in it.
 #[derive(Clone, Copy)]
 pub(crate) struct Node<'a> {
-    /// The node.
     pub(crate) flat: &'a FlatNode,
     /// The place after it and all that stands in it.
     pub(crate) past: usize,
@@ -39,9 +38,7 @@ pub(crate) struct Node<'a> {
 /// An element of a flat tree, apart from its children.
 #[derive(Clone, Copy)]
 pub(crate) struct ElementHead<'a> {
-    /// The table that the numbers are of.
     pub(crate) names: &'a NameTable,
-    /// The element.
     pub(crate) flat: &'a FlatElement,
     ghost given: { is_given names.now flat.now ≡ true },
 }
@@ -49,8 +46,6 @@ pub(crate) struct ElementHead<'a> {
 /// An element of a flat tree, with all that stands in it.
 #[derive(Clone, Copy)]
 pub(crate) struct Element<'a> {
-    /// The element apart from its children.
     pub(crate) head: ElementHead<'a>,
-    /// Its children.
     pub(crate) children: Siblings<'a>,
 }

@@ -35,7 +35,6 @@ fn write_value(out: &mut Output, value: &String, span: Span) -> Result<(), Expor
     Ok(())
 }
 
-/// Writes the attributes of a start tag.
 #[tactic(auto, using(crate::proofs::Given::pair_given))]
 fn write_attrs(out: &mut Output, head: &ElementHead) -> Result<(), ExportFault>
     ensures writes { let head = head_view head.now in
@@ -51,7 +50,6 @@ fn write_attrs(out: &mut Output, head: &ElementHead) -> Result<(), ExportFault>
     Ok(())
 }
 
-/// Writes the end of a start tag.
 fn write_tag_close(out: &mut Output, head: &ElementHead) -> Result<(), AllocError>
     ensures { OnOk result (out.new ≡ out.old ++ tag_close (head_view head.now).name) }
 {
@@ -62,7 +60,6 @@ fn write_tag_close(out: &mut Output, head: &ElementHead) -> Result<(), AllocErro
     }
 }
 
-/// Writes the start tag.
 pub(crate) fn write_start(out: &mut Output, head: &ElementHead) -> Result<(), ExportFault>
     ensures writes { let head = head_view head.now in
         Adds result out.old out.new (start_tag_text head) (attrs_faults head.span head.attrs) }
@@ -75,7 +72,6 @@ pub(crate) fn write_start(out: &mut Output, head: &ElementHead) -> Result<(), Ex
     Ok(())
 }
 
-/// Writes the end tag.
 #[inline(always)]
 pub(crate) fn write_end(out: &mut Output, tag: &HtmlTag) -> Result<(), AllocError>
     ensures { OnOk result (out.new ≡ out.old ++ end_tag_text tag.now) }
@@ -105,7 +101,6 @@ fn begins_with_feed(children: &Siblings) -> bool
     false
 }
 
-/// Whether a reader drops a line feed after the start tag.
 #[tactic(auto, unfolding(html_names::specs::Tables::known_tags, crate::specs::Reader::drops_feed))]
 fn drops_feed(tag: &HtmlTag) -> bool
     ensures { result ≡ drops_feed tag.now }

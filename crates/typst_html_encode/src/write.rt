@@ -29,8 +29,7 @@ use html_dom_tree::HtmlFrame;
 use html_names::output::Output;
 use std::alloc::{AllocError, Global};
 
-/// Writes the nodes of a flat tree, one after another: nodes that stand in no element have that
-/// margin.
+/// Nodes that stand in no element have the margin `outer`.
 pub(crate) fn write_tree<F: FrameWriter>(
     alloc: Global,
     out: &mut Output,
@@ -71,7 +70,6 @@ pub(crate) fn write_tree<F: FrameWriter>(
     }
 }
 
-/// Writes the end of an element that the walk leaves.
 fn write_close(out: &mut Output, element: &OpenElement) -> Result<(), AllocError>
     ensures { let o = open_element_view element.now in OnOk result (out.new ≡
         out.old ++ (indent_where o.margin.pretty o.margin.level ++ end_tag_text o.name)) }
@@ -80,7 +78,6 @@ fn write_close(out: &mut Output, element: &OpenElement) -> Result<(), AllocError
     write_end(out, element.tag)
 }
 
-/// The element that the walk enters with that node, if it does.
 fn entered<'a>(node: &Node<'a>, margin: Margin, due: bool) -> Option<OpenElement<'a>>
     ensures { Enters result (node_flat_view node.now) (siblings_view node.now.children) margin due }
 {
@@ -161,7 +158,6 @@ fn write_element(out: &mut Output, element: &Element, margin: Margin) -> Result<
     Ok(())
 }
 
-/// Refuses a child of an element that is its start tag alone.
 #[tactic(auto, unfolding(html_dom_flat::specs::Flat::spelled_nodes))]
 fn refuse_children(element: &Element) -> Result<(), ExportFault>
     ensures { Passes result
@@ -175,7 +171,6 @@ fn refuse_children(element: &Element) -> Result<(), ExportFault>
     }
 }
 
-/// Writes a frame by its writer.
 fn write_frame<F: FrameWriter>(
     alloc: Global,
     out: &mut Output,
@@ -197,7 +192,6 @@ fn write_frame<F: FrameWriter>(
     }
 }
 
-/// Writes the text of a frame.
 fn write_drawn(out: &mut Output, text: &str, margin: Margin) -> Result<(), AllocError>
     ensures { OnOk result (out.new ≡ out.old ++ frame_text margin (Some (chars text.now))) }
 {
@@ -208,7 +202,6 @@ fn write_drawn(out: &mut Output, text: &str, margin: Margin) -> Result<(), Alloc
     }
 }
 
-/// How texts are written directly under an element with this flag.
 fn escaping(pre_span: bool) -> Escaping
     ensures { result ≡ escaping_of pre_span }
 {

@@ -19,7 +19,6 @@ use Rattle.typst_html_export.proofs.LinkedRoots.{anchors_keep_atoms}
 use Rattle.typst_html_export.specs.LinkedRoots.{HaveSameAtoms}
 use Rattle.typst_html_export.specs.Linked.{document_with_known_anchors, document_with_anchors, AnchorsAreFirstIds}
 
--- anchors take no frame away
 root_free_before : (x : Targets) (e : ElementView) → ElementIsFrameFree (element_with_anchors x e) →
     ElementIsFrameFree e
 root_free_before x e f = (anchors_keep_frame_free e.1 (element_with_anchors x e).1 (root_anchored x e)).0 f
@@ -52,7 +51,6 @@ known_anchors_serve d =
     anchors_are_serving is_target d (document_with_new_anchors is_target d) (document_anchor is_target d)
     refl refl
 
--- anchors are not seen
 pub anchors_are_not_seen : (d new : DocumentView) → new ≡ document_with_anchors d →
     HaveSameAtoms (document_root new) (document_root d)
 anchors_are_not_seen d new is =

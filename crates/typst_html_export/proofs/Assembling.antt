@@ -11,7 +11,6 @@ use Rattle.typst_html_export.proofs.Firsts.{none_after_none}
 use Rattle.typst_html_export.proofs.Outlines.{own_found, own_stands}
 use Rattle.typst_html_export.proofs.StyledRoots.{lone_styled}
 
--- where no footnote is refused there is none, so none is too deep
 no_notes : (limit : ℕ) (notes : ItemsView) → note_faults (item_spans notes) ≡ []
     → depth_faults (items_too_deep 1 limit notes) ≡ []
 unfolding items_too_deep
@@ -24,7 +23,6 @@ module _ (limit : ℕ) (content : NodesView) (notes : ItemsView) where
       → note_faults (item_spans notes) ≡ [] → assembly_faults limit content notes ≡ []
   no_notes_clean own clean = none_after_none _ _ (own ∙ clean) (no_notes limit notes clean)
 
--- the styles of the root are those of all nodes
 styled_by : (o : Outline) (info : InfoView) (content notes : NodesView)
     → o ≡ document_outline content
     → styled_root (output_by o info content notes) ≡ styled_output (output_by o info content notes)

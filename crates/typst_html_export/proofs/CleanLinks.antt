@@ -27,7 +27,6 @@ holds_below p (suc n) e b h =
           holds_below p n both.1 b (omega (arith, h, other))
     ]
 
--- the other part holds
 other_part : (a b : Bool) → (a || b) ≡ true → a ≡ false → b ≡ true
 other_part false b e f = e
 other_part true b e f = absurd (false≢true (sym f))

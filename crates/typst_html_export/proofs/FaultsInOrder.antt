@@ -28,7 +28,6 @@ abbrev seen : {f : ExportFault} {fs : List ExportFault} → BeginsWith f fs
     → (rest : List ExportFaultView) × (views fs ≡ export_fault_view f ∷ rest)
 seen h = (views h.0, ap views h.1)
 
--- the first fault of a list is the first as a value
 first_seen : (e : ExportFault) (fs : List ExportFault) → IsFirst e fs → IsFirstView e (views fs)
 first_seen fault.OutOfMemory fs h = tt
 first_seen e fs h = seen h

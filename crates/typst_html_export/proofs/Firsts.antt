@@ -15,7 +15,6 @@ pub first_after_none : (e : ExportFault) (fs gs : List ExportFaultView) → fs �
     → IsFirstView e gs → IsFirstView e (fs ++ gs)
 first_after_none e fs gs none h = subst (λ xs. IsFirstView e (xs ++ gs)) (sym none) h
 
--- the first that stands too deep
 pub depth_first : (f : FlowFault) (spans : List ℕ) → IsFirst f spans
     → IsFirstView (of_flow f) (depth_faults spans)
 depth_first flow.OutOfMemory spans h = tt

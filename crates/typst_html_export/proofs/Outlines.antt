@@ -77,7 +77,6 @@ first_here : (g : Head) (kids ns : NodesView) (found : Option (ℕ × Head)) →
 unfolding first_own
 first_here g kids ns found own e = rw own at e
 
--- an element stands where the first one was found
 pub found_stands : (ns : NodesView) (p : ℕ) (h : Head) → first_own ns ≡ Some (p, h)
     → is_element_at ns p ≡ true
 unfolding first_own
@@ -101,7 +100,6 @@ html_place own_body = 0
 html_place nothing_own = 0
 html_place (own_among_others name span) = 0
 
--- a root of the document's own was found at that place, and stands alone
 pub own_found : (shown : ℕ) (found : Option (ℕ × Head)) (place : ℕ)
     → own_html place ≡ outline_by shown found
     → (h : Head) × ((found ≡ Some (place, h)) × (shown ≡ 1))
@@ -121,7 +119,6 @@ own_found shown (Some own) place e = elim (cases_Bool (shown == 1)) [
       rw many at e in cc
 ]
 
--- so an element stands there
 pub own_stands : (ns : NodesView) (place : ℕ) → own_html place ≡ document_outline ns
     → is_element_at ns place ≡ true
 own_stands ns place e =

@@ -22,7 +22,6 @@ use Rattle.typst_html_encode.specs.declared.options.HtmlOptions.{HtmlOptions}
 use Rattle.typst_html_encode.proofs.ReadIds.{layout_keeps_texts, past_words}
 use Rattle.typst_html_export.specs.ReadLinks.{GivenLinksLeadWhenRead, DocumentIsReadable, read_places}
 
--- the ids of a tree's normal form
 normal_ids : (ns : NodesView) → plains_texts ids_of (nodes_normal ns) ≡ first_ids ns
 unfolding plains_texts nodes_normal first_ids
 normal_ids none = refl
@@ -31,7 +30,6 @@ normal_ids (node (text_node s span) ns) = past_words ids_of s (nodes_normal ns) 
 normal_ids (node (element_node h kids) ns) = rw (normal_ids kids, normal_ids ns) refl
 normal_ids (node (frame_node f) ns) = normal_ids ns
 
--- and its places
 normal_places : (ns : NodesView) → NodesAreFrameFree ns →
     plains_texts place_names (nodes_normal ns) ≡ nodes_places ns
 unfolding plains_texts nodes_normal nodes_places NodesAreFrameFree NodeIsFrameFree

@@ -2,11 +2,9 @@
 use Rattle.std.proofs.Common.{◌≡◌, ℕ, zero, suc, ◌<◌, true, refl, ap, sym, true≢false, arith}
 use Rattle.html_dom_tree.specs.Styled.{head_with_style, styled_nodes, styled_element}
 use Rattle.html_dom_tree.specs.Tree.{tag_node, text_node, element_node, frame_node, NodesView, none, node}
-use Rattle.html_dom_document.specs.Documents.{element_at, is_element_at, with_element}
+use Rattle.html_dom_document.specs.Documents.{element_at, is_element_at, with_element, given_root}
 use Rattle.typst_html_export.specs.Assembled.{shown_count}
-use Rattle.html_dom_document.specs.Documents.{given_root}
 
--- tags have no styles
 tags_styled : (ns : NodesView) → shown_count ns ≡ 0 → styled_nodes ns ≡ ns
 unfolding shown_count styled_nodes
 tags_styled none e = refl
@@ -15,7 +13,6 @@ tags_styled (node (text_node s span) ns) e = absurd (omega (arith, e))
 tags_styled (node (element_node h kids) ns) e = absurd (omega (arith, e))
 tags_styled (node (frame_node f) ns) e = absurd (omega (arith, e))
 
--- an element is counted
 element_counts : (ns : NodesView) (p : ℕ) → is_element_at ns p ≡ true → 0 < shown_count ns
 unfolding shown_count
 element_counts none p there = absurd (true≢false (sym there))

@@ -14,7 +14,6 @@ use Rattle.html_dom_link.specs.LinkAnchors.{document_anchor, document_targets}
 use Rattle.html_dom_link.proofs.Consequences.{no_target_no_change}
 use Rattle.typst_html_export.specs.Linked.{document_with_anchors}
 
--- an element put where it stands changes nothing
 put_again : (ns : NodesView) (i : ℕ) → is_element_at ns i ≡ true →
     with_element ns i (given_root (element_at ns i)) ≡ ns
 put_again none i there = refl
@@ -24,11 +23,9 @@ put_again (node (element_node h kids) ns) zero there = refl
 put_again (node (frame_node f) ns) zero there = cc
 put_again (node n ns) (suc i) there = ap (node n) (put_again ns i there)
 
--- nothing is in a set without members
 pub nothing_in : (set : BTreeSet Location) → btree_set_len set ≡ 0 → (l : ℕ) → has_location set l ≡ false
 nothing_in set short l = let no_keys = nil_from_length set.keys short in rw no_keys refl
 
--- nor is a text of any location in a map without entries
 pub no_text_in : (map : BTreeMap Location (String Global)) → IsEmpty map →
     location_text map ≡ (λ l. None)
 no_text_in map empty = fun_ext (λ l. rw empty refl)

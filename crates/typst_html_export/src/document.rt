@@ -94,8 +94,7 @@ pub fn html_document(
     Ok(with_anchors(alloc, document)?)
 }
 
-/// The document with anchors for all locations to which links lead. Where none does, its tree is not
-/// looked at.
+/// Where no link leads to a location, the tree is not looked at.
 fn with_anchors(alloc: Global, mut document: HtmlDocument) -> Result<HtmlDocument, AllocError>
     ensures made { IfOk result (λ made.
         document_view made ≡ document_with_anchors (document_view document)) }
@@ -162,8 +161,7 @@ pub fn html_document_for_bundle(
     document_around(alloc, content, info, footnotes, limit)
 }
 
-/// The document of items that are not needed any more, with anchors for all locations to which links
-/// lead: as [`html_document`] makes it, but their texts, attributes and css are moved.
+/// As [`html_document`] makes it, but the items' texts, attributes and css are moved.
 pub(crate) fn document_of_items(
     alloc: Global,
     items: Vec<Pair>,
@@ -215,7 +213,6 @@ fn moved(alloc: Global, items: Vec<Pair>, limit: usize) -> Result<Vec<HtmlNode>,
     Ok(nodes)
 }
 
-/// The nodes of a list of items at that depth.
 fn converted(
     alloc: Global,
     items: &[Pair],
@@ -234,7 +231,6 @@ fn converted(
     Ok(nodes)
 }
 
-/// What stands around the nodes of a document and of its footnotes.
 fn assembled(
     alloc: Global,
     content: Vec<HtmlNode>,
@@ -271,9 +267,7 @@ fn assembled(
 enum Outline {
     /// Its root, at that place among the nodes.
     OwnHtml(usize),
-    /// Its body.
     OwnBody,
-    /// Neither.
     NothingOwn,
 }
 
@@ -310,7 +304,6 @@ fn first_own(nodes: &[HtmlNode]) -> Option<(usize, &HtmlElement)>
     None
 }
 
-/// The element that the node is, if it is an `html` or `body`.
 fn own_element(node: &HtmlNode) -> Option<&HtmlElement>
     ensures { option_map (λ element. (element_view element.now).0) result
         ≡ own_head (node_view node.now) }
@@ -321,7 +314,6 @@ fn own_element(node: &HtmlNode) -> Option<&HtmlElement>
     }
 }
 
-/// Whether the element is an `html`.
 #[tactic(auto, unfolding(html_names::specs::Tables::known_tags))]
 fn is_html(element: &HtmlElement) -> bool
     ensures { result ≡ is_html (element_view element.now).0 }
@@ -350,14 +342,12 @@ fn shown_count(nodes: &[HtmlNode]) -> usize
     count
 }
 
-/// Whether the node is a tag.
 fn is_tag(node: &HtmlNode) -> bool
     ensures { result ≡ is_tag (node_view node.now) }
 {
     matches!(node, HtmlNode::Tag(_))
 }
 
-/// Refuses footnotes.
 fn refuse_footnotes(alloc: Global, footnotes: &[Pair]) -> Result<(), ExportFault>
     ensures { Passes result (note_faults (item_spans (items_view footnotes.now))) }
 {
@@ -369,7 +359,6 @@ fn refuse_footnotes(alloc: Global, footnotes: &[Pair]) -> Result<(), ExportFault
     })
 }
 
-/// The spans of items.
 fn item_spans(alloc: Global, items: &[Pair]) -> Result<Vec<Span>, AllocError>
     ensures { IfOk result (λ spans. spans_view spans.items ≡ item_spans (items_view items.now)) }
 {
@@ -380,7 +369,6 @@ fn item_spans(alloc: Global, items: &[Pair]) -> Result<Vec<Span>, AllocError>
     Ok(spans)
 }
 
-/// Nodes, and then others.
 fn both_nodes(
     mut content: Vec<HtmlNode>,
     mut notes: Vec<HtmlNode>,
@@ -392,7 +380,6 @@ fn both_nodes(
     Ok(content)
 }
 
-/// A `body` alone, with these nodes.
 #[tactic(auto, unfolding(html_names::specs::Tables::known_tags))]
 fn body_nodes(alloc: Global, content: Vec<HtmlNode>) -> Result<Vec<HtmlNode>, AllocError>
     ensures { IfOk result (λ made.
@@ -404,7 +391,6 @@ fn body_nodes(alloc: Global, content: Vec<HtmlNode>) -> Result<Vec<HtmlNode>, Al
     Ok(made)
 }
 
-/// The root that is made, alone, with these nodes after its head.
 #[tactic(auto, unfolding(html_names::specs::Tables::known_tags, html_names::specs::Tables::known_attrs))]
 fn html_output(
     alloc: Global,

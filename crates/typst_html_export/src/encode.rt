@@ -264,7 +264,6 @@ fn html_of_made<F: FrameWriter>(
     html_of(alloc, root_of(alloc, document), options, frames)
 }
 
-/// The root of a document, of which nothing else is kept.
 fn root_of(alloc: Global, mut document: HtmlDocument) -> HtmlElement
     ensures { element_view result ≡ document_root (document_view document) }
 {

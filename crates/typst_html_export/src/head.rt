@@ -28,7 +28,6 @@ pub(crate) fn head_node(alloc: Global, info: &DocumentInfo) -> Result<HtmlNode, 
     Ok(HtmlNode::Element(head))
 }
 
-/// Adds the entries of what is known.
 fn push_entries(
     alloc: Global,
     nodes: &mut Vec<HtmlNode>,
@@ -43,7 +42,6 @@ fn push_entries(
     push_list(alloc, nodes, "keywords", &info.keywords)
 }
 
-/// Adds the title, where there is one.
 fn push_title(
     alloc: Global,
     nodes: &mut Vec<HtmlNode>,
@@ -59,7 +57,6 @@ fn push_title(
     Ok(())
 }
 
-/// Adds the description, where there is one.
 fn push_description(
     alloc: Global,
     nodes: &mut Vec<HtmlNode>,
@@ -75,7 +72,6 @@ fn push_description(
     Ok(())
 }
 
-/// Adds the entry of texts, where there are any.
 fn push_list(
     alloc: Global,
     nodes: &mut Vec<HtmlNode>,
@@ -105,7 +101,6 @@ fn joined_text(alloc: Global, texts: &[String]) -> Result<String, AllocError>
     Ok(text.into_string())
 }
 
-/// Adds texts, each after `, `.
 fn push_others(text: &mut Output, others: &[String]) -> Result<(), AllocError>
     ensures { OnOk result (text.new ≡ text.old
         ++ flat_map (λ t. codes ", " ++ t) (texts_view others.now)) }
@@ -117,7 +112,6 @@ fn push_others(text: &mut Output, others: &[String]) -> Result<(), AllocError>
     Ok(())
 }
 
-/// A text of ASCII on the heap.
 pub(crate) fn ascii_text(alloc: Global, text: &str) -> Result<String, AllocError>
     requires { IsTrue (is_ascii text.now) }
     ensures { IfOk result (λ made. text_view made ≡ text.now) }
@@ -125,7 +119,6 @@ pub(crate) fn ascii_text(alloc: Global, text: &str) -> Result<String, AllocError
     Ok(String::from_str(alloc, text)?)
 }
 
-/// How the document is encoded.
 fn charset_node(alloc: Global) -> Result<HtmlNode, AllocError>
     ensures { IfOk result (λ made. node_view made ≡ charset_node) }
 {
@@ -134,7 +127,6 @@ fn charset_node(alloc: Global) -> Result<HtmlNode, AllocError>
     Ok(HtmlNode::Element(meta))
 }
 
-/// An entry of that name.
 fn entry_node(alloc: Global, name: &str, content: String) -> Result<HtmlNode, AllocError>
     requires { IsTrue (is_ascii name.now) }
     ensures { IfOk result (λ made. node_view made ≡ entry_node name.now (text_view content)) }
@@ -145,7 +137,6 @@ fn entry_node(alloc: Global, name: &str, content: String) -> Result<HtmlNode, Al
     Ok(HtmlNode::Element(meta))
 }
 
-/// How wide the document is shown.
 fn viewport_node(alloc: Global) -> Result<HtmlNode, AllocError>
     ensures { IfOk result (λ made. node_view made ≡ viewport_node) }
 {
@@ -153,7 +144,6 @@ fn viewport_node(alloc: Global) -> Result<HtmlNode, AllocError>
     entry_node(alloc, "viewport", content)
 }
 
-/// The title.
 fn title_node(alloc: Global, title: &String) -> Result<HtmlNode, AllocError>
     ensures { IfOk result (λ made. node_view made ≡ title_node (text_view title.now)) }
 {
@@ -174,7 +164,6 @@ pub(crate) fn lang_text(alloc: Global, locale: &Option<Locale>) -> Result<String
     }
 }
 
-/// A language and its region.
 fn locale_text(alloc: Global, locale: &Locale) -> Result<String, AllocError>
     ensures { IfOk result (λ text. text_view text
         ≡ text_view locale.now.lang ++ region_text (optional_text_view locale.now.region)) }

@@ -9,7 +9,6 @@ use Rattle.typst_html_spaces.specs.SeenBody.{seen_body, tree_body}
 use Rattle.typst_html_page.specs.PageTexts.{page_parts}
 use Rattle.typst_html_page.specs.Parts.{Part, text_part, object_part, line_part, edge_part, put_text, joined_parts, begins_with_edge, stand_apart}
 
--- a character before parts begins a text, or goes on with that which they begin with
 with_char : (c : ℕ) (ps : List Part) → stand_apart ps ≡ true → stand_apart (put_text (c ∷ []) ps) ≡ true
 with_char c [] e = refl
 with_char c (text_part [] ∷ ps) e = absurd (false≢true e)

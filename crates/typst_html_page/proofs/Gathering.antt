@@ -28,7 +28,6 @@ pub page_is : (p q : List Part) (t u : List ℕ) (a b : Bool) → p ≡ q → t 
 page_is p q t u a b e f g =
     ap (λ l. page_of l t a) e ∙ (ap (λ l. page_of q l a) f ∙ ap (page_of q u) g)
 
--- a part that is no text, behind what was shown
 part_shown : (ps : List Part) (t : List ℕ) (x : Part) (qs rs : List Part) →
     begins_with_text (x ∷ rs) ≡ false → qs ≡ ((ps ++ put_text t []) ++ x ∷ []) ++ rs →
     qs ≡ ps ++ put_text t (x ∷ rs)
@@ -71,7 +70,6 @@ pub text_added : (p : Page) (bs cs : List ℕ) → chars bs ≡ cs → IsUtf8 bs
 text_added p bs [] e u h = absurd (some_chars bs e u h)
 text_added p bs (c ∷ cs) e u h = chars_added p.parts p.text p.after_edge c cs
 
--- one piece behind others
 pub one_behind : (p q r : Page) (xs : List Piece) (x : Piece) → q ≡ with_pieces p xs →
     r ≡ with_piece q x → r ≡ with_pieces p (xs ++ x ∷ [])
 unfolding with_pieces

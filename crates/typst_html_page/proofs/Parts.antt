@@ -9,28 +9,23 @@ use Rattle.typst_html_page.specs.Parts.{Part, text_part, object_part, line_part,
 use Rattle.typst_html_page.specs.PageViews.{part_view, parts_view}
 use Rattle.typst_html_page.specs.declared.shown.Shown.{Shown}
 
--- one part more
 pub one_part : (old new : List Shown) (p : Shown) (x : Part) → new ≡ old ++ p ∷ [] →
     part_view p ≡ x → parts_view new ≡ parts_view old ++ x ∷ []
 one_part old new p x e f =
     ap parts_view e ∙ (map-append part_view old (p ∷ []) ∙ ap (λ l. parts_view old ++ l ∷ []) f)
 
--- no character is left behind the parts
 pub no_text : (ps : List Part) (cs : List ℕ) → cs ≡ [] → ps ≡ ps ++ put_text cs []
 no_text ps cs e = sym (append-nil ps) ∙ ap (λ l. ps ++ put_text l []) (sym e)
 
--- bytes that are there have characters
 pub some_chars : (bs : List ℕ) → chars bs ≡ [] → IsUtf8 bs → eqb (length bs) 0 ≡ false → ⊥
 some_chars bs e u h =
     false≢true (sym h ∙ ap (λ l. eqb (length l) 0) (sym (encodes-chars bs u) ∙ ap encodes e))
 
--- a text that is not empty is one part
 pub one_text : (bs cs : List ℕ) → chars bs ≡ cs → IsUtf8 bs → eqb (length bs) 0 ≡ false →
     text_part cs ∷ [] ≡ put_text cs []
 one_text bs [] e u h = absurd (some_chars bs e u h)
 one_text bs (c ∷ cs) e u h = refl
 
--- two texts before parts are joined
 pub put_twice : (t u : List ℕ) (ps : List Part) → put_text (t ++ u) ps ≡ put_text t (put_text u ps)
 put_twice [] u ps = refl
 put_twice (c ∷ cs) [] [] = ap (λ l. text_part (c ∷ l) ∷ []) (append-nil cs)
@@ -49,7 +44,6 @@ put_twice (c ∷ cs) (d ∷ ds) (object_part name ∷ ps) = refl
 put_twice (c ∷ cs) (d ∷ ds) (line_part ∷ ps) = refl
 put_twice (c ∷ cs) (d ∷ ds) (edge_part ∷ ps) = refl
 
--- behind a part that is no text, others stay as they are
 pub put_before : (t : List ℕ) (x : Part) (ps : List Part) → begins_with_text (x ∷ ps) ≡ false →
     (put_text t [] ++ x ∷ []) ++ ps ≡ put_text t (x ∷ ps)
 put_before [] x ps e = refl

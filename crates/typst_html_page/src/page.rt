@@ -21,7 +21,6 @@ pub(crate) struct Page {
 }
 
 impl Page {
-    /// A page that shows nothing.
     pub(crate) fn new(alloc: Global) -> Page
         ensures { page_view result ≡ empty_page }
     {
@@ -33,7 +32,6 @@ impl Page {
         }
     }
 
-    /// Adds a character.
     pub(crate) fn push_char(&mut self, c: char) -> Result<(), AllocError>
         ensures { OnOk result (page_view self.new ≡ with_piece (page_view self.old) (char c)) }
     {
@@ -42,7 +40,6 @@ impl Page {
         Ok(())
     }
 
-    /// Adds the characters of a text.
     pub(crate) fn push_text(&mut self, text: &Output) -> Result<(), AllocError>
         ensures { OnOk result (page_view self.new
             ≡ with_pieces (page_view self.old) (map char text.now)) }
@@ -66,7 +63,6 @@ impl Page {
         Ok(())
     }
 
-    /// Adds a line break.
     pub(crate) fn push_line_break(&mut self) -> Result<(), AllocError>
         ensures { OnOk result (page_view self.new ≡ with_piece (page_view self.old) line) }
     {
@@ -112,7 +108,6 @@ impl Page {
         Ok(())
     }
 
-    /// All that was added.
     pub(crate) fn into_page_text(mut self) -> Result<PageText, AllocError>
         ensures { IfOk result (λ text. page_text_view text ≡ ended_parts (page_view self)) }
     {

@@ -26,7 +26,6 @@ enum Before {
     Blank(Output),
 }
 
-/// What is seen so far.
 #[derive(Drop)]
 pub(crate) struct Seen {
     alloc: Global,
@@ -35,7 +34,6 @@ pub(crate) struct Seen {
 }
 
 impl Seen {
-    /// Nothing.
     pub(crate) fn new(alloc: Global) -> Seen
         ensures { seen_view result ≡ nothing_seen }
     {
@@ -80,7 +78,6 @@ impl Seen {
         Ok(())
     }
 
-    /// A character that is ignorable.
     fn ignorable(&mut self, c: char) -> Result<(), AllocError>
         ensures { OnOk result (seen_view self.new ≡ step (seen_view self.old) (ignorable c)) }
     {
@@ -92,7 +89,6 @@ impl Seen {
         Ok(())
     }
 
-    /// A blank that may go.
     fn collapsible(&mut self, c: char)
         ensures { seen_view self.new ≡ step (seen_view self.old) (collapsible c) }
     {
@@ -101,7 +97,6 @@ impl Seen {
         }
     }
 
-    /// A character, where blanks are preserved or not.
     fn character(&mut self, preserved: bool, c: char) -> Result<(), AllocError>
         ensures { OnOk result (seen_view self.new
             ≡ step (seen_view self.old) (char_atom preserved c)) }
@@ -119,7 +114,6 @@ impl Seen {
         self.shown(c)
     }
 
-    /// A text, where blanks are preserved or not.
     pub(crate) fn text(&mut self, preserved: bool, text: &str) -> Result<(), AllocError>
         ensures { OnOk result (seen_view self.new
             ≡ run (seen_view self.old) (text_atoms preserved (chars text.now))) }
@@ -130,7 +124,6 @@ impl Seen {
         Ok(())
     }
 
-    /// A replaced element.
     pub(crate) fn object(&mut self, tag: &HtmlTag) -> Result<(), AllocError>
         ensures { OnOk result (seen_view self.new ≡ step (seen_view self.old) (object tag.now)) }
     {
@@ -139,7 +132,6 @@ impl Seen {
         Ok(())
     }
 
-    /// A line break.
     pub(crate) fn line_break(&mut self) -> Result<(), AllocError>
         ensures { OnOk result (seen_view self.new ≡ step (seen_view self.old) break) }
     {
@@ -148,7 +140,6 @@ impl Seen {
         Ok(())
     }
 
-    /// A border.
     fn border(&mut self) -> Result<(), AllocError>
         ensures { OnOk result (seen_view self.new ≡ step (seen_view self.old) border) }
     {
@@ -157,7 +148,6 @@ impl Seen {
         Ok(())
     }
 
-    /// A border, if one stands there.
     #[tactic(auto, unfolding(crate::specs::Gathering::run))]
     pub(crate) fn border_if(&mut self, stands: bool) -> Result<(), AllocError>
         ensures { OnOk result (seen_view self.new
@@ -169,7 +159,6 @@ impl Seen {
         Ok(())
     }
 
-    /// All that is seen: nothing follows.
     pub(crate) fn into_page_text(mut self) -> Result<PageText, AllocError>
         ensures { IfOk result (λ text. page_text_view text ≡ final (seen_view self)) }
     {

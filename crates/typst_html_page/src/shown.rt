@@ -22,14 +22,12 @@ pub enum Shown {
 }
 
 impl Shown {
-    /// Whether it is an edge.
     fn is_edge(&self) -> bool
         ensures { result ≡ is_edge self.now }
     {
         matches!(self, Shown::Edge)
     }
 
-    /// The part as plain text.
     fn as_plain(&self) -> &str
         ensures { result.now ≡ part_bytes self.now }
     {

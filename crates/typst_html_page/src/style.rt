@@ -41,7 +41,6 @@ pub(crate) fn preserves_inside(around: bool, element: &HtmlElement) -> bool
     around || preserves(element)
 }
 
-/// Whether a line ends before and after such an element by default.
 fn has_border_display(tag: &HtmlTag) -> bool
     ensures { result ≡ has_border_display tag.now }
 {

@@ -64,7 +64,6 @@ pub fn page_text(alloc: Global, root: &HtmlElement) -> Result<PageText, AllocErr
     seen.into_page_text()
 }
 
-/// The element that a node is, if its name is `body`.
 #[tactic(auto, unfolding(html_names::specs::Tables::known_tags))]
 fn as_body(child: &HtmlNode) -> Option<&HtmlElement>
     ensures { option_map (λ body. (element_view body.now).1) result
@@ -118,7 +117,6 @@ fn add_element(element: &HtmlElement, preserved: bool, seen: &mut Seen) -> Resul
     seen.border_if(has_border)
 }
 
-/// Adds a node.
 #[cycle(walk)]
 fn add_node(child: &HtmlNode, preserved: bool, seen: &mut Seen) -> Result<(), AllocError>
     ensures { OnOk result (seen_view seen.new
@@ -131,7 +129,6 @@ fn add_node(child: &HtmlNode, preserved: bool, seen: &mut Seen) -> Result<(), Al
     }
 }
 
-/// Adds the nodes of a list.
 #[cycle(walk)]
 fn add_nodes(nodes: &[HtmlNode], preserved: bool, seen: &mut Seen) -> Result<(), AllocError>
     ensures { OnOk result (seen_view seen.new

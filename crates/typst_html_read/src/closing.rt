@@ -6,7 +6,6 @@ ghost use Rattle.html_names.specs.Characters.{IsOf, is_tag_char};
 ghost use Rattle.typst_html_encode.specs.ClosingTags as ending;
 ghost use Rattle.typst_html_read.specs.RawEnds.{EndsAt, ends_raw};
 
-/// Whether the character ends the name in a closing tag.
 #[tactic(auto, unfolding(typst_html_encode::specs::ClosingTags::is_tag_end))]
 fn is_tag_end(c: char) -> bool
     ensures { result ≡ ending.is_tag_end c }

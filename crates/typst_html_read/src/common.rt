@@ -9,7 +9,6 @@ use std::alloc::AllocError;
 use typst_html_encode::past_common;
 
 impl Reader {
-    /// Whether a text or a value is being read.
     fn takes_text(&self) -> bool
         ensures { result ≡ takes_text (reader_state self.now) }
     {

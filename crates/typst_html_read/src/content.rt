@@ -16,7 +16,6 @@ use html_names::charsets::is_valid_in_tag_name;
 use std::alloc::AllocError;
 
 impl Reader {
-    /// A character outside the root.
     pub(crate) fn outside(&mut self, c: char) -> Result<(), AllocError>
         requires { self.old.mode ≡ mode.Outside }
         ensures { OnOk result (reader_state self.new ≡ next_state (reader_state self.old) c) }
@@ -33,7 +32,6 @@ impl Reader {
         Ok(())
     }
 
-    /// A character of a text.
     pub(crate) fn content(&mut self, c: char) -> Result<(), AllocError>
         requires { self.old.mode ≡ mode.Content }
         ensures { OnOk result (reader_state self.new
@@ -67,7 +65,6 @@ impl Reader {
         self.content(c)
     }
 
-    /// A character of a reference in a text.
     pub(crate) fn reference(&mut self, c: char) -> Result<(), AllocError>
         requires { self.old.mode ≡ mode.Reference }
         ensures { OnOk result (reader_state self.new ≡ next_state (reader_state self.old) c) }
@@ -87,7 +84,6 @@ impl Reader {
         Ok(())
     }
 
-    /// An element is complete.
     pub(crate) fn complete(&mut self, element: OpenElement) -> Result<(), AllocError>
         ensures { OnOk result (reader_state self.new
             ≡ reader.complete (open_of element).name (open_of element).attrs
@@ -107,7 +103,6 @@ impl Reader {
         Ok(())
     }
 
-    /// A character of the name of an end tag.
     pub(crate) fn end_name(&mut self, c: char) -> Result<(), AllocError>
         requires { self.old.mode ≡ mode.EndName }
         ensures { OnOk result (reader_state self.new ≡ next_state (reader_state self.old) c) }
@@ -127,7 +122,6 @@ impl Reader {
         self.close()
     }
 
-    /// An end tag is read.
     fn close(&mut self) -> Result<(), AllocError>
         ensures { OnOk result (reader_state self.new
             ≡ reader.close (text_view self.old.word) (stack_of self.old.stack)) }

@@ -20,7 +20,8 @@ pub enum ReadFault {
         /// The place of the `<` of the element's start tag.
         place: Place,
     },
-    /// The text has another syntax than the pages that are read, or ends too early.
+    /// The text has another syntax than the pages that are read, or ends too early; or
+    /// [`read_page`](crate::read_page) was given what is no text, or something else in a browser.
     #[error("other syntax than that of written pages at {place}")]
     Syntax {
         /// The place of the first character with which no page that is read goes on, or the end of the

@@ -6,6 +6,7 @@ mod common;
 mod content;
 mod fault;
 pub mod laws;
+mod misreading;
 mod open;
 mod place;
 mod raw;
@@ -18,4 +19,4 @@ mod text;
 
 pub use fault::ReadFault;
 pub use place::Place;
-pub use read::read_html;
+pub use read::{read_html, read_page};

@@ -1,6 +1,6 @@
 //! Places in a text.
 
-ghost use Rattle.std.specs.Prelude.{◌≡◌, ◌+◌, ◌^◌, ◌<◌, ◌==◌, chars};
+ghost use Rattle.std.specs.Prelude.{◌≡◌, ◌+◌, ◌^◌, ◌<◌, ◌==◌, chars, length};
 ghost use Rattle.std.specs.Char.{len_utf8};
 ghost use Rattle.std.specs.List.{common_prefix_len};
 ghost use Rattle.typst_html_read.specs.Places.{next_place, place_at};
@@ -31,7 +31,6 @@ impl fmt::Display for Place {
     }
 }
 
-/// The place behind one character more.
 fn next_place(place: Place, c: char) -> Place
     requires offset { place.offset + len_utf8 c < 2 ^ 64 }
     requires line { place.line + 1 < 2 ^ 64 }
@@ -73,6 +72,13 @@ pub(crate) fn place_at(text: &str, count: usize) -> Place
         rest = left.as_str();
     }
     place
+}
+
+#[tactic(auto, using(std::proofs::lemmas::Str::chars_from_encodes))]
+pub(crate) fn length(text: &str) -> usize
+    ensures { result ≡ length (chars text.now) }
+{
+    text.chars().count()
 }
 
 /// How many characters the word and the text have in common before the first that differs.

@@ -11,7 +11,6 @@ use crate::text::{add, take};
 use std::alloc::AllocError;
 
 impl Reader {
-    /// A character within a raw element.
     pub(crate) fn raw(&mut self, c: char) -> Result<(), AllocError>
         requires { self.old.mode ≡ mode.Raw }
         ensures { OnOk result (reader_state self.new ≡ next_state (reader_state self.old) c) }

@@ -90,7 +90,6 @@ impl Reader {
         }
     }
 
-    /// Reads a character.
     pub(crate) fn step(&mut self, c: char) -> Result<(), AllocError>
         ensures { OnOk result (reader_state self.new ≡ next_state (reader_state self.old) c) }
     {

@@ -49,21 +49,18 @@ pub(crate) fn reference(alloc: Global, words: &str) -> Result<Option<char>, Allo
     })
 }
 
-/// Whether it is a small hexadecimal digit.
 fn is_small_digit(c: char) -> bool
     ensures { result ≡ begun.is_small_digit c }
 {
     matches!(c, '0'..='9' | 'a'..='f')
 }
 
-/// Whether all characters are small hexadecimal digits.
 fn are_small_digits(text: &str) -> bool
     ensures { result ≡ list_all begun.is_small_digit (chars text.now) }
 {
     text.chars().all(|c| is_small_digit(c))
 }
 
-/// Whether the first character is the digit 0.
 fn begins_zero(text: &str) -> bool
     ensures { result ≡ (slice_index (chars text.now) 0 == 48) }
 {
@@ -101,7 +98,6 @@ fn begins_digits(digits: &str) -> bool
     is_number_of_char(digits)
 }
 
-/// Whether a word begins with a text.
 fn begins(word: &str, text: &str) -> bool
     requires { IsTrue (is_ascii word.now) }
     ensures { result ≡ begun.begins word.now (chars text.now) }

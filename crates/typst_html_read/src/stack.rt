@@ -4,6 +4,7 @@ ghost use Rattle.std.specs.Prelude.{◌≡◌, ◌∷◌, [], OnOk, IfSome, IfNo
 ghost use Rattle.html_dom_tree.specs.Views.{text_view};
 ghost use Rattle.typst_html_encode.specs.Reader.{add_text, holds_text_alone};
 ghost use Rattle.typst_html_read.specs.LimitedReading.{ends_at};
+ghost use Rattle.typst_html_read.specs.Misreadings.{holds_further_raw};
 ghost use Rattle.typst_html_read.specs.OpenViews.{open_of, stack_of};
 
 use crate::open::OpenElement;
@@ -33,7 +34,6 @@ impl Stack {
         self.items.len()
     }
 
-    /// Leaves all.
     pub(crate) fn clear(&mut self)
         ensures { stack_of self.new ≡ [] }
     {
@@ -83,13 +83,21 @@ impl Stack {
         }
     }
 
-    /// Whether the innermost element holds texts alone.
     pub(crate) fn holds_text_alone(&self) -> bool
         ensures { result ≡ holds_text_alone (stack_of self.now) }
     {
         match self.items.last() {
             None => false,
             Some(element) => element.holds_text_alone(),
+        }
+    }
+
+    pub(crate) fn holds_further_raw(&self) -> bool
+        ensures { result ≡ holds_further_raw (stack_of self.now) }
+    {
+        match self.items.last() {
+            None => false,
+            Some(element) => element.is_further_raw(),
         }
     }
 }

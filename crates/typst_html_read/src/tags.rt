@@ -20,7 +20,6 @@ use html_names::{HtmlAttr, HtmlTag, NameFault, attr, tag};
 use std::alloc::{AllocError, Global};
 use std::mem;
 
-/// The tag name of that text, if it is one.
 fn tag_named(alloc: Global, text: &str) -> Result<Option<HtmlTag>, AllocError>
     ensures { IfOk result (λ found. MatchOption found (is_some (tag_fault (chars text.now)) ≡ true)
         (λ tag. (tag ≡ chars text.now) × (tag_fault (chars text.now) ≡ None))) }
@@ -32,7 +31,6 @@ fn tag_named(alloc: Global, text: &str) -> Result<Option<HtmlTag>, AllocError>
     }
 }
 
-/// The attribute name of that text, if it is one.
 fn attr_named(alloc: Global, text: &str) -> Result<Option<HtmlAttr>, AllocError>
     ensures { IfOk result (λ found. MatchOption found (is_some (attr_fault (chars text.now)) ≡ true)
         (λ attr. (attr ≡ chars text.now) × (attr_fault (chars text.now) ≡ None))) }
@@ -53,7 +51,6 @@ fn drops_feed(tag: &HtmlTag) -> bool
 }
 
 impl Reader {
-    /// The character after `<`.
     pub(crate) fn less(&mut self, c: char) -> Result<(), AllocError>
         requires { self.old.mode ≡ mode.Less }
         ensures { OnOk result (reader_state self.new ≡ next_state (reader_state self.old) c) }
@@ -74,7 +71,6 @@ impl Reader {
         Ok(())
     }
 
-    /// A character of the name of a start tag.
     pub(crate) fn start_name(&mut self, c: char) -> Result<(), AllocError>
         requires { self.old.mode ≡ mode.StartName }
         ensures { OnOk result (reader_state self.new ≡ next_state (reader_state self.old) c) }
@@ -96,7 +92,6 @@ impl Reader {
         }
     }
 
-    /// The character after the space before an attribute.
     pub(crate) fn space(&mut self, c: char) -> Result<(), AllocError>
         requires { self.old.mode ≡ mode.Space }
         ensures { OnOk result (reader_state self.new ≡ next_state (reader_state self.old) c) }
@@ -109,7 +104,6 @@ impl Reader {
         Ok(())
     }
 
-    /// A character of the name of an attribute.
     pub(crate) fn attr_name(&mut self, c: char) -> Result<(), AllocError>
         requires { self.old.mode ≡ mode.AttrName }
         ensures { OnOk result (reader_state self.new ≡ next_state (reader_state self.old) c) }
@@ -135,7 +129,6 @@ impl Reader {
         }
     }
 
-    /// The character after `=`.
     pub(crate) fn equals(&mut self, c: char) -> Result<(), AllocError>
         requires { self.old.mode ≡ mode.Equals }
         ensures { OnOk result (reader_state self.new ≡ next_state (reader_state self.old) c) }
@@ -145,7 +138,6 @@ impl Reader {
         Ok(())
     }
 
-    /// A character of a value.
     pub(crate) fn value(&mut self, c: char) -> Result<(), AllocError>
         requires { self.old.mode ≡ mode.Value }
         ensures { OnOk result (reader_state self.new ≡ next_state (reader_state self.old) c) }
@@ -166,7 +158,6 @@ impl Reader {
         Ok(())
     }
 
-    /// A character of a reference in a value.
     pub(crate) fn value_reference(&mut self, c: char) -> Result<(), AllocError>
         requires { self.old.mode ≡ mode.ValueReference }
         ensures { OnOk result (reader_state self.new ≡ next_state (reader_state self.old) c) }
@@ -190,7 +181,6 @@ impl Reader {
         Ok(())
     }
 
-    /// The character after a value.
     pub(crate) fn quoted(&mut self, c: char) -> Result<(), AllocError>
         requires { self.old.mode ≡ mode.Quoted }
         ensures { OnOk result (reader_state self.new ≡ next_state (reader_state self.old) c) }
@@ -198,7 +188,6 @@ impl Reader {
         self.after(c)
     }
 
-    /// The character after the `/` of a start tag.
     pub(crate) fn slash(&mut self, c: char) -> Result<(), AllocError>
         requires { self.old.mode ≡ mode.Slash }
         ensures { OnOk result (reader_state self.new ≡ next_state (reader_state self.old) c) }
@@ -255,7 +244,6 @@ impl Reader {
         self.stack.push(element)
     }
 
-    /// The element of the start tag that was read.
     pub(crate) fn take_tag(&mut self) -> OpenElement
         ensures element { open_of result ≡ record {
           name = self.old.tag;

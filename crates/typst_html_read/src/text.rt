@@ -6,7 +6,6 @@ ghost use Rattle.html_dom_tree.specs.Views.{text_view};
 use std::alloc::{AllocError, Global};
 use std::mem;
 
-/// Empties a text.
 #[tactic(auto, using(std::proofs::StrCases::chars_of_empty))]
 pub(crate) fn empty(text: &mut String)
     ensures { text_view text.new ≡ [] }
@@ -14,7 +13,6 @@ pub(crate) fn empty(text: &mut String)
     text.clear();
 }
 
-/// Adds a character.
 pub(crate) fn add(text: &mut String, c: char) -> Result<(), AllocError>
     ensures { OnOk result (text_view text.new ≡ text_view text.old ++ c ∷ []) }
 {
@@ -22,7 +20,6 @@ pub(crate) fn add(text: &mut String, c: char) -> Result<(), AllocError>
     Ok(())
 }
 
-/// Begins a text anew, with that character.
 pub(crate) fn begin(text: &mut String, c: char) -> Result<(), AllocError>
     ensures { OnOk result (text_view text.new ≡ c ∷ []) }
 {

@@ -98,7 +98,6 @@ unfolding is_foreign_self_closing is_plain_name is_replaced default_display stan
 foreign_is_not_plain name e = not-true (is_plain_name name)
     (listed_pass (λ n. not (is_plain_name n)) foreign_self_closing_names name refl e)
 
--- a test that no plain name passes
 never : (p : List ℕ → Bool) (name : List ℕ) → is_plain_name name ≡ true →
     (p name ≡ true → is_plain_name name ≡ false) → p name ≡ false
 never p name e f = false_from_ne_true (p name) (λ t. false≢true (sym (f t) ∙ e))

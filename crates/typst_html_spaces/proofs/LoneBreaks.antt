@@ -367,7 +367,6 @@ tags_content (node (text_node s span) ns) e = absurd (false≢true e)
 tags_content (node (element_node h kids) ns) e = absurd (false≢true e)
 tags_content (node (frame_node f) ns) e = absurd (false≢true e)
 
--- nodes with a lone one hold something
 pub lone_content : (ns : NodesView) (n : NodeView) → lone_node ns ≡ Some n →
     nodes_content ns ≡ node_content n
 unfolding lone_node

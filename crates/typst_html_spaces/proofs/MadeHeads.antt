@@ -69,7 +69,6 @@ pub record MadeHead (h : Head) : Type 0 where
   pub css_is : h.css ≡ made_css kind
   pub no_style : first h.attrs (codes "style") ≡ None
   pub named : is_plain_name h.name ≡ true
-  -- white space stays in lines alone
   pub in_line : is_wrap kind ≡ true → shows_border (default_display h.name) ≡ false
 
 pub head_style_is : (h : Head) (m : MadeHead h) →
@@ -191,7 +190,6 @@ plain_is_no_math name e =
       | inr f ↦ f
     ]
 
--- what a lone element's default display says
 change_cases : (d : Option Display) (c : DisplayChangeView) → change_by_display d ≡ Some c →
     (c ≡ set_to (codes "block")) ⊎ ((c ≡ removed) × ((shows_border d ≡ true) ⊎ (is_away d ≡ true)))
 change_cases None c e = inl (cc)

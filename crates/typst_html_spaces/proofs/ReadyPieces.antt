@@ -104,7 +104,6 @@ follow_in_stretch before (stretch s ∷ ps) r = (inl r.0, r.1)
 follow_in_stretch before (alone c ∷ ps) r = absurd r
 follow_in_stretch before (line_break ∷ ps) r = absurd r
 
--- nothing goes on with a stretch that isn't there
 all_pieces : (before : Option ℕ) (ps : List PieceView) → is_normal_there before ≡ false →
     FollowPieces before ps → Each IsPiece ps
 all_pieces before [] h r = tt
@@ -115,7 +114,6 @@ all_pieces before (stretch s ∷ ps) h r = elim (r.0) [
 all_pieces before (alone c ∷ ps) h r = r
 all_pieces before (line_break ∷ ps) h r = r
 
--- a normal character before pieces
 normal_before : (c : ℕ) (ps : List PieceView) → is_normal c ≡ true → FollowPieces (Some c) ps →
     BeginInStretch (in_stretch c ps)
 normal_before c [] h r = (stretch_one c h, tt)
@@ -126,7 +124,6 @@ normal_before c (stretch s ∷ ps) h r = elim (r.0) [
 normal_before c (alone d ∷ ps) h r = (stretch_one c h, r)
 normal_before c (line_break ∷ ps) h r = (stretch_one c h, r)
 
--- a space before a stretch
 space_before : (before : Option ℕ) (c : ℕ) (ps : List PieceView) → (c == 32) ≡ true →
     is_normal_there before ≡ true → BeginInStretch ps → FollowPieces before (in_stretch c ps)
 space_before before c [] e h r = absurd r

@@ -55,6 +55,7 @@ pub fn pretty_spaces_stay()
 /// A root that can be read back: what is seen of the body of its text, plain or pretty, is what is
 /// seen of its body, if what has indents there is a border. If that is made of items in plain flow,
 /// it is exactly their text.
+#[tactic(auto, using(crate::proofs::SeenBody::body_is_seen, crate::proofs::SeenBody::items_are_seen))]
 pub fn documents_are_seen()
     ensures body { BodyIsSeen }
     ensures items { ItemsAreSeen }

@@ -1,4 +1,5 @@
 //! The text of each constant of a tag, each group the contract of a function.
+#![tactic(auto, unfolding(crate::specs::Tables::known_tags))]
 
 ghost use Rattle.std.specs.Prelude.{◌≡◌, ◌++◌, codes};
 ghost use Rattle.html_names.specs.Names.{listed_names};

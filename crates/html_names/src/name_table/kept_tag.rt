@@ -9,8 +9,6 @@ use std::alloc::AllocError;
 use std::marker::Model;
 
 /// A tag, and what the tables of kinds and of displays say of it.
-///
-/// A contract sees it as its text.
 #[derive(Drop)]
 pub(crate) struct KeptTag {
     tag: HtmlTag,
@@ -39,7 +37,6 @@ impl Model for KeptTag {
 }
 
 impl KeptTag {
-    /// A copy of the tag, and what is said of it.
     pub(crate) fn new(tag: &HtmlTag) -> Result<KeptTag, AllocError>
         ensures { IfOk result (λ kept. kept ≡ tag.now) }
     {
@@ -53,42 +50,36 @@ impl KeptTag {
         })
     }
 
-    /// The tag.
     pub(crate) fn tag(&self) -> &HtmlTag
         ensures { result.now ≡ self.now }
     {
         &self.tag
     }
 
-    /// Whether the element is void.
     pub(crate) fn is_void(&self) -> bool
         ensures { result ≡ kinds.is_void self.now }
     {
         self.void
     }
 
-    /// Whether the element holds raw text.
     pub(crate) fn is_raw(&self) -> bool
         ensures { result ≡ kinds.is_raw self.now }
     {
         self.raw
     }
 
-    /// Whether the element holds escapable raw text.
     pub(crate) fn is_escapable_raw(&self) -> bool
         ensures { result ≡ kinds.is_escapable_raw self.now }
     {
         self.escapable_raw
     }
 
-    /// Whether the foreign element is written self-closing.
     pub(crate) fn is_foreign_self_closing(&self) -> bool
         ensures { result ≡ kinds.is_foreign_self_closing self.now }
     {
         self.foreign_self_closing
     }
 
-    /// The tag's default display.
     pub(crate) fn default_display(&self) -> Option<Display>
         ensures { result ≡ default_display self.now }
     {

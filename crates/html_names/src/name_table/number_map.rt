@@ -13,7 +13,6 @@ pub(crate) struct NumberMap {
 }
 
 impl NumberMap {
-    /// No name has a number. It takes no memory.
     pub(crate) fn new(alloc: Global) -> NumberMap
         ensures { HoldsNone result }
     {
@@ -23,7 +22,6 @@ impl NumberMap {
         }
     }
 
-    /// The name's number, if it has one.
     pub(crate) fn number_of(&self, name: &Name) -> Option<usize>
         ensures { result ≡ number_of self.now name.now }
     {
@@ -51,7 +49,6 @@ impl NumberMap {
     }
 }
 
-/// The number of the known name at that place, if it has one.
 fn known_number(numbers: &[Option<usize>], place: u8) -> Option<usize>
     ensures { result ≡ slice_index_or numbers.now place None }
 {
@@ -61,7 +58,6 @@ fn known_number(numbers: &[Option<usize>], place: u8) -> Option<usize>
     }
 }
 
-/// Lengthens the list until it has that place, with places where no number is.
 fn make_room(numbers: &mut Vec<Option<usize>>, place: usize) -> Result<(), AllocError>
     requires { place < 2 ^ 8 }
     ensures room { OnOk result (place < length numbers.new.items) }

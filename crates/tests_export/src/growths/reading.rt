@@ -14,7 +14,6 @@ const PAGE: &str = concat!(
     "<ul><li>five</li><li><em class=\"c\">six</em></li></ul>seven</div>\n",
 );
 
-/// Whether the element has that many attributes and children.
 fn has(root: HtmlElement, attrs: usize, children: usize) -> bool {
     root.attrs.0.len() == attrs && root.children.len() == children
 }

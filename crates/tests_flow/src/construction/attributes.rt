@@ -7,7 +7,6 @@ use html_values::{AttrType, NativeType};
 use std::alloc::{AllocError, Global};
 use tests_asserts::TestResult;
 
-/// A link with a text, and with a presence and a whole number.
 fn link(alloc: Global) -> Result<ElementInfo, AllocError> {
     let href = (attr::href, AttrType::Native(NativeType::Str));
     let download = (attr::download, AttrType::Presence);

@@ -91,7 +91,6 @@ fn assert_failed(rt: &impl Abort, alloc: Global, case: &Case, fails_at: usize, k
     assert!(rt; reader.reads == fails_at.saturating_add(1), "{input}");
 }
 
-/// Asserts the same of each read.
 fn assert_each_failed(rt: &impl Abort, alloc: Global, case: &Case) {
     for fails_at in 0..=case.input.len() {
         assert_failed(rt, alloc, case, fails_at, ErrorKind::Other);

@@ -72,7 +72,6 @@ fn status_of(
     status
 }
 
-/// Asserts that the writer has taken that much of what is written.
 fn assert_taken(rt: &impl Abort, case: &Case, writer: &Slow, length: usize) {
     let taken = case.text.as_bytes().get(..length);
     assert!(rt; taken == Some(writer.taken.as_slice()), "{}", case.input);
@@ -108,7 +107,6 @@ fn assert_failed(rt: &impl Abort, alloc: Global, case: &Case, fails_at: usize) {
     assert!(rt; writer.flushes == 0, "{}", case.input);
 }
 
-/// Asserts the same of each write.
 fn assert_each_failed(rt: &impl Abort, alloc: Global, case: &Case) {
     for fails_at in 0..case.text.len() {
         assert_failed(rt, alloc, case, fails_at);
@@ -147,7 +145,6 @@ fn assert_whole(rt: &impl Abort, alloc: Global, case: &Case, most: usize) {
     assert!(rt; writer.flushes == 1, "{}", case.input);
 }
 
-/// Asserts the same for each number of bytes.
 fn assert_each_whole(rt: &impl Abort, alloc: Global, case: &Case) {
     for most in 1usize..=case.text.len() {
         assert_whole(rt, alloc, case, most);

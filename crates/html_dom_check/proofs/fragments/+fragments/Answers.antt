@@ -10,7 +10,7 @@ use Rattle.html_dom_check.proofs.fragments.+fragments.Goals as goal
 
 pub add_element-returns-clause-path : goal.add_element-returns-clause-path
 add_element-returns-clause-path t c =
-    c.in_ok-add_nodes.ensures.path ∙ c.in_ok-add_link.ensures.path
+    c.in_ok-add_nodes.ensures.path ∙ c.in_ok-add_own.ensures.path
 
 pub add_element-returns-clause-dead : goal.add_element-returns-clause-dead
 unfolding node_placed
@@ -19,14 +19,13 @@ add_element-returns-clause-dead t c =
     let places = used_in c.args.places.now in
     let path = c.args.walk.now.path.items in
     let old = dead_view c.args.walk.now.dead.items in
-    let mid = dead_view c.add_link.new.walk.dead.items in
+    let mid = dead_view c.add_own.new.walk.dead.items in
     both_dead places old mid _ (placed_at path (fragments_at (element_node e.0 e.1)))
     (nodes_placed fragments_at path 0 e.1)
-    (c.in_ok-add_link.ensures.dead
-    ∙ ap (λ texts. old ++ dead_among places (placed_at path texts)) c.in_ok-fragment_at.ensures)
+    c.in_ok-add_own.ensures.dead
     (c.in_ok-add_nodes.ensures.dead
     ∙ (ap (λ p. mid ++ dead_among places (nodes_placed fragments_at p 0 (nodes_view c.deref.result.now)))
-    c.in_ok-add_link.ensures.path
+    c.in_ok-add_own.ensures.path
     ∙ ap (λ ns. mid ++ dead_among places (nodes_placed fragments_at path 0 (nodes_view ns)))
     c.deref.ensures.value))
 

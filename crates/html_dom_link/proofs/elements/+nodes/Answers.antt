@@ -1,8 +1,10 @@
-use Rattle.std.proofs.Common.{◌∷◌, ◌≡◌, ◌<◌, ◌≤◌, length, ap, sym, ◌∙◌, refl, subst, arith}
+use Rattle.std.proofs.Common.{[], ◌∷◌, ◌<◌, ◌≤◌, length, reverse, ap, sym, ◌∙◌, refl, subst, arith}
+use denote.Param.Weighed.{most, most-append}
 use Rattle.std.proofs.lemmas.Grind.{common_steps}
 use Rattle.std.proofs.lemmas.Result.{on_ok_weaker}
-use Rattle.std.proofs.lemmas.List.{nil_from_length}
-use Rattle.std.specs.Vec.Iter.{into_iter_items}
+use Rattle.std.proofs.lemmas.List.{nil_from_length, reverse-reverse}
+use Rattle.html_dom_flat.proofs.Reversed.{most_reversed, next_reversed}
+use Rattle.html_dom_tree.proofs.node.HtmlNode.TheLaws.{the_size}
 use Rattle.html_names.specs.Tables.{known_attrs}
 use Rattle.html_dom_tree.specs.Tree.{none}
 use Rattle.html_dom_tree.specs.Views.{optional_text_view, node_view, nodes_view, element_view}
@@ -51,16 +53,22 @@ anchor_in_place-returns t c =
     nodes_kept (targets_view c.args.sought) at.nodes at.child-index (walk_view at.state) _ h
     at.invariant.told
 
+pub with_spans-loop-child-init : goal.with_spans-loop-child-init
+with_spans-loop-child-init t c =
+    let all = c.args.nodes.items in
+    let again = ap reverse c.reverse.ensures.items ∙ reverse-reverse all in
+    let same = ap (most the_size) c.reverse.ensures.items ∙ most_reversed the_size all in
+    record { told = rw (c.in_ok-made.ensures.items, again) refl; deep = omega (arith, same) }
+
 pub with_spans-loop-child-preserved : goal.with_spans-loop-child-preserved
 with_spans-loop-child-preserved t c =
     let at = c.loop-child in
     let x = targets_view c.args.sought in
-    let left = into_iter_items at.child-iterator in
-    let others = into_iter_items c.next.new.self in
-    let first : left ≡ c.in-Some.child ∷ others = c.in-Some.ensures.steps.0 in
-    let gone = c.in-Some.ensures.steps.1 in
-    let short = ap length first in
-    let long = at.invariant.long in
+    let nodes = c.give_back.new.nodes.items in
+    let first = next_reversed at.nodes.items nodes c.in-Some.child
+    (rw c.give_back.ensures c.in-Some.ensures.items) in
+    let parts = ap (most the_size) c.in-Some.ensures.items
+    ∙ most-append the_size c.pop.new.self.items (c.in-Some.child ∷ []) in
     let old = at.made.items in
     let n = c.anchor_node.new.child in
     let more = span_before (optional_text_view c.in_ok-name.name) none in
@@ -68,17 +76,16 @@ with_spans-loop-child-preserved t c =
     ∙ (ap (λ l. nodes_view l then more) c.in_ok-push.ensures.items
     ∙ span_placed old n more) in
     record {
-      told = node_walked x left others c.in-Some.child (nodes_view old) _ (walk_view at.state) _ _ first
-          at.invariant.told
+      told = node_walked x (reverse at.nodes.items) (reverse nodes) c.in-Some.child (nodes_view old) _
+          (walk_view at.state) _ _ first at.invariant.told
           (node_placed x (node_view c.in-Some.child) (node_view n) more (nodes_view old) _
           (walk_view at.state) _ c.in_ok-name.ensures placed);
-      long = omega (arith, gone, short, long);
+      deep = omega (arith, at.invariant.deep, parts, ap (most the_size) c.give_back.ensures);
     }
 
 pub with_spans-returns : goal.with_spans-returns
 with_spans-returns t c =
     let at = c.loop-child in
-    let left = into_iter_items at.child-iterator in
-    let none_left = nil_from_length left (sym at.invariant.long ∙ c.in-None.ensures.steps.0) in
-    nodes_walked (targets_view c.args.sought) left (nodes_view at.made.items)
-    (walk_view at.state) _ none_left at.invariant.told
+    let empty = nil_from_length at.nodes.items (sym at.nodes.ok.0 ∙ c.in_default.ensures.cases.0) in
+    nodes_walked (targets_view c.args.sought) (reverse at.nodes.items) (nodes_view at.made.items)
+    (walk_view at.state) _ (ap reverse empty) at.invariant.told

@@ -1,5 +1,6 @@
-use Rattle.std.proofs.Common.{◌≡◌, false, length, take, drop}
-use Rattle.std.specs.Vec.Iter.{into_iter_items, into_iter_len}
+use Rattle.std.proofs.Common.{◌≡◌, ◌≤◌, false, take, drop, reverse, vec_len}
+use denote.Param.Weighed.{most}
+use Rattle.html_dom_tree.proofs.node.HtmlNode.TheLaws.{the_size}
 use Rattle.html_dom_tree.specs.Views.{nodes_view}
 use Rattle.html_dom_link.specs.Joined.{walked_behind}
 use Rattle.html_dom_link.specs.AnchorWalk.{walk}
@@ -19,12 +20,16 @@ invariant-anchor_in_place-loop-child l =
       no_end : has_end (drop i l.nodes) ≡ false;
     }
 
+-- those that are left stand in reverse, none deeper than those that were there
 abbrev pub invariant-with_spans-loop-child : goal.invariant-with_spans-loop-child
 invariant-with_spans-loop-child l =
     let x = targets_view l.sought in
-    let left = into_iter_items l.child-iterator in
+    let left = reverse l.nodes.items in
     record {
       told : walked_behind (nodes_view l.made.items) (walk x (nodes_view left) (walk_view l.state))
           ≡ walk x (nodes_view l.fn.nodes.items) (walk_view l.fn.state);
-      long : into_iter_len l.child-iterator ≡ length left;
+      deep : most the_size l.nodes.items ≤ most the_size l.fn.nodes.items;
     }
+
+abbrev pub decreases-with_spans-loop-child : goal.decreases-with_spans-loop-child
+decreases-with_spans-loop-child l = vec_len l.nodes

@@ -1,8 +1,9 @@
-use Rattle.std.proofs.Common.{◌++◌, [], ◌∷◌, map, sym, ap, ◌∙◌, arith}
-use Rattle.std.proofs.lemmas.Grind.{common_steps}
-use Rattle.std.proofs.lemmas.List.{append-nil, map-append, nil_from_length}
+use Rattle.std.proofs.Common.{◌++◌, [], ◌∷◌, map, reverse, refl, sym, ap, ◌∙◌, arith}
+use denote.Param.Weighed.{most, most-append}
+use Rattle.std.proofs.lemmas.List.{append-nil, map-append, nil_from_length, reverse-reverse}
 use Rattle.std.specs.Prelude.{option_map}
-use Rattle.std.specs.Vec.Iter.{into_iter_items}
+use Rattle.html_dom_flat.proofs.Reversed.{most_reversed, next_reversed}
+use Rattle.html_dom_tree.proofs.node.HtmlNode.TheLaws.{the_size}
 use Rattle.html_dom_tree.specs.Views.{attrs_view, head_of, node_view, nodes_of, nodes_view}
 use Rattle.html_dom_link.specs.LinkTargets.{hrefs_view}
 use Rattle.html_dom_link.specs.Links.{attrs_with_href, href_of}
@@ -20,6 +21,20 @@ element_with_links-returns t c =
     (c.in_ok-href.ensures ∙ ap (href_of hrefs) c.open_dest.ensures))
     c.in_ok-nodes_with_links.ensures
 
+pub nodes_with_links-loop-child-init : goal.nodes_with_links-loop-child-init
+nodes_with_links-loop-child-init t c =
+    let hrefs = hrefs_view c.args.targets in
+    let all = c.args.nodes.items in
+    let again = ap reverse c.reverse.ensures.items ∙ reverse-reverse all in
+    let same = ap (most the_size) c.reverse.ensures.items ∙ most_reversed the_size all in (
+      [],
+      record {
+        behind = refl;
+        told = rw (c.in_ok-made.ensures.items, again) refl;
+        deep = omega (arith, same);
+      },
+    )
+
 pub nodes_with_links-loop-child-preserved : goal.nodes_with_links-loop-child-preserved
 nodes_with_links-loop-child-preserved t c =
     let hrefs = hrefs_view c.args.targets in
@@ -27,6 +42,11 @@ nodes_with_links-loop-child-preserved t c =
     let n = node_view c.in-Some.child in
     let m = node_view c.in_ok-node_with_links.field-0 in
     let made = map node_view c.loop-child.made.items in
+    let nodes = c.give_back.new.nodes.items in
+    let next = next_reversed c.loop-child.nodes.items nodes c.in-Some.child
+    (rw c.give_back.ensures c.in-Some.ensures.items) in
+    let parts = ap (most the_size) c.in-Some.ensures.items
+    ∙ most-append the_size c.pop.new.self.items (c.in-Some.child ∷ []) in
     let pushed =
     ap (map node_view) c.in_ok-push.ensures.items
     ∙ map-append node_view c.loop-child.made.items (c.in_ok-node_with_links.field-0 ∷ []) in (
@@ -35,10 +55,10 @@ nodes_with_links-loop-child-preserved t c =
         behind = c.dest_past-past.ensures held.0 held.1.behind;
         told =
             ap (λ l. l ++ list_with_links hrefs (n ∷ held.0)
-            (map node_view (into_iter_items c.next.new.self))) pushed
+            (map node_view (reverse nodes))) pushed
             ∙ one_more_with_links hrefs _ held.0 made n m _ _ _ held.1.behind c.in_ok-node_with_links.ensures
-            (ap (map node_view) c.in-Some.ensures.steps.0) held.1.told;
-        long = grind (arith, common_steps, c.in-Some.ensures.steps.0, c.in-Some.ensures.steps.1, held.1.long);
+            (ap (map node_view) next) held.1.told;
+        deep = omega (arith, held.1.deep, parts, ap (most the_size) c.give_back.ensures);
       },
     )
 
@@ -47,11 +67,11 @@ nodes_with_links-returns t c =
     let hrefs = hrefs_view c.args.targets in
     let held = c.loop-child.invariant in
     let made = map node_view c.loop-child.made.items in
-    let none_left = nil_from_length (into_iter_items c.loop-child.child-iterator)
-    (sym held.1.long ∙ c.in-None.ensures.steps.0) in
+    let empty = nil_from_length c.loop-child.nodes.items
+    (sym c.loop-child.nodes.ok.0 ∙ c.in_default.ensures.cases.0) in
     let whole =
     sym (append-nil made)
-    ∙ (ap (λ ns. made ++ list_with_links hrefs held.0 (map node_view ns)) (sym none_left)
+    ∙ (ap (λ ns. made ++ list_with_links hrefs held.0 (map node_view (reverse ns))) (sym empty)
     ∙ held.1.told) in
     ap nodes_of whole
     ∙ sym (nodes_with_links-nodes_of hrefs [] (map node_view c.args.nodes.items))

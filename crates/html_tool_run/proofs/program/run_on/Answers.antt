@@ -2,7 +2,7 @@ use Rattle.std.proofs.Common.{refl, inl, inr, subst}
 use Rattle.std.proofs.KnownBytes.{Keeps-refl}
 use Rattle.html_tool_run.specs.Answers.{Answer, EndsAs, bad_input, words_answer}
 use Rattle.html_tool_run.specs.Words.{texts_of}
-use Rattle.html_tool_spell.specs.declared.fault.Place.TheVariants.{Unknown}
+use Rattle.html_tool_spell.specs.declared.fault.InputPlace.TheVariants.{Unknown}
 use Rattle.html_tool_run.proofs.Inputs.{some_input}
 use Rattle.html_tool_run.proofs.program.run_on.Goals as goal
 

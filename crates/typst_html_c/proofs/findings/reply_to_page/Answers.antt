@@ -4,6 +4,7 @@ use Rattle.typst_html_c.proofs.findings.reply_to_page.Goals as goal
 
 pub returns-in-Some-clause-answered : goal.returns-in-Some-clause-answered
 returns-in-Some-clause-answered c =
-    subst (λ o. Tells (told_within c.args.page.now o) c.args.output.now c.reply_within.result
-    c.reply_within.new.output) (sym c.in-Some.is ∙ c.page_limit_of.ensures)
-    c.reply_within.ensures.answered
+    subst (λ o. Tells (told_within c.args.page.now o) c.args.output.now
+    c.reply_with_findings.result c.reply_with_findings.new.output)
+    (sym c.in-Some.is ∙ c.page_limit_of.ensures)
+    (c.reply_with_findings.ensures.answered _ c.page_findings.ensures)

@@ -1,30 +1,27 @@
-use Rattle.std.proofs.Common.{◌≡◌, ◌+◌, [], ◌∷◌, ◌++◌, refl, sym, ◌∙◌, arith, vec_len}
+use Rattle.std.proofs.Common.{◌≡◌, ◌+◌, [], ◌∷◌, ◌++◌, refl, sym, ap, ◌∙◌, arith, append_assoc, reverse, vec_len}
 use Rattle.std.proofs.lemmas.Grind.{common_steps}
-use Rattle.std.proofs.lemmas.List.{length-map}
+use Rattle.std.proofs.lemmas.List.{length-map, reverse-reverse}
+use denote.Param.Weighed.{most, most-append}
+use Rattle.html_dom_tree.proofs.node.HtmlNode.TheLaws.{the_size}
 use Rattle.html_dom_tree.specs.Views.{element_view}
 use Rattle.html_dom_flat.specs.Flat.{flat_element, nodes_count, nodes_flat}
 use Rattle.html_dom_flat.specs.FlatViews.{flat_node_view}
 use Rattle.html_dom_flat.specs.Builders.{builder_view}
 use Rattle.html_dom_flat.specs.ClosedElements.{closed_at}
 use Rattle.html_dom_flat.proofs.Closings.{closed_element}
+use Rattle.html_dom_flat.proofs.Reversed.{most_reversed, next_reversed}
 use Rattle.html_dom_flat.proofs.builder.Builder.+flatten.Goals as goal
 
-pub push_element-returns-clause-list : goal.push_element-returns-clause-list
-push_element-returns-clause-list t c =
+pub move_element-returns-clause-list : goal.move_element-returns-clause-list
+move_element-returns-clause-list t c =
     let old = c.args.self.now in
     let opened = c.push.new.self in
-    let filled = c.push_nodes.new.self in
-    let e = element_view c.args.element.now in
+    let filled = c.move_nodes.new.self in
+    let e = element_view c.args.element in
     let numbered = c.in_ok-tag.ensures in
     let opens : builder_view opened ≡ builder_view old ++ flat_element e.0 0 ∷ []
     = c.in_ok-push.ensures.list
-    ∙ rw (
-      numbered.list,
-      numbered.numbers.same,
-      numbered.numbers.pairs_are.same,
-      c.in_ok-try_clone.ensures,
-      c.in_ok-try_clone-2.ensures,
-    ) refl in
+    ∙ rw (numbered.list, numbered.numbers.same, numbered.numbers.pairs_are.same) refl in
     let fills : builder_view filled
     ≡ builder_view opened ++ nodes_flat (vec_len old.nodes + 1) e.1
     = grind (arith, common_steps) in
@@ -37,3 +34,26 @@ push_element-returns-clause-list t c =
     (builder_view c.close_element.new.self) e.0 e.1 (vec_len old.nodes) (vec_len filled.nodes)
     (old.nodes.ok.0 ∙ sym (length-map old.nodes.items (flat_node_view old.names)))
     opens fills ends closes
+
+pub move_nodes-loop-node-init : goal.move_nodes-loop-node-init
+move_nodes-loop-node-init t c =
+    let all = c.args.nodes.items in
+    let again = ap reverse c.reverse.ensures.items ∙ reverse-reverse all in
+    let same = ap (most the_size) c.reverse.ensures.items ∙ most_reversed the_size all in
+    record { list = rw again refl; count = rw again refl; deep = omega (arith, same) }
+
+pub move_nodes-loop-node-preserved : goal.move_nodes-loop-node-preserved
+unfolding nodes_flat nodes_count
+move_nodes-loop-node-preserved t c =
+    let held = c.loop-node.invariant in
+    let added = c.in_ok-move_node.ensures in
+    let left = c.give_back.new.nodes.items in
+    let next = next_reversed c.loop-node.nodes.items left c.in-Some.node
+    (rw c.give_back.ensures c.in-Some.ensures.items) in
+    let parts = ap (most the_size) c.in-Some.ensures.items
+    ∙ most-append the_size c.pop.new.self.items (c.in-Some.node ∷ []) in
+    record {
+      list = rw (added.list, added.count, append_assoc) (rw next at held.list);
+      count = omega (arith, added.count, rw next at held.count);
+      deep = omega (arith, held.deep, parts, ap (most the_size) c.give_back.ensures);
+    }

@@ -1,0 +1,87 @@
+//! Tests of attributes, flat trees and copies.
+
+use html_dom_flat::{FlatElement, FlatNode, FlatTree};
+use html_dom_tree::{HtmlAttrs, HtmlElement, HtmlNode};
+use html_names::{HtmlTag, attr, tag};
+use std::alloc::Global;
+use std::test::Fail;
+use tests_asserts::{TestResult, Tester, assert_number, assert_text};
+use tests_given::{attrs_of, nested, text_of};
+
+fn assert_attrs(rt: &impl Tester, list: &HtmlAttrs, wanted: &[(&str, &str)]) -> TestResult {
+    assert!(rt; *list == attrs_of(rt.alloc(), wanted)?);
+    Ok(())
+}
+
+/// A fold keeps the values of the inner list, and its repeats.
+#[test]
+fn folds(rt: HostRuntime) -> TestResult {
+    let inner = attrs_of(rt.alloc(), &[("id", "1"), ("id", "5")])?;
+    let outer = attrs_of(rt.alloc(), &[("id", "2"), ("class", "3"), ("class", "4")])?;
+    let wanted = [("id", "1"), ("id", "5"), ("class", "3")];
+    assert_attrs(&rt, &inner.fold(outer)?, &wanted)
+}
+
+#[test]
+fn pairs_are_pushed_found_and_changed(rt: HostRuntime) -> TestResult {
+    let mut list = attrs_of(rt.alloc(), &[("id", "1"), ("id", "3")])?;
+    list.push_front(attr::lang, String::from_str(rt.alloc(), "en")?)?;
+    assert_text(list.get(&attr::id).expect(&rt, "a value"), "1")?;
+    assert!(rt; list.get_mut(&attr::title).is_none());
+    let value = list.get_mut(&attr::id).expect(&rt, "a value");
+    value.push('0')?;
+    assert_attrs(&rt, &list, &[("lang", "en"), ("id", "10"), ("id", "3")])
+}
+
+/// `<ul class="a" id="b"><li class="c">x</li><my-li></my-li></ul>`, and the text `y`.
+fn sample(alloc: Global) -> Result<Vec<HtmlNode>, Fail> {
+    let mut item = HtmlElement::new(alloc, tag::li).with_text(alloc, "x")?;
+    item.attrs = attrs_of(alloc, &[("class", "c")])?;
+    let own = HtmlElement::new(alloc, HtmlTag::intern(alloc, "my-li")?);
+    let items = vec![in alloc; HtmlNode::from(item), HtmlNode::from(own)]?;
+    let mut list = HtmlElement::new(alloc, tag::ul).with_children(items);
+    list.attrs = attrs_of(alloc, &[("class", "a"), ("id", "b")])?;
+    Ok(vec![in alloc; HtmlNode::from(list), text_of(alloc, "y", 7)?]?)
+}
+
+fn element<'a>(rt: &impl Tester, tree: &'a FlatTree, place: usize) -> &'a FlatElement {
+    let element = match tree.nodes().get(place) {
+        Some(FlatNode::Element(element)) => Some(element),
+        _ => None,
+    };
+    element.expect(rt, "an element")
+}
+
+/// The list ends before the text, the item in it before the next one, and that one at once. Names are
+/// numbered in the order in which they come, and a repeated one keeps its number.
+#[test]
+fn flat_trees(rt: HostRuntime) -> TestResult {
+    let nodes = sample(rt.alloc())?;
+    let tree = FlatTree::from_nodes(rt.alloc(), &nodes)?;
+    for (place, past) in [(0, 4), (1, 3), (3, 4)] {
+        assert_number(element(&rt, &tree, place).past, past)?;
+    }
+    assert_number(tree.names().tags(), 3)?;
+    assert_number(tree.names().attrs(), 2)?;
+    assert!(rt; tree.to_nodes()? == nodes);
+    Ok(())
+}
+
+fn assert_copied(rt: &impl Tester, element: &HtmlElement) -> TestResult {
+    assert!(rt; element.try_clone()? == *element);
+    Ok(())
+}
+
+#[test]
+fn large_trees(rt: HostRuntime) -> TestResult {
+    let mut list = HtmlElement::new(rt.alloc(), tag::p);
+    for place in 0..10_000u64 {
+        list.children.push(text_of(rt.alloc(), "x", place)?)?;
+    }
+    assert_copied(&rt, &list)?;
+    let root = nested(rt.alloc(), HtmlElement::new(rt.alloc(), tag::p), 4_999)?;
+    assert_copied(&rt, &root)?;
+    let tree = FlatTree::from_element(rt.alloc(), &root)?;
+    assert_number(tree.nodes().len(), 5_000)?;
+    assert_number(tree.to_nodes()?.len(), 1)
+}

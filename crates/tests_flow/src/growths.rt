@@ -1,5 +1,0 @@
-//! Public calls that take memory: their first growth is refused, their second, and so on until a run
-//! succeeds.
-
-mod items;
-mod spaces;

@@ -1,0 +1,196 @@
+//! Items: copies, the nodes that they become, and elements that arguments make.
+
+use html_dom_tree::{HtmlNode, Location, Span};
+use html_flow::{
+    Arg, ArgValue, Args, ConstructFault, ConversionLevel, ElementInfo, FlowFault, FrameElem,
+    HtmlElem, Item, Pair, Role, Whitespace, construct, convert_to_nodes, html_block_fragment,
+    html_inline_fragment, html_math_fragment, push_located,
+};
+use html_names::{HtmlAttr, Refused, attr, tag};
+use html_values::{AttrType, ListType, NativeType, Value};
+use std::alloc::{AllocError, Global};
+use tests_asserts::TestResult;
+use tests_growth::{refuses_copy, refuses_given, refuses_lent};
+use tests_items::{
+    block_of, blocks_of, elem_of, frame_elem_of, noted_frame_of, role_of, text_item_of,
+};
+
+#[test]
+fn copied_items(rt: HostRuntime) -> TestResult {
+    let alloc = rt.alloc();
+    refuses_copy(alloc, noted_frame_of(alloc)?, Pair::try_clone)?;
+    refuses_copy(alloc, role_of(alloc)?, Role::try_clone)?;
+    refuses_copy(alloc, frame_elem_of(alloc)?, FrameElem::try_clone)?;
+    refuses_copy(alloc, block_of(alloc)?.item, Item::try_clone)?;
+    refuses_copy(alloc, elem_of(alloc, tag::p)?, HtmlElem::try_clone)
+}
+
+const NORMAL: Whitespace = Whitespace::Normal;
+
+/// Asserts that a call by which items become nodes is refused at first.
+fn assert_converted<F: Fn(&mut Vec<Pair>) -> Result<Vec<HtmlNode>, FlowFault>>(
+    alloc: Global,
+    call: F,
+) -> TestResult
+    requires { F.IsAlwaysCallable call }
+{
+    let is_converted = |items: &mut Vec<Pair>|
+        requires { F.IsAlwaysCallable call }
+    { call(items).map(|nodes| !nodes.is_empty()) };
+    refuses_lent(alloc, blocks_of(alloc)?, is_converted)
+}
+
+#[test]
+fn converted_items(rt: HostRuntime) -> TestResult {
+    let alloc = rt.alloc();
+    for level in [ConversionLevel::Block, ConversionLevel::Inline] {
+        assert_converted(alloc, |items| {
+            convert_to_nodes(alloc, items, level, NORMAL, None, 0, 9)
+        })?;
+    }
+    Ok(())
+}
+
+#[test]
+fn fragments(rt: HostRuntime) -> TestResult {
+    let (alloc, span) = (rt.alloc(), Span(1));
+    assert_converted(alloc, |items| {
+        html_block_fragment(alloc, items, span, NORMAL, Some("x"), 0, 9)
+    })?;
+    assert_converted(
+        alloc,
+        |items| html_inline_fragment(alloc, items, span, NORMAL, None, 0, 9),
+    )?;
+    assert_converted(
+        alloc,
+        |items| html_math_fragment(alloc, items, span, NORMAL, None, 0, 9),
+    )
+}
+
+/// An element, and a pair that it is given.
+type Given = (HtmlElem, HtmlAttr, String);
+
+fn set_in((mut element, name, value): Given) -> Result<(), Refused<Given>> {
+    element.set_attr(name, value).map_err(|Refused {
+        back: (name, value),
+    }| Refused {
+        back: (element, name, value),
+    })
+}
+
+/// A value is added to elements.
+#[test]
+fn changed_attributes(rt: HostRuntime) -> TestResult {
+    let alloc = rt.alloc();
+    let given = (
+        elem_of(alloc, tag::p)?,
+        attr::class,
+        String::from_str(alloc, "held")?,
+    );
+    refuses_given(alloc, given, |(element, name, value)| {
+        element.with_attr(name, value).map(|_| ())
+    })?;
+    let given = (
+        elem_of(alloc, tag::p)?,
+        attr::class,
+        String::from_str(alloc, "held")?,
+    );
+    refuses_given(alloc, given, set_in)?;
+    let value = Some(String::from_str(alloc, "held")?);
+    let given = (elem_of(alloc, tag::p)?, attr::class, value);
+    refuses_given(alloc, given, |(element, name, value)| {
+        element.with_optional_attr(name, value).map(|_| ())
+    })
+}
+
+fn is_alone(element: HtmlElem) -> bool {
+    element.body.is_some_and(|items| items.len() == 1)
+}
+
+/// Items, and a label and an item that are put behind them.
+type Located = (Vec<Pair>, Option<String>, Item);
+
+fn located((mut items, label, item): Located) -> Result<bool, Refused<Located>> {
+    match push_located(&mut items, Location(1), label, None, item) {
+        Ok(()) => Ok(items.len() == 3),
+        Err(
+            Refused {
+                back: (label, item),
+            },
+        ) => Err(Refused {
+            back: (items, label, item),
+        }),
+    }
+}
+
+/// A text is put into an element without a body, as an item and as a text, and between tags, into a
+/// list without room.
+#[test]
+fn changed_bodies(rt: HostRuntime) -> TestResult {
+    let alloc = rt.alloc();
+    let given = (
+        HtmlElem::new(alloc, tag::p),
+        Pair::from(text_item_of(alloc)?),
+    );
+    refuses_given(alloc, given, |(element, item)| {
+        element.with_item(alloc, item).map(is_alone)
+    })?;
+    refuses_given(alloc, HtmlElem::new(alloc, tag::p), |element| {
+        element.with_text(alloc, "a text").map(is_alone)
+    })?;
+    let label = Some(String::from_str(alloc, "held")?);
+    refuses_given(
+        alloc,
+        (Vec::new(alloc), label, text_item_of(alloc)?),
+        located,
+    )
+}
+
+fn arg_of(alloc: Global, name: &str, value: Value) -> Result<Arg, AllocError> {
+    let (name, value) = (Some(String::from_str(alloc, name)?), ArgValue::Plain(value));
+    Ok(Arg {
+        name,
+        span: Span(7),
+        value,
+    })
+}
+
+/// The arguments `href`, `class`, one that no type is there for, and a body.
+fn args_of(alloc: Global) -> Result<Args, AllocError> {
+    let text = Value::Str(String::from_str(alloc, "x")?);
+    let list = vec![in alloc; Value::Str(String::from_str(alloc, "held")?)]?;
+    let body = ArgValue::Body(vec![in alloc; Pair::from(text_item_of(alloc)?)]?);
+    Ok(Args {
+        items: vec![in alloc;
+            arg_of(alloc, "href", text)?,
+            arg_of(alloc, "class", Value::Array(list))?,
+            arg_of(alloc, "other", Value::Auto)?,
+            Arg {
+                name: None,
+                span: Span(7),
+                value: body
+            },
+        ]?,
+    })
+}
+
+fn info_of(alloc: Global) -> Result<ElementInfo, AllocError> {
+    let list = ListType::new(alloc, AttrType::Native(NativeType::Str), ' ', false)?;
+    let class = (attr::class, AttrType::List(list));
+    let href = (attr::href, AttrType::Native(NativeType::Str));
+    Ok(ElementInfo::new(tag::a, vec![in alloc; class, href]?))
+}
+
+/// An element is made of arguments, and one of them is left.
+#[test]
+fn constructed_elements(rt: HostRuntime) -> TestResult {
+    let (alloc, info) = (rt.alloc(), info_of(rt.alloc())?);
+    refuses_lent(
+        alloc,
+        args_of(alloc)?,
+        |args: &mut Args| -> Result<bool, ConstructFault> {
+            let element = construct(alloc, &info, args)?;
+            Ok(element.attrs.0.len() == 2 && args.items.len() == 1)
+        },
+    )
+}

@@ -1,0 +1,181 @@
+//! Items that a JSON value spells: a list of `["text",t]`, `["space"]`, `["break"]`, `["hole"]`,
+//! `["start",n]`, `["start",n,destination]`, `["start",n,destination,label]`, `["end",n]`,
+//! `["frame"]`, `["box",items]`, `["block",items]` and `["el",tag,[[name,value],..],items]`, with
+//! `null` for a body that is absent. An item may stand in `["role",text,item]`, in `["norole",item]`,
+//! or an element in `["css",name,value,item]`. The spans are the numbers of the items in the order of
+//! writing, from 1.
+
+use anyhow::{Context, Result, bail};
+use html_dom_tree::{Frame, Location, Span, Tag};
+use html_flow_convert::{FrameElem, HtmlElem, Item, Pair, Role};
+use html_names::{HtmlAttr, HtmlTag};
+use html_values_css::Abs;
+use serde_json::Value;
+use std::alloc::Global;
+
+/// The items of a JSON text.
+pub fn items_in(alloc: Global, json: &[u8]) -> Result<Vec<Pair>> {
+    items_of(alloc, &Value::from_slice(alloc, json)?)
+}
+
+/// The items that a value spells.
+pub fn items_of(alloc: Global, value: &Value) -> Result<Vec<Pair>> {
+    body_of(alloc, value, &mut 0)?.context("items are wanted")
+}
+
+fn text_of(value: &Value) -> Result<&str> {
+    value.as_str().context("a text is wanted")
+}
+
+fn string_of(alloc: Global, value: &Value) -> Result<String> {
+    Ok(String::from_str(alloc, text_of(value)?)?)
+}
+
+fn location_of(value: &Value) -> Result<Location> {
+    Ok(Location(value.as_u64().context("a number is wanted")?))
+}
+
+fn list_of(value: &Value) -> Result<&[Value]> {
+    Ok(value.as_array().context("a list is wanted")?.as_slice())
+}
+
+#[cycle(items)]
+fn body_of(alloc: Global, value: &Value, number: &mut u64) -> Result<Option<Vec<Pair>>> {
+    match value {
+        Value::Array(values) => Ok(Some(pairs_of(alloc, values, number)?)),
+        _ => Ok(None),
+    }
+}
+
+#[cycle(items)]
+fn pairs_of(alloc: Global, values: &[Value], number: &mut u64) -> Result<Vec<Pair>> {
+    let mut pairs = Vec::new(alloc);
+    for value in values {
+        pairs.push(pair_of(alloc, value, number)?)?;
+    }
+    Ok(pairs)
+}
+
+#[cycle(items)]
+fn pair_of(alloc: Global, value: &Value, number: &mut u64) -> Result<Pair> {
+    let Value::Array(fields) = value else {
+        bail!("an item is wanted");
+    };
+    match fields.as_slice() {
+        [kind, role, inner] if kind.as_str() == Some("role") => {
+            let item = item_of(alloc, inner, number)?;
+            let role = Role::Set(string_of(alloc, role)?);
+            Ok(Pair { item, role })
+        }
+        [kind, inner] if kind.as_str() == Some("norole") => {
+            let item = item_of(alloc, inner, number)?;
+            Ok(Pair {
+                item,
+                role: Role::Unset,
+            })
+        }
+        fields => Ok(Pair::from(item_in(alloc, fields, number)?)),
+    }
+}
+
+#[cycle(items)]
+fn item_of(alloc: Global, value: &Value, number: &mut u64) -> Result<Item> {
+    match value {
+        Value::Array(fields) => item_in(alloc, fields, number),
+        _ => bail!("an item is wanted"),
+    }
+}
+
+#[cycle(items)]
+fn item_in(alloc: Global, fields: &[Value], number: &mut u64) -> Result<Item> {
+    match fields {
+        [kind, name, text, inner] if kind.as_str() == Some("css") => {
+            let item = item_of(alloc, inner, number)?;
+            styled(alloc, item, text_of(name)?, text)
+        }
+        [kind, tag, attrs, inner] if kind.as_str() == Some("el") => {
+            let span = next_span(number);
+            let body = body_of(alloc, inner, number)?;
+            let element = element_of(alloc, tag, attrs)?.spanned(span);
+            Ok(Item::Element(HtmlElem { body, ..element }))
+        }
+        [kind, inner] if kind.as_str() == Some("box") => {
+            let span = next_span(number);
+            Ok(Item::Box(body_of(alloc, inner, number)?, span))
+        }
+        [kind, inner] if kind.as_str() == Some("block") => {
+            let span = next_span(number);
+            Ok(Item::Block(body_of(alloc, inner, number)?, span))
+        }
+        [kind, fields @ ..] => leaf(alloc, text_of(kind)?, fields, next_span(number)),
+        [] => bail!("an item is wanted"),
+    }
+}
+
+fn next_span(number: &mut u64) -> Span {
+    *number = number.saturating_add(1);
+    Span(*number)
+}
+
+/// An item without a body.
+fn leaf(alloc: Global, kind: &str, fields: &[Value], span: Span) -> Result<Item> {
+    let item = match (kind, fields) {
+        ("text", [text]) => Item::Text(string_of(alloc, text)?, span),
+        ("space", []) => Item::Space(span),
+        ("break", []) => Item::LineBreak(span),
+        ("hole", []) => Item::Hole,
+        ("frame", []) => Item::Frame(drawing(alloc, span)),
+        ("start", [location, known @ ..]) => Item::Tag(start(alloc, location, known)?),
+        ("end", [location]) => Item::Tag(Tag::End {
+            location: location_of(location)?,
+        }),
+        _ => bail!("no item: {kind}"),
+    };
+    Ok(item)
+}
+
+/// A start tag with what is known of it: a destination, or a destination and a label.
+fn start(alloc: Global, location: &Value, known: &[Value]) -> Result<Tag> {
+    let (dest, label) = match known {
+        [] => (None, None),
+        [dest] => (Some(location_of(dest)?), None),
+        [dest, label, ..] => (Some(location_of(dest)?), Some(string_of(alloc, label)?)),
+    };
+    let location = location_of(location)?;
+    Ok(Tag::Start {
+        location,
+        label,
+        dest,
+    })
+}
+
+fn drawing(alloc: Global, span: Span) -> FrameElem {
+    FrameElem {
+        frame: Frame {
+            picture: 1,
+            items: Vec::new(alloc),
+        },
+        text_size: Abs::from_millionths(0),
+        span,
+    }
+}
+
+fn element_of(alloc: Global, tag: &Value, attrs: &Value) -> Result<HtmlElem> {
+    let mut element = HtmlElem::new(alloc, HtmlTag::intern(alloc, text_of(tag)?)?);
+    for attr in list_of(attrs)? {
+        let [name, value] = list_of(attr)? else {
+            bail!("a name and a value are wanted");
+        };
+        let name = HtmlAttr::intern(alloc, text_of(name)?)?;
+        element = element.with_attr(name, string_of(alloc, value)?)?;
+    }
+    Ok(element)
+}
+
+fn styled(alloc: Global, item: Item, name: &str, value: &Value) -> Result<Item> {
+    let Item::Element(mut element) = item else {
+        bail!("an element is wanted");
+    };
+    element.css.push(name, string_of(alloc, value)?)?;
+    Ok(Item::Element(element))
+}

@@ -1,0 +1,10 @@
+//! For the rows of `tests_rows`: the items that an input spells.
+//!
+//! ```
+//! let items = items_in(alloc, br#"[["el","p",[],[["text","a"]]],["role","note",["space"]]]"#)?;
+//! ```
+#![tactic(auto)]
+
+mod items;
+
+pub use items::{items_in, items_of};

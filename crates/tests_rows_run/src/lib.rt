@@ -1,0 +1,13 @@
+//! For `tests_rows`: how a line is read as a row, and how the rows of files are run.
+//!
+//! ```
+//! let row = Row::from_line(alloc, "page-text | <p>a</p> | |[a]|")?.context("a row")?;
+//! let given = caller.output(alloc, &row)?;
+//! ```
+#![tactic(auto)]
+
+mod files;
+mod row;
+
+pub use files::{Caller, run_files};
+pub use row::Row;

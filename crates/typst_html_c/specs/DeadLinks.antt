@@ -1,0 +1,37 @@
+-- The links of a document that lead nowhere, as JSON:
+--     {"dead_links":[{"destination":n,"span":n},..]}
+use Rattle.std.specs.Prelude.{ℕ, List, map, codes}
+use Rattle.serde_json.specs.Data.{Data, number, array, object, unsigned, member, no_members}
+use Rattle.serde_json.specs.View.{items_of}
+use Rattle.serde_json.specs.Written.{compact_text}
+use Rattle.html_dom_link.specs.Links.{DeadLinkView}
+use Rattle.html_tool_run.specs.Answers.{Answer, TextPlace}
+use Rattle.html_tool_run.specs.declared.status.Status.{Status}
+use Rattle.html_tool_run.specs.declared.status.Status.TheVariants.{Done, Refused, BadInput, Failed}
+use Rattle.typst_html_c.specs.CallReplies.{call_dead_links, document_call_answer}
+
+-- its destination, and its span
+abbrev pub dead_link_data : DeadLinkView → Data
+dead_link_data link = object (
+    member (codes "destination") (number (unsigned link.1)) (
+    member (codes "span") (number (unsigned link.0)) no_members))
+
+abbrev pub dead_links_data : List DeadLinkView → Data
+dead_links_data links =
+    object (member (codes "dead_links") (array (items_of (map dead_link_data links))) no_members)
+
+abbrev pub line_in_place : Status → (bytes line : List ℕ) → List ℕ
+line_in_place Done bytes line = bytes
+line_in_place Refused bytes line = line
+line_in_place BadInput bytes line = line
+line_in_place Failed bytes line = line
+
+-- an answer with these bytes in place of its text, if it has one
+abbrev pub in_place_of_text : (bytes : List ℕ) → Answer → Answer
+in_place_of_text bytes a = record a { line = line_in_place a.status bytes a.line }
+
+-- the answer to an input that spells a document, with its dead links in place of its text
+abbrev pub dead_links_answer : (limit : ℕ) (input : List ℕ) → TextPlace → Answer
+dead_links_answer limit input at =
+    in_place_of_text (compact_text (dead_links_data (call_dead_links 0 1 limit input)))
+    (document_call_answer 0 1 limit input at)
