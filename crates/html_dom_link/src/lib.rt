@@ -23,6 +23,6 @@ pub use anchors::{create_link_anchors, with_link_anchors};
 pub use dead::{DeadLink, dead_links};
 pub use distinct::ids_are_distinct;
 pub use indicated::{fragment_in, fragment_leads};
-pub use links::{resolve_links, with_resolved_links};
+pub use links::{document_with_links, resolve_links, with_resolved_links};
 pub use places::place_names;
 pub use spellings::href_to;

@@ -20,6 +20,7 @@ use html_dom_tree::{HtmlAttrs, HtmlElement, HtmlNode, Location, Tag};
 use html_names::{Refused, attr, tag};
 use std::alloc::{AllocError, Global};
 use std::collections::BTreeSet;
+use std::mem;
 
 /// What links lead to: the anchors that are known, and the names of all places.
 #[derive(Clone, Copy)]
@@ -113,6 +114,35 @@ pub fn resolve_links(alloc: Global, document: &mut HtmlDocument) -> Result<(), A
     let children = nodes_with_links(children, alloc, targets)?;
     document.root_mut().children = children;
     Ok(())
+}
+
+/// The document whose links lead, as [`resolve_links`] makes it, for whoever does not need the one
+/// without: its nodes are moved, where that call copies them. Where an allocation fails, it is gone.
+pub fn document_with_links(
+    alloc: Global,
+    mut document: HtmlDocument,
+) -> Result<HtmlDocument, AllocError>
+    ensures ok { IfOk result (λ made.
+        document_view made ≡ document_with_links (document_view document)) }
+    ensures leads { KnownAnchorsAreShown (document_view document) → IfOk result (λ made.
+        GivenLinksLead (document_view document) (document_view made)) }
+    ensures left { IfOk result (λ made. links_without (document_root (document_view made)).1
+        ≡ document_dead_links (document_view document)) }
+    ensures distinct { IdsAreDistinct (document_view document) →
+        IfOk result (λ made. IdsAreDistinct (document_view made)) }
+    ensures one { KnownAnchorsAreShown (document_view document) →
+        IdsAreDistinct (document_view document) → IfOk result (λ made.
+        GivenLinksLeadToOne (document_view document) (document_view made)) }
+{
+    let places = place_names(alloc, document.root())?;
+    let children = mem::replace(&mut document.root_mut().children, Vec::new(alloc));
+    let targets = LinkTargets {
+        known: document.introspector(),
+        places: &places,
+    };
+    let children = nodes_with_links(children, alloc, targets)?;
+    document.root_mut().children = children;
+    Ok(document)
 }
 
 /// The document whose links lead, as [`resolve_links`] makes it. Where an allocation fails, the

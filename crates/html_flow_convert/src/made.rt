@@ -22,7 +22,8 @@ fn pre_wrap_css(alloc: Global) -> Result<Properties, AllocError>
     ensures { IfOk result (λ css. css ≡ (codes "white-space", codes "pre-wrap") ∷ []) }
 {
     let kept = String::from_str(alloc, "pre-wrap")?;
-    Ok(Properties::new(alloc).with("white-space", kept)?)
+    let css = Properties::with_capacity(alloc, 1)?;
+    Ok(css.with("white-space", kept)?)
 }
 
 /// Each character of the texts directly in it is written as a character reference.

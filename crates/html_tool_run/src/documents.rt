@@ -26,7 +26,7 @@ ghost use Rattle.html_tool_spell.specs.Spelling.{spelling_view};
 
 use crate::program::fault_of;
 use html_dom_document::{DocumentInfo, HtmlDocument};
-use html_dom_link::{DeadLink, dead_links, with_resolved_links};
+use html_dom_link::{DeadLink, dead_links, document_with_links};
 use html_dom_tree::HtmlElement;
 use html_flow_convert::Pair;
 use html_names::tag;
@@ -142,7 +142,7 @@ fn linked(
 {
     let made = html_document(alloc, items, info, footnotes, limit)?;
     let dead = dead_links(alloc, &made)?;
-    let document = with_resolved_links(alloc, made)?;
+    let document = document_with_links(alloc, made)?;
     with_dead_links(html_of_made(alloc, document, options), dead)
 }
 

@@ -54,6 +54,18 @@ impl Properties {
         }
     }
 
+    /// No properties, with room for so many. It fails only where the allocation does.
+    ///
+    /// A list that grows takes room for four at once; whoever makes many short ones says how many
+    /// properties each has.
+    pub fn with_capacity(alloc: Global, capacity: usize) -> Result<Properties, AllocError>
+        ensures { IfOk result (λ properties. properties ≡ []) }
+    {
+        Ok(Properties {
+            list: Vec::with_capacity(alloc, capacity)?,
+        })
+    }
+
     /// Gives a name that value, instead of the one that it had. Where an allocation fails, the
     /// properties stay and the value comes back.
     pub fn push(&mut self, name: &str, value: String) -> Result<(), Refused<String>>

@@ -29,7 +29,7 @@ ghost use Rattle.typst_html_export.specs.SpacesInDocuments.{ArePlainItems, Space
 
 use crate::document::{document_of_items, html_document};
 use html_dom_document::{DocumentInfo, HtmlDocument};
-use html_dom_link::with_resolved_links;
+use html_dom_link::document_with_links;
 use html_dom_tree::HtmlElement;
 use html_flow_convert::Pair;
 use html_names::tag;
@@ -221,7 +221,7 @@ pub fn export_linked<F: FrameWriter>(
         (resolved_document info items notes)) }
 {
     let made = html_document(alloc, items, info, footnotes, limit)?;
-    let document = with_resolved_links(alloc, made)?;
+    let document = document_with_links(alloc, made)?;
     html_of_made(alloc, document, options, frames)
 }
 
