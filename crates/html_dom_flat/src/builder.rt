@@ -1,12 +1,12 @@
 //! Making a tree's list.
 
-ghost use Rattle.std.specs.Prelude.{◌≡◌, true};
+ghost use Rattle.std.specs.Prelude.{◌≡◌, true, reverse};
 ghost use Rattle.html_dom_flat.specs.FlatViews.{are_given};
 
 use crate::flat_node::{FlatElement, FlatNode};
 use crate::moving::give_back;
 use crate::numbering::{numbered_attrs, set_past};
-use html_dom_tree::{HtmlAttrs, HtmlElement, HtmlNode};
+use html_dom_tree::{HtmlAttrs, HtmlElement, HtmlFrame, HtmlNode, Span, Tag};
 use html_names::{HtmlTag, NameTable};
 use std::alloc::{AllocError, Global};
 
@@ -20,8 +20,10 @@ pub(crate) struct Builder {
 
 impl Builder {
     ghost use Rattle.std.specs.Prelude.{◌+◌, ◌<◌, [], ◌∷◌, ◌++◌, IfOk, OnOk, vec_len};
-    ghost use Rattle.html_dom_tree.specs.Views.{attrs_view, node_view, element_view, nodes_view};
+    ghost use Rattle.html_dom_tree.specs.FrameViews.{html_frame_view};
+    ghost use Rattle.html_dom_tree.specs.Views.{attrs_view, node_view, element_view, nodes_view, tag_view, text_view};
     ghost use Rattle.html_dom_flat.specs.Flat.{node_count, nodes_count, node_flat, nodes_flat, element_flat};
+    ghost use Rattle.html_dom_flat.specs.Flat.{flat_tag, flat_text, flat_frame, flat_element};
     ghost use Rattle.html_dom_flat.specs.FlatViews.{flat_node_view, is_node_given};
     ghost use Rattle.html_dom_flat.specs.Builders.{builder_view};
     ghost use Rattle.html_dom_flat.specs.ClosedElements.{closed_at};
@@ -74,6 +76,70 @@ impl Builder {
         set_past(&mut self.nodes[place], past);
     }
 
+    // A tree is moved by a call for each level. What moves one node alone is kept out of it, so that a
+    // level takes less of the stack.
+
+    #[inline(never)]
+    fn push_tag(&mut self, tag: Tag) -> Result<(), AllocError>
+        ensures list { OnOk result (builder_view self.new
+            ≡ builder_view self.old ++ flat_tag (tag_view tag) ∷ []) }
+        ensures count { OnOk result (vec_len self.new.nodes ≡ vec_len self.old.nodes + 1) }
+    {
+        self.push(FlatNode::Tag(tag))
+    }
+
+    #[inline(never)]
+    fn push_text(&mut self, text: String, span: Span) -> Result<(), AllocError>
+        ensures list { OnOk result (builder_view self.new
+            ≡ builder_view self.old ++ flat_text (text_view text) span.0 ∷ []) }
+        ensures count { OnOk result (vec_len self.new.nodes ≡ vec_len self.old.nodes + 1) }
+    {
+        self.push(FlatNode::Text(text, span))
+    }
+
+    #[inline(never)]
+    fn push_frame(&mut self, frame: HtmlFrame) -> Result<(), AllocError>
+        ensures list { OnOk result (builder_view self.new
+            ≡ builder_view self.old ++ flat_frame (html_frame_view frame) ∷ []) }
+        ensures count { OnOk result (vec_len self.new.nodes ≡ vec_len self.old.nodes + 1) }
+    {
+        self.push(FlatNode::Frame(frame))
+    }
+
+    /// Adds an element that is not closed yet, and gives the nodes in it.
+    #[inline(never)]
+    fn open_element(
+        &mut self,
+        alloc: Global,
+        element: HtmlElement,
+    ) -> Result<Vec<HtmlNode>, AllocError>
+        ensures children { IfOk result (λ children. children ≡ element.children) }
+        ensures list { OnOk result (builder_view self.new
+            ≡ builder_view self.old ++ flat_element (element_view element).0 0 ∷ []) }
+        ensures count { OnOk result (vec_len self.new.nodes ≡ vec_len self.old.nodes + 1) }
+    {
+        let HtmlElement {
+            tag,
+            attrs,
+            css,
+            children,
+            parent,
+            span,
+            pre_span,
+        } = element;
+        let (tag, attrs) = self.numbered(alloc, &tag, attrs)?;
+        self.push(FlatNode::Element(FlatElement {
+            tag,
+            attrs,
+            css,
+            parent,
+            span,
+            pre_span,
+            past: 0,
+        }))?;
+        Ok(children)
+    }
+
     #[cycle(flatten)]
     #[tactic(auto, unfolding(crate::specs::Flat::node_flat, crate::specs::Flat::node_count))]
     fn move_node(&mut self, alloc: Global, node: HtmlNode) -> Result<(), AllocError>
@@ -83,9 +149,9 @@ impl Builder {
             ≡ vec_len self.old.nodes + node_count (node_view node)) }
     {
         match node {
-            HtmlNode::Tag(tag) => self.push(FlatNode::Tag(tag)),
-            HtmlNode::Text(text, span) => self.push(FlatNode::Text(text, span)),
-            HtmlNode::Frame(frame) => self.push(FlatNode::Frame(frame)),
+            HtmlNode::Tag(tag) => self.push_tag(tag),
+            HtmlNode::Text(text, span) => self.push_text(text, span),
+            HtmlNode::Frame(frame) => self.push_frame(frame),
             HtmlNode::Element(element) => self.move_element(alloc, element),
         }
     }
@@ -101,26 +167,8 @@ impl Builder {
         ensures count { OnOk result (vec_len self.new.nodes
             ≡ vec_len self.old.nodes + 1 + nodes_count (element_view element).1) }
     {
-        let HtmlElement {
-            tag,
-            attrs,
-            css,
-            children,
-            parent,
-            span,
-            pre_span,
-        } = element;
         let place = self.nodes.len();
-        let (tag, attrs) = self.numbered(alloc, &tag, attrs)?;
-        self.push(FlatNode::Element(FlatElement {
-            tag,
-            attrs,
-            css,
-            parent,
-            span,
-            pre_span,
-            past: 0,
-        }))?;
+        let children = self.open_element(alloc, element)?;
         self.move_nodes(alloc, children)?;
         self.close_element(place);
         Ok(())
@@ -135,7 +183,7 @@ impl Builder {
         ensures count { OnOk result (vec_len self.new.nodes
             ≡ vec_len self.old.nodes + nodes_count (nodes_view nodes.items)) }
     {
-        nodes.reverse();
+        reverse_nodes(&mut nodes);
         while let Some(node) = nodes.pop() {
             self.move_node(alloc, node)?;
             give_back(&mut nodes);
@@ -155,4 +203,11 @@ impl Builder {
         }
         Ok(())
     }
+}
+
+#[inline(never)]
+fn reverse_nodes(nodes: &mut Vec<HtmlNode>)
+    ensures { nodes.new.items ≡ reverse nodes.old.items }
+{
+    nodes.reverse();
 }

@@ -30,6 +30,7 @@ pub fn flat_tree_of(alloc: Global, element: HtmlElement) -> Result<FlatTree, All
 /// Gives back memory that a list does not need, where its length is a multiple of 4,096. So a list from
 /// which all nodes are taken, the last first, has room for fewer than so many that are gone, and nodes
 /// that are moved into another list do not stand in memory twice.
+#[inline(never)]
 pub fn give_back(nodes: &mut Vec<HtmlNode>)
     ensures { nodes.new.items ≡ nodes.old.items }
 {

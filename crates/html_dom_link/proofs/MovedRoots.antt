@@ -1,5 +1,5 @@
 -- A document whose root's children are taken out, and then put in again with anchors.
-use Rattle.std.proofs.Common.{◌≡◌, ◌×◌, ℕ, zero, suc, Bool, [], Some, refl, ap, sym, ◌∙◌}
+use Rattle.std.proofs.Common.{◌≡◌, ℕ, zero, suc, Bool, [], Some, refl, ap, sym, ◌∙◌}
 use Rattle.std.proofs.lemmas.Option.{none-some}
 use Rattle.html_dom_tree.specs.Tree.{NodesView, none, node, ElementView}
 use Rattle.html_dom_document.specs.Documents.{DocumentView, element_at, root_of, with_element, with_root, given_root, document_root}
@@ -32,11 +32,13 @@ put_again d mid new root again last root_is mid_is again_is new_is =
     let there =
     sym again_is
     ∙ (ap (λ (v : DocumentView). root_of v.output) mid_is
-    ∙ put_is_there o.nodes o.root root bare root_is) in
-    (ap given_root there, new_is
-    ∙ (ap (λ (v : DocumentView). record v { output = with_root v.output last }) mid_is
-    ∙ ap (λ ns. record d { output = record o { nodes = ns } })
-    (put_twice o.nodes o.root bare last)))
+    ∙ put_is_there o.nodes o.root root bare root_is) in (
+      ap given_root there,
+      new_is
+          ∙ (ap (λ (v : DocumentView). record v { output = with_root v.output last }) mid_is
+          ∙ ap (λ ns. record d { output = record o { nodes = ns } })
+          (put_twice o.nodes o.root bare last)),
+    )
 
 -- the document with the new anchors
 pub moved_written : (is_target : ℕ → Bool) (d mid new : DocumentView)

@@ -78,10 +78,13 @@ impl HtmlNode {
         ensures { IfOk result (λ copy. node_view copy ≡ node_view self.now) }
     {
         match self {
-            HtmlNode::Tag(tag) => Ok(HtmlNode::Tag(tag.try_clone()?)),
-            HtmlNode::Text(text, span) => Ok(HtmlNode::Text(text.clone()?, *span)),
-            HtmlNode::Element(element) => Ok(HtmlNode::Element(element.try_clone()?)),
-            HtmlNode::Frame(frame) => Ok(HtmlNode::Frame(frame.try_clone()?)),
+            HtmlNode::Tag(tag) => tag_copy(tag),
+            HtmlNode::Text(text, span) => text_copy(text, *span),
+            HtmlNode::Element(element) => {
+                let children = copy_nodes(*element.children.allocator(), &element.children)?;
+                element_copy(element, children)
+            }
+            HtmlNode::Frame(frame) => frame_copy(frame),
         }
     }
 }
@@ -264,20 +267,59 @@ impl HtmlElement {
     }
 
     /// A copy of the element and all below it. It fails only where an allocation does.
-    #[cycle(copy)]
     pub fn try_clone(&self) -> Result<HtmlElement, AllocError>
         ensures { IfOk result (λ copy. element_view copy ≡ element_view self.now) }
+    {
+        let children = copy_nodes(*self.children.allocator(), &self.children)?;
+        self.copy_with(children)
+    }
+
+    fn copy_with(&self, children: Vec<HtmlNode>) -> Result<HtmlElement, AllocError>
+        ensures { IfOk result (λ copy.
+            element_view copy ≡ ((element_view self.now).0, nodes_view children.items)) }
     {
         Ok(HtmlElement {
             tag: self.tag.try_clone()?,
             attrs: self.attrs.try_clone()?,
             css: self.css.try_clone()?,
-            children: copy_nodes(*self.children.allocator(), &self.children)?,
+            children,
             parent: self.parent,
             span: self.span,
             pre_span: self.pre_span,
         })
     }
+}
+
+// A copy calls itself for each level. What copies one node alone is kept out of it, so that a level
+// takes half as much of the stack.
+
+#[inline(never)]
+fn tag_copy(tag: &Tag) -> Result<HtmlNode, AllocError>
+    ensures { IfOk result (λ copy. node_view copy ≡ tag_node (tag_view tag.now)) }
+{
+    Ok(HtmlNode::Tag(tag.try_clone()?))
+}
+
+#[inline(never)]
+fn text_copy(text: &String, span: Span) -> Result<HtmlNode, AllocError>
+    ensures { IfOk result (λ copy. node_view copy ≡ text_node (text_view text.now) span.0) }
+{
+    Ok(HtmlNode::Text(text.clone()?, span))
+}
+
+#[inline(never)]
+fn frame_copy(frame: &HtmlFrame) -> Result<HtmlNode, AllocError>
+    ensures { IfOk result (λ copy. node_view copy ≡ frame_node (html_frame_view frame.now)) }
+{
+    Ok(HtmlNode::Frame(frame.try_clone()?))
+}
+
+#[inline(never)]
+fn element_copy(element: &HtmlElement, children: Vec<HtmlNode>) -> Result<HtmlNode, AllocError>
+    ensures { IfOk result (λ copy.
+        node_view copy ≡ element_node (element_view element.now).0 (nodes_view children.items)) }
+{
+    Ok(HtmlNode::Element(element.copy_with(children)?))
 }
 
 #[cycle(copy)]

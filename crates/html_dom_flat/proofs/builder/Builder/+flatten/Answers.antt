@@ -15,13 +15,10 @@ use Rattle.html_dom_flat.proofs.builder.Builder.+flatten.Goals as goal
 pub move_element-returns-clause-list : goal.move_element-returns-clause-list
 move_element-returns-clause-list t c =
     let old = c.args.self.now in
-    let opened = c.push.new.self in
+    let opened = c.open_element.new.self in
     let filled = c.move_nodes.new.self in
     let e = element_view c.args.element in
-    let numbered = c.in_ok-tag.ensures in
-    let opens : builder_view opened ≡ builder_view old ++ flat_element e.0 0 ∷ []
-    = c.in_ok-push.ensures.list
-    ∙ rw (numbered.list, numbered.numbers.same, numbered.numbers.pairs_are.same) refl in
+    let children = c.in_ok-children.ensures.children in
     let fills : builder_view filled
     ≡ builder_view opened ++ nodes_flat (vec_len old.nodes + 1) e.1
     = grind (arith, common_steps) in
@@ -33,13 +30,13 @@ move_element-returns-clause-list t c =
     closed_element (builder_view old) (builder_view opened) (builder_view filled)
     (builder_view c.close_element.new.self) e.0 e.1 (vec_len old.nodes) (vec_len filled.nodes)
     (old.nodes.ok.0 ∙ sym (length-map old.nodes.items (flat_node_view old.names)))
-    opens fills ends closes
+    c.in_ok-children.ensures.list fills ends closes
 
 pub move_nodes-loop-node-init : goal.move_nodes-loop-node-init
 move_nodes-loop-node-init t c =
     let all = c.args.nodes.items in
-    let again = ap reverse c.reverse.ensures.items ∙ reverse-reverse all in
-    let same = ap (most the_size) c.reverse.ensures.items ∙ most_reversed the_size all in
+    let again = ap reverse c.reverse_nodes.ensures ∙ reverse-reverse all in
+    let same = ap (most the_size) c.reverse_nodes.ensures ∙ most_reversed the_size all in
     record { list = rw again refl; count = rw again refl; deep = omega (arith, same) }
 
 pub move_nodes-loop-node-preserved : goal.move_nodes-loop-node-preserved
