@@ -26,12 +26,14 @@
 #![tactic(auto)]
 
 use anyhow::{Context, Result, bail};
-use clap::{Arg, ArgAction, Command};
+use clap::{Arg, ArgAction, ArgMatches, Command};
 use std::alloc::Global;
 use std::fmt::Write;
 use std::process::ExitCode;
 use std::{env, fs};
-use typst_html::{HtmlElement, ReadFault, dead_fragments, read_page, repeated_ids};
+use typst_html::{
+    DeadFragment, HtmlElement, ReadFault, RepeatedId, dead_fragments, read_page, repeated_ids,
+};
 
 /// How deep elements may stand in one another.
 const DEEPEST: usize = 1000;
@@ -49,15 +51,19 @@ fn main(rt: HostRuntime) -> ExitCode {
 /// Reads the words, and checks the pages. The answer is the status.
 fn run(rt: &HostRuntime) -> Result<ExitCode> {
     let words: Vec<String> = env::args(rt)?.collect(rt.alloc())?;
-    let matches = match command(rt.alloc())?.try_get_matches_from(&words) {
-        Ok(matches) => matches,
+    match command(rt.alloc())?.try_get_matches_from(&words) {
+        Ok(matches) => check_pages(rt, &matches),
         Err(error) => {
             error.print(rt)?;
-            return Ok(ExitCode::from(u8::try_from(error.exit_code())?));
+            Ok(ExitCode::from(u8::try_from(error.exit_code())?))
         }
-    };
+    }
+}
+
+/// Checks each page. The answer is the status.
+fn check_pages(rt: &HostRuntime, matches: &ArgMatches<'_>) -> Result<ExitCode> {
     let mut code = ExitCode::SUCCESS;
-    for page in matches.get_strs("pages").context("no page")? {
+    for page in matches.get_strs("PAGE").context("no page")? {
         if !is_clean(rt, page)? {
             code = ExitCode::FAILURE;
         }
@@ -67,8 +73,7 @@ fn run(rt: &HostRuntime) -> Result<ExitCode> {
 
 /// The words that the program takes.
 fn command<'a>(alloc: Global) -> Result<Command<'a>> {
-    let pages = Arg::new(alloc, "pages")
-        .value_name("PAGE")
+    let pages = Arg::new(alloc, "PAGE")
         .required(true)
         .num_args(1..)
         .action(ArgAction::Append)
@@ -116,19 +121,24 @@ fn root_of(rt: &HostRuntime, page: &str) -> Result<HtmlElement> {
 fn findings(alloc: Global, root: &HtmlElement) -> Result<Vec<String>> {
     let mut findings = Vec::new(alloc);
     for link in &dead_fragments(alloc, root)? {
-        let place = place(alloc, &link.path)?;
-        let finding = format!(in alloc;
-            r##"{place}: nothing has the id of "#{}""##,
-            link.fragment
-        )?;
-        findings.push(finding)?;
+        findings.push(dead_fragment(alloc, link)?)?;
     }
     for repeated in &repeated_ids(alloc, root)? {
-        let place = place(alloc, &repeated.path)?;
-        let finding = format!(in alloc; "{place}: the id {:?} stands before", repeated.id)?;
-        findings.push(finding)?;
+        findings.push(repeated_id(alloc, repeated)?)?;
     }
     Ok(findings)
+}
+
+/// What is told of a link that leads nowhere.
+fn dead_fragment(alloc: Global, link: &DeadFragment) -> Result<String> {
+    let (place, fragment) = (place(alloc, &link.path)?, &link.fragment);
+    Ok(format!(in alloc; r##"{place}: nothing has the id of "#{fragment}""##)?)
+}
+
+/// What is told of an id that stands in its page before.
+fn repeated_id(alloc: Global, repeated: &RepeatedId) -> Result<String> {
+    let (place, id) = (place(alloc, &repeated.path)?, &repeated.id);
+    Ok(format!(in alloc; "{place}: the id {id:?} stands before")?)
 }
 
 /// The text of a path.

@@ -36,14 +36,7 @@ type Fields = Map<String, Value>;
 pub(crate) fn mail(alloc: Global, template: &str, record: &[u8], lang: &str) -> Result<String> {
     let record = Value::from_slice(alloc, record).context("no JSON")?;
     let fields = record.as_object().context("no JSON object")?;
-    let subject = template.lines().next().context("no subject")?;
-    let mut info = DocumentInfo::new(alloc);
-    info.title = Some(fill(alloc, subject, fields).context("subject")?);
-    info.locale = Some(Locale::new(String::from_str(alloc, lang)?));
-    let items = vec![in alloc; Pair::from(card(alloc, template, fields)?)]?;
-    let options = HtmlOptions { pretty: false };
-    let html = export(alloc, &items, &info, &[], DEPTH_LIMIT, &options, &());
-    let html = html.map_err(with_line)?;
+    let html = html(alloc, template, fields, lang)?;
     ensure!(
         !html.contains(['\n', '\r']),
         "a line break in the subject or in an address"
@@ -51,14 +44,25 @@ pub(crate) fn mail(alloc: Global, template: &str, record: &[u8], lang: &str) -> 
     Ok(html)
 }
 
+/// The HTML text of a mail, which a line break in the subject or in an address breaks.
+fn html(alloc: Global, template: &str, fields: &Fields, lang: &str) -> Result<String> {
+    let info = info(alloc, template, fields, lang)?;
+    let items = vec![in alloc; Pair::from(card(alloc, template, fields)?)]?;
+    let options = HtmlOptions { pretty: false };
+    export(alloc, &items, &info, &[], DEPTH_LIMIT, &options, &()).map_err(with_line)
+}
+
+/// What is known of a mail besides: its subject, and its language.
+fn info(alloc: Global, template: &str, fields: &Fields, lang: &str) -> Result<DocumentInfo> {
+    let subject = template.lines().next().context("no subject")?;
+    let mut info = DocumentInfo::new(alloc);
+    info.title = Some(fill(alloc, subject, fields).context("subject")?);
+    info.locale = Some(Locale::new(String::from_str(alloc, lang)?));
+    Ok(info)
+}
+
 /// All that is seen of a mail: dark letters on light ground, with some room around.
 fn card(alloc: Global, template: &str, fields: &Fields) -> Result<HtmlElem> {
-    let mut css = Properties::build(alloc, ());
-    css.push("background-color", &PAPER)?;
-    css.push("color", &INK)?;
-    css.push("font-family", &"sans-serif")?;
-    css.push("max-width", &Abs::from_millionths(450_000_000))?;
-    css.push("padding", &Em::from_millionths(1_500_000))?;
     let mut body = Vec::new(alloc);
     let mut number = 1u64;
     for line in template.lines().skip(1) {
@@ -66,38 +70,56 @@ fn card(alloc: Global, template: &str, fields: &Fields) -> Result<HtmlElem> {
         if !line.trim().is_empty() {
             let content = content(alloc, line, fields, Span(number));
             let content = content.context(format_args!("template's line {number}"))?;
-            let paragraph = HtmlElem::new(alloc, tag::p);
-            body.push(Pair::from(paragraph.with_item(alloc, content)?))?;
+            let paragraph = HtmlElem::new(alloc, tag::p).with_item(alloc, content)?;
+            body.push(Pair::from(paragraph))?;
         }
     }
-    let card = HtmlElem::new(alloc, tag::div).with_css(css.finish());
+    let card = HtmlElem::new(alloc, tag::div).with_css(card_css(alloc)?);
     Ok(card.with_body(body))
+}
+
+fn card_css(alloc: Global) -> Result<Properties> {
+    let mut css = Properties::build(alloc, ());
+    css.push("background-color", &PAPER)?;
+    css.push("color", &INK)?;
+    css.push("font-family", &"sans-serif")?;
+    css.push("max-width", &Abs::from_millionths(450_000_000))?;
+    css.push("padding", &Em::from_millionths(1_500_000))?;
+    Ok(css.finish())
 }
 
 /// What stands in the paragraph that a line of the template makes.
 fn content(alloc: Global, line: &str, fields: &Fields, span: Span) -> Result<Pair> {
-    let Some(line) = line.strip_prefix("> ") else {
-        return Ok(Pair::from(Item::Text(fill(alloc, line, fields)?, span)));
-    };
+    match line.strip_prefix("> ") {
+        Some(line) => Ok(Pair::from(button(alloc, line, fields, span)?)),
+        None => Ok(Pair::from(Item::Text(fill(alloc, line, fields)?, span))),
+    }
+}
+
+/// A link that looks like a button: its last word is where it leads, all before it the label.
+fn button(alloc: Global, line: &str, fields: &Fields, span: Span) -> Result<HtmlElem> {
     let (label, address) = line
         .rsplit_once(' ')
         .context("a button without an address")?;
-    let button = button(alloc)?
-        .spanned(span)
-        .with_attr(attr::href, fill(alloc, address, fields)?)?
-        .with_text(alloc, &fill(alloc, label, fields)?)?;
-    Ok(Pair::from(button))
+    let address = fill(alloc, address, fields)?;
+    let label = fill(alloc, label, fields)?;
+    let button = HtmlElem::new(alloc, tag::a).spanned(span);
+    let button = button.with_css(button_css(alloc)?);
+    Ok(
+        button
+            .with_attr(attr::href, address)?
+            .with_text(alloc, &label)?,
+    )
 }
 
-/// A link that looks like a button.
-fn button(alloc: Global) -> Result<HtmlElem> {
+fn button_css(alloc: Global) -> Result<Properties> {
     let mut css = Properties::build(alloc, ());
     css.push("background-color", &INK)?;
     css.push("color", &PAPER)?;
     css.push("display", &Display::InlineBlock)?;
     css.push("padding", &Em::from_millionths(500_000))?;
     css.push("text-decoration", &"none")?;
-    Ok(HtmlElem::new(alloc, tag::a).with_css(css.finish()))
+    Ok(css.finish())
 }
 
 /// A text of the template with fields in place of its holes.

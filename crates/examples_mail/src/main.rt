@@ -17,7 +17,7 @@
 mod mail;
 
 use anyhow::{Context, Result};
-use clap::{Arg, Command};
+use clap::{Arg, ArgMatches, Command};
 use mail::mail;
 use std::alloc::Global;
 use std::io::{BufRead, BufReader};
@@ -34,26 +34,21 @@ fn main(rt: HostRuntime) -> ExitCode {
     }
 }
 
-/// Reads the words and the template, and writes the mails. The answer is the status.
+/// Reads the words, and writes the mails. The answer is the status.
 fn run(rt: &HostRuntime) -> Result<ExitCode> {
     let words: Vec<String> = env::args(rt)?.collect(rt.alloc())?;
-    let matches = match command(rt.alloc())?.try_get_matches_from(&words) {
-        Ok(matches) => matches,
+    match command(rt.alloc())?.try_get_matches_from(&words) {
+        Ok(matches) => write_mails(rt, &matches),
         Err(error) => {
             error.print(rt)?;
-            return Ok(ExitCode::from(u8::try_from(error.exit_code())?));
+            Ok(ExitCode::from(u8::try_from(error.exit_code())?))
         }
-    };
-    let path = matches.get_str("template").context("no template")?;
-    let lang = matches.get_str("lang").context("no language")?;
-    let template = fs::read_to_string(rt, path).context(path)?;
-    write_mails(rt, &template, lang)
+    }
 }
 
 /// The words that the program takes.
 fn command<'a>(alloc: Global) -> Result<Command<'a>> {
-    let template = Arg::new(alloc, "template")
-        .value_name("TEMPLATE")
+    let template = Arg::new(alloc, "TEMPLATE")
         .required(true)
         .help("The file of the template");
     let lang = Arg::new(alloc, "lang")
@@ -68,20 +63,39 @@ fn command<'a>(alloc: Global) -> Result<Command<'a>> {
     Ok(command)
 }
 
-/// Writes the mail of each record, or tells why there is none. The answer is the status.
-fn write_mails(rt: &HostRuntime, template: &str, lang: &str) -> Result<ExitCode> {
+/// Reads the template, and writes the mails. The answer is the status.
+fn write_mails(rt: &HostRuntime, matches: &ArgMatches<'_>) -> Result<ExitCode> {
+    let path = matches.get_str("TEMPLATE").context("no template")?;
+    let lang = matches.get_str("lang").context("no language")?;
+    let template = fs::read_to_string(rt, path).context(path)?;
+    write_mails_of(rt, &template, lang)
+}
+
+/// Writes the mail of each record on standard input. The answer is the status.
+fn write_mails_of(rt: &HostRuntime, template: &str, lang: &str) -> Result<ExitCode> {
     let mut code = ExitCode::SUCCESS;
     let mut number = 0u64;
     let input = BufReader::new(rt.alloc(), rt.stdin())?;
     for record in input.split(rt.alloc(), b'\n') {
         number = number.saturating_add(1);
-        match mail(rt.alloc(), template, &record?, lang) {
-            Ok(html) => println!(rt; "{html}").context("standard output")?,
-            Err(error) => {
-                code = ExitCode::FAILURE;
-                eprintln!(rt; "line {number}: {error:#}")?;
-            }
+        let mail = mail(rt.alloc(), template, &record?, lang);
+        if !is_written(rt, number, mail)? {
+            code = ExitCode::FAILURE;
         }
     }
     Ok(code)
+}
+
+/// Writes the mail of a line, or tells why there is none. The answer is whether there is one.
+fn is_written(rt: &HostRuntime, line: u64, mail: Result<String>) -> Result<bool> {
+    match mail {
+        Ok(html) => {
+            println!(rt; "{html}").context("standard output")?;
+            Ok(true)
+        }
+        Err(error) => {
+            eprintln!(rt; "line {line}: {error:#}")?;
+            Ok(false)
+        }
+    }
 }

@@ -5,14 +5,15 @@
 mod page;
 mod site;
 
-use crate::site::Site;
+use crate::page::Page;
+use crate::site::{Hrefs, Site};
 use anyhow::{Context, Result, ensure};
-use clap::{ArgMatches, Command, arg};
+use clap::{Arg, ArgMatches, Command, arg};
 use std::alloc::Global;
 use std::collections::BTreeMap;
 use std::process::ExitCode;
 use std::{env, fs};
-use typst_html::HtmlOptions;
+use typst_html::{HtmlDocument, HtmlOptions};
 
 fn main(rt: HostRuntime) -> ExitCode {
     match run(&rt) {
@@ -27,15 +28,13 @@ fn main(rt: HostRuntime) -> ExitCode {
 /// Reads the words, and makes the site. The answer is the status.
 fn run(rt: &HostRuntime) -> Result<ExitCode> {
     let words: Vec<String> = env::args(rt)?.collect(rt.alloc())?;
-    let matches = match command(rt.alloc())?.try_get_matches_from(&words) {
-        Ok(matches) => matches,
+    match command(rt.alloc())?.try_get_matches_from(&words) {
+        Ok(matches) => make_site(rt, &matches),
         Err(error) => {
             error.print(rt)?;
-            return Ok(ExitCode::from(u8::try_from(error.exit_code())?));
+            Ok(ExitCode::from(u8::try_from(error.exit_code())?))
         }
-    };
-    make_site(rt, &matches)?;
-    Ok(ExitCode::SUCCESS)
+    }
 }
 
 /// What the program is asked for.
@@ -43,71 +42,90 @@ fn command<'a>(alloc: Global) -> Result<Command<'a>> {
     let command = Command::new(alloc, "examples_site")
         .arg(arg!(in alloc; --pretty "Lay the text of pages out with indents"))?
         .arg(arg!(in alloc; --title <TITLE> "The title of the site"))?
-        .arg(arg!(in alloc; <PAGES> "The folder with the pages, NAME.txt"))?
-        .arg(arg!(in alloc; <OUTPUT> "The folder for the pages, NAME.html"))?;
+        .arg(folder(alloc, "PAGES", "The folder with the pages, NAME.txt"))?
+        .arg(folder(alloc, "OUTPUT", "The folder for the pages, NAME.html"))?;
     Ok(command)
 }
 
-/// Makes all pages, and then writes them.
-fn make_site(rt: &HostRuntime, matches: &ArgMatches<'_>) -> Result<()> {
-    let alloc = rt.alloc();
-    let mut site = Site {
-        alloc,
-        title: matches.get_str("title"),
-        pages: Vec::new(alloc),
-        places: BTreeMap::new(alloc),
-    };
-    read_pages(rt, &mut site, matches.get_str("PAGES").context("no PAGES")?)?;
-    let options = HtmlOptions {
-        pretty: matches.get_flag("pretty"),
-    };
-    let texts = texts(rt, &site, &options)?;
+fn folder<'a>(alloc: Global, name: &'a str, help: &'a str) -> Arg<'a> {
+    Arg::new(alloc, name).required(true).help(help)
+}
+
+/// Makes all pages, and then writes them. The answer is the status.
+fn make_site(rt: &HostRuntime, matches: &ArgMatches<'_>) -> Result<ExitCode> {
+    let folder = matches.get_str("PAGES").context("no PAGES")?;
     let output = matches.get_str("OUTPUT").context("no OUTPUT")?;
-    fs::create_dir_all(rt, output).context(output)?;
-    for (page, text) in site.pages.iter().zip(&texts) {
-        let path = format!(in alloc; "{output}/{}.html", page.name)?;
-        fs::write(rt, &path, text).context(&path)?;
-    }
-    let pages = if texts.len() == 1 { "page" } else { "pages" };
-    println!(rt; "{} {pages} written to {output}", texts.len())?;
-    Ok(())
+    let mut site = Site {
+        alloc: rt.alloc(),
+        title: matches.get_str("title"),
+        pages: Vec::new(rt.alloc()),
+        places: BTreeMap::new(rt.alloc()),
+    };
+    read_pages(rt, &mut site, folder)?;
+    let pretty = matches.get_flag("pretty");
+    let texts = texts(rt, &site, &HtmlOptions { pretty })?;
+    write_pages(rt, &site.pages, &texts, output)?;
+    Ok(ExitCode::SUCCESS)
 }
 
 /// Adds the pages of a folder, in the order of their names.
 fn read_pages(rt: &HostRuntime, site: &mut Site<'_>, folder: &str) -> Result<()> {
-    let alloc = rt.alloc();
-    let mut names = Vec::new(alloc);
-    for entry in fs::read_dir(rt, folder).context(folder)? {
-        if let Some(name) = entry?.file_name().strip_suffix(".txt") {
-            names.push(name.to_string(alloc)?)?;
-        }
-    }
-    ensure!(!names.is_empty(), "{folder}: no page NAME.txt");
-    names.sort()?;
-    for name in names {
-        let path = format!(in alloc; "{folder}/{name}.txt")?;
+    for name in page_names(rt, folder)? {
+        let path = format!(in rt.alloc(); "{folder}/{name}.txt")?;
         let text = fs::read_to_string(rt, &path).context(&path)?;
         site.add_page(name, path, &text)?;
     }
     Ok(())
 }
 
+/// The names of the pages of a folder, in order.
+fn page_names(rt: &HostRuntime, folder: &str) -> Result<Vec<String>> {
+    let mut names = Vec::new(rt.alloc());
+    for entry in fs::read_dir(rt, folder).context(folder)? {
+        if let Some(name) = entry?.file_name().strip_suffix(".txt") {
+            names.push(name.to_string(rt.alloc())?)?;
+        }
+    }
+    ensure!(!names.is_empty(), "{folder}: no page NAME.txt");
+    names.sort()?;
+    Ok(names)
+}
+
 /// The HTML text of each page.
 fn texts(rt: &HostRuntime, site: &Site<'_>, options: &HtmlOptions) -> Result<Vec<String>> {
     let mut hrefs = BTreeMap::new(site.alloc);
-    let mut documents = Vec::new(site.alloc);
-    for page in &site.pages {
-        let document = site.document(page)?;
-        site.add_hrefs(&mut hrefs, page, &document)?;
-        documents.push(document)?;
-        progress(rt, documents.len(), "made")?;
-    }
+    let documents = documents(rt, site, &mut hrefs)?;
     let mut texts = Vec::new(site.alloc);
     for (page, document) in site.pages.iter().zip(documents) {
         texts.push(site.text(page, document, &hrefs, options)?)?;
         progress(rt, texts.len(), "linked")?;
     }
     Ok(texts)
+}
+
+/// The document of each page, whose place and headings are added to the others.
+fn documents(rt: &HostRuntime, site: &Site<'_>, hrefs: &mut Hrefs) -> Result<Vec<HtmlDocument>> {
+    let mut documents = Vec::new(site.alloc);
+    for page in &site.pages {
+        let document = site.document(page)?;
+        site.add_hrefs(hrefs, page, &document)?;
+        documents.push(document)?;
+        progress(rt, documents.len(), "made")?;
+    }
+    Ok(documents)
+}
+
+/// Writes the text of each page into a folder.
+fn write_pages(rt: &HostRuntime, pages: &[Page], texts: &[String], folder: &str) -> Result<()> {
+    fs::create_dir_all(rt, folder).context(folder)?;
+    for (page, text) in pages.iter().zip(texts) {
+        let path = format!(in rt.alloc(); "{folder}/{}.html", page.name)?;
+        fs::write(rt, &path, text).context(&path)?;
+    }
+    let count = texts.len();
+    let pages = if count == 1 { "page" } else { "pages" };
+    println!(rt; "{count} {pages} written to {folder}")?;
+    Ok(())
 }
 
 /// Says at each hundredth page how many are done.

@@ -14,7 +14,9 @@ use crate::site::{LINK, Site};
 use anyhow::{Context, Result, ensure};
 use std::alloc::{AllocError, Global};
 use std::collections::BTreeSet;
-use typst_html::{HtmlElem, Item, Location, Pair, Span, attr, charsets, push_located, tag};
+use typst_html::{
+    HtmlElem, HtmlTag, Item, Location, Pair, Span, attr, charsets, push_located, tag,
+};
 
 /// A page. What stands in a line has its number as its span.
 #[derive(Drop)]
@@ -65,70 +67,82 @@ impl Site<'_> {
         Ok(())
     }
 
-    /// Reads the title of a page.
+    /// Adds what a line says to a page.
+    fn read_line(&mut self, page: &mut Page, line: &str, span: Span) -> Result<()> {
+        if span == Span(1) {
+            self.read_title(page, line, span)
+        } else if let Some(rest) = line.strip_prefix("# ") {
+            self.read_heading(page, rest, span)
+        } else if let Some(rest) = line.strip_prefix("! ") {
+            self.read_image(page, rest, span)
+        } else if let Some(text) = line.strip_prefix("- ") {
+            let body = self.text_with_links(&page.name, text, span)?;
+            let entry = HtmlElem::new(self.alloc, tag::li).with_body(body);
+            push_entry(self.alloc, &mut page.items, entry.spanned(span))
+        } else if !line.trim().is_empty() {
+            let body = self.text_with_links(&page.name, line, span)?;
+            let paragraph = HtmlElem::new(self.alloc, tag::p).with_body(body);
+            Ok(page.items.push(Pair::from(paragraph.spanned(span)))?)
+        } else {
+            Ok(())
+        }
+    }
+
     fn read_title(&self, page: &mut Page, line: &str, span: Span) -> Result<()> {
         let title = title_in(line)?;
         page.title.push_str(title)?;
-        let heading = HtmlElem::new(self.alloc, tag::h1).spanned(span);
-        let heading = heading.with_text(self.alloc, title)?;
-        page.items.push(Pair::from(heading))?;
-        Ok(())
+        let heading = self.element(tag::h1, title, span)?;
+        Ok(page.items.push(Pair::from(heading))?)
     }
 
-    /// Adds what a line says to a page.
-    fn read_line(&mut self, page: &mut Page, line: &str, span: Span) -> Result<()> {
-        let alloc = self.alloc;
-        if span == Span(1) {
-            self.read_title(page, line, span)?;
-        } else if let Some(rest) = line.strip_prefix("# ") {
-            let (label, text) = word_and_text(rest).context("no text behind `# label`")?;
-            let here = self.location(format!(in alloc; "{}#{label}", page.name)?)?;
-            ensure!(page.headings.insert(here)?, "a second heading {label:?}");
-            let label = Some(label.to_string(alloc)?);
-            let heading = HtmlElem::new(alloc, tag::h2)
-                .spanned(span)
-                .with_text(alloc, text)?;
-            push_located(&mut page.items, here, label, None, Item::from(heading))?;
-        } else if let Some(rest) = line.strip_prefix("! ") {
-            let (file, text) = word_and_text(rest).context("no text behind `! file`")?;
-            let image = HtmlElem::new(alloc, tag::img)
-                .with_attr(attr::src, file.to_string(alloc)?)?
-                .with_attr(attr::alt, text.to_string(alloc)?)?;
-            page.items.push(Pair::from(image.spanned(span)))?;
-        } else if let Some(text) = line.strip_prefix("- ") {
-            let body = self.text_with_links(&page.name, text, span)?;
-            let entry = HtmlElem::new(alloc, tag::li).with_body(body);
-            push_entry(alloc, &mut page.items, entry.spanned(span))?;
-        } else if !line.trim().is_empty() {
-            let body = self.text_with_links(&page.name, line, span)?;
-            let paragraph = HtmlElem::new(alloc, tag::p).with_body(body);
-            page.items.push(Pair::from(paragraph.spanned(span)))?;
-        }
-        Ok(())
+    fn read_heading(&mut self, page: &mut Page, rest: &str, span: Span) -> Result<()> {
+        let (label, text) = word_and_text(rest).context("no text behind `# label`")?;
+        let here = self.location(format!(in self.alloc; "{}#{label}", page.name)?)?;
+        ensure!(page.headings.insert(here)?, "a second heading {label:?}");
+        let heading = Item::from(self.element(tag::h2, text, span)?);
+        let label = Some(label.to_string(self.alloc)?);
+        Ok(push_located(&mut page.items, here, label, None, heading)?)
+    }
+
+    fn read_image(&self, page: &mut Page, rest: &str, span: Span) -> Result<()> {
+        let (file, text) = word_and_text(rest).context("no text behind `! file`")?;
+        let image = HtmlElem::new(self.alloc, tag::img)
+            .with_attr(attr::src, file.to_string(self.alloc)?)?
+            .with_attr(attr::alt, text.to_string(self.alloc)?)?;
+        Ok(page.items.push(Pair::from(image.spanned(span)))?)
+    }
+
+    /// An element with that text.
+    fn element(&self, tag: HtmlTag, text: &str, span: Span) -> Result<HtmlElem> {
+        let element = HtmlElem::new(self.alloc, tag).spanned(span);
+        Ok(element.with_text(self.alloc, text)?)
     }
 
     /// A text of the page of that name, in which `[words](target)` is a link.
     fn text_with_links(&mut self, page: &str, text: &str, span: Span) -> Result<Vec<Pair>> {
-        let alloc = self.alloc;
-        let mut items = Vec::new(alloc);
+        let mut items = Vec::new(self.alloc);
         let mut parts = text.split('[');
-        let first = parts.next().unwrap_or_default();
-        items.push(Pair::from(Item::Text(first.to_string(alloc)?, span)))?;
+        let first = parts.next().unwrap_or_default().to_string(self.alloc)?;
+        items.push(Pair::from(Item::Text(first, span)))?;
         for part in parts {
-            let Some((words, target, behind)) = link_in(part) else {
-                let text = format!(in alloc; "[{part}")?;
-                items.push(Pair::from(Item::Text(text, span)))?;
-                continue;
+            let text = match link_in(part) {
+                Some((words, target, behind)) => {
+                    let link = Item::from(self.element(tag::a, words, span)?);
+                    let dest = Some(self.destination(page, target)?);
+                    push_located(&mut items, LINK, None, dest, link)?;
+                    behind.to_string(self.alloc)?
+                }
+                None => format!(in self.alloc; "[{part}")?,
             };
-            let page = if target.starts_with('#') { page } else { "" };
-            let dest = self.location(format!(in alloc; "{page}{target}")?)?;
-            let link = HtmlElem::new(alloc, tag::a)
-                .spanned(span)
-                .with_text(alloc, words)?;
-            push_located(&mut items, LINK, None, Some(dest), Item::from(link))?;
-            items.push(Pair::from(Item::Text(behind.to_string(alloc)?, span)))?;
+            items.push(Pair::from(Item::Text(text, span)))?;
         }
         Ok(items)
+    }
+
+    /// The location to which a target leads from the page of that name.
+    fn destination(&mut self, page: &str, target: &str) -> Result<Location> {
+        let page = if target.starts_with('#') { page } else { "" };
+        self.location(format!(in self.alloc; "{page}{target}")?)
     }
 
     /// The location of a target, a new one if nothing has named that target before.
@@ -167,10 +181,8 @@ fn push_entry(alloc: Global, items: &mut Vec<Pair>, entry: HtmlElem) -> Result<(
         && list.tag == tag::ul
         && let Some(entries) = &mut list.body
     {
-        entries.push(Pair::from(entry))?;
-    } else {
-        let list = HtmlElem::new(alloc, tag::ul).with_item(alloc, Pair::from(entry))?;
-        items.push(Pair::from(list))?;
+        return Ok(entries.push(Pair::from(entry))?);
     }
-    Ok(())
+    let list = HtmlElem::new(alloc, tag::ul).with_item(alloc, Pair::from(entry))?;
+    Ok(items.push(Pair::from(list))?)
 }

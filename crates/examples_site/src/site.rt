@@ -46,44 +46,54 @@ pub struct Site<'a> {
 impl Site<'_> {
     /// The document of a page, whose headings have anchors.
     pub fn document(&self, page: &Page) -> Result<HtmlDocument> {
-        let alloc = self.alloc;
-        let items = page.items.iter().map(|item| item.try_clone());
-        let main = HtmlElem::new(alloc, tag::main).with_body(items.try_collect(alloc)?);
-        let items = vec![in alloc; Pair::from(self.navigation(page)?), Pair::from(main)]?;
-        let mut info = DocumentInfo::new(alloc);
-        info.title = Some(match self.title {
-            Some(title) => format!(in alloc; "{} - {title}", page.title)?,
-            None => page.title.clone()?,
-        });
-        let mut document = html_document_for_bundle(alloc, &items, &info, &[], DEEPEST)?;
-        let anchors = create_link_anchors(alloc, &mut document, &page.headings)?;
+        let (items, info) = (self.items(page)?, self.info(page)?);
+        let mut document = html_document_for_bundle(self.alloc, &items, &info, &[], DEEPEST)?;
+        let anchors = create_link_anchors(self.alloc, &mut document, &page.headings)?;
         document.introspector_mut().set_anchors(anchors);
         Ok(document)
     }
 
+    /// All that is seen of a page.
+    fn items(&self, page: &Page) -> Result<Vec<Pair>> {
+        let items = page.items.iter().map(|item| item.try_clone());
+        let items = items.try_collect(self.alloc)?;
+        let main = HtmlElem::new(self.alloc, tag::main).with_body(items);
+        let navigation = self.navigation(page)?;
+        Ok(vec![in self.alloc; Pair::from(navigation), Pair::from(main)]?)
+    }
+
+    /// What is known of a page besides.
+    fn info(&self, page: &Page) -> Result<DocumentInfo> {
+        let mut info = DocumentInfo::new(self.alloc);
+        info.title = Some(match self.title {
+            Some(title) => format!(in self.alloc; "{} - {title}", page.title)?,
+            None => page.title.clone()?,
+        });
+        Ok(info)
+    }
+
     /// Links to all pages, that to the current one marked.
     fn navigation(&self, current: &Page) -> Result<HtmlElem> {
-        let alloc = self.alloc;
-        let mut entries = Vec::new(alloc);
+        let mut entries = Vec::new(self.alloc);
         for page in &self.pages {
-            let entry = entry(alloc, page, page.location == current.location)?;
+            let entry = entry(self.alloc, page, page.location == current.location)?;
             entries.push(Pair::from(entry))?;
         }
-        let list = HtmlElem::new(alloc, tag::ul).with_body(entries);
-        Ok(HtmlElem::new(alloc, tag::nav).with_item(alloc, Pair::from(list))?)
+        let list = HtmlElem::new(self.alloc, tag::ul).with_body(entries);
+        Ok(HtmlElem::new(self.alloc, tag::nav).with_item(self.alloc, Pair::from(list))?)
     }
 
     /// Adds where a page is, and where its headings are, by their anchors in its document.
     pub fn add_hrefs(&self, hrefs: &mut Hrefs, page: &Page, document: &HtmlDocument) -> Result<()> {
-        let alloc = self.alloc;
         let name = utf8_percent_encode(&page.name, RESERVED);
-        let _ = hrefs.insert(page.location, format!(in alloc; "{name}.html")?)?;
+        let file = format!(in self.alloc; "{name}.html")?;
         for heading in &page.headings {
             if let Some(anchor) = document.introspector().anchor(*heading) {
-                let fragment = href_to(alloc, anchor)?;
-                let _ = hrefs.insert(*heading, format!(in alloc; "{name}.html{fragment}")?)?;
+                let fragment = href_to(self.alloc, anchor)?;
+                let _ = hrefs.insert(*heading, format!(in self.alloc; "{file}{fragment}")?)?;
             }
         }
+        let _ = hrefs.insert(page.location, file)?;
         Ok(())
     }
 
@@ -99,15 +109,21 @@ impl Site<'_> {
         let root = document.root_mut();
         let children = mem::replace(&mut root.children, Vec::new(self.alloc));
         root.children = nodes_with_hrefs(self.alloc, children, hrefs)?;
-        if let Some(link) = dead_links(self.alloc, &document)?.first() {
+        self.ensure_links_lead(page, &document)?;
+        let made = html(self.alloc, &document, options, &());
+        let span = made.as_ref().err().map_or(Span(0), |fault| fault.span());
+        made.with_context(|| page.place(self.alloc, span))
+    }
+
+    /// Refuses a document with a link that leads nowhere.
+    fn ensure_links_lead(&self, page: &Page, document: &HtmlDocument) -> Result<()> {
+        if let Some(link) = dead_links(self.alloc, document)?.first() {
             let target = self.places.iter().find(|place| *place.1 == link.dest);
             let target = target.map_or("", |place| place.0.as_str());
             let error = anyhow!("no heading or page is named {target:?}");
             return Err(error.context(page.place(self.alloc, link.span)?));
         }
-        let made = html(self.alloc, &document, options, &());
-        let span = made.as_ref().err().map_or(Span(0), |fault| fault.span());
-        made.with_context(|| page.place(self.alloc, span))
+        Ok(())
     }
 }
 

@@ -27,17 +27,21 @@ fn main(rt: HostRuntime) -> ExitCode {
     }
 }
 
-/// Reads words and records, and writes the page. The answer is the status.
+/// Reads the words, and writes the page. The answer is the status.
 fn run(rt: &HostRuntime) -> Result<ExitCode> {
     let words: Vec<String> = env::args(rt)?.collect(rt.alloc())?;
-    let matches = match command(rt.alloc())?.try_get_matches_from(&words) {
-        Ok(matches) => matches,
+    match command(rt.alloc())?.try_get_matches_from(&words) {
+        Ok(matches) => write_page(rt, &matches),
         Err(error) => {
             error.print(rt)?;
-            return Ok(ExitCode::from(u8::try_from(error.exit_code())?));
+            Ok(ExitCode::from(u8::try_from(error.exit_code())?))
         }
-    };
-    let html = page(rt.alloc(), rt.stdin(), &settings(&matches)?)?;
+    }
+}
+
+/// Writes the page of the records on standard input. The answer is the status.
+fn write_page(rt: &HostRuntime, matches: &ArgMatches<'_>) -> Result<ExitCode> {
+    let html = page(rt.alloc(), rt.stdin(), &settings(matches)?)?;
     print!(rt; "{html}").context("standard output")?;
     Ok(ExitCode::SUCCESS)
 }

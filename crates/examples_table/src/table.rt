@@ -32,31 +32,49 @@ pub(crate) fn page<R: Read + Drop>(
     input: R,
     settings: &Settings<'_>,
 ) -> Result<String> {
-    let mut reader = Reader::from_reader(alloc, input);
-    let items = vec![in alloc; Pair::from(table(alloc, &mut reader, settings.title)?)]?;
-    let mut info = DocumentInfo::new(alloc);
-    info.title = Some(String::from_str(alloc, settings.title)?);
-    info.locale = Some(Locale::new(String::from_str(alloc, settings.lang)?));
+    let table = table(alloc, Reader::from_reader(alloc, input), settings.title)?;
+    let items = vec![in alloc; Pair::from(table)]?;
+    let info = info(alloc, settings)?;
     let options = HtmlOptions {
         pretty: settings.pretty,
     };
     export(alloc, &items, &info, &[], DEPTH_LIMIT, &options, &()).map_err(with_row)
 }
 
+/// What is known of the page besides its table.
+fn info(alloc: Global, settings: &Settings<'_>) -> Result<DocumentInfo> {
+    let mut info = DocumentInfo::new(alloc);
+    info.title = Some(String::from_str(alloc, settings.title)?);
+    info.locale = Some(Locale::new(String::from_str(alloc, settings.lang)?));
+    Ok(info)
+}
+
 /// The table with its caption, its head and its body.
-fn table<R: Read>(alloc: Global, reader: &mut Reader<R>, title: &str) -> Result<HtmlElem> {
+fn table<R: Read + Drop>(alloc: Global, mut reader: Reader<R>, title: &str) -> Result<HtmlElem> {
     let caption = HtmlElem::new(alloc, tag::caption).with_text(alloc, title)?;
-    let head = reader.headers()?;
-    ensure!(!head.is_empty(), "no record: the first is the table's head");
-    let head = row(alloc, head, &tag::th)?;
-    let mut body = Vec::new(alloc);
-    for record in reader.records() {
-        body.push(Pair::from(row(alloc, &record?, &tag::td)?))?;
-    }
-    let head = HtmlElem::new(alloc, tag::thead).with_item(alloc, Pair::from(head))?;
-    let body = HtmlElem::new(alloc, tag::tbody).with_body(body);
+    let head = head(alloc, reader.headers()?)?;
+    let body = body(alloc, &mut reader)?;
     let parts = vec![in alloc; Pair::from(caption), Pair::from(head), Pair::from(body)]?;
     Ok(HtmlElem::new(alloc, tag::table).with_body(parts))
+}
+
+/// The head of the table, which is its first row.
+fn head(alloc: Global, record: &StringRecord) -> Result<HtmlElem> {
+    ensure!(
+        !record.is_empty(),
+        "no record: the first is the table's head"
+    );
+    let row = row(alloc, record, &tag::th)?;
+    Ok(HtmlElem::new(alloc, tag::thead).with_item(alloc, Pair::from(row))?)
+}
+
+/// The body of the table, all rows behind the first.
+fn body<R: Read>(alloc: Global, reader: &mut Reader<R>) -> Result<HtmlElem> {
+    let mut rows = Vec::new(alloc);
+    for record in reader.records() {
+        rows.push(Pair::from(row(alloc, &record?, &tag::td)?))?;
+    }
+    Ok(HtmlElem::new(alloc, tag::tbody).with_body(rows))
 }
 
 /// A row, whose cells are elements of that name.
@@ -65,11 +83,9 @@ fn row(alloc: Global, record: &StringRecord, name: &HtmlTag) -> Result<HtmlElem>
     let row = position.map_or(NO_ROW, |at| Span(at.record.saturating_add(1)));
     let mut cells = Vec::new(alloc);
     for field in record.iter() {
-        let cell = HtmlElem::new(alloc, name.try_clone()?)
-            .spanned(row)
-            .with_css(alignment(alloc, field)?)
-            .with_text(alloc, field)?;
-        cells.push(Pair::from(cell))?;
+        let cell = HtmlElem::new(alloc, name.try_clone()?).spanned(row);
+        let cell = cell.with_css(alignment(alloc, field)?);
+        cells.push(Pair::from(cell.with_text(alloc, field)?))?;
     }
     Ok(HtmlElem::new(alloc, tag::tr).with_body(cells))
 }
