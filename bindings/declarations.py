@@ -10,7 +10,8 @@ import sys
 from pathlib import Path
 
 ROOT = Path(__file__).resolve().parent.parent
-SOURCE = ROOT / "crates" / "typst_html_c" / "src"
+# the exports, and the calls behind them with what they reply
+SOURCES = [ROOT / "crates" / crate / "src" for crate in ("typst_html_static", "typst_html_c")]
 FILES = {
     "header": "bindings/typst_html.h", "raw": "bindings/rust/src/raw.rs", "refusal": "bindings/rust/src/refusal.rs",
     "lib": "bindings/rust/src/lib.rs", "package": "bindings/python/typst_html_proved/__init__.py",
@@ -47,7 +48,7 @@ CHANGES = [
     ("raw", "    status: u8,\n    number: u8,", "    number: u8,\n    status: u8,", "reply"),
     ("library", "    _fields_", "    _pack_ = 1\n    _fields_", "reply"),
     ("library", '("status", ctypes.c_uint8)', '("state", ctypes.c_uint8)', "reply"),
-    ("library", "VERSION = 4", "VERSION = 5", "version"),
+    ("library", "VERSION = 5", "VERSION = 6", "version"),
     ("refusal", "tag name must not be empty", "tag name is empty", "words"),
     ("crate", "Apache-2.0", "MIT", "licence"),
     ("project", "Apache-2.0", "MIT", "licence"),
@@ -176,7 +177,7 @@ def unseen(texts):
 
 def main():
     texts = {name: (ROOT / path).read_text() for name, path in FILES.items()}
-    texts["source"] = "".join(path.read_text() for path in sorted(SOURCE.glob("*.rt")) if path.name != "tests.rt")
+    texts["source"] = "".join(path.read_text() for source in SOURCES for path in sorted(source.glob("*.rt")))
     found = compared(texts)
     wrong = differing(found)
     for what in wrong:

@@ -24,7 +24,7 @@ extern "C" {
 #endif
 
 /* The version of these calls: compare it with typst_html_version(). */
-#define TYPST_HTML_VERSION 4
+#define TYPST_HTML_VERSION 5
 
 /* How a call ended. In all but TYPST_HTML_DONE and TYPST_HTML_DEAD_LINKS `output` is as it was. */
 enum typst_html_status {
@@ -127,8 +127,11 @@ struct typst_html_reply typst_html_dead_links(uint32_t limit, const uint8_t *inp
 /*
  * What is wrong with the links of a page, as JSON: the links to fragments of the page itself that lead
  * nowhere, and the ids that stand in it before.
- *     {"dead_fragments":[{"fragment":t,"path":[n,..]},..],"repeated_ids":[{"id":t,"path":[n,..]},..]}
- * A path is the index of each child on the way from the root, texts counted. Pages are read that are
+ *     {"dead_fragments":[{"fragment":t,"keeps":n,"path":[n,..]},..],
+ *      "repeated_ids":[{"id":t,"keeps":n,"path":[n,..]},..]}
+ * The path of each is the index of each child on the way from the root, texts counted. It begins with the
+ * first `keeps` indices of the path of the finding before it in its list, and goes on with those of
+ * `path`; the first keeps none. So the text is no longer where findings stand deep. Pages are read that are
  * written as by these calls; one with another syntax is bad input, with the place of the first character
  * with which no such page goes on. So is one that a browser takes apart otherwise: with a capital in a
  * name that is none of SVG's, as `<A>`, a name that begins with no letter, a `plaintext`, a tag or

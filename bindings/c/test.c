@@ -156,8 +156,8 @@ static void dead_links_are_told(void) {
 
 static void pages_are_checked(void) {
     const char *page = "<!DOCTYPE html><p id=\"a\"><a href=\"#b\">x</a><b id=\"a\"></b></p>";
-    const char *found = "{\"dead_fragments\":[{\"fragment\":\"b\",\"path\":[0]}],"
-                        "\"repeated_ids\":[{\"id\":\"a\",\"path\":[1]}]}";
+    const char *found = "{\"dead_fragments\":[{\"fragment\":\"b\",\"keeps\":0,\"path\":[0]}],"
+                        "\"repeated_ids\":[{\"id\":\"a\",\"keeps\":0,\"path\":[1]}]}";
     uint8_t output[256];
     size_t length = strlen(page), room = strlen(found);
     memset(output, '.', sizeof output);
@@ -190,6 +190,27 @@ static void pages_are_checked(void) {
     reply = typst_html_check(50, (const uint8_t *)wrong, strlen(wrong), output, sizeof output);
     expect("a page in Latin-1", reply.status == TYPST_HTML_BAD_INPUT && reply.number == 0 &&
                                     reply.span == 21 && reply.line == 2 && reply.column == 5);
+}
+
+/* Links to nowhere 990 deep: the text is no longer than that of as many at the top. */
+static void deep_findings_are_short(void) {
+    enum { DEEP = 990, COUNT = 10000, ROOM = 1 << 19 };
+    const char *link = "<a href=\"#x\"></a>";
+    char *page = malloc(ROOM), *end = stpcpy(page, "<!DOCTYPE html>");
+    uint8_t *output = malloc(ROOM);
+    for (int i = 0; i < DEEP; i++)
+        end = stpcpy(end, "<b>");
+    for (int i = 0; i < COUNT; i++)
+        end = stpcpy(end, link);
+    for (int i = 0; i < DEEP; i++)
+        end = stpcpy(end, "</b>");
+    struct typst_html_reply reply =
+        typst_html_check(1000, (uint8_t *)page, (size_t)(end - page), output, ROOM);
+    const char *last = ",{\"fragment\":\"x\",\"keeps\":989,\"path\":[9999]}],\"repeated_ids\":[]}";
+    expect("deep findings", reply.status == TYPST_HTML_DONE &&
+                                !memcmp(output + reply.length - strlen(last), last, strlen(last)));
+    free(page);
+    free(output);
 }
 
 static void *all_rows(void *bad) {
@@ -279,6 +300,7 @@ int main(int count, char **words) {
     wrong_numbers_are_bad_input();
     dead_links_are_told();
     pages_are_checked();
+    deep_findings_are_short();
     if (!is_short) {
         the_stack_is_enough();
         eight_threads_agree();

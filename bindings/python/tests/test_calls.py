@@ -243,11 +243,15 @@ class Calls(unittest.TestCase):
         thread.join()
         self.assertEqual(told, [True] * 5)
 
-    def test_findings_far_longer_than_their_page(self):
-        page = "<!DOCTYPE html>" + "<b>" * 400 + '<a href="#x"></a>' * 1000 + "</b>" * 400
+    def test_findings_deep_in_their_page_have_whole_paths(self):
+        link = '<a href="#x" id="i"></a>'
+        page = "<!DOCTYPE html>" + f"<b>{link}" * 400 + link * 1000 + f"{link}</b>" * 400
+        paths = [(1,) * depth + (0,) for depth in range(400)]
+        paths += [(1,) * 399 + (last,) for last in range(1, 1002)]
+        paths += [(1,) * depth + (2,) for depth in reversed(range(399))]
         found = html.check(page, limit=1000)
-        self.assertEqual(len(found.dead_fragments), 1000)
-        self.assertEqual(found.dead_fragments[999].path[-1], 999)
+        self.assertEqual([it.path for it in found.dead_fragments], paths)
+        self.assertEqual([it.path for it in found.repeated_ids], paths[1:])
 
     def test_eight_threads_agree(self):
         with ThreadPoolExecutor(8) as threads:

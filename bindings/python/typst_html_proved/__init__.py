@@ -483,6 +483,14 @@ def write_json(data: bytes | str, *, kind: Kind = "items", pretty: bool = False)
     return _text(called("typst_html_write", data, kind=kinds[kind], layout=layout))
 
 
+def _paths(found: list[dict[str, Any]]) -> Iterator[tuple[int, ...]]:
+    """The whole paths of findings, of which each is told by how much it keeps of the one before, and what follows."""
+    path: list[int] = []
+    for it in found:
+        path[it["keeps"] :] = it["path"]
+        yield tuple(path)
+
+
 def check(page: bytes | str, *, limit: int = 50) -> Findings:
     """What is wrong with the links of a page: links to fragments of the page itself that lead nowhere, and ids
     that stand in it before.
@@ -504,7 +512,8 @@ def check(page: bytes | str, *, limit: int = 50) -> Findings:
     """
     limit = _number("the limit", limit, 1, 1_000)
     found = json.loads(_text(called("typst_html_check", _bytes(page), limit=limit), of_page=True))
+    dead, repeated = found["dead_fragments"], found["repeated_ids"]
     return Findings(
-        tuple(DeadFragment(tuple(it["path"]), it["fragment"]) for it in found["dead_fragments"]),
-        tuple(RepeatedId(tuple(it["path"]), it["id"]) for it in found["repeated_ids"]),
+        tuple(DeadFragment(path, it["fragment"]) for path, it in zip(_paths(dead), dead)),
+        tuple(RepeatedId(path, it["id"]) for path, it in zip(_paths(repeated), repeated)),
     )

@@ -19,6 +19,7 @@ pub(crate) struct FoundLinks {
 
 /// What is wrong with the links of a page.
 #[derive(Clone, Debug, Default, PartialEq, Eq, Deserialize)]
+#[serde(from = "ToldFindings")]
 pub struct Findings {
     /// The links to fragments of the page itself that lead nowhere, in order.
     pub dead_fragments: Vec<DeadFragment>,
@@ -49,4 +50,41 @@ pub struct RepeatedId {
     pub path: Vec<usize>,
     /// The id.
     pub id: String,
+}
+
+/// The findings as the library tells them.
+#[derive(Deserialize)]
+struct ToldFindings {
+    dead_fragments: Vec<ToldFinding>,
+    repeated_ids: Vec<ToldFinding>,
+}
+
+/// A finding whose path begins with as many indices of the path before as it keeps.
+#[derive(Deserialize)]
+struct ToldFinding {
+    #[serde(alias = "fragment", alias = "id")]
+    text: String,
+    keeps: usize,
+    path: Vec<usize>,
+}
+
+impl From<ToldFindings> for Findings {
+    fn from(told: ToldFindings) -> Findings {
+        Findings {
+            dead_fragments: with_paths(told.dead_fragments, |path, fragment| DeadFragment { path, fragment }),
+            repeated_ids: with_paths(told.repeated_ids, |path, id| RepeatedId { path, id }),
+        }
+    }
+}
+
+/// The findings of one list with their whole paths.
+fn with_paths<T>(told: Vec<ToldFinding>, finding: impl Fn(Vec<usize>, String) -> T) -> Vec<T> {
+    let mut path = Vec::new();
+    let mut findings = Vec::with_capacity(told.len());
+    for one in told {
+        path.truncate(one.keeps);
+        path.extend(one.path);
+        findings.push(finding(path.clone(), one.text));
+    }
+    findings
 }

@@ -56,7 +56,7 @@ pub use findings::{DeadFragment, DeadLink, Findings, RepeatedId};
 pub use refusal::{DeadLinks, Place, Refusal};
 
 /// The version of the library's calls that this crate was made for.
-pub const VERSION: u32 = 4;
+pub const VERSION: u32 = 5;
 
 /// Why JSON of the library is what it is read as.
 const KNOWN_FORM: &str = "the library writes JSON of that form";

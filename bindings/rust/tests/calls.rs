@@ -362,17 +362,24 @@ fn pages_that_are_not_read_are_told() {
     }
 }
 
-/// Each dead link has a path as long as it is deep, so the first buffer is too short.
+/// The library tells of a path what differs from the one before.
 #[test]
-fn findings_far_longer_than_their_page() {
+fn findings_deep_in_their_page_have_whole_paths() {
+    let (deep, link) = (400, "<a href=\"#x\" id=\"i\"></a>");
     let mut page = String::from("<!DOCTYPE html>");
-    let deep = 400;
-    page.push_str(&"<b>".repeat(deep));
-    page.push_str(&"<a href=\"#x\"></a>".repeat(1000));
-    page.push_str(&"</b>".repeat(deep));
+    page.push_str(&format!("<b>{link}").repeat(deep));
+    page.push_str(&link.repeat(1000));
+    page.push_str(&format!("{link}</b>").repeat(deep));
+    let at = |depth: usize, last: usize| [vec![1; depth], vec![last]].concat();
+    let down = (0..deep).map(|depth| at(depth, 0));
+    let there = (1..=1000).map(|last| at(deep - 1, last));
+    let up = (0..deep).rev().map(|depth| at(depth, if depth == deep - 1 { 1001 } else { 2 }));
+    let paths: Vec<_> = down.chain(there).chain(up).collect();
     let findings = check(&page, 1000).unwrap();
-    assert_eq!(findings.dead_fragments.len(), 1000);
-    assert_eq!(findings.dead_fragments[999].path[deep - 1], 999);
+    let dead: Vec<_> = findings.dead_fragments.into_iter().map(|it| it.path).collect();
+    assert_eq!(dead, paths);
+    let repeated: Vec<_> = findings.repeated_ids.into_iter().map(|it| it.path).collect();
+    assert_eq!(repeated, paths[1..]);
 }
 
 /// Pretty text of elements in one another is far longer than its JSON, so the first buffer is too short.

@@ -1,6 +1,5 @@
 pub mod Walks
-pub mod DeadParts
-pub mod PassedIds
+pub mod Finds
 pub mod Hyperlinks
 pub mod LinkedChecks
 pub mod NormalForms

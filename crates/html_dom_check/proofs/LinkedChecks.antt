@@ -24,7 +24,7 @@ use Rattle.html_dom_check.specs.CheckLaws.{DistinctAreNotRepeated, HrefsLead, Li
 use Rattle.html_dom_check.specs.Fragments.{dead_among, dead_fragments, fragment_links, fragments_at, fragments_of}
 use Rattle.html_dom_check.specs.PlacedTexts.{Placed, placed_at, node_placed, nodes_placed}
 use Rattle.html_dom_check.specs.RepeatedIds.{ids_at, placed_ids, repeated, repeated_ids, tree_ids}
-use Rattle.html_dom_check.proofs.DeadParts.{dead-append}
+use Rattle.html_dom_check.proofs.Finds.{dead-append}
 
 pub texts_of-append : (ps qs : List Placed) → texts_of (ps ++ qs) ≡ texts_of ps ++ texts_of qs
 texts_of-append [] qs = refl

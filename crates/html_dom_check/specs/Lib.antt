@@ -4,4 +4,4 @@ pub mod Hyperlinks
 pub mod RepeatedIds
 pub mod Findings
 pub mod CheckLaws
-pub mod WalkFindings
+pub mod WantedTexts

@@ -1,6 +1,6 @@
 -- What stands at the places of a tree, in document order. A place is a path of indices of children,
 -- from the root on; that of the root is empty.
-use Rattle.std.specs.Prelude.{ℕ, suc, List, [], ◌∷◌, ◌++◌, map}
+use Rattle.std.specs.Prelude.{◌≡◌, ℕ, suc, List, [], ◌∷◌, ◌++◌, map}
 use Rattle.html_dom_tree.specs.Tree.{NodeView, tag_node, text_node, element_node, frame_node, NodesView, none, node, ElementView}
 
 -- a path, and a text that stands there
@@ -29,3 +29,7 @@ unfoldable mutual
 -- those of a whole tree
 abbrev pub element_placed : (texts : NodeView → List (List ℕ)) → ElementView → List Placed
 element_placed texts e = node_placed texts [] (element_node e.0 e.1)
+
+-- once these are taken, what is made of those that follow is what was made of these and them before
+abbrev pub Takes : {Made : Type 0} → (before after : List Placed → Made) → List Placed → Type 0
+Takes before after ps = (rest : List Placed) → after rest ≡ before (ps ++ rest)

@@ -1,5 +1,5 @@
 -- Ids that stand in their tree before (HTML Standard 3.2.6: an `id` is unique in its tree).
-use Rattle.std.specs.Prelude.{◌≡◌, Bool, List, [], ◌∷◌, ◌++◌, if◌then◌else◌, option_to_list}
+use Rattle.std.specs.Prelude.{Bool, List, [], ◌∷◌, ◌++◌, if◌then◌else◌, option_to_list}
 use Rattle.html_names.specs.Names.{stands_in}
 use Rattle.html_dom_tree.specs.Tree.{NodeView, tag_node, text_node, element_node, frame_node, node, none, ElementView}
 use Rattle.html_dom_link.specs.Answered.{shown_names}
@@ -29,9 +29,3 @@ repeated is_passed (p ∷ ps) =
 
 abbrev pub repeated_ids : ElementView → List Placed
 repeated_ids e = repeated (stands_in []) (placed_ids e)
-
--- once these ids are passed, what was found before, and what is found in all that follows, is found
-abbrev pub LeavesToFind : (found : List Placed) (is_passed : Name → Bool) → List Placed →
-    (new_found : List Placed) (is_passed_then : Name → Bool) → Type 0
-LeavesToFind found is_passed ps new_found is_passed_then = (rest : List Placed) →
-    new_found ++ repeated is_passed_then rest ≡ found ++ repeated is_passed (ps ++ rest)

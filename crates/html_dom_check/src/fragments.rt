@@ -1,17 +1,17 @@
 //! Links to fragments of their own page that lead nowhere.
 
-ghost use Rattle.std.specs.Prelude.{◌≡◌, option_map, option_to_list, IfOk, OnOk};
-ghost use Rattle.html_dom_tree.specs.Tree.{element_node};
-ghost use Rattle.html_dom_tree.specs.Views.{element_view, node_view, nodes_view, text_view};
-ghost use Rattle.html_dom_check.specs.Findings.{dead_fragment_view, dead_view};
-ghost use Rattle.html_dom_check.specs.Fragments.{dead_fragments, fragments_at};
-ghost use Rattle.html_dom_check.specs.PlacedTexts.{node_placed, nodes_placed, placed_at};
-ghost use Rattle.html_dom_check.specs.WalkFindings.{FindsDead};
+ghost use Rattle.std.specs.Prelude.{◌≡◌, List, [], ◌++◌, IfOk};
+ghost use Rattle.html_dom_tree.specs.Views.{element_view};
+ghost use Rattle.html_dom_link.specs.UsedNames.{used_in};
+ghost use Rattle.html_dom_check.specs.Findings.{dead_view};
+ghost use Rattle.html_dom_check.specs.Fragments.{dead_among, dead_fragments};
+ghost use Rattle.html_dom_check.specs.PlacedTexts.{Placed};
 
-use crate::path::{copy, leave};
-use html_dom_link::{fragment_in, fragment_leads, place_names};
-use html_dom_tree::{HtmlElement, HtmlNode};
-use html_names::{attr, tag};
+use crate::text_sink::TextSink;
+use crate::walk::texts_taken;
+use crate::wanted::Wanted;
+use html_dom_link::{fragment_leads, place_names};
+use html_dom_tree::HtmlElement;
 use std::alloc::{AllocError, Global};
 use std::collections::BTreeSet;
 
@@ -20,15 +20,8 @@ use std::collections::BTreeSet;
 pub struct DeadFragment {
     /// The index of each child on the way to the link, from the root on; the root's path is empty.
     pub path: Vec<usize>,
-    /// What stands behind `#`, as [`fragment_in`] takes it from the `href`.
+    /// What stands behind `#`, as [`fragment_in`](html_dom_link::fragment_in) takes it from the `href`.
     pub fragment: String,
-}
-
-#[derive(Drop)]
-struct Walk {
-    alloc: Global,
-    path: Vec<usize>,
-    dead: Vec<DeadFragment>,
 }
 
 /// The links of a tree to fragments of their own page that lead nowhere, in document order, the root
@@ -56,125 +49,53 @@ struct Walk {
 pub fn dead_fragments(alloc: Global, root: &HtmlElement) -> Result<Vec<DeadFragment>, AllocError>
     ensures { IfOk result (λ dead. dead_view dead.items ≡ dead_fragments (element_view root.now)) }
 {
+    tell_dead_fragments(alloc, root, Vec::new(alloc))
+}
+
+/// Tells a sink the same links as it finds them, by their fragments, and gives it back.
+pub fn tell_dead_fragments<S: TextSink>(
+    alloc: Global,
+    root: &HtmlElement,
+    sink: S,
+) -> Result<S, AllocError>
+    ensures { IfOk result (λ told.
+        S.made_with told [] ≡ S.made_with sink (dead_fragments (element_view root.now))) }
+{
     let places = place_names(alloc, root)?;
-    let mut walk = Walk {
-        alloc,
-        path: Vec::new(alloc),
-        dead: Vec::new(alloc),
-    };
-    add_element(root, &places, &mut walk)?;
-    let Walk { dead, .. } = walk;
+    let links = Links { places, dead: sink };
+    let Links { dead, .. } = texts_taken(alloc, root, Wanted::Fragments, links)?;
     Ok(dead)
 }
 
-/// The fragment to which an `a` leads, by its first `href`.
-#[tactic(auto, unfolding(html_names::specs::Tables::known_tags, html_names::specs::Tables::known_attrs))]
-fn fragment_at(alloc: Global, element: &HtmlElement) -> Result<Option<String>, AllocError>
-    ensures { let e = element_view element.now in IfOk result (λ fragment.
-        option_to_list (option_map text_view fragment) ≡ fragments_at (element_node e.0 e.1)) }
-{
-    if element.tag != tag::a {
-        return Ok(None);
-    }
-    match element.attrs.get(&attr::href) {
-        Some(href) => fragment_in(alloc, href.as_str()),
-        None => Ok(None),
+impl TextSink for Vec<DeadFragment> {
+    ghost Made = { List Placed };
+
+    ghost made_with = { λ dead ps. dead_view dead.items ++ ps };
+
+    fn take(&mut self, alloc: Global, path: &[usize], text: String) -> Result<(), AllocError> {
+        let path = path.to_vec(alloc)?;
+        let fragment = text;
+        self.push(DeadFragment { path, fragment })?;
+        Ok(())
     }
 }
 
-fn dead_fragment(path: &Vec<usize>, fragment: String) -> Result<DeadFragment, AllocError>
-    ensures { IfOk result (λ dead.
-        dead_fragment_view dead ≡ (path.now.items, text_view fragment)) }
-{
-    Ok(DeadFragment {
-        path: copy(path)?,
-        fragment,
-    })
+/// Of fragments to which links lead, it passes those on that are no name of a place.
+#[derive(Drop)]
+struct Links<S> {
+    places: BTreeSet<String>,
+    dead: S,
 }
 
-fn add_link(
-    fragment: Option<String>,
-    places: &BTreeSet<String>,
-    walk: &mut Walk,
-) -> Result<(), AllocError>
-    ensures path { OnOk result (walk.new.path.items ≡ walk.old.path.items) }
-    ensures dead { OnOk result (FindsDead places.now walk.old walk.new
-        (placed_at walk.old.path.items
-        (option_to_list (option_map text_view fragment)))) }
-{
-    let Some(fragment) = fragment else {
-        return Ok(());
-    };
-    if !fragment_leads(walk.alloc, places, fragment.as_str())? {
-        let link = dead_fragment(&walk.path, fragment)?;
-        walk.dead.push(link)?;
+impl<S: TextSink> TextSink for Links<S> {
+    ghost Made = { S.Made };
+
+    ghost made_with = { λ links ps. S.made_with links.dead (dead_among (used_in links.places) ps) };
+
+    fn take(&mut self, alloc: Global, path: &[usize], text: String) -> Result<(), AllocError> {
+        if !fragment_leads(alloc, &self.places, text.as_str())? {
+            self.dead.take(alloc, path, text)?;
+        }
+        Ok(())
     }
-    Ok(())
-}
-
-/// Adds an element, if it is such a link. What that takes is no part of the walk's own frame, of which
-/// one stands for each level.
-#[inline(never)]
-fn add_own(
-    element: &HtmlElement,
-    places: &BTreeSet<String>,
-    walk: &mut Walk,
-) -> Result<(), AllocError>
-    ensures path { OnOk result (walk.new.path.items ≡ walk.old.path.items) }
-    ensures dead { let e = element_view element.now in
-        OnOk result (FindsDead places.now walk.old walk.new
-        (placed_at walk.old.path.items (fragments_at (element_node e.0 e.1)))) }
-{
-    add_link(fragment_at(walk.alloc, element)?, places, walk)
-}
-
-// Each node stands first among the parameters: its depth shows that the calls end.
-
-#[cycle(fragments)]
-fn add_element(
-    element: &HtmlElement,
-    places: &BTreeSet<String>,
-    walk: &mut Walk,
-) -> Result<(), AllocError>
-    ensures path { OnOk result (walk.new.path.items ≡ walk.old.path.items) }
-    ensures dead { let e = element_view element.now in
-        OnOk result (FindsDead places.now walk.old walk.new
-        (node_placed fragments_at walk.old.path.items (element_node e.0 e.1))) }
-{
-    add_own(element, places, walk)?;
-    add_nodes(&element.children, places, walk)?;
-    Ok(())
-}
-
-#[cycle(fragments)]
-#[tactic(auto, unfolding(crate::specs::PlacedTexts::node_placed))]
-fn add_node(child: &HtmlNode, places: &BTreeSet<String>, walk: &mut Walk) -> Result<(), AllocError>
-    ensures path { OnOk result (walk.new.path.items ≡ walk.old.path.items) }
-    ensures dead { OnOk result (FindsDead places.now walk.old walk.new
-        (node_placed fragments_at walk.old.path.items (node_view child.now))) }
-{
-    match child {
-        HtmlNode::Tag(_) => Ok(()),
-        HtmlNode::Text(_, _) => Ok(()),
-        HtmlNode::Element(element) => add_element(element, places, walk),
-        HtmlNode::Frame(_) => Ok(()),
-    }
-}
-
-#[cycle(fragments)]
-fn add_nodes(
-    nodes: &[HtmlNode],
-    places: &BTreeSet<String>,
-    walk: &mut Walk,
-) -> Result<(), AllocError>
-    ensures path { OnOk result (walk.new.path.items ≡ walk.old.path.items) }
-    ensures dead { OnOk result (FindsDead places.now walk.old walk.new
-        (nodes_placed fragments_at walk.old.path.items 0 (nodes_view nodes.now))) }
-{
-    for (index, child) in nodes.iter().enumerate() {
-        walk.path.push(index)?;
-        add_node(child, places, walk)?;
-        leave(&mut walk.path);
-    }
-    Ok(())
 }

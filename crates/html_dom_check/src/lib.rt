@@ -2,10 +2,12 @@
 #![tactic(auto)]
 
 mod fragments;
-mod ids;
 pub mod laws;
-mod path;
 mod repeated;
+mod text_sink;
+mod walk;
+mod wanted;
 
-pub use fragments::{DeadFragment, dead_fragments};
-pub use repeated::{RepeatedId, repeated_ids};
+pub use fragments::{DeadFragment, dead_fragments, tell_dead_fragments};
+pub use repeated::{RepeatedId, repeated_ids, tell_repeated_ids};
+pub use text_sink::TextSink;

@@ -1,18 +1,17 @@
 //! Ids that come twice.
 
-ghost use Rattle.std.specs.Prelude.{◌≡◌, [], ◌∷◌, IfOk, OnOk, option_map, option_to_list};
-ghost use Rattle.html_dom_tree.specs.FrameViews.{anchors_view, html_frame_view};
-ghost use Rattle.html_dom_tree.specs.Tree.{element_node, frame_node};
-ghost use Rattle.html_dom_tree.specs.Views.{element_view, node_view, nodes_view, text_view};
-ghost use Rattle.html_dom_link.specs.NewNames.{anchor_names};
-ghost use Rattle.html_dom_check.specs.Findings.{repeated_id_view, repeated_view};
-ghost use Rattle.html_dom_check.specs.PlacedTexts.{node_placed, nodes_placed, placed_at};
-ghost use Rattle.html_dom_check.specs.RepeatedIds.{ids_at, repeated_ids};
-ghost use Rattle.html_dom_check.specs.WalkFindings.{PassesIds};
+ghost use Rattle.std.specs.Prelude.{◌≡◌, List, [], ◌++◌, chars, IfOk, OnOk};
+ghost use Rattle.html_dom_tree.specs.Views.{element_view, text_view};
+ghost use Rattle.html_dom_link.specs.NewNames.{with_used_name};
+ghost use Rattle.html_dom_link.specs.UsedNames.{used_in};
+ghost use Rattle.html_dom_check.specs.Findings.{repeated_view};
+ghost use Rattle.html_dom_check.specs.PlacedTexts.{Placed};
+ghost use Rattle.html_dom_check.specs.RepeatedIds.{repeated, repeated_ids};
 
-use crate::ids::{contains, first_id, put};
-use crate::path::{copy, leave};
-use html_dom_tree::{HtmlElement, HtmlFrame, HtmlNode, Point};
+use crate::text_sink::TextSink;
+use crate::walk::texts_taken;
+use crate::wanted::Wanted;
+use html_dom_tree::HtmlElement;
 use std::alloc::{AllocError, Global};
 use std::collections::BTreeSet;
 
@@ -24,13 +23,6 @@ pub struct RepeatedId {
     pub path: Vec<usize>,
     /// The id.
     pub id: String,
-}
-
-#[derive(Drop)]
-struct Walk {
-    path: Vec<usize>,
-    ids: BTreeSet<String>,
-    repeated: Vec<RepeatedId>,
 }
 
 /// The ids of a tree that stand before in it, in document order: an `id` is to be unique in its tree
@@ -59,110 +51,69 @@ pub fn repeated_ids(alloc: Global, root: &HtmlElement) -> Result<Vec<RepeatedId>
     ensures { IfOk result (λ repeated.
         repeated_view repeated.items ≡ repeated_ids (element_view root.now)) }
 {
-    let mut walk = Walk {
-        path: Vec::new(alloc),
-        ids: BTreeSet::new(alloc),
-        repeated: Vec::new(alloc),
+    tell_repeated_ids(alloc, root, Vec::new(alloc))
+}
+
+/// Tells a sink the same ids as it finds them, and gives it back.
+pub fn tell_repeated_ids<S: TextSink>(
+    alloc: Global,
+    root: &HtmlElement,
+    sink: S,
+) -> Result<S, AllocError>
+    ensures { IfOk result (λ told.
+        S.made_with told [] ≡ S.made_with sink (repeated_ids (element_view root.now))) }
+{
+    let ids = Ids {
+        passed: BTreeSet::new(alloc),
+        repeated: sink,
     };
-    pass_element(root, &mut walk)?;
-    let Walk { repeated, .. } = walk;
+    let Ids { repeated, .. } = texts_taken(alloc, root, Wanted::Ids, ids)?;
     Ok(repeated)
 }
 
-fn repeated_id(path: &Vec<usize>, id: &String) -> Result<RepeatedId, AllocError>
-    ensures { IfOk result (λ repeated.
-        repeated_id_view repeated ≡ (path.now.items, text_view id.now)) }
-{
-    Ok(RepeatedId {
-        path: copy(path)?,
-        id: id.clone()?,
-    })
-}
+impl TextSink for Vec<RepeatedId> {
+    ghost Made = { List Placed };
 
-fn pass_id(id: &String, walk: &mut Walk) -> Result<(), AllocError>
-    ensures path { OnOk result (walk.new.path.items ≡ walk.old.path.items) }
-    ensures passes { OnOk result (PassesIds walk.old walk.new
-        (placed_at walk.old.path.items (text_view id.now ∷ []))) }
-{
-    if contains(&walk.ids, id) {
-        let place = repeated_id(&walk.path, id)?;
-        walk.repeated.push(place)?;
-    } else {
-        put(&mut walk.ids, id.clone()?)?;
-    }
-    Ok(())
-}
+    ghost made_with = { λ repeated ps. repeated_view repeated.items ++ ps };
 
-fn pass_optional(id: Option<&String>, walk: &mut Walk) -> Result<(), AllocError>
-    ensures path { OnOk result (walk.new.path.items ≡ walk.old.path.items) }
-    ensures passes { OnOk result (PassesIds walk.old walk.new
-        (placed_at walk.old.path.items (option_to_list (option_map (λ id. text_view id.now) id.entry)))) }
-{
-    match id {
-        Some(id) => pass_id(id, walk),
-        None => Ok(()),
+    fn take(&mut self, alloc: Global, path: &[usize], text: String) -> Result<(), AllocError> {
+        let path = path.to_vec(alloc)?;
+        self.push(RepeatedId { path, id: text })?;
+        Ok(())
     }
 }
 
-fn pass_anchors(anchors: &[(Point, String)], walk: &mut Walk) -> Result<(), AllocError>
-    ensures path { OnOk result (walk.new.path.items ≡ walk.old.path.items) }
-    ensures passes { OnOk result (PassesIds walk.old walk.new
-        (placed_at walk.old.path.items (anchor_names (anchors_view anchors.now)))) }
-{
-    for anchor in anchors {
-        pass_id(&anchor.1, walk)?;
-    }
-    Ok(())
+/// Passes on the ids that it took before.
+#[derive(Drop)]
+struct Ids<S> {
+    passed: BTreeSet<String>,
+    repeated: S,
 }
 
-fn pass_frame(frame: &HtmlFrame, walk: &mut Walk) -> Result<(), AllocError>
-    ensures path { OnOk result (walk.new.path.items ≡ walk.old.path.items) }
-    ensures passes { OnOk result (PassesIds walk.old walk.new
-        (node_placed ids_at walk.old.path.items (frame_node (html_frame_view frame.now)))) }
-{
-    pass_optional(frame.id.as_ref(), walk)?;
-    pass_anchors(&frame.anchors, walk)?;
-    Ok(())
-}
+impl<S: TextSink> TextSink for Ids<S> {
+    ghost Made = { S.Made };
 
-// Each node stands first among the parameters: its depth shows that the calls end.
+    ghost made_with = { λ ids ps. S.made_with ids.repeated (repeated (used_in ids.passed) ps) };
 
-#[cycle(ids)]
-fn pass_element(element: &HtmlElement, walk: &mut Walk) -> Result<(), AllocError>
-    ensures path { OnOk result (walk.new.path.items ≡ walk.old.path.items) }
-    ensures passes { let e = element_view element.now in OnOk result (PassesIds walk.old walk.new
-        (node_placed ids_at walk.old.path.items (element_node e.0 e.1))) }
-{
-    pass_optional(first_id(element), walk)?;
-    pass_nodes(&element.children, walk)?;
-    Ok(())
-}
-
-#[cycle(ids)]
-#[tactic(auto, unfolding(crate::specs::PlacedTexts::node_placed))]
-fn pass_node(child: &HtmlNode, walk: &mut Walk) -> Result<(), AllocError>
-    ensures path { OnOk result (walk.new.path.items ≡ walk.old.path.items) }
-    ensures passes { OnOk result (PassesIds walk.old walk.new
-        (node_placed ids_at walk.old.path.items (node_view child.now))) }
-{
-    match child {
-        HtmlNode::Tag(_) => Ok(()),
-        HtmlNode::Text(_, _) => Ok(()),
-        HtmlNode::Element(element) => pass_element(element, walk),
-        HtmlNode::Frame(frame) => pass_frame(frame, walk),
+    fn take(&mut self, alloc: Global, path: &[usize], text: String) -> Result<(), AllocError> {
+        if contains(&self.passed, text.as_str()) {
+            self.repeated.take(alloc, path, text)?;
+        } else {
+            put(&mut self.passed, text)?;
+        }
+        Ok(())
     }
 }
 
-#[cycle(ids)]
-fn pass_nodes(nodes: &[HtmlNode], walk: &mut Walk) -> Result<(), AllocError>
-    ensures path { OnOk result (walk.new.path.items ≡ walk.old.path.items) }
-    ensures passes { OnOk result (PassesIds walk.old walk.new
-        (nodes_placed ids_at walk.old.path.items 0 (nodes_view nodes.now))) }
+fn contains(ids: &BTreeSet<String>, name: &str) -> bool
+    ensures { result ≡ used_in ids.now (chars name.now) }
 {
-    for (index, child) in nodes.iter().enumerate() {
-        walk.path.push(index)?;
-        pass_node(child, walk)?;
-        leave(&mut walk.path);
-    }
+    ids.contains(name)
+}
+
+fn put(ids: &mut BTreeSet<String>, id: String) -> Result<(), AllocError>
+    ensures { OnOk result (used_in ids.new ≡ with_used_name (text_view id) (used_in ids.old)) }
+{
+    ids.insert(id)?;
     Ok(())
 }

@@ -71,7 +71,6 @@ in_run_then b (node (text_node s span) ns) ms = in_run_then true ns ms
 in_run_then b (node (element_node h children) ns) ms = in_run_then false ns ms
 in_run_then b (node (frame_node f) ns) ms = in_run_then false ns ms
 
--- the cursor after nodes
 abbrev pub reached : NodesView → Cursor
 reached before = record {
   passed = element_count before + ended_run_count false before;

@@ -106,7 +106,6 @@ pub stack_spells : (place : ℕ) (fs : List FlatNodeView) →
     stack_nodes (list_stack place fs) ≡ spelled_nodes place fs
 stack_spells place fs = (stacked_all place fs).same
 
--- the top of a stack
 pub stack_push : (stack : List (ℕ × HtmlNode)) (x : ℕ × HtmlNode) →
     stack_view (stack ++ x ∷ []) ≡ placed_view x ∷ stack_view stack
 stack_push stack x = rw (map-append, reverse-append) refl

@@ -259,7 +259,6 @@ anchors_stay_distinct x e new distinct =
       distinct_once (element_names e) n distinct,
     ))
 
--- links change no name
 ids_stay : (hrefs : Hrefs) (dest : Option ℕ) (h : Head) →
     all_ids (head_with_link hrefs dest h).attrs ≡ all_ids h.attrs
 ids_stay hrefs dest h = by (href_of hrefs (open_dest h dest))

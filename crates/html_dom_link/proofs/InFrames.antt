@@ -49,7 +49,6 @@ starts_split x p other_item is = refl
 abbrev pub starts_from : Targets → List (Point × FrameItem) → List FrameStart
 starts_from x items = items_starts x (frame_items_view items)
 
--- one item more
 pub item_named : (x : Targets) (items : List (Point × FrameItem)) (i : ℕ)
     (d : Point × FrameItem) (old new all : InFrame) → i < length items →
     with_starts (starts_from x (drop i items)) old ≡ all →

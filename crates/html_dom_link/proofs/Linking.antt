@@ -50,7 +50,6 @@ nodes_with_links-nodes_of hrefs before (n ∷ ns) =
     ap (node (node_with_links hrefs (dest_before before) n))
     (nodes_with_links-nodes_of hrefs (n ∷ before) ns)
 
--- one node more is made
 pub one_more_with_links : (hrefs : Hrefs) (dest : Option ℕ) (before made : List NodeView)
     (n m : NodeView) (left rest whole : List NodeView) → dest ≡ dest_before before →
     m ≡ node_with_links hrefs dest n → left ≡ n ∷ rest →

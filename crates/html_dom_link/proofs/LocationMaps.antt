@@ -36,7 +36,6 @@ pub names_put : (old new : BTreeMap Location (String Global)) (l : Location) (s 
     names_in new ≡ with_entry l.0 n (names_in old)
 names_put old new l s n e updates = fun_ext (put_shown text_view old new l s n e updates)
 
--- a first label
 pub label_put : (old new : BTreeMap Location (Option (String Global))) (l : Location)
     (value : Option (String Global)) (label : Option Name) → optional_text_view value ≡ label →
     Updates location_cmp old new l (Some value) → labels_in old l.0 ≡ None → (k : ℕ) →

@@ -53,7 +53,6 @@ moved_written is_target d mid new root again last w whole root_is mid_is again_i
     root_written is_target d new root last w whole root_is
     (last_is ∙ ap (λ (e : ElementView). (e.0, w.0)) put.0) put.1
 
--- the document with links
 pub moved_links_written : (d mid new : DocumentView) (hrefs : Hrefs) (root again last : ElementView)
     (kids : NodesView) → root_of d.output ≡ Some root →
     mid ≡ record d { output = with_root d.output (root.0, none) } →

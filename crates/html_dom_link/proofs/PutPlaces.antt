@@ -45,7 +45,6 @@ both_put : (as' bs : List Name) (old mid new : Name → Bool) →
 both_put as' bs old mid new first next =
     next ∙ (ap (with_names bs) first ∙ sym (with-append as' bs old))
 
--- those of one node more
 pub one_more_put : (ns : List HtmlNode) (i : ℕ) (x : HtmlNode) (old new all : Name → Bool) →
     i < length ns → x ≡ get_or ns i x →
     with_names (nodes_places (nodes_view (drop i ns))) old ≡ all →
@@ -105,7 +104,6 @@ no_more_put ns i used all past so_far =
     sym (with-none used)
     ∙ (ap (λ l. with_names (nodes_places (nodes_view l)) used) (sym (drop_all i ns past)) ∙ so_far)
 
--- those of one anchor more
 pub one_anchor_put : (xs : List (Point × String Global)) (i : ℕ) (x : Point × String Global)
     (old new all : Name → Bool) → i < length xs → x ≡ get_or xs i x →
     with_names (anchor_names (anchors_view (drop i xs))) old ≡ all →

@@ -43,7 +43,6 @@ waiting-append (s ∷ ss) r name =
     ap (λ l. name_entries s.location name ++ l) (waiting-append ss r name)
     ∙ sym (append_assoc (name_entries s.location name) (waiting_names ss name) (waiting_names r name))
 
--- one more waits
 start_waits : (q : List Start) (s : Start) (ms : List Mark) →
     served_behind q (start_mark s.location ∷ ms) ≡ served_behind (q ++ s ∷ []) ms
 start_waits q s ms =
@@ -69,7 +68,6 @@ nothing_answered None = refl
 nothing_answered (Some n) = refl
 
 module _ (x : Targets) where
-  -- behind a start tag
   start_served : (is_target : Bool) (l : ℕ) (label : Option Name) (g : Groups) (new : NodesView)
       (rest : List Mark) (later last : List (ℕ × Name)) →
       let e = start_event is_target l label in

@@ -36,7 +36,6 @@ walk_state g = record {
   answers = g.answers;
 }
 
--- one more start tag waits
 locations_more : (q : List Start) (s : Start) →
     locations_of q ++ s.location ∷ [] ≡ locations_of (q ++ s ∷ [])
 locations_more [] s = refl

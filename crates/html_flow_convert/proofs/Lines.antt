@@ -126,7 +126,6 @@ pub record Next (place : ℕ) (f : FlatNodeView) (fs : List FlatNodeView) (rest 
   pub things : nodes_things rest ≡ seen (flat_look f) (nodes_things left)
   pub turns : nodes_turns rest ≡ 1 + nodes_turns left
 
--- by one place
 next_by_one : (place next : ℕ) (fs : List FlatNodeView) (ns : NodesView) → next ≡ place + 1 →
     fs ≡ nodes_flat (place + 1) ns → drop (next - (place + 1)) fs ≡ nodes_flat next ns
 next_by_one place next fs ns one e =

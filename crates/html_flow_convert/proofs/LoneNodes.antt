@@ -28,7 +28,6 @@ are_tags_of (n ∷ ns) = ap (λ b. is_tag n && b) (are_tags_of ns)
 -- the nodes from a place on, with the node at it
 module _ (nodes : List HtmlNode) (k : ℕ) (n : HtmlNode) (below : k < length nodes)
     (is : n ≡ get_or nodes k n) where
-  -- a tag is passed
   pub tag_passed : is_tag (node_view n) ≡ true
       → lone_node (nodes_view (drop k nodes)) ≡ lone_node (nodes_view nodes)
       → lone_node (nodes_view (drop (k + 1) nodes)) ≡ lone_node (nodes_view nodes)

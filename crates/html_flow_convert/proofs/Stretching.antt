@@ -16,7 +16,6 @@ pub ascii_shown : (c : ℕ) → c < 128 → is_ignorable c ≡ false
 unfolding is_ignorable
 ascii_shown c small = agree_below_at is_ignorable (λ _. false) 128 c refl small
 
--- characters alone are a stretch
 stretch_alone : (c : ℕ) (cs : List ℕ) → with_stretch (c ∷ cs) [] ≡ stretch (c ∷ cs) ∷ []
 stretch_alone c [] = refl
 stretch_alone c (d ∷ ds) = ap (in_stretch c) (stretch_alone d ds)

@@ -71,7 +71,6 @@ answered_on w (visible ∷ ts) us =
 answered_on w (space ∷ ts) us =
     answered_on (walk_with w look.Space) ts us ∙ answered_with w look.Space (ts ++ us)
 
--- a border ends them
 pub all_answered : (start all end : WalkView) (ts : List Thing) → start ≡ ([], last.Border) →
     all ≡ walk_on start ts → end ≡ walk_on all (look_things look.Border []) →
     end.0 ≡ bare_after None ts

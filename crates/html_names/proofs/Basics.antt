@@ -12,7 +12,6 @@ use lib.Utf8.{scalar, encode}
 use Rattle.html_names.specs.Names.{is_ascii}
 use Rattle.html_names.specs.Characters.{all}
 
--- the test of texts
 pub bytes_eq-same : (a b : List ℕ) → bytes_eq a b ≡ true → a ≡ b
 bytes_eq-same a b equal = (bytes_eq-Decides a b).0 equal
 
@@ -21,13 +20,11 @@ bytes_eq-sym a b =
     one_answer (bytes_eq a b) (bytes_eq b a) (bytes_eq-Decides a b)
     (λ e. sym (bytes_eq-same b a e), λ e. (bytes_eq-Decides b a).1 (sym e))
 
--- ASCII is its own characters
 pub is_ascii_is : (s : List ℕ) → is_ascii s ≡ true → IsAscii s
 is_ascii_is [] h = IsAscii-nil
 is_ascii_is (c ∷ cs) h = IsAscii-cons c cs (ltb-true c 128 (and_parts _ _ h).0)
     (is_ascii_is cs (and_parts _ _ h).1)
 
--- a character alone
 pub chars-encode : (c : ℕ) → scalar c ≡ true → chars (encode c) ≡ c ∷ []
 chars-encode c h = ap chars (sym (append-nil (encode c)))
     ∙ chars-encodes (c ∷ []) (and_from (scalar c) true h refl)
@@ -70,7 +67,6 @@ pub implied : (a b : Bool) → (not a || b) ≡ true → a ≡ true → b ≡ tr
 implied true b holds is = holds
 implied false b holds is = absurd (false≢true is)
 
--- no value is there
 pub none_from_not_some : {A : Type 0} (o : Option A) → is_some o ≡ false → o ≡ None
 none_from_not_some None absent = refl
 none_from_not_some (Some x) absent = absurd (false≢true (sym absent))

@@ -152,7 +152,6 @@ name_at-told names name =
     ap (name_at told) (sym (number_in-told names name))
     ∙ name_at-number told name (stands_in-told names name)
 
--- other names stay
 pub name_at-with_name : (names : List (List ℕ)) (name : List ℕ) (number : ℕ) →
     number < length names → name_at (with_name names name) number ≡ name_at names number
 name_at-with_name names name number h =

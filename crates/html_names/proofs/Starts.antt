@@ -67,7 +67,6 @@ module _ (starts : List ℕ) (names : List (List ℕ)) (t : List ℕ) (h : are_s
   never : ((k : ℕ) → is_started starts k t ≡ false) → IsAbsent
   never each = by_bytes (λ k s. absurd (false≢true (sym (each k) ∙ s)))
 
--- no name is empty
 pub empty : (starts : List ℕ) (names : List (List ℕ)) (t : List ℕ) → are_starts starts names ≡ true →
     are_ascii names ≡ true → IsUtf8 t → length t ≤ 0 → stands_in names (chars t) ≡ false
 empty starts names [] h a u e = never starts names [] h a u (λ k. refl)

@@ -46,7 +46,6 @@ wrong_by o p OutOfMemory f h = tt
 wrong_by o p (BadInput place) f h = left_by o p place f h
 wrong_by o p (Refused n span) f h = absurd h
 
--- what has no names
 pub read_clean : {B : Type 0} (refusals : B → List Refusal) (made : B) (wanted : Left (B × ℕ))
     (before after : Reader) → wanted ≡ Ok (made, after.lists) → refusals made ≡ []
     → after.refused ≡ before.refused → IsRead refusals made wanted before after
@@ -110,7 +109,6 @@ one_refusal : (f : NameFault) (span : ℕ) (o : Option NameFault)
 one_refusal name_fault.OutOfMemory span o h other = absurd (other refl)
 one_refusal f span o h other = ap (refusals span) (some_first o _ _ h.1)
 
--- a name that is none
 pub name_refused : (fault : List ℕ → Option NameFault) (text made : List ℕ) (f : NameFault)
     (span : Span) (before after : Reader)
     → name.IsFirst f (option_to_list (fault text)) → (name.number_of f ≢ 0) × (after

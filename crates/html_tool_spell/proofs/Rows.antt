@@ -43,7 +43,6 @@ pub record IsPartRead {X A B : Type 0} (row : Row A B) (see : X → A) (wanted :
       → IsRead row.alls (joined row.add (map see made) others) wanted before after
   pub wrong : (n : ℕ) → row.all (items_view left) now.lists ≡ Err n → wanted ≡ Err n
 
--- nothing was read yet
 pub none_read : {X A B : Type 0} (row : Row A B) (see : X → A) (wanted : Left (B × ℕ))
     (vs : List Value) (made : List X) (before : Reader)
     → wanted ≡ row.all (items_view vs) before.lists → made ≡ []
@@ -53,7 +52,6 @@ none_read row see wanted vs made before is nothing = record {
   wrong = λ n h. is ∙ h;
 }
 
--- one more was read
 pub one_read : {X A B : Type 0} (row : Row A B) (see : X → A) (wanted : Left (B × ℕ))
     (left rest : List Value) (v : Value) (made : List X) (x : X) (s t u : Reader)
     → IsPartRead row see wanted left made s t → left ≡ v ∷ rest
@@ -71,7 +69,6 @@ one_read row see wanted left rest v made x s t u p is r =
       wrong = λ n h. p.wrong n (rw (is, step, r.spelled, h) refl);
     }
 
--- all were read
 pub all_read : {X A B : Type 0} (row : Row A B) (see : X → A) (wanted : Left (B × ℕ))
     (left : List Value) (made : List X) (s t : Reader) → IsPartRead row see wanted left made s t
     → left ≡ [] → IsRead row.alls (joined row.add (map see made) row.nothing) wanted s t

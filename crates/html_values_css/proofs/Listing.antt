@@ -130,7 +130,6 @@ module _ {A K X : Type 0} {R : K → K → Ordering} (o : IsTotalOrder R) (f : A
       (ap (λ t. f a ∷ t) (drop_gap l name at (omega (arith, within)) (before_tail a l name at above)
       (λ k d low high. below (suc k) d (omega (arith, low)) (omega (arith, high)))))
 
--- the order is kept
 module _ {K X : Type 0} {R : K → K → Ordering} (o : IsTotalOrder R) (name : K) (x : X) where
   every_key : (P : K → Type 0) (es : List (K × X)) → P name → AllByRecursion P (keys_of es)
       → AllByRecursion P (keys_of (insert_entry R es name x))

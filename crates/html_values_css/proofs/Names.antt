@@ -16,7 +16,6 @@ use Rattle.html_values_css.specs.Properties.{by_name, IsListed, with_value, with
 pub by_name_total : IsTotalOrder by_name
 by_name_total = on_total encodes (lists_total nat_cmp_total)
 
--- of texts in bytes
 pub by_name_bytes : (a b : List ℕ) → IsUtf8 a → IsUtf8 b → by_name (chars a) (chars b)
     ≡ slice_cmp nat_cmp a b
 by_name_bytes a b u v = ap (λ x. slice_cmp nat_cmp x (encodes (chars b))) (encodes-chars a u)

@@ -35,7 +35,6 @@ after_more : (ps : List Part) (own : List ℕ) → written_sum More own ps ≡ o
 after_more [] own = refl
 after_more (p ∷ ps) own = more_step (is_zero p.number) own p ps (after_more ps)
 
--- one part, and then these
 abbrev with_first : List ℕ → List Part → List ℕ
 with_first own [] = own
 with_first own (q ∷ qs) = codes "calc(" ++ own ++ flat_map following_part (q ∷ qs) ++ codes ")"

@@ -14,7 +14,6 @@ use Rattle.html_values_css.specs.Lengths.{Amounts, nothing, negative_amounts, am
 use Rattle.html_values_css.proofs.Digits.{whole_fits, power_above}
 use Rattle.html_values_css.proofs.Values.{of_abs, of_em, of_ratio, abs_value, em_value, ratio_value, fraction_all}
 
--- a word
 abbrev pub IsWord : List ℕ → Type 0
 IsWord = AllByRecursion (λ c. (c == 32) ≡ false)
 
@@ -151,7 +150,6 @@ next_word false w x y rest ws p q r h = first_word w (codes "+ " ++ y ++ rest) p
     ∙ ap (λ l. w ∷ l) (first_word (codes "+") (y ++ rest) (refl, tt)
     ∙ ap (λ l. codes "+" ∷ l) (h y r))
 
--- the words of a sum
 listed_sum : (ts : List Term) (w : List ℕ) → IsWord w
     → listed_names (w ++ flat_map following_part (map as_part ts)) ≡ w ∷ words ts
 listed_sum [] w p = ap listed_names (append-nil w) ∙ one_word w p
@@ -180,7 +178,6 @@ without_end [] = refl
 without_end (c ∷ []) = refl
 without_end (c ∷ d ∷ cs) = ap (option_map (λ body. c ∷ body)) (without_end (d ∷ cs))
 
--- a part alone
 alone : (text : List ℕ) → IsPart text → css_value text ≡ part_value text
 alone text p = rw p.is (by (p.first == 48) (p.first == 99) p.no_call)
   where
@@ -198,7 +195,6 @@ added_nothing a = rw (+ℤ_idr a.ratio, +ℤ_idr a.em, +ℤ_idr a.abs) refl
 nothing_added : (a : Amounts) → amounts_sum nothing a ≡ a
 nothing_added a = rw (+ℤ_idl a.ratio, +ℤ_idl a.em, +ℤ_idl a.abs) refl
 
--- what is enclosed
 enclosed_value : (ts : List Term) → css_value (whole_sum (map as_part ts)) ≡ Some (total ts)
 enclosed_value [] = refl
 enclosed_value (t ∷ []) = alone (t.text t.z) t.part ∙ t.value

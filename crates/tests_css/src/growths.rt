@@ -8,7 +8,7 @@ use html_values_css::{
 };
 use std::alloc::{AllocError, Global};
 use tests_asserts::TestResult;
-use tests_growth::{refuses_copy, refuses_given, refuses_kept, refuses_lent, refuses_tested};
+use tests_growth::{refuses, refuses_copy, refuses_given, refuses_kept, refuses_lent};
 
 /// How many letters fill the text of a writer that got them one by one.
 const FULL: usize = 32;
@@ -140,9 +140,14 @@ fn addition_of(alloc: Global) -> Result<(Properties, String), AllocError> {
     Ok((map_of(alloc)?, String::from_str(alloc, "1em")?))
 }
 
+fn empty_with_room(alloc: Global) -> Result<bool, AllocError> {
+    Ok(Properties::with_capacity(alloc, 1)?.as_slice().is_empty())
+}
+
 #[test]
 fn maps(rt: HostRuntime) -> TestResult {
     let alloc = rt.alloc();
+    refuses(alloc, || empty_with_room(alloc))?;
     refuses_given(alloc, addition_of(alloc)?, |(mut map, value)| {
         let pushed = map.push("top", value);
         pushed.map_err(|Refused { back }| Refused { back: (map, back) })
@@ -160,10 +165,19 @@ fn maps(rt: HostRuntime) -> TestResult {
     refuses_copy(alloc, Property { name, value }, Property::try_clone)
 }
 
-type Builder = PropertiesBuilder<()>;
+/// A builder that has a colour, where it was given back.
+type Started = Option<PropertiesBuilder<()>>;
+
+fn started(alloc: Global) -> Result<Started, AllocError> {
+    Ok(Some(Properties::build(alloc, ()).with("color", &"red")?))
+}
+
+fn is_there(started: &Started) -> bool {
+    started.is_some()
+}
 
 /// Whether there are a colour and a width.
-fn is_built(builder: Builder) -> bool {
+fn is_built(builder: PropertiesBuilder<()>) -> bool {
     matches!(
         builder.finish().as_slice(),
         [one, two] if one.name.as_str() == "color"
@@ -173,34 +187,31 @@ fn is_built(builder: Builder) -> bool {
     )
 }
 
-/// A builder that has a colour.
-fn builder_of(alloc: Global) -> Result<Builder, AllocError> {
-    Ok(Properties::build(alloc, ()).with("color", &"red")?)
+fn goes_on(started: &mut Started) -> Result<bool, AllocError> {
+    let mut builder = started.take().ok_or(AllocError)?;
+    match builder.push("width", &width()) {
+        Ok(()) => Ok(is_built(builder)),
+        Err(AllocError) => {
+            *started = Some(builder);
+            Err(AllocError)
+        }
+    }
+}
+
+fn is_passed_on(started: &mut Started) -> Result<bool, AllocError> {
+    let builder = started.take().ok_or(AllocError)?;
+    match builder.with("width", &width()) {
+        Ok(builder) => Ok(is_built(builder)),
+        Err(Refused { back }) => {
+            *started = Some(back);
+            Err(AllocError)
+        }
+    }
 }
 
 #[test]
 fn builders(rt: HostRuntime) -> TestResult {
     let alloc = rt.alloc();
-    refuses_tested(
-        alloc,
-        builder_of(alloc)?,
-        |_| true,
-        |mut builder: Builder| {
-            match builder.push("width", &width()) {
-                Ok(()) => Ok(is_built(builder)),
-                Err(AllocError) => Err(builder),
-            }
-        },
-    )?;
-    refuses_tested(
-        alloc,
-        builder_of(alloc)?,
-        |_| true,
-        |builder: Builder| {
-            builder
-                .with("width", &width())
-                .map(is_built)
-                .map_err(|refused| refused.back)
-        },
-    )
+    refuses_kept(alloc, started(alloc)?, is_there, goes_on)?;
+    refuses_kept(alloc, started(alloc)?, is_there, is_passed_on)
 }

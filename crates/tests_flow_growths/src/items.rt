@@ -25,46 +25,51 @@ fn copied_items(rt: HostRuntime) -> TestResult {
     refuses_copy(alloc, elem_of(alloc, tag::p)?, HtmlElem::try_clone)
 }
 
-const NORMAL: Whitespace = Whitespace::Normal;
+/// A call that makes nodes of items.
+#[derive(Clone, Copy, Debug)]
+enum Making {
+    Block,
+    Inline,
+    BlockFragment,
+    InlineFragment,
+    MathFragment,
+}
 
-/// Asserts that a call by which items become nodes is refused at first.
-fn assert_converted<F: Fn(&mut Vec<Pair>) -> Result<Vec<HtmlNode>, FlowFault>>(
-    alloc: Global,
-    call: F,
-) -> TestResult
-    requires { F.IsAlwaysCallable call }
-{
-    let is_converted = |items: &mut Vec<Pair>|
-        requires { F.IsAlwaysCallable call }
-    { call(items).map(|nodes| !nodes.is_empty()) };
-    refuses_lent(alloc, blocks_of(alloc)?, is_converted)
+impl Making {
+    fn nodes(self, alloc: Global, items: &[Pair]) -> Result<Vec<HtmlNode>, FlowFault> {
+        let (span, spaces) = (Span(1), Whitespace::Normal);
+        let (block, inline) = (ConversionLevel::Block, ConversionLevel::Inline);
+        match self {
+            Making::Block => convert_to_nodes(alloc, items, block, spaces, None, 0, 9),
+            Making::Inline => convert_to_nodes(alloc, items, inline, spaces, None, 0, 9),
+            Making::BlockFragment => {
+                html_block_fragment(alloc, items, span, spaces, Some("x"), 0, 9)
+            }
+            Making::InlineFragment => html_inline_fragment(alloc, items, span, spaces, None, 0, 9),
+            Making::MathFragment => html_math_fragment(alloc, items, span, spaces, None, 0, 9),
+        }
+    }
+}
+
+fn has_some(nodes: Vec<HtmlNode>) -> bool {
+    !nodes.is_empty()
 }
 
 #[test]
 fn converted_items(rt: HostRuntime) -> TestResult {
     let alloc = rt.alloc();
-    for level in [ConversionLevel::Block, ConversionLevel::Inline] {
-        assert_converted(alloc, |items| {
-            convert_to_nodes(alloc, items, level, NORMAL, None, 0, 9)
+    for making in [
+        Making::Block,
+        Making::Inline,
+        Making::BlockFragment,
+        Making::InlineFragment,
+        Making::MathFragment,
+    ] {
+        refuses_lent(alloc, blocks_of(alloc)?, |items: &mut Vec<Pair>| {
+            making.nodes(alloc, items).map(has_some)
         })?;
     }
     Ok(())
-}
-
-#[test]
-fn fragments(rt: HostRuntime) -> TestResult {
-    let (alloc, span) = (rt.alloc(), Span(1));
-    assert_converted(alloc, |items| {
-        html_block_fragment(alloc, items, span, NORMAL, Some("x"), 0, 9)
-    })?;
-    assert_converted(
-        alloc,
-        |items| html_inline_fragment(alloc, items, span, NORMAL, None, 0, 9),
-    )?;
-    assert_converted(
-        alloc,
-        |items| html_math_fragment(alloc, items, span, NORMAL, None, 0, 9),
-    )
 }
 
 /// An element, and a pair that it is given.

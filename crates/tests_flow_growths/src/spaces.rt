@@ -8,7 +8,7 @@ use html_names::tag;
 use std::alloc::{AllocError, Global};
 use tests_asserts::TestResult;
 use tests_given::{start_of, text_of};
-use tests_growth::{refuses, refuses_taken};
+use tests_growth::{SPARES, refuses, refuses_taken};
 
 /// How many nodes are made, and at which places a lone space and a tab stand.
 const COUNT: usize = 5;
@@ -40,20 +40,29 @@ fn is_kept_at(nodes: &[HtmlNode], place: usize) -> bool {
     nodes.len() == COUNT && !matches!(nodes.get(place), None | Some(HtmlNode::Text(_, _)))
 }
 
+/// Nodes for as many calls as are made.
+fn taken_of(alloc: Global) -> Result<Vec<Vec<HtmlNode>>, AllocError> {
+    let mut values = Vec::new(alloc);
+    for _ in 0..SPARES {
+        values.push(nodes_of(alloc)?)?;
+    }
+    Ok(values)
+}
+
+fn keeps_tab(alloc: Global, nodes: Vec<HtmlNode>) -> Result<bool, AllocError> {
+    Ok(is_kept_at(&keep_runs(alloc, nodes)?, TAB))
+}
+
+fn keeps_space(alloc: Global, nodes: Vec<HtmlNode>) -> Result<bool, AllocError> {
+    Ok(is_kept_at(&protect_spaces(alloc, nodes)?, SPACE))
+}
+
 #[test]
 fn taken(rt: HostRuntime) -> TestResult {
     let alloc = rt.alloc();
-    refuses_taken(
-        alloc,
-        || nodes_of(alloc),
-        |nodes| { keep_runs(alloc, nodes).map(|kept| is_kept_at(&kept, TAB)) },
-    )?;
-    refuses_taken(
-        alloc,
-        || nodes_of(alloc),
-        |nodes| { protect_spaces(alloc, nodes).map(|kept| is_kept_at(&kept, SPACE)) },
-    )?;
-    refuses_taken(alloc, || nodes_of(alloc), |nodes| adds_text(alloc, nodes))
+    refuses_taken(alloc, taken_of(alloc)?, |nodes| keeps_tab(alloc, nodes))?;
+    refuses_taken(alloc, taken_of(alloc)?, |nodes| keeps_space(alloc, nodes))?;
+    refuses_taken(alloc, taken_of(alloc)?, |nodes| adds_text(alloc, nodes))
 }
 
 /// A space at the beginning, and one between two words.

@@ -12,9 +12,9 @@ use tests_asserts::TestResult;
 /// How often a call is tried at most.
 const MOST_ATTEMPTS: usize = 100_000;
 
-/// How often a call is tried at most that consumes what it is given and does not give it back: what a
+/// How many values are enough for a call that consumes one each time and does not give it back: what a
 /// refused attempt frees is there for the next.
-const SPARES: usize = 40;
+pub const SPARES: usize = 40;
 
 /// What a call makes of which a test asks no more than whether it is right.
 pub trait Made: Drop {
@@ -86,31 +86,6 @@ impl Attempts {
     fn give_up(self) -> TestResult {
         Err(Fail::new("each growth is refused"))
     }
-}
-
-/// Asserts that a call is refused at first, and what it makes is right once it is refused no more. An
-/// attempt returns that, or what it was given, which is held to the test each time.
-pub fn refuses_tested<T, R, K, F>(alloc: Global, given: T, is_kept: K, attempt: F) -> TestResult
-where
-    T: Drop,
-    R: Made,
-    K: Fn(&T) -> bool,
-    F: Fn(T) -> Result<R, T>,
-    requires test { K.IsAlwaysCallable is_kept }
-    requires call { F.IsAlwaysCallable attempt }
-{
-    let mut attempts = Attempts::begin(alloc)?;
-    let mut next = given;
-    for _ in 0..MOST_ATTEMPTS {
-        match attempt(next) {
-            Ok(made) => return attempts.end(made.is_right()),
-            Err(back) => {
-                attempts.refuse(is_kept(&back))?;
-                next = back;
-            }
-        }
-    }
-    attempts.give_up()
 }
 
 /// Asserts that a call that consumes what it is given is refused at first, gives it back as it was each
@@ -200,25 +175,19 @@ pub fn refuses<R: Made, E: From<AllocError> + Debug + Drop, F: Fn() -> Result<R,
 }
 
 /// The same of a call that consumes what it is given and does not give it back: each attempt takes
-/// another, which is made while memory is there.
-pub fn refuses_taken<T, R, E, M, F>(alloc: Global, make: M, call: F) -> TestResult
+/// another of these values, which were made while memory was there.
+pub fn refuses_taken<T, R, E, F>(alloc: Global, values: Vec<T>, call: F) -> TestResult
 where
     T: Drop,
     R: Made,
     E: From<AllocError> + Debug + Drop,
-    M: Fn() -> Result<T, AllocError>,
     F: Fn(T) -> Result<R, E>,
-    requires make { M.IsAlwaysCallable make }
-    requires call { F.IsAlwaysCallable call }
+    requires { F.IsAlwaysCallable call }
 {
-    let mut spares = Vec::new(alloc);
-    for _ in 0..SPARES {
-        spares.push(make()?)?;
-    }
     let refusal = refusal_of::<E>(alloc)?;
     let mut attempts = Attempts::begin(alloc)?;
-    for spare in spares {
-        match call(spare) {
+    for value in values {
+        match call(value) {
             Ok(made) => return attempts.end(made.is_right()),
             Err(fault) => attempts.refuse_by(&fault, &refusal, true)?,
         }

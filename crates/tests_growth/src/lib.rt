@@ -14,7 +14,6 @@ mod memory;
 mod shown;
 
 pub use attempts::{
-    Made, refuses, refuses_copy, refuses_given, refuses_kept, refuses_lent, refuses_taken,
-    refuses_tested,
+    Made, SPARES, refuses, refuses_copy, refuses_given, refuses_kept, refuses_lent, refuses_taken,
 };
 pub use shown::{is_shown, shown_of};

@@ -31,9 +31,15 @@
 //! - `page-text`: what is visible: each text in brackets, objects, `/` for a line break, `|` for an edge
 //! - `dead-fragments`, `repeated-ids`: path and name of each
 //!
+//! Of an input, by the library for C, what it replies and what its buffer has then, which had `room=N` points:
+//!
+//! - `c-write [kind=N] [layout=N]`, `c-document [layout=N] [links=N] [limit=N]`, `c-dead-links [limit=N]`,
+//!   `c-check [limit=N]`, with the limit 50 and else 0 where no number is said
+//! - `c-version`: the version of these calls
+//!
 //! A refusal is `refused`, its number, `at` and its span.
 
-use crate::{checks, documents, nodes, pages, runs};
+use crate::{checks, documents, nodes, pages, replies, runs};
 use anyhow::Result;
 use std::alloc::Global;
 use tests_rows_run::{Caller, Row};
@@ -65,6 +71,10 @@ impl Caller for Library {
             "items-text" => pages::items_text(alloc, row),
             "dead-fragments" => checks::dead_fragment_list(alloc, row),
             "repeated-ids" => checks::repeated_id_list(alloc, row),
+            "c-check" | "c-dead-links" | "c-document" | "c-write" => replies::reply(
+                alloc, row, call,
+            ),
+            "c-version" => replies::version(alloc),
             _ => runs::output(alloc, row),
         }
     }

@@ -26,6 +26,7 @@ mod checks;
 mod documents;
 mod nodes;
 mod pages;
+mod replies;
 mod runs;
 
 use crate::calls::Library;

@@ -1,11 +1,11 @@
 -- What is found in a page has a text, and what is answered where a page is read, and where it is not.
-use Rattle.std.proofs.Common.{◌≡◌, ℕ, List, [], ◌∷◌, ◌++◌, Bool, true, Ok, Err, String, string_bytes, refl, append_assoc}
+use Rattle.std.proofs.Common.{◌≡◌, ◌∙◌, ℕ, List, [], ◌∷◌, ◌++◌, Bool, true, false, Ok, Err, String, string_bytes, refl, append_assoc}
 use Rattle.std.specs.declared.alloc.Global.{Global}
 use Rattle.std.proofs.lemmas.Str.{encodes-chars, IsUtf8-string_bytes}
 use lib.Utf8.{encodes}
-use Rattle.serde_json.specs.Data.{Data, string, object, member, no_members}
+use Rattle.serde_json.specs.Data.{Data, string, object, Members, member}
 use Rattle.serde_json.specs.View.{items_of}
-use Rattle.serde_json.specs.Written.{comma_if, compact_text, items_text}
+use Rattle.serde_json.specs.Written.{comma_if, compact_text, items_text, members_text}
 use Rattle.html_dom_tree.specs.Views.{element_view, text_view}
 use Rattle.html_dom_tree.specs.declared.node.HtmlElement.{HtmlElement}
 use Rattle.typst_html_read.specs.Endings.{Gives}
@@ -18,21 +18,17 @@ use Rattle.typst_html_c.specs.PageFindings.{tree_findings, text, Told, Tells, re
 pub text_written : (s : String Global) → encodes (text_view s) ≡ string_bytes s
 text_written s = encodes-chars (string_bytes s) (IsUtf8-string_bytes s)
 
--- the text of an object with two members, by its parts
-two_members : (old first there second here a b c d e f g : List ℕ) →
-    a ≡ old ++ 123 ∷ [] → b ≡ a ++ (first ++ 58 ∷ []) → c ≡ b ++ there → d ≡ c ++ 44 ∷ [] →
-    e ≡ d ++ (second ++ 58 ∷ []) → f ≡ e ++ here → g ≡ f ++ 125 ∷ [] →
-    g ≡ old ++ 123 ∷ (first ++ 58 ∷ (there ++ 44 ∷ (second ++ 58 ∷ (here ++ 125 ∷ []))))
-two_members old first there second here a b c d e f g p q r s t u v =
-    rw (v, u, t, s, r, q, p) (simp append_assoc)
+-- the text of an object, one member after the other
+pub no_member_yet : (ms : Members) (old a : List ℕ) → a ≡ old ++ 123 ∷ [] →
+    a ++ members_text false ms ≡ old ++ compact_text (object ms)
+no_member_yet ms old a begun = rw (begun, append_assoc) refl
 
-pub object_text : (old n m : List ℕ) (x y : Data) (a b c d e f g : List ℕ) →
-    a ≡ old ++ 123 ∷ [] → b ≡ a ++ (compact_text (string n) ++ 58 ∷ []) →
-    c ≡ b ++ compact_text x → d ≡ c ++ 44 ∷ [] →
-    e ≡ d ++ (compact_text (string m) ++ 58 ∷ []) → f ≡ e ++ compact_text y → g ≡ f ++ 125 ∷ [] →
-    g ≡ old ++ compact_text (object (member n x (member m y no_members)))
-object_text old n m x y =
-    two_members old (compact_text (string n)) (compact_text x) (compact_text (string m)) (compact_text y)
+pub one_more_member : (later : Bool) (name : List ℕ) (d : Data) (ms : Members) (all a b c : List ℕ) →
+    a ++ members_text later (member name d ms) ≡ all →
+    b ≡ a ++ (comma_if later ++ (compact_text (string name) ++ 58 ∷ [])) →
+    c ≡ b ++ compact_text d → c ++ members_text true ms ≡ all
+one_more_member later name d ms all a b c before p q =
+    rw (q, p) (simp append_assoc) ∙ before
 
 -- one more item of a list
 pub one_more_item : (later : Bool) (d : Data) (ds : List Data) (all a b c : List ℕ) →

@@ -1,11 +1,13 @@
 -- What is wrong with the links of a page, as JSON:
---     {"dead_fragments":[{"fragment":t,"path":[n,..]},..],"repeated_ids":[{"id":t,"path":[n,..]},..]}
-use Rattle.std.specs.Prelude.{◌≡◌, ℕ, List, [], ◌∷◌, map, codes, Option, Some, None, Result, MatchResult, String, string_bytes}
+--     {"dead_fragments":[{"fragment":t,"keeps":n,"path":[n,..]},..],
+--     "repeated_ids":[{"id":t,"keeps":n,"path":[n,..]},..]}
+use Rattle.std.specs.List.{common_prefix_len}
+use Rattle.std.specs.Prelude.{◌≡◌, ◌==◌, ℕ, List, [], ◌∷◌, ◌++◌, map, drop, codes, Option, Some, None, Result, MatchResult, String, string_bytes}
 use Rattle.std.specs.declared.alloc.Global.{Global}
 use lib.Utf8.{encodes}
 use Rattle.serde_json.specs.Data.{Data, number, string, array, object, unsigned, member, no_members}
 use Rattle.serde_json.specs.View.{items_of}
-use Rattle.serde_json.specs.Written.{compact_text}
+use Rattle.serde_json.specs.Written.{compact_text, items_text}
 use Rattle.html_dom_check.specs.Fragments.{dead_fragments}
 use Rattle.html_dom_check.specs.PlacedTexts.{Placed}
 use Rattle.html_dom_check.specs.RepeatedIds.{repeated_ids}
@@ -16,22 +18,42 @@ use Rattle.typst_html_read.specs.declared.fault.ReadFault.{ReadFault}
 use Rattle.typst_html_read.specs.declared.fault.ReadFault.TheVariants.{OutOfMemory, TooDeep, Syntax}
 use Rattle.typst_html_read.specs.declared.place.Place.{Place}
 use Rattle.typst_html_c.specs.CallReplies.{buffer_with, page_limit_of, text_reply, without_text}
+use Rattle.typst_html_c.specs.declared.findings.FindingList.{FindingList}
 use Rattle.typst_html_c.specs.declared.reply.Reply.{Reply}
 
 -- the indices of a path
 abbrev pub path_data : List ℕ → Data
 path_data path = array (items_of (map (λ index. number (unsigned index)) path))
 
--- the bytes of a text under its name, and a path
-abbrev pub text_and_path : (name bytes : List ℕ) → (path : Data) → Data
-text_and_path name bytes path =
-    object (member name (string bytes) (member (codes "path") path no_members))
+-- the bytes of a text under its name, and a path: how many indices it keeps of the one before, and which
+-- follow these
+abbrev pub finding_data : (name bytes : List ℕ) (keeps : ℕ) (rest : List ℕ) → Data
+finding_data name bytes keeps rest = object (
+    member name (string bytes) (
+    member (codes "keeps") (number (unsigned keeps)) (
+    member (codes "path") (path_data rest) no_members)))
 
-abbrev pub finding : (name : List ℕ) → Placed → Data
-finding name p = text_and_path name (encodes p.1) (path_data p.0)
+-- how many indices both paths begin with
+abbrev pub kept_count : (previous path : List ℕ) → ℕ
+kept_count = common_prefix_len (λ m n. m == n)
 
+abbrev pub finding : (name previous : List ℕ) → Placed → Data
+finding name previous p =
+    let keeps = kept_count previous p.0 in finding_data name (encodes p.1) keeps (drop keeps p.0)
+
+-- each finding behind the one before
+abbrev pub findings_behind : (name previous : List ℕ) → List Placed → List Data
+findings_behind name previous [] = []
+findings_behind name previous (p ∷ ps) = finding name previous p ∷ findings_behind name p.0 ps
+
+-- before the first none is kept
 abbrev pub findings : (name : List ℕ) → List Placed → Data
-findings name ps = array (items_of (map (finding name) ps))
+findings name ps = array (items_of (findings_behind name [] ps))
+
+-- the text with the whole list that is being written, if these findings are still added
+abbrev pub text_with : FindingList → List Placed → List ℕ
+text_with list ps = string_bytes list.text
+    ++ items_text list.later (items_of (findings_behind (string_bytes list.name) list.previous.items ps))
 
 -- the dead fragments and the repeated ids of a tree
 abbrev pub tree_findings : ElementView → Data

@@ -1,16 +1,16 @@
 //! What is wrong with the links of a page, as JSON.
 
-ghost use Rattle.std.specs.Prelude.{◌≡◌, ◌≤◌, ◌++◌, codes, decimal, string_bytes, IfOk, OnOk};
+ghost use Rattle.std.specs.Prelude.{◌≡◌, ◌≤◌, ℕ, List, [], ◌++◌, drop, length, codes, decimal, string_bytes, IfOk, OnOk};
 ghost use Rattle.serde_json.specs.Data.{string};
 ghost use Rattle.serde_json.specs.Written.{comma_if, compact_text};
-ghost use Rattle.html_dom_check.specs.Findings.{dead_view, repeated_view};
+ghost use Rattle.html_dom_check.specs.PlacedTexts.{Placed};
 ghost use Rattle.html_dom_tree.specs.Views.{element_view};
 ghost use Rattle.typst_html_c.specs.PageFindings.{Told, Tells, GivesTold, check_told, page_told};
-ghost use Rattle.typst_html_c.specs.PageFindings.{findings, path_data, text_and_path, tree_findings, unread_reply};
+ghost use Rattle.typst_html_c.specs.PageFindings.{finding_data, findings, kept_count, path_data, text_with, tree_findings, unread_reply};
 
 use crate::numbers::page_limit_of;
 use crate::reply::{BAD_INPUT, OUT_OF_MEMORY, REFUSED, Reply, placed, put, without_text};
-use html_dom_check::{DeadFragment, RepeatedId, dead_fragments, repeated_ids};
+use html_dom_check::{TextSink, tell_dead_fragments, tell_repeated_ids};
 use html_dom_tree::HtmlElement;
 use serde_json::Value;
 use std::alloc::{AllocError, Global};
@@ -59,82 +59,123 @@ fn page_findings(alloc: Global, page: &[u8], limit: usize) -> Result<String, Rea
     }
 }
 
-/// What is wrong with the links of a tree, as JSON. The findings of one kind are gone before the other's
-/// are sought.
+/// What is wrong with the links of a tree, as JSON.
 fn tree_findings(alloc: Global, root: &HtmlElement) -> Result<String, AllocError>
     ensures { IfOk result (λ text.
         string_bytes text ≡ compact_text (tree_findings (element_view root.now))) }
 {
     let mut text = String::new(alloc);
     text.push_str("{")?;
-    push_name(alloc, &mut text, "dead_fragments")?;
-    push_dead(alloc, &mut text, &dead_fragments(alloc, root)?)?;
-    text.push_str(",")?;
-    push_name(alloc, &mut text, "repeated_ids")?;
-    push_repeated(alloc, &mut text, &repeated_ids(alloc, root)?)?;
+    push_key(alloc, &mut text, false, "dead_fragments")?;
+    let list = begun(alloc, text, "fragment")?;
+    let mut text = ended(tell_dead_fragments(alloc, root, list)?)?;
+    push_key(alloc, &mut text, true, "repeated_ids")?;
+    let list = begun(alloc, text, "id")?;
+    let mut text = ended(tell_repeated_ids(alloc, root, list)?)?;
     text.push_str("}")?;
     Ok(text)
 }
 
-fn push_dead(alloc: Global, text: &mut String, dead: &[DeadFragment]) -> Result<(), AllocError>
-    ensures { OnOk result (string_bytes text.new
-        ≡ string_bytes text.old ++ compact_text (findings (codes "fragment") (dead_view dead.now))) }
-{
-    text.push_str("[")?;
-    let mut later = false;
-    for link in dead {
-        push_comma_if(text, later)?;
-        push_finding(alloc, text, "fragment", &link.fragment, &link.path)?;
-        later = true;
-    }
-    text.push_str("]")?;
-    Ok(())
+/// A list of findings that is being written.
+#[derive(Drop)]
+struct FindingList {
+    /// The text up to the end of the list so far.
+    text: String,
+    /// Under which name a finding tells its text.
+    name: String,
+    /// The path of the finding before; empty where there is none.
+    previous: Vec<usize>,
+    /// Whether there is one.
+    later: bool,
 }
 
-fn push_repeated(
-    alloc: Global,
-    text: &mut String,
-    repeated: &[RepeatedId],
-) -> Result<(), AllocError>
-    ensures { OnOk result (string_bytes text.new
-        ≡ string_bytes text.old ++ compact_text (findings (codes "id") (repeated_view repeated.now))) }
+fn begun(alloc: Global, text: String, name: &str) -> Result<FindingList, AllocError>
+    ensures { IfOk result (λ list. (ps : List Placed) →
+        text_with list ps ≡ string_bytes text ++ compact_text (findings name.now ps)) }
 {
+    let mut text = text;
     text.push_str("[")?;
-    let mut later = false;
-    for place in repeated {
-        push_comma_if(text, later)?;
-        push_finding(alloc, text, "id", &place.id, &place.path)?;
-        later = true;
-    }
-    text.push_str("]")?;
-    Ok(())
+    Ok(FindingList {
+        text,
+        name: String::from_str(alloc, name)?,
+        previous: Vec::new(alloc),
+        later: false,
+    })
 }
 
-/// Adds a finding: what is told, under that name, and a path.
+fn ended(list: FindingList) -> Result<String, AllocError>
+    ensures { IfOk result (λ text. string_bytes text ≡ text_with list []) }
+{
+    let FindingList { mut text, .. } = list;
+    text.push_str("]")?;
+    Ok(text)
+}
+
+impl TextSink for FindingList {
+    ghost Made = { List ℕ };
+
+    ghost made_with = { text_with };
+
+    fn take(&mut self, alloc: Global, path: &[usize], text: String) -> Result<(), AllocError> {
+        let keeps = kept_count(&self.previous, path);
+        push_comma_if(&mut self.text, self.later)?;
+        let rest = behind(path, keeps);
+        push_finding(alloc, &mut self.text, &self.name, &text, keeps, rest)?;
+        self.previous = path.to_vec(alloc)?;
+        self.later = true;
+        Ok(())
+    }
+}
+
+/// How many indices both paths begin with.
+fn kept_count(previous: &[usize], path: &[usize]) -> usize
+    ensures count { result ≡ kept_count previous.now path.now }
+    ensures within { result ≤ length path.now }
+{
+    let mut kept = 0;
+    while kept < previous.len() && kept < path.len() && previous[kept] == path[kept] {
+        kept += 1;
+    }
+    kept
+}
+
+fn behind(path: &[usize], kept: usize) -> &[usize]
+    requires { kept ≤ length path.now }
+    ensures { result.now ≡ drop kept path.now }
+{
+    &path[kept..]
+}
+
+/// Adds a finding: what is told, under that name, and what its path keeps of the one before, and goes on
+/// with.
 fn push_finding(
     alloc: Global,
     text: &mut String,
     name: &str,
     told: &str,
-    path: &[usize],
+    keeps: usize,
+    rest: &[usize],
 ) -> Result<(), AllocError>
     ensures { OnOk result (string_bytes text.new ≡ string_bytes text.old
-        ++ compact_text (text_and_path name.now told.now (path_data path.now))) }
+        ++ compact_text (finding_data name.now told.now keeps rest.now)) }
 {
     text.push_str("{")?;
-    push_name(alloc, text, name)?;
+    push_key(alloc, text, false, name)?;
     push_string(alloc, text, told)?;
-    text.push_str(",")?;
-    push_name(alloc, text, "path")?;
-    push_path(text, path)?;
+    push_key(alloc, text, true, "keeps")?;
+    push_number(text, keeps)?;
+    push_key(alloc, text, true, "path")?;
+    push_path(text, rest)?;
     text.push_str("}")?;
     Ok(())
 }
 
-fn push_name(alloc: Global, text: &mut String, name: &str) -> Result<(), AllocError>
-    ensures { OnOk result (string_bytes text.new
-        ≡ string_bytes text.old ++ (compact_text (string name.now) ++ codes ":")) }
+/// Adds the name of a member, behind others or as the first.
+fn push_key(alloc: Global, text: &mut String, later: bool, name: &str) -> Result<(), AllocError>
+    ensures { OnOk result (string_bytes text.new ≡ string_bytes text.old
+        ++ (comma_if later ++ (compact_text (string name.now) ++ codes ":"))) }
 {
+    push_comma_if(text, later)?;
     push_string(alloc, text, name)?;
     text.push_str(":")?;
     Ok(())

@@ -1,5 +1,5 @@
-//! The exporter as a static library, for C and for what calls C: HTML text of what JSON spells, in a
-//! buffer of the caller's.
+//! The exporter's calls for C and for what calls C: HTML text of what JSON spells, in a buffer of the
+//! caller's. The static library `typst_html_static` exports them.
 //!
 //! No call keeps anything, so calls on several threads do not meet. Whatever is passed, a call answers
 //! by a status: the slices alone have to be there, each as a pointer and a length.
@@ -27,12 +27,11 @@ use reply::{reply_with, reply_with_document};
 use std::alloc::Global;
 
 /// The version of these calls. It grows by one where a call or a status changes its meaning.
-const VERSION: u32 = 4;
+const VERSION: u32 = 5;
 
 /// The version of these calls, to be compared with the one of the header that a caller was made by.
-#[unsafe(no_mangle)]
-pub extern "C" fn typst_html_version() -> u32
-    ensures { result ≡ 4 }
+pub fn typst_html_version() -> u32
+    ensures { result ≡ 5 }
 {
     VERSION
 }
@@ -55,8 +54,7 @@ fn text_of(alloc: Global, kind: u8, layout: u8, input: &[u8]) -> Result<String, 
 /// Status 4 says by `length` how long a buffer the text takes; a second call with one makes the text
 /// once more. A bad input bears its place: the line and the column where it is no JSON, and else by
 /// `span` the list in which the form is left. Another kind or layout is bad input without a place.
-#[unsafe(no_mangle)]
-pub extern "C" fn typst_html_write(
+pub fn typst_html_write(
     alloc: Global,
     kind: u8,
     layout: u8,
@@ -98,8 +96,7 @@ fn text_of_settings(
 /// The members are those of [`text_of_document`]: `title`, `description`, `authors`, `keywords`,
 /// `lang`, `region`, `items` and `footnotes`. Another member, layout, number for links or limit is bad
 /// input. Buffers and replies are those of [`typst_html_write`].
-#[unsafe(no_mangle)]
-pub extern "C" fn typst_html_document(
+pub fn typst_html_document(
     alloc: Global,
     layout: u8,
     links: u8,
@@ -134,13 +131,7 @@ fn dead_links_of(alloc: Global, limit: u32, input: &[u8]) -> Result<String, Faul
 /// They stand in document order, each with the location that it would lead to and the span of its `a`.
 /// Input, limit and refusals are those of [`typst_html_document`], buffers and replies those of
 /// [`typst_html_write`].
-#[unsafe(no_mangle)]
-pub extern "C" fn typst_html_dead_links(
-    alloc: Global,
-    limit: u32,
-    input: &[u8],
-    output: &mut [u8],
-) -> Reply
+pub fn typst_html_dead_links(alloc: Global, limit: u32, input: &[u8], output: &mut [u8]) -> Reply
     ensures answered { RepliesAt (dead_links_answer limit input.now) output.old result output.new }
     ensures kept { ¬ (result.status ≡ 0) → output.new ≡ output.old }
 {
@@ -151,28 +142,22 @@ pub extern "C" fn typst_html_dead_links(
 /// stand in it before. The text is copied into the buffer, where it fits:
 ///
 /// ```json
-/// {"dead_fragments":[{"fragment":"mint","path":[1,3]}],"repeated_ids":[{"id":"dill","path":[1,4]}]}
+/// {"dead_fragments":[{"fragment":"mint","keeps":0,"path":[1,3]},{"fragment":"sage","keeps":1,"path":[5]}],
+///  "repeated_ids":[{"id":"dill","keeps":0,"path":[1,4]}]}
 /// ```
 ///
-/// How many there are is how long each list is. A path is the index of each child on the way from
-/// the root, texts counted. The page is read as
+/// (It stands in one line.) How many there are is how long each list is. The path of each is the index of
+/// each child on the way from the root, texts counted: it begins with the first indices of the path of the
+/// finding before it in its list, as many as it keeps, and goes on with those that follow. So the link to
+/// `sage` stands at 1, 5. The first of a list keeps none. The page is read as
 /// [`read_page`](typst_html_read::read_page) reads it, so not where a browser is known to take it apart
 /// otherwise: one that is not read is bad input, and the reply has the place from which on it is not: how
 /// many bytes stand before, its line and its column. Where an element would stand deeper than the
 /// limit, that is refused as number 8, with the place of its start tag. A limit that is not from 1 to
 /// 1,000 is bad input without a place. Buffers and replies are those of [`typst_html_write`].
-#[unsafe(no_mangle)]
-pub extern "C" fn typst_html_check(
-    alloc: Global,
-    limit: u32,
-    page: &[u8],
-    output: &mut [u8],
-) -> Reply
+pub fn typst_html_check(alloc: Global, limit: u32, page: &[u8], output: &mut [u8]) -> Reply
     ensures answered { Tells (check_told limit page.now) output.old result output.new }
     ensures kept { ¬ (result.status ≡ 0) → output.new ≡ output.old }
 {
     reply_to_page(alloc, limit, page, output)
 }
-
-#[cfg(test)]
-mod tests;

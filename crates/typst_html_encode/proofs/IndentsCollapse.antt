@@ -33,7 +33,6 @@ abbrev IsClosed : List Atom → Type 0
 IsClosed us = (is_supported_by us ≡ false) × ((b : Bool) →
     atoms_pieces b us ≡ atoms_pieces false us)
 
--- one atom before
 before_one : (x : Atom) (us vs : List Atom) → is_supported_by us ≡ is_supported_by vs →
     is_supported_by (x ∷ us) ≡ is_supported_by (x ∷ vs)
 before_one (ignorable c) us vs e = e
@@ -67,13 +66,11 @@ dropped : (after b : Bool) (ps : List Piece) → (after && b) ≡ false →
     cond (after && b) (char 32 ∷ []) [] ++ ps ≡ ps
 dropped after b ps e = rw e refl
 
--- a blank after a border
 blank_after : (c : ℕ) (us : List Atom) → atoms_pieces false (collapsible c ∷ us)
     ≡ atoms_pieces false us
 blank_after c us = dropped (is_supported_by us) false (atoms_pieces false us)
     (and_right (is_supported_by us) false refl)
 
--- a blank before a border
 blank_before : (c : ℕ) (us : List Atom) (b : Bool) → is_supported_by us ≡ false →
     atoms_pieces b (collapsible c ∷ us) ≡ atoms_pieces false us
 blank_before c us b e = dropped (is_supported_by us) b (atoms_pieces false us)

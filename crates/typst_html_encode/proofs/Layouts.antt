@@ -3,7 +3,6 @@ use Rattle.std.proofs.Common.{◌≡◌, ℕ, List, [], ◌∷◌, ◌++◌, Boo
 use Rattle.std.specs.Prelude.{if◌then◌else◌}
 use Rattle.typst_html_encode.specs.Layout.{by_lines}
 
--- there is a line
 abbrev pub begun : List (List ℕ) → Bool
 begun [] = false
 begun (l ∷ ls) = true

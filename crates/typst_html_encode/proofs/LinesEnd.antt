@@ -62,7 +62,6 @@ module _ (xs : List ℕ) (feed : lacks 10 (60 ∷ xs) ≡ true) where
           (and_parts (not (e == 60)) (lacks e xs) lacking).0,
     ) refl
 
-    -- cut at the character
     cut : (q r : List ℕ) → has_closing (60 ∷ xs) (q ++ e ∷ r) ≡ false →
         Ended q × (has_closing (60 ∷ xs) r ≡ false)
     cut [] r h = (refl, (or_parts (begins_closing (60 ∷ xs) (e ∷ r)) (has_closing (60 ∷ xs) r) h).1)

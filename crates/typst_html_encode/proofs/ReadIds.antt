@@ -20,7 +20,6 @@ use Rattle.typst_html_encode.proofs.Runs.{left_empty, right_empty}
 abbrev texts : ElementTexts → NodesView → List (List ℕ)
 texts own ns = plains_texts own (nodes_normal ns)
 
--- a text has none
 pub past_words : (own : ElementTexts) (s : List ℕ) (ps : Plains) →
     plains_texts own (put_words s ps) ≡ plains_texts own ps
 unfolding plains_texts
@@ -41,7 +40,6 @@ raw_texts own (node (text_node s span) ns) e =
 raw_texts own (node (element_node h kids) ns) e = cc
 raw_texts own (node (frame_node f) ns) e = cc
 
--- nor in an indent
 indent_texts : (own : ElementTexts) (b : Bool) (level : ℕ) (ns : NodesView) →
     texts own (with_indent b level ns) ≡ texts own ns
 unfolding plains_texts nodes_normal

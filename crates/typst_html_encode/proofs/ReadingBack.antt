@@ -307,7 +307,6 @@ module _ (frames : Frames) where
         (rest_by (is_foreign_self_closing h.name) (is_void h.name) (is_raw h.name)
         (is_escapable_raw h.name) h ns s refl refl refl refl n.0 f w x ih)
 
-  -- the children of an element
   pub nodes_read : (ns : NodesView) (full due : Bool) (margin : Margin) (text : List ℕ) (o : Open)
       (os : List Open) →
       is_escapable_raw o.name ≡ false → NodesAreNamed ns → NodesAreFrameFree ns →
@@ -373,7 +372,6 @@ module _ (frames : Frames) where
   ended true root = refl
   ended false root = refl
 
-  -- a whole text
   whole : (options : HtmlOptions) (e : ElementView) → ElementIsNamed e → ElementIsFrameFree e →
       ElementEndsWell options.pretty e →
       document_faults frames options e ≡ [] →

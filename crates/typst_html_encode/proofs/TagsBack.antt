@@ -18,7 +18,6 @@ use Rattle.typst_html_encode.specs.ExportFaults.{text_faults, attrs_faults}
 use Rattle.typst_html_encode.proofs.References.{reference_read, text_scalar, text_positive, text_good}
 use Rattle.typst_html_encode.proofs.Runs.{grows, read_on, all_of, left_empty, right_empty}
 
--- a start tag is read
 abbrev pub started : List ℕ → List TextPair → List Open → ReaderState
 started name attrs s = if is_foreign_self_closing name then complete name attrs no_plains s
     else after_start_tag name attrs s
@@ -26,7 +25,6 @@ started name attrs s = if is_foreign_self_closing name then complete name attrs 
 no_slash : (c : ℕ) → is_tag_char c ≡ true → eqb c 47 ≡ false
 no_slash c h = grind (arith, nat_tests)
 
--- values
 module _ (name : List ℕ) (attrs : List TextPair) (attr : List ℕ) (s : List Open) where
   value_one : (value : List ℕ) (c : ℕ) → is_text_char c ≡ true →
       run (Value name attrs attr value s) (char_text escaping.Value c)
@@ -56,7 +54,6 @@ module _ (name : List ℕ) (attrs : List TextPair) (attr : List ℕ) (s : List O
       (value_read (value ++ c ∷ []) cs both.1
       ∙ ap (λ t. Value name attrs attr t s) (append_assoc value (c ∷ []) cs))
 
--- names
 start_more : (s : List Open) (xs : List ℕ) (c : ℕ) → is_tag_char c ≡ true →
     step (StartName xs s) c ≡ StartName (xs ++ c ∷ []) s
 start_more s xs c h = rw h refl
@@ -129,7 +126,6 @@ name_on name s [] = name_close (is_foreign_self_closing name) name s
 name_on name s (p ∷ ps) = ap (λ t. run t ((p.0 ++ (value_text p.1 ++ attrs_text ps))
     ++ tag_close name)) (name_ends name s 32 refl)
 
--- a value, or none
 valued : (name : List ℕ) (attrs : List TextPair) (n v : List ℕ) (s : List Open)
     (ps : List TextPair) →
     all is_text_char v ≡ true → run (AttrName name attrs n s)
@@ -168,7 +164,6 @@ less_name : (s : List Open) (c : ℕ) → is_tag_char c ≡ true → holds_text_
     step (Less s) c ≡ StartName (c ∷ []) s
 less_name s c h k = rw (no_slash c h, h, k) refl
 
--- a start tag
 pub start_read : (name : List ℕ) (ps : List TextPair) (s : List Open) (span : ℕ) →
     IsOf is_tag_char name → AllByRecursion PairIsNamed ps → attrs_faults span ps ≡ [] →
     holds_text_alone s ≡ false → run (Less s) (name ++ (attrs_text ps ++ tag_close name))
@@ -180,7 +175,6 @@ start_read (c ∷ cs) ps s span n h f k =
     ∙ grows (λ xs. StartName xs s) is_tag_char (start_more s) (c ∷ []) cs n.1)
     (name_on (c ∷ cs) s ps ∙ pairs_read (c ∷ cs) [] ps s span h f)
 
--- an end tag
 close_own : (o : Open) (os : List Open) → close o.name (o ∷ os)
     ≡ complete o.name o.attrs o.children os
 close_own o os = let e : bytes_eq o.name o.name ≡ true =

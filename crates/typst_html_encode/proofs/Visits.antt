@@ -102,7 +102,6 @@ module _ {frames : Frames} {outer : Margin} {whole : NodesView} {start : List �
   refused_at e is_pre_span is_margin is =
       refused here later kids_are e (rw (← is_pre_span, ← is_margin) is)
 
-  -- the node is written whole
   pub visits_whole : {new_due : Bool} {new_text : List ℕ} → node_is_entered (node_view n) ≡ false →
       WritesNode frames outer opened due (node_view n) text new_text →
       new_due ≡ due_after due (node_view n) →

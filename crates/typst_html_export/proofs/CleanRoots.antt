@@ -193,7 +193,6 @@ list_entries name [] e f = tt
 list_entries name (t ∷ ts) e f =
     (named_entry name (joined_text (t ∷ ts)) e (joined_is_clean (t ∷ ts) f), tt)
 
--- what clean information says
 record InfoParts (info : InfoView) : Type 0 where
   title : is_clean_text info.title ≡ true
   description : is_clean_text info.description ≡ true

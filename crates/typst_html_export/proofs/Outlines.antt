@@ -12,7 +12,6 @@ use Rattle.html_dom_document.specs.Places.{is_html}
 use Rattle.typst_html_export.specs.Assembled.{Outline, own_html, own_body, nothing_own, own_among_others, own_head, is_own, own_after, first_own, shown_count, outline_by, document_outline}
 use Rattle.html_names.proofs.Basics.{from_place}
 
--- so many nodes more
 after_after : (k : ℕ) (found : Option (ℕ × Head))
     → option_map (own_after k) (option_map (own_after 1) found) ≡ option_map (own_after (k + 1)) found
 after_after k None = refl

@@ -46,7 +46,6 @@ record IsReadOf (root : ElementView) (read : Option Plain) : Type 0 where
   ids : read_ids read ≡ shown_names root.1
   places : read_places read ≡ element_places root
 
--- plain or pretty
 read_by : (frames : Frames) (root : ElementView) (options : HtmlOptions) (text : List ℕ)
     (pretty : Bool) → options.pretty ≡ pretty → ElementIsFrameFree root →
     writing.document_faults frames options root ≡ [] →

@@ -18,7 +18,6 @@ use Rattle.typst_html_read.specs.RawEnds.{EndsAt}
 pub end_is : (xs ys : List ℕ) (k : ℕ) → ys ≡ xs → take (length ys - k) (drop k ys) ≡ drop k xs
 end_is xs ys k e = take_rest ys k ∙ ap (drop k) e
 
--- names of tags are ASCII
 name_ascii : (n : List ℕ) → IsOf is_tag_char n → IsAscii n
 name_ascii n h = is_ascii_is n (tag_ascii n h)
 
@@ -58,7 +57,6 @@ exact_is (x ∷ y ∷ rest) n e =
 
 -- the end of the characters is the end of the bytes
 module _ (n t : List ℕ) (h : IsOf is_tag_char n) (u : IsUtf8 t) where
-  -- by characters
   abbrev place : ℕ
   place = length (chars t) - length (closing n)
 

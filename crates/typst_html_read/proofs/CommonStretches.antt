@@ -134,7 +134,6 @@ stretch strict (Value name attrs attr value stack) front h k =
     (in_value strict name attrs attr stack) h refl
 stretch strict s front h k = nothing strict s front (k refl)
 
--- no characters
 pub with_none : (s : ReaderState) → with_more [] s ≡ s
 with_none (Content text stack) = ap (λ t. Content t stack) (append-nil text)
 with_none (Value name attrs attr value stack) =

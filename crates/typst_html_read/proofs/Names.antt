@@ -209,7 +209,6 @@ attr_name_holds false name attrs attr stack c =
     moved true a k = refl
     moved false a k = sym (and-false a)
 
--- what a character changes
 pub step_holds : (s : ReaderState) (c : ℕ) →
     Holds (step s c) (not (ends_refused s c) && taken s)
 step_holds (Outside None) c = if_holds (is_blank c) _ _ _ (inr refl)
@@ -269,7 +268,6 @@ none_after (c ∷ cs) s (inr e) = none_after cs (step s c)
     (subst (Holds (step s c)) (ap (λ b. not (ends_refused s c) && b) e
     ∙ and-false (not (ends_refused s c))) (step_holds s c))
 
--- the root that is read
 pub root_accepted : (name : List ℕ) (attrs : List TextPair) (kids : Plains) →
     root_taken (Some (branch name attrs kids)) ≡ true →
     accepted (Some (branch name attrs kids)) ≡ Some (plain_element name attrs kids)

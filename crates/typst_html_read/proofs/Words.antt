@@ -7,7 +7,6 @@ use lib.Utf8.{encodes}
 use Rattle.html_names.specs.Names.{is_ascii}
 use Rattle.html_names.proofs.Basics.{is_ascii_is, bytes_eq-same}
 
--- what follows a word
 pub chars_after_word : (n s rest : List ℕ) → is_ascii n ≡ true → s ≡ n ++ rest →
     chars s ≡ n ++ chars rest
 chars_after_word n s rest a e =

@@ -134,7 +134,6 @@ module _ {P : List ℕ → Type 0} where
 pub anchors_keep_plain_nodes : AnchorsKeepPlainNodes
 anchors_keep_plain_nodes ns ms r e = anchored_plain r e
 
--- without new anchors
 module _ {P : List ℕ → Type 0} where
   pub unanchored : (ns : NodesView) → Anchored P ns ns
   unanchored none = at_end

@@ -30,7 +30,6 @@ text_is_not_alone false n e = cc
 -- the flag `pre_span`, and of a tag
 module _ (OfHead : Head → (is_empty : Bool) → Type 0)
     (OfText : (pre_span : Bool) → List ℕ → Type 0) (OfTag : TagView → Type 0) where
-  -- there is no frame
   abbrev mutual
     pub HoldsOf : (pre_span : Bool) → NodeView → Type 0
     HoldsOf p (tag_node t) = OfTag t

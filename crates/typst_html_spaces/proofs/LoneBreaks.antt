@@ -324,7 +324,6 @@ pub is_one_break_is : (whitespace : Whitespace) (body : BodyView) →
 is_one_break_is whitespace absent = refl
 is_one_break_is whitespace (present items) = are_one_break_is whitespace items
 
--- a text
 pub text_at_most : (whitespace : Whitespace) (s : List ℕ) (span : ℕ) →
     AtMost (list_content (text_item_nodes whitespace s span))
     (item_content whitespace (text_item s span))

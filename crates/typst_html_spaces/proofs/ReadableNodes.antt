@@ -92,7 +92,6 @@ module _ (Passes : List ℕ → Type 0) where
   free_before (of_element a v p q r) e = (free_before q e.0, free_before r e.1)
   free_before (at_frame r) e = absurd e.0
 
-  -- the body with anchors
   abbrev pub HasBody : NodesView → NodesView → Type 0
   HasBody ms body = (new : NodesView) × (body_children ms ≡ Some new) × Anchored Passes body new
 

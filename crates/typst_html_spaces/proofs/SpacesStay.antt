@@ -29,7 +29,6 @@ spaces_stay role items e =
     seen_own (converted_nodes Block Normal role items) (items_stay role items e)
     ∙ (converted_seen Block Normal role items e false).0
 
--- indents are not seen
 pub pretty_spaces_stay : PrettySpacesStay
 pretty_spaces_stay role items level h e r =
     content_collapses level h (styled_nodes (converted_nodes Block Normal role items)) r

@@ -28,7 +28,6 @@ pub record Walks (ts : List Thing) (made : Bool → Bool → List Atom) : Type 0
   pub stay : (p n b a : Bool) → (n ≡ true → a ≡ true) →
       (p ≡ true → visible_at ts n ≡ false → b ≡ true) → AtomsStay b a (made p n)
 
--- one after the other
 pub walks_both : (ts us : List Thing) (f g : Bool → Bool → List Atom) → Walks ts f → Walks us g →
     Walks (ts ++ us) (λ p n. f p (visible_at us n) ++ g (line_past p ts) n)
 walks_both ts us f g v w =
@@ -52,7 +51,6 @@ walks_both ts us f g v w =
           (w.stay (line_past p ts) n (support_past b (f p (visible_at us n))) a i (first p n b h));
     }
 
--- by other words
 pub walks_as : (ts us : List Thing) (f g : Bool → Bool → List Atom) → ts ≡ us →
     ((p n : Bool) → f p n ≡ g p n) → Walks us g → Walks ts f
 walks_as ts us f g t e w = record {

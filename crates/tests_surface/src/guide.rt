@@ -1,0 +1,8 @@
+//! The guide's functions, word for word, on the crate that users name.
+
+mod attributes;
+mod elements;
+mod frames;
+mod links;
+mod refusals;
+mod trees;

@@ -1,0 +1,78 @@
+//! The static library for C and for what calls C: each call of `typst_html_c`, under its name.
+#![tactic(auto)]
+
+ghost use Rattle.std.specs.Prelude.{◌≡◌};
+ghost use Rattle.typst_html_c.specs.CallReplies.{RepliesAt, RepliesWithAt, call_dead_links, document_call_answer, write_answer};
+ghost use Rattle.typst_html_c.specs.DeadLinks.{dead_links_answer};
+ghost use Rattle.typst_html_c.specs.PageFindings.{Tells, check_told};
+
+use std::alloc::Global;
+use typst_html_c::Reply;
+
+/// As [`typst_html_c::typst_html_version`].
+#[unsafe(no_mangle)]
+pub extern "C" fn typst_html_version() -> u32
+    ensures { result ≡ 5 }
+{
+    typst_html_c::typst_html_version()
+}
+
+/// As [`typst_html_c::typst_html_write`].
+#[unsafe(no_mangle)]
+pub extern "C" fn typst_html_write(
+    alloc: Global,
+    kind: u8,
+    layout: u8,
+    input: &[u8],
+    output: &mut [u8],
+) -> Reply
+    ensures answered { RepliesAt (write_answer kind layout input.now) output.old result output.new }
+    ensures kept { ¬ (result.status ≡ 0) → output.new ≡ output.old }
+{
+    typst_html_c::typst_html_write(alloc, kind, layout, input, output)
+}
+
+/// As [`typst_html_c::typst_html_document`].
+#[unsafe(no_mangle)]
+pub extern "C" fn typst_html_document(
+    alloc: Global,
+    layout: u8,
+    links: u8,
+    limit: u32,
+    input: &[u8],
+    output: &mut [u8],
+) -> Reply
+    ensures answered { RepliesWithAt (call_dead_links layout links limit input.now)
+        (document_call_answer layout links limit input.now) output.old result output.new }
+    ensures kept { ¬ (result.status ≡ 0) → ¬ (result.status ≡ 5) → output.new ≡ output.old }
+{
+    typst_html_c::typst_html_document(alloc, layout, links, limit, input, output)
+}
+
+/// As [`typst_html_c::typst_html_dead_links`].
+#[unsafe(no_mangle)]
+pub extern "C" fn typst_html_dead_links(
+    alloc: Global,
+    limit: u32,
+    input: &[u8],
+    output: &mut [u8],
+) -> Reply
+    ensures answered { RepliesAt (dead_links_answer limit input.now) output.old result output.new }
+    ensures kept { ¬ (result.status ≡ 0) → output.new ≡ output.old }
+{
+    typst_html_c::typst_html_dead_links(alloc, limit, input, output)
+}
+
+/// As [`typst_html_c::typst_html_check`].
+#[unsafe(no_mangle)]
+pub extern "C" fn typst_html_check(
+    alloc: Global,
+    limit: u32,
+    page: &[u8],
+    output: &mut [u8],
+) -> Reply
+    ensures answered { Tells (check_told limit page.now) output.old result output.new }
+    ensures kept { ¬ (result.status ≡ 0) → output.new ≡ output.old }
+{
+    typst_html_c::typst_html_check(alloc, limit, page, output)
+}
