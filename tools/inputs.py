@@ -150,6 +150,9 @@ KINDS: dict[str, Callable[[float], list[Item]]] = {
     "names of one's own": of_many(34, lambda k: [["el", f"x-{k % 1000}", [[f"data-{k % 1000}", ""]], []]]),
 }
 
-# Characters of which each becomes a node, all in one text, for `doc`; and the bytes of that node: 144 and, where it is
-# a text, those of a string of one character.
-ALONE: dict[str, tuple[str, int]] = {"blanks": (" ", 176), "line feeds": ("\n", 144), "U+200B": ("\u200b", 176)}
+# Texts, for `doc`, that are repeated in one and of which each character becomes nodes; and the bytes of these by character:
+# 144 and, where it is a text, those of a string of one character. A blank before a line feed is kept: it stands in a `span`
+# of its own, with its list, css and a `style`.
+ALONE: dict[str, tuple[str, int]] = {
+    "blanks": (" ", 176), "line feeds": ("\n", 144), "U+200B": ("\u200b", 176), "blanks and line feeds by turns": (" \n", 352),
+}  # fmt: skip

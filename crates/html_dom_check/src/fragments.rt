@@ -25,9 +25,9 @@ pub struct DeadFragment {
 }
 
 /// The links of a tree to fragments of their own page that lead nowhere, in document order, the root
-/// among them. Such a link is an `a` whose first `href` has a fragment ([`fragment_in`]) which leads to
-/// none of the places of the tree ([`place_names`]), nor to the top, as a browser finds it
-/// ([`fragment_leads`]).
+/// among them. Such a link is an `a` whose first `href` has a fragment
+/// ([`fragment_in`](html_dom_link::fragment_in)) which leads to none of the places of the tree
+/// ([`place_names`]), nor to the top, as a browser finds it ([`fragment_leads`]).
 ///
 /// It takes time for each place and each such link by the logarithm of how many places there are, and
 /// for each that is found its depth. Beside what it gives it holds a copy of the places' names. It fails only where

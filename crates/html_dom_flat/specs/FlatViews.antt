@@ -33,7 +33,7 @@ flat_head names e = record {
 abbrev pub flat_node_view : NamesView → FlatNode → FlatNodeView
 flat_node_view names (Tag t) = flat_tag (tag_view t)
 flat_node_view names (Text s span) = flat_text (text_view s) span.0
-flat_node_view names (Frame f) = flat_frame (html_frame_view f)
+flat_node_view names (Frame f) = flat_frame (html_frame_view f.value)
 flat_node_view names (Element e) = flat_element (flat_head names e) e.past
 
 abbrev pub flat_nodes_view : NamesView → List FlatNode → List FlatNodeView

@@ -98,12 +98,12 @@ impl Builder {
     }
 
     #[inline(never)]
-    fn push_frame(&mut self, frame: HtmlFrame) -> Result<(), AllocError>
+    fn push_frame(&mut self, alloc: Global, frame: HtmlFrame) -> Result<(), AllocError>
         ensures list { OnOk result (builder_view self.new
             ≡ builder_view self.old ++ flat_frame (html_frame_view frame) ∷ []) }
         ensures count { OnOk result (vec_len self.new.nodes ≡ vec_len self.old.nodes + 1) }
     {
-        self.push(FlatNode::Frame(frame))
+        self.push(FlatNode::Frame(Box::new(alloc, frame)?))
     }
 
     /// Adds an element that is not closed yet, and gives the nodes in it.
@@ -151,7 +151,7 @@ impl Builder {
         match node {
             HtmlNode::Tag(tag) => self.push_tag(tag),
             HtmlNode::Text(text, span) => self.push_text(text, span),
-            HtmlNode::Frame(frame) => self.push_frame(frame),
+            HtmlNode::Frame(frame) => self.push_frame(alloc, frame),
             HtmlNode::Element(element) => self.move_element(alloc, element),
         }
     }

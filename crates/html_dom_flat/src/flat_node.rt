@@ -8,8 +8,8 @@ pub enum FlatNode {
     Tag(Tag),
     /// A text, and where it comes from.
     Text(String, Span),
-    /// A laid-out frame.
-    Frame(HtmlFrame),
+    /// A laid-out frame. It stands apart, since it is rare and takes more room than an element.
+    Frame(Box<HtmlFrame>),
     /// An element. The nodes in it follow it.
     Element(FlatElement),
 }
