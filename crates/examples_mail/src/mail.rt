@@ -55,10 +55,13 @@ fn html(alloc: Global, template: &str, fields: &Fields, lang: &str) -> Result<St
 /// What is known of a mail besides: its subject, and its language.
 fn info(alloc: Global, template: &str, fields: &Fields, lang: &str) -> Result<DocumentInfo> {
     let subject = template.lines().next().context("no subject")?;
-    let mut info = DocumentInfo::new(alloc);
-    info.title = Some(fill(alloc, subject, fields).context("subject")?);
-    info.locale = Some(Locale::new(String::from_str(alloc, lang)?));
-    Ok(info)
+    let title = fill(alloc, subject, fields).context("subject")?;
+    let lang = String::from_str(alloc, lang)?;
+    Ok(DocumentInfo {
+        title: Some(title),
+        locale: Some(Locale::new(lang)),
+        ..DocumentInfo::new(alloc)
+    })
 }
 
 /// All that is seen of a mail: dark letters on light ground, with some room around.

@@ -64,12 +64,14 @@ impl Site<'_> {
 
     /// What is known of a page besides.
     fn info(&self, page: &Page) -> Result<DocumentInfo> {
-        let mut info = DocumentInfo::new(self.alloc);
-        info.title = Some(match self.title {
+        let title = match self.title {
             Some(title) => format!(in self.alloc; "{} - {title}", page.title)?,
             None => page.title.clone()?,
-        });
-        Ok(info)
+        };
+        Ok(DocumentInfo {
+            title: Some(title),
+            ..DocumentInfo::new(self.alloc)
+        })
     }
 
     /// Links to all pages, that to the current one marked.

@@ -43,18 +43,22 @@ pub(crate) fn page<R: Read + Drop>(
 
 /// What is known of the page besides its table.
 fn info(alloc: Global, settings: &Settings<'_>) -> Result<DocumentInfo> {
-    let mut info = DocumentInfo::new(alloc);
-    info.title = Some(String::from_str(alloc, settings.title)?);
-    info.locale = Some(Locale::new(String::from_str(alloc, settings.lang)?));
-    Ok(info)
+    let title = String::from_str(alloc, settings.title)?;
+    let lang = String::from_str(alloc, settings.lang)?;
+    Ok(DocumentInfo {
+        title: Some(title),
+        locale: Some(Locale::new(lang)),
+        ..DocumentInfo::new(alloc)
+    })
 }
 
 /// The table with its caption, its head and its body.
 fn table<R: Read + Drop>(alloc: Global, mut reader: Reader<R>, title: &str) -> Result<HtmlElem> {
+    let mut parts = Vec::new(alloc);
     let caption = HtmlElem::new(alloc, tag::caption).with_text(alloc, title)?;
-    let head = head(alloc, reader.headers()?)?;
-    let body = body(alloc, &mut reader)?;
-    let parts = vec![in alloc; Pair::from(caption), Pair::from(head), Pair::from(body)]?;
+    parts.push(Pair::from(caption))?;
+    parts.push(Pair::from(head(alloc, reader.headers()?)?))?;
+    parts.push(Pair::from(body(alloc, &mut reader)?))?;
     Ok(HtmlElem::new(alloc, tag::table).with_body(parts))
 }
 

@@ -92,12 +92,11 @@ fn link_of(alloc: Global, href: &str) -> Result<HtmlNode, AllocError> {
 
 /// A dead link between elements of which the second has the ids of the first.
 fn root_of(alloc: Global) -> Result<HtmlElement, AllocError> {
-    let nodes = vec![in alloc;
-        HtmlNode::from(element_of(alloc)?),
-        link_of(alloc, "#%6eo")?,
-        link_of(alloc, "#%69nner")?,
-        HtmlNode::from(element_of(alloc)?),
-    ]?;
+    let mut nodes = Vec::new(alloc);
+    nodes.push(HtmlNode::from(element_of(alloc)?))?;
+    nodes.push(link_of(alloc, "#%6eo")?)?;
+    nodes.push(link_of(alloc, "#%69nner")?)?;
+    nodes.push(HtmlNode::from(element_of(alloc)?))?;
     Ok(HtmlElement::new(alloc, tag::div).with_children(nodes))
 }
 

@@ -57,8 +57,8 @@ static WITH_TAGS: [(&str, &str); 3] = [
 fn a_tag_is_a_child_and_is_not_written(rt: HostRuntime) -> TestResult {
     for (name, wanted) in &WITH_TAGS {
         let location = Location(7);
-        let child = HtmlNode::from(Tag::End { location });
-        let root = element(rt.alloc(), name, &[])?.with_child(child)?;
+        let mut root = element(rt.alloc(), name, &[])?;
+        root.children.push(HtmlNode::from(Tag::End { location }))?;
         assert_plain(&rt, &root, wanted)?;
     }
     Ok(())

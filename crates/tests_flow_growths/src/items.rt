@@ -72,40 +72,59 @@ fn converted_items(rt: HostRuntime) -> TestResult {
     Ok(())
 }
 
-/// An element, and a pair that it is given.
-type Given = (HtmlElem, HtmlAttr, String);
+/// A call that adds an attribute to an element.
+#[derive(Clone, Copy, Debug)]
+enum Way {
+    With,
+    WithOptional,
+    Set,
+}
 
-fn set_in((mut element, name, value): Given) -> Result<(), Refused<Given>> {
-    element.set_attr(name, value).map_err(|Refused {
-        back: (name, value),
-    }| Refused {
-        back: (element, name, value),
-    })
+/// A call, the element, and a pair that it is given.
+type Given = (Way, HtmlElem, HtmlAttr, String);
+
+fn has_two(element: &HtmlElem) -> bool {
+    element.attrs.0.len() == 2
+}
+
+fn refused(back: Given) -> Result<bool, Refused<Given>> {
+    Err(Refused { back })
+}
+
+fn added((way, mut element, name, value): Given) -> Result<bool, Refused<Given>> {
+    match way {
+        Way::With => match element.with_attr(name, value) {
+            Ok(element) => Ok(has_two(&element)),
+            Err(Refused { back }) => refused((way, back.0, back.1, back.2)),
+        },
+        Way::WithOptional => match element.with_optional_attr(name, Some(value)) {
+            Ok(element) => Ok(has_two(&element)),
+            Err(
+                Refused {
+                    back: (element, name, value),
+                },
+            ) => match value {
+                Some(value) => refused((way, element, name, value)),
+                None => Ok(false),
+            },
+        },
+        Way::Set => match element.set_attr(name, value) {
+            Ok(()) => Ok(has_two(&element)),
+            Err(Refused { back }) => refused((way, element, back.0, back.1)),
+        },
+    }
 }
 
 /// A value is added to elements.
 #[test]
 fn changed_attributes(rt: HostRuntime) -> TestResult {
     let alloc = rt.alloc();
-    let given = (
-        elem_of(alloc, tag::p)?,
-        attr::class,
-        String::from_str(alloc, "held")?,
-    );
-    refuses_given(alloc, given, |(element, name, value)| {
-        element.with_attr(name, value).map(|_| ())
-    })?;
-    let given = (
-        elem_of(alloc, tag::p)?,
-        attr::class,
-        String::from_str(alloc, "held")?,
-    );
-    refuses_given(alloc, given, set_in)?;
-    let value = Some(String::from_str(alloc, "held")?);
-    let given = (elem_of(alloc, tag::p)?, attr::class, value);
-    refuses_given(alloc, given, |(element, name, value)| {
-        element.with_optional_attr(name, value).map(|_| ())
-    })
+    for way in [Way::With, Way::WithOptional, Way::Set] {
+        let element = elem_of(alloc, tag::p)?;
+        let given = (way, element, attr::class, String::from_str(alloc, "held")?);
+        refuses_given(alloc, given, added)?;
+    }
+    Ok(())
 }
 
 fn is_alone(element: HtmlElem) -> bool {
@@ -162,21 +181,19 @@ fn arg_of(alloc: Global, name: &str, value: Value) -> Result<Arg, AllocError> {
 
 /// The arguments `href`, `class`, one that no type is there for, and a body.
 fn args_of(alloc: Global) -> Result<Args, AllocError> {
-    let text = Value::Str(String::from_str(alloc, "x")?);
+    let mut items = Vec::with_capacity(alloc, 4)?;
+    let text = String::from_str(alloc, "x")?;
+    items.push(arg_of(alloc, "href", Value::Str(text))?)?;
     let list = vec![in alloc; Value::Str(String::from_str(alloc, "held")?)]?;
-    let body = ArgValue::Body(vec![in alloc; Pair::from(text_item_of(alloc)?)]?);
-    Ok(Args {
-        items: vec![in alloc;
-            arg_of(alloc, "href", text)?,
-            arg_of(alloc, "class", Value::Array(list))?,
-            arg_of(alloc, "other", Value::Auto)?,
-            Arg {
-                name: None,
-                span: Span(7),
-                value: body
-            },
-        ]?,
-    })
+    items.push(arg_of(alloc, "class", Value::Array(list))?)?;
+    items.push(arg_of(alloc, "other", Value::Auto)?)?;
+    let body = vec![in alloc; Pair::from(text_item_of(alloc)?)]?;
+    items.push(Arg {
+        name: None,
+        span: Span(7),
+        value: ArgValue::Body(body),
+    })?;
+    Ok(Args { items })
 }
 
 fn info_of(alloc: Global) -> Result<ElementInfo, AllocError> {

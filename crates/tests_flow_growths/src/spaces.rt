@@ -18,14 +18,14 @@ const SPACE: usize = 0;
 const TAB: usize = 3;
 
 fn nodes_of(alloc: Global) -> Result<Vec<HtmlNode>, AllocError> {
+    let mut nodes = Vec::with_capacity(alloc, COUNT)?;
+    nodes.push(text_of(alloc, " ", 1)?)?;
+    nodes.push(HtmlNode::Tag(start_of(alloc)?))?;
+    nodes.push(text_of(alloc, "one", 2)?)?;
+    nodes.push(text_of(alloc, "\t", 3)?)?;
     let inner = vec![in alloc; text_of(alloc, "two", 4)?]?;
-    Ok(vec![in alloc;
-        text_of(alloc, " ", 1)?,
-        HtmlNode::Tag(start_of(alloc)?),
-        text_of(alloc, "one", 2)?,
-        text_of(alloc, "\t", 3)?,
-        HtmlNode::from(HtmlElement::new(alloc, tag::b).with_children(inner)),
-    ]?)
+    nodes.push(HtmlNode::from(HtmlElement::new(alloc, tag::b).with_children(inner)))?;
+    Ok(nodes)
 }
 
 /// Whether there are as many nodes more as a text of three pieces has.
@@ -49,34 +49,49 @@ fn taken_of(alloc: Global) -> Result<Vec<Vec<HtmlNode>>, AllocError> {
     Ok(values)
 }
 
-fn keeps_tab(alloc: Global, nodes: Vec<HtmlNode>) -> Result<bool, AllocError> {
-    Ok(is_kept_at(&keep_runs(alloc, nodes)?, TAB))
+/// A call that consumes nodes.
+#[derive(Clone, Copy, Debug)]
+enum Taking {
+    KeepTab,
+    KeepSpace,
+    AddText,
 }
 
-fn keeps_space(alloc: Global, nodes: Vec<HtmlNode>) -> Result<bool, AllocError> {
-    Ok(is_kept_at(&protect_spaces(alloc, nodes)?, SPACE))
+impl Taking {
+    /// Whether what is made of the nodes is right.
+    fn call(self, alloc: Global, nodes: Vec<HtmlNode>) -> Result<bool, AllocError> {
+        match self {
+            Taking::KeepTab => Ok(is_kept_at(&keep_runs(alloc, nodes)?, TAB)),
+            Taking::KeepSpace => Ok(is_kept_at(&protect_spaces(alloc, nodes)?, SPACE)),
+            Taking::AddText => adds_text(alloc, nodes),
+        }
+    }
 }
 
 #[test]
 fn taken(rt: HostRuntime) -> TestResult {
     let alloc = rt.alloc();
-    refuses_taken(alloc, taken_of(alloc)?, |nodes| keeps_tab(alloc, nodes))?;
-    refuses_taken(alloc, taken_of(alloc)?, |nodes| keeps_space(alloc, nodes))?;
-    refuses_taken(alloc, taken_of(alloc)?, |nodes| adds_text(alloc, nodes))
+    for taking in [Taking::KeepTab, Taking::KeepSpace, Taking::AddText] {
+        refuses_taken(alloc, taken_of(alloc)?, |nodes| taking.call(alloc, nodes))?;
+    }
+    Ok(())
 }
 
 /// A space at the beginning, and one between two words.
+fn spaced_of(alloc: Global) -> Result<Vec<HtmlNode>, AllocError> {
+    let mut nodes = Vec::new(alloc);
+    nodes.push(text_of(alloc, " ", 1)?)?;
+    nodes.push(text_of(alloc, "one", 2)?)?;
+    nodes.push(HtmlNode::from(start_of(alloc)?))?;
+    nodes.push(text_of(alloc, " ", 3)?)?;
+    nodes.push(text_of(alloc, "two", 4)?)?;
+    Ok(nodes)
+}
+
 #[test]
 fn lone_spaces(rt: HostRuntime) -> TestResult {
     let alloc = rt.alloc();
-    let nodes = vec![in alloc;
-        text_of(alloc, " ", 1)?,
-        text_of(alloc, "one", 2)?,
-        HtmlNode::from(start_of(alloc)?),
-        text_of(alloc, " ", 3)?,
-        text_of(alloc, "two", 4)?,
-    ]?;
-    let tree = FlatTree::from_nodes(alloc, &nodes)?;
+    let tree = FlatTree::from_nodes(alloc, &spaced_of(alloc)?)?;
     refuses(alloc, || {
         bare_spaces(alloc, &tree).map(|found| found.bare.as_slice() == [false, true].as_slice())
     })

@@ -59,17 +59,18 @@ fn styled_of(
 
 /// A `p` with css, an attribute, a tag, a text and a frame, whose lists have no room for more.
 pub fn inner_of(alloc: Global) -> Result<HtmlElement, AllocError> {
-    let (tag, text) = (
-        HtmlNode::from(start_of(alloc)?),
-        text_of(alloc, "a text", 5)?,
-    );
-    let nodes = vec![in alloc; tag, text, HtmlNode::from(html_frame_of(alloc)?)]?;
+    let mut nodes = Vec::with_capacity(alloc, 3)?;
+    nodes.push(HtmlNode::from(start_of(alloc)?))?;
+    nodes.push(text_of(alloc, "a text", 5)?)?;
+    nodes.push(HtmlNode::from(html_frame_of(alloc)?))?;
     styled_of(alloc, tag::p, "inner", nodes)
 }
 
 /// A `div` with css, an attribute, and a `p` between texts, whose lists have no room for more.
 pub fn element_of(alloc: Global) -> Result<HtmlElement, AllocError> {
-    let (one, two) = (text_of(alloc, "one", 6)?, text_of(alloc, "two", 7)?);
-    let nodes = vec![in alloc; one, HtmlNode::from(inner_of(alloc)?), two]?;
+    let mut nodes = Vec::with_capacity(alloc, 3)?;
+    nodes.push(text_of(alloc, "one", 6)?)?;
+    nodes.push(HtmlNode::from(inner_of(alloc)?))?;
+    nodes.push(text_of(alloc, "two", 7)?)?;
     styled_of(alloc, tag::div, "outer", nodes)
 }

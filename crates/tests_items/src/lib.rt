@@ -40,16 +40,16 @@ pub fn noted_frame_of(alloc: Global) -> Result<Pair, AllocError> {
 
 /// Items of a line, with a text in a box.
 pub fn line_of(alloc: Global) -> Result<Vec<Pair>, AllocError> {
+    let mut items = Vec::with_capacity(alloc, 7)?;
+    items.push(Pair::from(Item::Tag(start_of(alloc)?)))?;
+    items.push(Pair::from(Item::Space(Span(1))))?;
+    items.push(Pair::from(text_item_of(alloc)?))?;
+    items.push(Pair::from(Item::LineBreak(Span(3))))?;
     let boxed = vec![in alloc; Pair::from(text_item_of(alloc)?)]?;
-    Ok(vec![in alloc;
-        Pair::from(Item::Tag(start_of(alloc)?)),
-        Pair::from(Item::Space(Span(1))),
-        Pair::from(text_item_of(alloc)?),
-        Pair::from(Item::LineBreak(Span(3))),
-        Pair::from(Item::Box(Some(boxed), Span(4))),
-        noted_frame_of(alloc)?,
-        Pair::from(Item::Hole),
-    ]?)
+    items.push(Pair::from(Item::Box(Some(boxed), Span(4))))?;
+    items.push(noted_frame_of(alloc)?)?;
+    items.push(Pair::from(Item::Hole))?;
+    Ok(items)
 }
 
 /// An element with css, an attribute and items of a line.
@@ -74,10 +74,13 @@ fn element_item_of(alloc: Global, tag: HtmlTag) -> Result<Pair, AllocError> {
 
 /// A `p`, a block with items of a line in it, and a row of a table whose cell holds a line.
 pub fn blocks_of(alloc: Global) -> Result<Vec<Pair>, AllocError> {
+    let mut items = Vec::with_capacity(alloc, 3)?;
+    items.push(element_item_of(alloc, tag::p)?)?;
+    items.push(block_of(alloc)?)?;
     let cells = vec![in alloc; element_item_of(alloc, tag::td)?]?;
     let row = HtmlElem::new(alloc, tag::tr).with_body(cells);
-    let (paragraph, block) = (element_item_of(alloc, tag::p)?, block_of(alloc)?);
-    Ok(vec![in alloc; paragraph, block, Pair::from(Item::Element(row))]?)
+    items.push(Pair::from(Item::Element(row)))?;
+    Ok(items)
 }
 
 /// An `a` with items of a line, which links to the element that starts in it.
@@ -87,10 +90,9 @@ fn link_of(alloc: Global) -> Result<HtmlElem, AllocError> {
 
 /// Items of a document: a `p`, a block, and a link.
 pub fn content_of(alloc: Global) -> Result<Vec<Pair>, AllocError> {
-    let (paragraph, block) = (element_item_of(alloc, tag::p)?, block_of(alloc)?);
-    Ok(vec![in alloc;
-        paragraph,
-        block,
-        Pair::from(Item::Element(link_of(alloc)?)),
-    ]?)
+    let mut items = Vec::with_capacity(alloc, 3)?;
+    items.push(element_item_of(alloc, tag::p)?)?;
+    items.push(block_of(alloc)?)?;
+    items.push(Pair::from(Item::Element(link_of(alloc)?)))?;
+    Ok(items)
 }

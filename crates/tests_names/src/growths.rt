@@ -1,7 +1,7 @@
 //! Names, numbers for them, and the text that is being written, where growths of memory are refused.
 
 use html_names::output::Output;
-use html_names::{HtmlAttr, HtmlTag, NameTable, attr, laws, tag};
+use html_names::{HtmlAttr, HtmlTag, NameFault, NameTable, attr, laws, tag};
 use std::alloc::{AllocError, Global};
 use tests_asserts::TestResult;
 use tests_growth::{refuses, refuses_copy, refuses_kept};
@@ -11,13 +11,20 @@ const FULL: usize = 32;
 
 const OWN_NAME: &str = "an-own-name";
 
+/// Whether each call that makes a name makes it.
+fn makes_names(alloc: Global) -> Result<bool, NameFault> {
+    Ok(
+        HtmlTag::intern(alloc, OWN_NAME)?.resolve() == OWN_NAME
+            && HtmlAttr::intern(alloc, OWN_NAME)?.resolve() == OWN_NAME
+            && HtmlTag::constant(alloc, OWN_NAME)?.resolve() == OWN_NAME
+            && HtmlAttr::constant(alloc, OWN_NAME)?.resolve() == OWN_NAME,
+    )
+}
+
 #[test]
 fn made_names(rt: HostRuntime) -> TestResult {
     let alloc = rt.alloc();
-    refuses(alloc, || HtmlTag::intern(alloc, OWN_NAME).map(|_| ()))?;
-    refuses(alloc, || HtmlAttr::intern(alloc, OWN_NAME).map(|_| ()))?;
-    refuses(alloc, || HtmlTag::constant(alloc, "font-face").map(|_| ()))?;
-    refuses(alloc, || HtmlAttr::constant(alloc, "data-x").map(|_| ()))?;
+    refuses(alloc, || makes_names(alloc))?;
     refuses_copy(alloc, HtmlTag::intern(alloc, "x-one")?, HtmlTag::try_clone)?;
     refuses_copy(
         alloc,
@@ -47,92 +54,111 @@ fn table_of(alloc: Global) -> Result<NameTable, AllocError> {
     Ok(table)
 }
 
-/// Asserts that a call on a table is refused at first, and leaves the names that have numbers.
-fn assert_law<F: Fn(&mut NameTable) -> Result<bool, AllocError>>(
-    alloc: Global,
-    call: F,
-) -> TestResult
-    requires { F.IsAlwaysCallable call }
-{
-    refuses_kept(alloc, table_of(alloc)?, has_first_names, call)
+/// A call on a table.
+#[derive(Clone, Copy, Debug)]
+enum Call {
+    Number,
+    EqualNumbers,
+    NumberStays,
+    AtNumber,
 }
 
-/// Asserts that a call that asks a table for a number is refused at first, and leaves it as it is.
-fn assert_number<F: Fn(&mut NameTable) -> Result<usize, AllocError>>(
-    alloc: Global,
-    call: F,
-) -> TestResult
-    requires { F.IsAlwaysCallable call }
-{
-    let is_second = |table: &mut NameTable|
-        requires { F.IsAlwaysCallable call }
-    { call(table).map(|number| number == 1) };
-    refuses_kept(alloc, table_of(alloc)?, has_no_more, is_second)
-}
+const CALLS: [Call; 4] = [
+    Call::Number,
+    Call::EqualNumbers,
+    Call::NumberStays,
+    Call::AtNumber,
+];
 
-/// Whether two numbers differ, of which it is answered whether they are equal.
-fn differ(answer: Result<bool, AllocError>) -> Result<bool, AllocError> {
-    answer.map(|is_equal| !is_equal)
+/// Whether a refused call leaves the names that have numbers, and one that asks for a number no other.
+fn is_kept(call: Call, table: &NameTable) -> bool {
+    match call {
+        Call::Number => has_no_more(table),
+        _ => has_first_names(table),
+    }
 }
 
 #[test]
 fn numbered_tags(rt: HostRuntime) -> TestResult {
     let alloc = rt.alloc();
-    let (one, two) = (
-        HtmlTag::intern(alloc, "x-one")?,
-        HtmlTag::intern(alloc, "x-two")?,
-    );
-    assert_number(alloc, |table| table.tag(&one))?;
-    assert_law(
-        alloc,
-        |table| differ(laws::equal_tag_numbers(table, &one, &two)),
-    )?;
-    assert_law(alloc, |table| laws::tag_number_stays(table, &one, &two))?;
-    assert_law(alloc, |table| laws::tag_at_number(table, &one))
+    let one = HtmlTag::intern(alloc, "x-one")?;
+    let two = HtmlTag::intern(alloc, "x-two")?;
+    for call in CALLS {
+        let is_kept = |table: &NameTable| is_kept(call, table);
+        refuses_kept(alloc, table_of(alloc)?, is_kept, |table| match call {
+            Call::Number => Ok(table.tag(&one)? == 1),
+            Call::EqualNumbers => Ok(!laws::equal_tag_numbers(table, &one, &two)?),
+            Call::NumberStays => laws::tag_number_stays(table, &one, &two),
+            Call::AtNumber => laws::tag_at_number(table, &one),
+        })?;
+    }
+    Ok(())
 }
 
 #[test]
 fn numbered_attributes(rt: HostRuntime) -> TestResult {
     let alloc = rt.alloc();
-    let (x, y) = (
-        HtmlAttr::intern(alloc, "data-x")?,
-        HtmlAttr::intern(alloc, "data-y")?,
-    );
-    assert_number(alloc, |table| table.attr(&x))?;
-    assert_law(
-        alloc,
-        |table| differ(laws::equal_attr_numbers(table, &x, &y)),
-    )?;
-    assert_law(alloc, |table| laws::attr_number_stays(table, &x, &y))?;
-    assert_law(alloc, |table| laws::attr_at_number(table, &x))
+    let one = HtmlAttr::intern(alloc, "data-x")?;
+    let two = HtmlAttr::intern(alloc, "data-y")?;
+    for call in CALLS {
+        let is_kept = |table: &NameTable| is_kept(call, table);
+        refuses_kept(alloc, table_of(alloc)?, is_kept, |table| match call {
+            Call::Number => Ok(table.attr(&one)? == 1),
+            Call::EqualNumbers => Ok(!laws::equal_attr_numbers(table, &one, &two)?),
+            Call::NumberStays => laws::attr_number_stays(table, &one, &two),
+            Call::AtNumber => laws::attr_at_number(table, &one),
+        })?;
+    }
+    Ok(())
 }
 
-/// Asserts that a call that adds to a text with room for that many letters is refused at first, and
-/// leaves the text as it is.
-fn assert_written<F: Fn(&mut Output) -> Result<(), AllocError>>(
-    alloc: Global,
-    room: usize,
-    call: F,
-) -> TestResult
-    requires { F.IsAlwaysCallable call }
-{
+/// What is added to a text with room for so many letters.
+#[derive(Clone, Copy, Debug)]
+enum Added {
+    Char,
+    Text,
+    Ascii,
+    Decimal,
+    TwoDigits,
+    Hex,
+}
+
+fn add(out: &mut Output, added: Added) -> Result<(), AllocError> {
+    match added {
+        Added::Char => out.push('x'),
+        Added::Text => out.push_str("one \u{e9}"),
+        Added::Ascii => out.push_ascii("two"),
+        Added::Decimal => out.push_decimal(1_234_567),
+        Added::TwoDigits => out.push_two_digits(42),
+        Added::Hex => out.push_hex(0xabc),
+    }
+}
+
+/// Asserts that an addition to a text with room for that many letters is refused at first, and leaves
+/// the text as it is.
+fn assert_written(alloc: Global, room: usize, added: Added) -> TestResult {
     let mut out = Output::new(alloc);
     for _ in room..FULL {
         out.push('x')?;
     }
     let held = String::from_str(alloc, out.as_str())?;
-    refuses_kept(alloc, out, |out| out.as_str() == held.as_str(), call)
+    refuses_kept(
+        alloc,
+        out,
+        |out| out.as_str() == held.as_str(),
+        |out| add(out, added),
+    )
 }
 
 #[test]
 fn written_texts(rt: HostRuntime) -> TestResult {
     let alloc = rt.alloc();
-    assert_written(alloc, 0, |out| out.push('x'))?;
-    assert_written(alloc, 2, |out| out.push_str("one \u{e9}"))?;
-    assert_written(alloc, 1, |out| out.push_ascii("two"))?;
-    assert_written(alloc, 3, |out| out.push_decimal(1_234_567))?;
+    assert_written(alloc, 0, Added::Char)?;
+    assert_written(alloc, 2, Added::Text)?;
+    assert_written(alloc, 1, Added::Ascii)?;
+    assert_written(alloc, 3, Added::Decimal)?;
     for room in 0..2 {
-        assert_written(alloc, room, |out| out.push_two_digits(42))?;
+        assert_written(alloc, room, Added::TwoDigits)?;
     }
-    assert_written(alloc, 0, |out| out.push_hex(0xabc))
+    assert_written(alloc, 0, Added::Hex)
 }

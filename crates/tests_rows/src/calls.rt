@@ -1,5 +1,9 @@
 //! What a row gives, by its first word. `N` is a number, and words in brackets may be left out.
 //!
+//! Of the name of an element:
+//!
+//! - `kinds`: its default display, and the kinds that it is of
+//!
 //! Of items, of which `tests_rows_items` says how they are spelled:
 //!
 //! - `nodes LEVEL SPACE [depth=N] [limit=N] [role=TEXT]`, where the level is `block` or `inline` and white
@@ -39,7 +43,7 @@
 //!
 //! A refusal is `refused`, its number, `at` and its span.
 
-use crate::{checks, documents, nodes, pages, replies, runs};
+use crate::{checks, documents, kinds, nodes, pages, replies, runs};
 use anyhow::Result;
 use std::alloc::Global;
 use tests_rows_run::{Caller, Row};
@@ -57,10 +61,11 @@ impl Caller for Library {
             "block-fragment" | "inline-fragment" | "math-fragment" => nodes::fragment(
                 alloc, row, call,
             ),
+            "kinds" => kinds::of_name(alloc, row),
             "spans" => nodes::spans(alloc, row),
             "bare" => nodes::bare(alloc, row),
-            "document" => documents::text(alloc, row),
-            "links" => documents::linked_text(alloc, row),
+            "document" => documents::text(alloc, row, false),
+            "links" => documents::text(alloc, row, true),
             "anchors" => documents::anchors(alloc, row),
             "positions" => documents::positions(alloc, row),
             "dead-links" => checks::dead_link_list(alloc, row),

@@ -1,39 +1,45 @@
 //! Links that lead nowhere, and ids that come twice.
 
-use crate::documents::{Given, separate};
+use crate::documents::{document_of, linked_of, separate};
 use crate::pages::root_of;
 use anyhow::{Result, ensure};
 use html_dom_check::{dead_fragments, repeated_ids};
 use html_dom_document::HtmlDocument;
-use html_dom_link::{dead_links, ids_are_distinct};
+use html_dom_link::{DeadLink, dead_links, ids_are_distinct};
 use std::alloc::Global;
 use tests_rows_run::Row;
 
 /// The same before and after links were given an `href`.
 pub(crate) fn dead_link_list(alloc: Global, row: &Row<'_>) -> Result<String> {
-    let given = Given::new(alloc, row)?;
-    let before = dead_links_of(alloc, &given.document()?)?;
-    let after = dead_links_of(alloc, &given.linked()?)?;
+    let before = dead_links_of(alloc, document_of(alloc, row)?)?;
+    let after = dead_links_of(alloc, linked_of(alloc, row)?)?;
     ensure!(before == after, "with links: {after}");
     Ok(before)
 }
 
-fn dead_links_of(alloc: Global, document: &HtmlDocument) -> Result<String> {
+fn dead_links_of(alloc: Global, document: HtmlDocument) -> Result<String> {
     let mut links = String::new(alloc);
-    for link in &dead_links(alloc, document)? {
-        separate(&mut links)?;
-        write!(links, "{} to {}", link.span.0, link.dest.0)?;
+    for link in &dead_links(alloc, &document)? {
+        add_link(&mut links, link)?;
     }
     Ok(links)
 }
 
+fn add_link(text: &mut String, link: &DeadLink) -> Result<()> {
+    separate(text)?;
+    Ok(write!(text, "{} to {}", link.span.0, link.dest.0)?)
+}
+
 /// The same before and after links were given an `href`.
 pub(crate) fn have_distinct_ids(alloc: Global, row: &Row<'_>) -> Result<String> {
-    let given = Given::new(alloc, row)?;
-    let before = ids_are_distinct(alloc, &given.document()?)?;
-    let after = ids_are_distinct(alloc, &given.linked()?)?;
+    let before = are_distinct_in(alloc, document_of(alloc, row)?)?;
+    let after = are_distinct_in(alloc, linked_of(alloc, row)?)?;
     ensure!(before == after, "with links: {after}");
     Ok(format!(in alloc; "{before}")?)
+}
+
+fn are_distinct_in(alloc: Global, document: HtmlDocument) -> Result<bool> {
+    Ok(ids_are_distinct(alloc, &document)?)
 }
 
 pub(crate) fn dead_fragment_list(alloc: Global, row: &Row<'_>) -> Result<String> {

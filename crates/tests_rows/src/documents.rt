@@ -4,7 +4,7 @@ ghost use Rattle.std.specs.Prelude.{◌≤◌};
 
 use crate::runs::{PLAIN, inner_text};
 use anyhow::{Context, Result, ensure};
-use html_dom_document::{DocumentInfo, HtmlDocument};
+use html_dom_document::{DocumentInfo, HtmlDocument, HtmlIntrospector};
 use html_dom_link::resolve_links;
 use html_dom_tree::Location;
 use html_flow_convert::is_depth_limit;
@@ -24,7 +24,7 @@ const DEPTH_LIMIT: usize = 50;
 const LOCATIONS: u64 = 100;
 
 #[derive(Drop)]
-pub(crate) struct Given {
+struct Given {
     alloc: Global,
     spelled: SpelledDocument,
     limit: usize,
@@ -33,7 +33,7 @@ pub(crate) struct Given {
 }
 
 impl Given {
-    pub(crate) fn new(alloc: Global, row: &Row<'_>) -> Result<Given> {
+    fn new(alloc: Global, row: &Row<'_>) -> Result<Given> {
         let limit = row.number("limit", DEPTH_LIMIT)?;
         ensure!(is_depth_limit(limit), "no limit");
         let spelled = spelled_in(alloc, &row.input)?;
@@ -44,7 +44,7 @@ impl Given {
         })
     }
 
-    pub(crate) fn document(&self) -> Result<HtmlDocument, ExportFault> {
+    fn document(&self) -> Result<HtmlDocument, ExportFault> {
         let SpelledDocument {
             info,
             items,
@@ -52,12 +52,17 @@ impl Given {
         } = &self.spelled;
         html_document(self.alloc, items, info, footnotes, self.limit)
     }
+}
 
-    pub(crate) fn linked(&self) -> Result<HtmlDocument, ExportFault> {
-        let mut document = self.document()?;
-        resolve_links(self.alloc, &mut document)?;
-        Ok(document)
-    }
+pub(crate) fn document_of(alloc: Global, row: &Row<'_>) -> Result<HtmlDocument> {
+    let given = Given::new(alloc, row)?;
+    Ok(given.document()?)
+}
+
+pub(crate) fn linked_of(alloc: Global, row: &Row<'_>) -> Result<HtmlDocument> {
+    let mut document = document_of(alloc, row)?;
+    resolve_links(alloc, &mut document)?;
+    Ok(document)
 }
 
 /// The document that a JSON text spells: of items alone, or of an object.
@@ -99,7 +104,7 @@ fn refusal(alloc: Global, fault: &ExportFault) -> Result<String> {
     Ok(text)
 }
 
-pub(crate) fn text(alloc: Global, row: &Row<'_>) -> Result<String> {
+pub(crate) fn text(alloc: Global, row: &Row<'_>, linked: bool) -> Result<String> {
     let Given { spelled, limit, .. } = &Given::new(alloc, row)?;
     let SpelledDocument {
         info,
@@ -107,47 +112,53 @@ pub(crate) fn text(alloc: Global, row: &Row<'_>) -> Result<String> {
         footnotes,
     } = spelled;
     let (options, frames) = (HtmlOptions::default(), OneText::new(alloc)?);
-    let text = export(alloc, items, info, footnotes, *limit, &options, &frames);
-    text_or_refusal(alloc, text)
-}
-
-pub(crate) fn linked_text(alloc: Global, row: &Row<'_>) -> Result<String> {
-    let Given { spelled, limit, .. } = &Given::new(alloc, row)?;
-    let SpelledDocument {
-        info,
-        items,
-        footnotes,
-    } = spelled;
-    let (options, frames) = (HtmlOptions::default(), OneText::new(alloc)?);
-    let text = export_linked(alloc, items, info, footnotes, *limit, &options, &frames);
+    let text = match linked {
+        false => export(alloc, items, info, footnotes, *limit, &options, &frames),
+        true => export_linked(alloc, items, info, footnotes, *limit, &options, &frames),
+    };
     text_or_refusal(alloc, text)
 }
 
 pub(crate) fn anchors(alloc: Global, row: &Row<'_>) -> Result<String> {
-    let document = Given::new(alloc, row)?.document()?;
+    anchors_of(alloc, document_of(alloc, row)?.introspector())
+}
+
+fn anchors_of(alloc: Global, introspector: &HtmlIntrospector) -> Result<String> {
     let mut anchors = String::new(alloc);
-    for location in &document.introspector().link_targets()? {
-        if let Some(anchor) = document.introspector().anchor(*location) {
-            separate(&mut anchors)?;
-            write!(anchors, "{} {anchor}", location.0)?;
+    for location in &introspector.link_targets()? {
+        if let Some(anchor) = introspector.anchor(*location) {
+            add_anchor(&mut anchors, *location, anchor)?;
         }
     }
     Ok(anchors)
 }
 
+fn add_anchor(text: &mut String, location: Location, anchor: &str) -> Result<()> {
+    separate(text)?;
+    Ok(write!(text, "{} {anchor}", location.0)?)
+}
+
 pub(crate) fn positions(alloc: Global, row: &Row<'_>) -> Result<String> {
-    let document = Given::new(alloc, row)?.document()?;
+    positions_of(alloc, document_of(alloc, row)?.introspector())
+}
+
+fn positions_of(alloc: Global, introspector: &HtmlIntrospector) -> Result<String> {
     let mut positions = String::new(alloc);
     for number in 0..LOCATIONS {
-        if let Some(position) = document.introspector().position(Location(number)) {
-            separate(&mut positions)?;
-            write!(positions, "{number} at")?;
-            for index in position.path() {
-                write!(positions, " {index}")?;
-            }
+        if let Some(position) = introspector.position(Location(number)) {
+            add_path(&mut positions, number, position.path())?;
         }
     }
     Ok(positions)
+}
+
+fn add_path(text: &mut String, number: u64, path: &[usize]) -> Result<()> {
+    separate(text)?;
+    write!(text, "{number} at")?;
+    for index in path {
+        write!(text, " {index}")?;
+    }
+    Ok(())
 }
 
 pub(crate) fn separate(text: &mut String) -> Result<()> {

@@ -24,6 +24,7 @@
 mod calls;
 mod checks;
 mod documents;
+mod kinds;
 mod nodes;
 mod pages;
 mod replies;

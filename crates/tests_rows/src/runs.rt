@@ -34,26 +34,37 @@ const PRETTY: (&str, &str) = (
 );
 
 pub(crate) fn output(alloc: Global, row: &Row<'_>) -> Result<String> {
+    let words = words_of(alloc, row)?;
+    let mut reader = row.input.as_slice();
+    let mut written = Vec::new(alloc);
+    let status = run(alloc, &mut reader, &mut written, &words);
+    let words_are_right = wanted_task(&words).is_some();
+    let text = String::from_utf8(written)?;
+    if status == Status::BadInput && !words_are_right {
+        ensure!(reader == row.input.as_slice(), "something was read");
+        ensure!(text.as_str() == "bad input\n", "{text}");
+        return Ok(String::from_str(alloc, "wrong words")?);
+    }
+    output_of(alloc, row, status, &text)
+}
+
+fn words_of(alloc: Global, row: &Row<'_>) -> Result<Vec<String>> {
     let mut words = Vec::new(alloc);
     for word in &row.words {
         words.push(String::from_str(alloc, word)?)?;
     }
-    let mut reader = row.input.as_slice();
-    let mut written = Vec::new(alloc);
-    let status = run(alloc, &mut reader, &mut written, &words);
-    let text = String::from_utf8(written)?;
+    Ok(words)
+}
+
+/// What is told of a run with right words that wrote the text.
+fn output_of(alloc: Global, row: &Row<'_>, status: Status, text: &str) -> Result<String> {
     match status {
-        Status::Done => inner_text(alloc, &text, frame_of(&row.words)),
+        Status::Done => inner_text(alloc, text, frame_of(&row.words)),
         Status::Refused => {
             let refusal = text.strip_prefix("refused: ").context("no refusal")?;
             Ok(format!(in alloc; "refused {}", line(refusal)?)?)
         }
-        Status::BadInput if wanted_task(&words).is_none() => {
-            ensure!(line(&text)? == "bad input", "{text}");
-            ensure!(reader == row.input.as_slice(), "something was read");
-            Ok(String::from_str(alloc, "wrong words")?)
-        }
-        Status::BadInput => Ok(String::from_str(alloc, line(&text)?)?),
+        Status::BadInput => Ok(String::from_str(alloc, line(text)?)?),
         Status::Failed => Ok(String::from_str(alloc, "failed")?),
     }
 }

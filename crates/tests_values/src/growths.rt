@@ -108,19 +108,15 @@ fn text_of(alloc: Global, text: &str) -> Result<Value, AllocError> {
 #[test]
 fn casts_of_parts(rt: HostRuntime) -> TestResult {
     let alloc = rt.alloc();
-    let day = Value::Datetime(Moment::Date(date(2024, 2, 9)));
-    let size = Value::Array(vec![in alloc; Value::Int(16), Value::Int(16)]?);
-    let (src, width) = (String::from_str(alloc, "x.png")?, Some(480));
     assert_native(alloc, NativeType::Str, text_of(alloc, "ab")?, "ab")?;
     assert_native(alloc, NativeType::Char, text_of(alloc, "é")?, "é")?;
+    let day = Value::Datetime(Moment::Date(date(2024, 2, 9)));
     assert_native(alloc, NativeType::Datetime, day, "2024-02-09")?;
+    let size = Value::Array(vec![in alloc; Value::Int(16), Value::Int(16)]?);
     assert_native(alloc, NativeType::IconSize, size, "16x16")?;
-    assert_native(
-        alloc,
-        NativeType::ImageCandidate,
-        Value::Image { src, width },
-        "x.png 480w",
-    )
+    let (src, width) = (String::from_str(alloc, "x.png")?, Some(480));
+    let image = Value::Image { src, width };
+    assert_native(alloc, NativeType::ImageCandidate, image, "x.png 480w")
 }
 
 /// Casts to one of several texts, to one of several types, and to a list.

@@ -49,12 +49,11 @@ fn list(alloc: Global, entries: &[&str]) -> Result<HtmlElem, ExportFault> {
 }
 
 fn recipe(alloc: Global) -> Result<String, ExportFault> {
-    let items = vec![in alloc;
-        Pair::from(paragraph(alloc, 1)?),
-        Pair::from(Item::LineBreak(Span(2))),
-        Pair::from(note(alloc)?),
-        Pair::from(list(alloc, &["salt", "vinegar"])?),
-    ]?;
+    let mut items = Vec::new(alloc);
+    items.push(Pair::from(paragraph(alloc, 1)?))?;
+    items.push(Pair::from(Item::LineBreak(Span(2))))?;
+    items.push(Pair::from(note(alloc)?))?;
+    items.push(Pair::from(list(alloc, &["salt", "vinegar"])?))?;
     let mut info = DocumentInfo::new(alloc);
     info.title = Some(String::from_str(alloc, "Eggs")?);
     info.locale = Some(Locale::new(String::from_str(alloc, "en")?));
