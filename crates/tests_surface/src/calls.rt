@@ -5,7 +5,7 @@ use tests_asserts::assert_text;
 use typst_html::output::Output;
 use typst_html::property::Display;
 use typst_html::{
-    ConstructFault, Dir, HorizontalDir, HtmlElem, HtmlElement, Span, ToCss, attr, tag,
+    ConstructFault, Dir, HorizontalDir, HtmlAttrs, HtmlElem, HtmlElement, Span, ToCss, attr, tag,
 };
 
 #[test]
@@ -27,23 +27,30 @@ fn bodies_of_the_wrong_kind_have_a_span(rt: HostRuntime) {
     assert!(rt; ConstructFault::BodyKind { span }.span() == span);
 }
 
-/// Of two attributes of one name the first is set, and the other stays.
+/// Asserts that the first of two attributes is set, and the other stays.
+fn assert_set(attrs: &HtmlAttrs) -> Result<(), Fail> {
+    match attrs.0.as_slice() {
+        [(_, first), (_, other)] if first.as_str() == "c" => assert_text(other, "b"),
+        _ => Err(Fail::new("the first attribute is to be set")),
+    }
+}
+
 #[test]
-fn first_attributes_are_set(rt: HostRuntime) -> Result<(), Fail> {
-    let alloc = rt.alloc();
-    let mut element = HtmlElement::new(alloc, tag::p);
-    let mut item = HtmlElem::new(alloc, tag::p);
-    for value in ["a", "b"] {
-        element = element.with_attr(attr::id, String::from_str(alloc, value)?)?;
-        item = item.with_attr(attr::id, String::from_str(alloc, value)?)?;
-    }
+fn first_attributes_of_elements_are_set(rt: HostRuntime) -> Result<(), Fail> {
+    let (alloc, mut element) = (rt.alloc(), HtmlElement::new(rt.alloc(), tag::p));
+    element.attrs.push(attr::id, String::from_str(alloc, "a")?)?;
+    element.attrs.push(attr::id, String::from_str(alloc, "b")?)?;
     element.set_attr(attr::id, String::from_str(alloc, "c")?)?;
+    assert_set(&element.attrs)
+}
+
+#[test]
+fn first_attributes_of_items_are_set(rt: HostRuntime) -> Result<(), Fail> {
+    let (alloc, mut item) = (rt.alloc(), HtmlElem::new(rt.alloc(), tag::p));
+    item.attrs.push(attr::id, String::from_str(alloc, "a")?)?;
+    item.attrs.push(attr::id, String::from_str(alloc, "b")?)?;
     item.set_attr(attr::id, String::from_str(alloc, "c")?)?;
-    for attrs in [&element.attrs, &item.attrs] {
-        assert_text(attrs.get(&attr::id).expect(&rt, "an id"), "c")?;
-        assert_eq!(rt; attrs.0.len(), 2);
-    }
-    Ok(())
+    assert_set(&item.attrs)
 }
 
 #[test]

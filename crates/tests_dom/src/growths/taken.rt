@@ -1,6 +1,6 @@
 //! Calls that consume what they are given, and do not give it back.
 
-use crate::lent::{Targets, has_anchor, has_style, targets_of};
+use crate::growths::lent::{Targets, has_anchor, has_style, targets_of};
 use html_dom_document::HtmlDocument;
 use html_dom_link::with_link_anchors;
 use html_dom_tree::{HtmlElement, with_inline_styles};

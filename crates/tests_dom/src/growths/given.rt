@@ -1,6 +1,6 @@
 //! Calls that consume what they are given, and give it back where they are refused.
 
-use crate::lent::is_known;
+use crate::growths::lent::is_known;
 use html_dom_document::{DocumentInfo, HtmlDocument, HtmlOutput};
 use html_dom_link::with_resolved_links;
 use html_dom_tree::{HtmlAttrs, HtmlElement, HtmlNode};

@@ -1,8 +1,5 @@
 //! Public calls on items and white space that take memory: their first growth is refused, their second,
 //! and so on until a run succeeds.
-#![tactic(auto)]
 
-#[cfg(test)]
 mod items;
-#[cfg(test)]
 mod spaces;
