@@ -72,6 +72,7 @@ impl Caller for Library {
             "distinct-ids" => checks::have_distinct_ids(alloc, row),
             "read" => pages::read(alloc, row),
             "read-page" => pages::read_strictly(alloc, row),
+            "as-browsers" => pages::as_browsers(alloc, row),
             "page-text" => pages::text(alloc, row),
             "items-text" => pages::items_text(alloc, row),
             "dead-fragments" => checks::dead_fragment_list(alloc, row),

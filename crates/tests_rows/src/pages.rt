@@ -11,6 +11,7 @@ use tests_rows_run::Row;
 use typst_html_encode::{HtmlOptions, html_in_bundle};
 use typst_html_export::export;
 use typst_html_page::{Shown, page_text};
+use typst_html_parse::{PageFault, read_page_bytes};
 use typst_html_read::{ReadFault, read_html, read_page};
 
 /// How deep elements may stand where that is not said.
@@ -92,4 +93,21 @@ fn visible_text(alloc: Global, root: &HtmlElement) -> Result<String> {
         }
     }
     Ok(text)
+}
+
+/// What `read_page_bytes` reads, as browsers do: the tree's text, and each error that was gone over.
+pub(crate) fn as_browsers(alloc: Global, row: &Row<'_>) -> Result<String> {
+    let limit = row.number("limit", DEEPEST)?;
+    ensure!(is_depth_limit(limit), "no limit");
+    let (root, notes) = match read_page_bytes(alloc, &row.input, limit) {
+        Ok(read) => read,
+        Err(PageFault::OutOfMemory) => return Err(PageFault::OutOfMemory.into()),
+        Err(fault) => return Ok(format!(in alloc; "refused, {fault}")?),
+    };
+    let text = html_in_bundle(alloc, &root, &HtmlOptions::default(), &())?;
+    let mut told = inner_text(alloc, &text, (DOCUMENT_TYPE, ""))?;
+    for note in &notes.first {
+        write!(told, " ! {} at {}", note.error, note.place)?;
+    }
+    Ok(told)
 }

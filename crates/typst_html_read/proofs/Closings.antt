@@ -1,5 +1,5 @@
 -- Closing tags at the end of a text, by its bytes and by its characters.
-use Rattle.std.proofs.Common.{◌≡◌, ℕ, suc, eqb, ◌+◌, ◌-◌, ◌<◌, ◌≤◌, Bool, true, List, [], ◌∷◌, ◌++◌, bytes_eq, chars, codes, drop, take, map, refl, sym, ap, ◌∙◌, subst, arith, length, get_or, length-append, length-drop}
+use Rattle.std.proofs.Common.{◌≡◌, ℕ, suc, eqb, ◌+◌, ◌-◌, ◌<◌, ◌≤◌, Bool, true, false, List, [], ◌∷◌, ◌++◌, bytes_eq, chars, codes, drop, take, map, refl, sym, ap, ◌∙◌, subst, arith, length, get_or, length-append, length-drop}
 use Rattle.std.specs.Char.{to_ascii_lowercase}
 use Rattle.std.specs.Str.{IsUtf8, IsAscii, IsCharBoundary}
 use Rattle.std.proofs.lemmas.Bool.Decides.{nat_tests}
@@ -12,7 +12,7 @@ use Rattle.html_names.specs.Characters.{IsOf, is_tag_char}
 use Rattle.html_names.proofs.Basics.{is_ascii_is, last_dropped, last_taken}
 use Rattle.html_names.proofs.Faults.{tag_ascii}
 use Rattle.typst_html_encode.specs.ClosingTags.{is_tag_end, closing, ends_closing}
-use Rattle.typst_html_read.specs.RawEnds.{EndsAt}
+use Rattle.typst_html_read.specs.RawEnds.{EndsAt, ends_in}
 
 -- what a slice to the end holds
 pub end_is : (xs ys : List ℕ) (k : ℕ) → ys ≡ xs → take (length ys - k) (drop k ys) ≡ drop k xs
@@ -27,7 +27,7 @@ name_is n u h = sym (encodes-chars n u) ∙ encodes-IsAscii (chars n) (name_asci
 small_ascii : (c : ℕ) → to_ascii_lowercase c < 128 → c < 128
 small_ascii c h = grind (arith, nat_tests)
 
-raised : (xs ys : List ℕ) → map to_ascii_lowercase xs ≡ ys → IsAscii ys → IsAscii xs
+pub raised : (xs ys : List ℕ) → map to_ascii_lowercase xs ≡ ys → IsAscii ys → IsAscii xs
 raised [] ys e a = IsAscii-nil
 raised (x ∷ xs) ys e a =
     let whole : IsAscii (to_ascii_lowercase x ∷ map to_ascii_lowercase xs) =
@@ -38,6 +38,12 @@ closing_ascii : (n : List ℕ) → IsOf is_tag_char n → IsAscii (closing n)
 closing_ascii n h = IsAscii-cons 60 (47 ∷ map to_ascii_lowercase n) (omega arith)
     (IsAscii-cons 47 (map to_ascii_lowercase n) (omega arith)
     (IsAscii-map to_ascii_lowercase n lowercase_ascii (name_ascii n h)))
+
+-- tests of which each holds where the other does
+pub same_tests : (a b : Bool) → (a ≡ true → b ≡ true) → (b ≡ true → a ≡ true) → a ≡ b
+same_tests true b f g = sym (f refl)
+same_tests false true f g = g refl
+same_tests false false f g = refl
 
 pub closing_long : (n : List ℕ) → length (closing n) ≡ length n + 2
 closing_long n = omega (arith, length-map n to_ascii_lowercase)
@@ -55,41 +61,38 @@ exact_is (x ∷ y ∷ rest) n e =
     let q : to_ascii_lowercase y ≡ 47 = cc in
     rw (small_is x 60 (omega arith) p, small_is y 47 (omega arith) q) refl
 
--- the end of the characters is the end of the bytes
-module _ (n t : List ℕ) (h : IsOf is_tag_char n) (u : IsUtf8 t) where
+-- the end of the characters is the end of the bytes: a word of ASCII, of so many characters
+module _ (w t : List ℕ) (k : ℕ) (a : IsAscii w) (u : IsUtf8 t) (some : 0 < k) (long : length w ≡ k) where
   abbrev place : ℕ
-  place = length (chars t) - length (closing n)
+  place = length (chars t) - length w
 
-  pub by_characters : ends_closing n (chars t) ≡ true → (length n + 2 ≤ length t)
-      × (map to_ascii_lowercase (drop (length t - (length n + 2)) t) ≡ closing n)
-  by_characters e =
+  pub word_by_characters : ends_in w (chars t) ≡ true →
+      (k ≤ length t) × (map to_ascii_lowercase (drop (length t - k) t) ≡ w)
+  word_by_characters e =
       let end = drop place (chars t) in
       let front = take place (chars t) in
-      let is : map to_ascii_lowercase end ≡ closing n =
-      (bytes_eq-Decides (map to_ascii_lowercase end) (closing n)).0 e in
-      let ascii : IsAscii end = raised end (closing n) is (closing_ascii n h) in
+      let is : map to_ascii_lowercase end ≡ w =
+      (bytes_eq-Decides (map to_ascii_lowercase end) w).0 e in
+      let ascii : IsAscii end = raised end w is a in
       let whole : t ≡ encodes front ++ end = sym (encodes-chars t u)
       ∙ (ap encodes (sym (take-append-drop place (chars t)))
       ∙ (encodes-append front end ∙ ap (λ l. encodes front ++ l) (encodes-IsAscii end ascii))) in
-      let long : length end ≡ length n + 2 = sym (length-map end to_ascii_lowercase)
-      ∙ (ap length is ∙ closing_long n) in
-      let cut : drop (length t - (length n + 2)) t ≡ end =
-      ap (λ l. drop (length l - (length n + 2)) l) whole
-      ∙ last_dropped (encodes front) end (length n + 2) long in (
-        omega (arith, ap length whole, length-append (encodes front) end, long),
+      let far : length end ≡ k = sym (length-map end to_ascii_lowercase) ∙ (ap length is ∙ long) in
+      let cut : drop (length t - k) t ≡ end =
+      ap (λ l. drop (length l - k) l) whole ∙ last_dropped (encodes front) end k far in (
+        omega (arith, ap length whole, length-append (encodes front) end, far),
         ap (map to_ascii_lowercase) cut ∙ is,
       )
 
-  module _ (fits : length n + 2 ≤ length t)
-      (e : map to_ascii_lowercase (drop (length t - (length n + 2)) t) ≡ closing n) where
+  module _ (fits : k ≤ length t) (e : map to_ascii_lowercase (drop (length t - k) t) ≡ w) where
     abbrev at : ℕ
-    at = length t - (length n + 2)
+    at = length t - k
 
     ascii : IsAscii (drop at t)
-    ascii = raised (drop at t) (closing n) e (closing_ascii n h)
+    ascii = raised (drop at t) w e a
 
-    pub boundary : IsCharBoundary t at
-    boundary =
+    pub word_boundary : IsCharBoundary t at
+    word_boundary =
         let here : get_or (drop at t) 0 0 < 128 = ascii 0 in
         let there : get_or t (at + 0) 0 < 128 = rw (get_or-drop at t 0 0) at here in
         let same : at + 0 ≡ at = omega arith in
@@ -97,23 +100,55 @@ module _ (n t : List ℕ) (h : IsOf is_tag_char n) (u : IsUtf8 t) where
 
     cut : chars t ≡ chars (take at t) ++ drop at t
     cut = ap chars (sym (take-append-drop at t))
-        ∙ (chars-append (take at t) (drop at t) (IsUtf8-take t at u boundary)
+        ∙ (chars-append (take at t) (drop at t) (IsUtf8-take t at u word_boundary)
         ∙ ap (λ l. chars (take at t) ++ l) (chars-IsAscii (drop at t) ascii))
 
-    long : length (drop at t) ≡ length (closing n)
-    long = omega (arith, length-drop at t, closing_long n)
+    far : length (drop at t) ≡ length w
+    far = omega (arith, length-drop at t, long)
 
-    dropped : drop place (chars t) ≡ drop at t
-    dropped = ap (λ l. drop (length l - length (closing n)) l) cut
-        ∙ last_dropped (chars (take at t)) (drop at t) (length (closing n)) long
+    pub word_dropped : drop place (chars t) ≡ drop at t
+    word_dropped = ap (λ l. drop (length l - length w) l) cut
+        ∙ last_dropped (chars (take at t)) (drop at t) (length w) far
+
+    pub word_before : chars (take at t) ≡ take place (chars t)
+    word_before = sym (ap (λ l. take (length l - length w) l) cut
+        ∙ last_taken (chars (take at t)) (drop at t) (length w) far)
+
+    pub word_by_bytes : ends_in w (chars t) ≡ true
+    word_by_bytes =
+        (bytes_eq-Decides _ _).1 (ap (map to_ascii_lowercase) word_dropped ∙ e)
+
+-- the same of a closing tag
+module _ (n t : List ℕ) (h : IsOf is_tag_char n) (u : IsUtf8 t) where
+  some : 0 < length n + 2
+  some = omega arith
+
+  pub by_characters : ends_closing n (chars t) ≡ true → (length n + 2 ≤ length t)
+      × (map to_ascii_lowercase (drop (length t - (length n + 2)) t) ≡ closing n)
+  by_characters e = word_by_characters (closing n) t (length n + 2) (closing_ascii n h) u some
+      (closing_long n) e
+
+  module _ (fits : length n + 2 ≤ length t)
+      (e : map to_ascii_lowercase (drop (length t - (length n + 2)) t) ≡ closing n) where
+    abbrev from : ℕ
+    from = length t - (length n + 2)
+
+    pub boundary : IsCharBoundary t from
+    boundary = word_boundary (closing n) t (length n + 2) (closing_ascii n h) u some
+        (closing_long n) fits e
 
     pub by_bytes : (c : ℕ) → is_tag_end c ≡ true →
-        (exact : Bool) → exact ≡ bytes_eq (drop 2 (drop at t)) n → EndsAt n t c (at, exact)
-    by_bytes c last exact is = record {
-      tag_end = last;
-      ends = (bytes_eq-Decides _ _).1 (ap (map to_ascii_lowercase) dropped ∙ e);
-      exact = is ∙ sym (ap (λ l. bytes_eq l (codes "</" ++ n)) dropped ∙ exact_is (drop at t) n e);
-      boundary = boundary;
-      before = sym (ap (λ l. take (length l - length (closing n)) l) cut
-          ∙ last_taken (chars (take at t)) (drop at t) (length (closing n)) long);
-    }
+        (exact : Bool) → exact ≡ bytes_eq (drop 2 (drop from t)) n → EndsAt n t c (from, exact)
+    by_bytes c last exact is =
+        let dropped = word_dropped (closing n) t (length n + 2) (closing_ascii n h) u some
+        (closing_long n) fits e in
+        record {
+          tag_end = last;
+          ends = word_by_bytes (closing n) t (length n + 2) (closing_ascii n h) u some
+              (closing_long n) fits e;
+          exact = is ∙ sym (ap (λ l. bytes_eq l (codes "</" ++ n)) dropped
+              ∙ exact_is (drop from t) n e);
+          boundary = boundary;
+          before = word_before (closing n) t (length n + 2) (closing_ascii n h) u some
+              (closing_long n) fits e;
+        }

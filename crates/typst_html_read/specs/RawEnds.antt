@@ -1,5 +1,6 @@
 -- Where the text of a raw element ends, by its bytes.
-use Rattle.std.specs.Prelude.{◌≡◌, ℕ, Bool, true, ◌&&◌, List, chars, take}
+use Rattle.std.specs.Prelude.{◌≡◌, ℕ, ◌-◌, Bool, true, ◌&&◌, List, bytes_eq, chars, drop, length, map, take}
+use Rattle.std.specs.Char.{to_ascii_lowercase}
 use Rattle.std.specs.Str.{IsCharBoundary}
 use Rattle.typst_html_encode.specs.ClosingTags.{is_tag_end, ends_closing, ends_exact, before_closing}
 
@@ -14,3 +15,8 @@ pub record EndsAt (name text : List ℕ) (c : ℕ) (end : ℕ × Bool) : Type 0 
   pub exact : end.1 ≡ ends_exact name (chars text)
   pub boundary : IsCharBoundary text end.0
   pub before : chars (take end.0 text) ≡ before_closing name (chars text)
+
+-- the text ends in the word, which has no capitals, in any ASCII case
+abbrev pub ends_in : (word text : List ℕ) → Bool
+ends_in word text =
+    bytes_eq (map to_ascii_lowercase (drop (length text - length word) text)) word

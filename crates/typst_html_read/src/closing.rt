@@ -1,13 +1,15 @@
 //! Where the text of a raw element ends.
 
-ghost use Rattle.std.specs.Prelude.{◌≡◌, ◌↔◌, ◌≤◌, IsTrue, MatchOption, false, chars, length, map};
+ghost use Rattle.std.specs.Prelude.{◌≡◌, ◌↔◌, ◌<◌, ◌≤◌, IsTrue, MatchOption, false, chars, length, map};
 ghost use Rattle.std.specs.Char.{to_ascii_lowercase};
 ghost use Rattle.html_names.specs.Characters.{IsOf, is_tag_char};
+ghost use Rattle.html_names.specs.Names.{is_ascii};
 ghost use Rattle.typst_html_encode.specs.ClosingTags as ending;
-ghost use Rattle.typst_html_read.specs.RawEnds.{EndsAt, ends_raw};
+ghost use Rattle.typst_html_read.specs.RawEnds.{EndsAt, ends_in, ends_raw};
 
+/// Whether a closing tag's name ends before the character.
 #[tactic(auto, unfolding(typst_html_encode::specs::ClosingTags::is_tag_end))]
-fn is_tag_end(c: char) -> bool
+pub fn is_tag_end(c: char) -> bool
     ensures { result ≡ ending.is_tag_end c }
 {
     matches!(c, '\t' | '\n' | '\u{c}' | '\r' | ' ' | '>' | '/')
@@ -24,7 +26,7 @@ fn is_closing(name: &[u8], end: &[u8]) -> bool
 
 /// Where the closing tag begins that the text and the character end with, and whether it is exact
 /// up to the character.
-pub(crate) fn end_of(name: &str, text: &str, c: char) -> Option<(usize, bool)>
+pub fn end_of(name: &str, text: &str, c: char) -> Option<(usize, bool)>
     requires { IsOf is_tag_char (chars name.now) }
     ensures { MatchOption result
         (ends_raw (chars name.now) (chars text.now) c ≡ false)
@@ -43,4 +45,15 @@ pub(crate) fn end_of(name: &str, text: &str, c: char) -> Option<(usize, bool)>
         return None;
     }
     Some((length, &end[2..] == name.as_bytes()))
+}
+
+/// Whether a text ends in a word of ASCII, which has no capitals, in any ASCII case.
+pub fn ends_in(word: &str, text: &str) -> bool
+    requires some { 0 < length word.now }
+    requires ascii { IsTrue (is_ascii word.now) }
+    requires small { map to_ascii_lowercase word.now ≡ word.now }
+    ensures { result ≡ ends_in word.now (chars text.now) }
+{
+    let (word, text) = (word.as_bytes(), text.as_bytes());
+    word.len() <= text.len() && text[text.len() - word.len()..].eq_ignore_ascii_case(word)
 }

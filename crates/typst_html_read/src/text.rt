@@ -1,26 +1,37 @@
 //! Texts that are being read, as their characters.
 
-ghost use Rattle.std.specs.Prelude.{◌≡◌, ◌++◌, ◌∷◌, [], OnOk};
+ghost use Rattle.std.specs.Prelude.{◌≡◌, ◌++◌, ◌∷◌, [], OnOk, chars};
 ghost use Rattle.html_dom_tree.specs.Views.{text_view};
 
 use std::alloc::{AllocError, Global};
 use std::mem;
 
+/// Makes a text empty.
 #[tactic(auto, using(std::proofs::StrCases::chars_of_empty))]
-pub(crate) fn empty(text: &mut String)
+pub fn empty(text: &mut String)
     ensures { text_view text.new ≡ [] }
 {
     text.clear();
 }
 
-pub(crate) fn add(text: &mut String, c: char) -> Result<(), AllocError>
+/// Adds a character.
+pub fn add(text: &mut String, c: char) -> Result<(), AllocError>
     ensures { OnOk result (text_view text.new ≡ text_view text.old ++ c ∷ []) }
 {
     text.push(c)?;
     Ok(())
 }
 
-pub(crate) fn begin(text: &mut String, c: char) -> Result<(), AllocError>
+/// Adds a text.
+pub fn add_text(text: &mut String, more: &str) -> Result<(), AllocError>
+    ensures { OnOk result (text_view text.new ≡ text_view text.old ++ chars more.now) }
+{
+    text.push_str(more)?;
+    Ok(())
+}
+
+/// Makes a text of one character.
+pub fn begin(text: &mut String, c: char) -> Result<(), AllocError>
     ensures { OnOk result (text_view text.new ≡ c ∷ []) }
 {
     empty(text);
@@ -29,7 +40,7 @@ pub(crate) fn begin(text: &mut String, c: char) -> Result<(), AllocError>
 
 /// Takes a text, and leaves an empty one.
 #[tactic(auto, using(std::proofs::StrCases::chars_of_empty))]
-pub(crate) fn take(alloc: Global, text: &mut String) -> String
+pub fn take(alloc: Global, text: &mut String) -> String
     ensures taken { text_view result ≡ text_view text.old }
     ensures left { text_view text.new ≡ [] }
 {

@@ -1,0 +1,7 @@
+pub mod Halts
+pub mod PageRoots
+pub mod Places
+pub mod References
+pub mod Spaces
+pub mod TagNames
+pub mod Words

@@ -1,0 +1,31 @@
+-- Names of tags, by their bytes and by their characters.
+use Rattle.std.proofs.Common.{◌≡◌, ℕ, Bool, true, false, not, List, [], ◌∷◌, chars, eqb, length, refl, sym, subst}
+use Rattle.std.specs.List.{list_all}
+use Rattle.std.specs.Str.{IsUtf8}
+use Rattle.std.proofs.lemmas.Bool.{and_from, and_parts}
+use Rattle.html_names.specs.Characters.{IsOf, all, is_tag_char}
+use Rattle.typst_html_read.proofs.Closings.{name_is}
+use Rattle.typst_html_parse.specs.PageTokens.{is_name}
+
+all_of : (p : ℕ → Bool) (cs : List ℕ) → list_all p cs ≡ true → all p cs ≡ true
+all_of p [] h = refl
+all_of p (c ∷ cs) h =
+    let both = and_parts (p c) (list_all p cs) h in
+    and_from (p c) (all p cs) both.0 (all_of p cs both.1)
+
+of_chars : (p : ℕ → Bool) (cs : List ℕ) → eqb (length cs) 0 ≡ false → list_all p cs ≡ true →
+    IsOf p cs
+of_chars p [] k h = cc
+of_chars p (c ∷ cs) k h =
+    let both = and_parts (p c) (list_all p cs) h in (both.0, all_of p cs both.1)
+
+not_not : (b : Bool) → not b ≡ true → b ≡ false
+not_not true h = sym h
+not_not false h = refl
+
+pub tag_bytes : (t : List ℕ) → IsUtf8 t → is_name (chars t) ≡ true → IsOf is_tag_char t
+tag_bytes t u h =
+    let both = and_parts (not (eqb (length (chars t)) 0)) (list_all is_tag_char (chars t)) h in
+    let is : IsOf is_tag_char (chars t) =
+    of_chars is_tag_char (chars t) (not_not _ both.0) both.1 in
+    subst (IsOf is_tag_char) (sym (name_is t u is)) is

@@ -1,0 +1,32 @@
+use Rattle.std.proofs.Common.{◌≡◌, chars, length, take, sym, ap, ◌∙◌, subst}
+use Rattle.std.specs.Str.Lossy.{utf8_valid_len}
+use Rattle.std.proofs.lemmas.Bool.{false≢true}
+use Rattle.std.proofs.lemmas.Str.{IsUtf8-from_is_utf8, is_utf8-from_IsUtf8}
+use Rattle.typst_html_parse.specs.PageAnswers.{Gives}
+use Rattle.typst_html_parse.specs.PagePlaces.{place_at}
+use Rattle.typst_html_parse.specs.PageReading.{page_read}
+use Rattle.typst_html_parse.proofs.read.read_page_bytes.Goals as goal
+
+pub returns-in-Ok : goal.returns-in-Ok
+returns-in-Ok c =
+    let found = c.in-Ok.ensures.cases in
+    record {
+      text = λ u. subst (λ t. Gives c.read_page.result (chars t) (page_read c.args.limit (chars t)))
+          found.0 c.read_page.ensures;
+      no_text = λ n. absurd (false≢true (sym n ∙ is_utf8-from_IsUtf8 c.args.page.now found.1));
+      fails = λ n. absurd (false≢true (sym n ∙ is_utf8-from_IsUtf8 c.args.page.now found.1));
+    }
+
+pub returns-in-Err : goal.returns-in-Err
+returns-in-Err c =
+    let page = c.args.page.now in
+    let front = c.unwrap-front.result.now in
+    let found = rw c.unwrap-front.ensures at c.from_utf8-in-Err.ensures.cases in
+    let same : front ≡ take (utf8_valid_len page) page =
+    found.0 ∙ ap (λ n. take n page) (c.valid_up_to.ensures ∙ c.in-Err.ensures.valid_len) in
+    record {
+      text = λ u. absurd (c.in-Err.ensures.cases.0 (IsUtf8-from_is_utf8 page u));
+      no_text = λ n. c.place_at-place.ensures ∙ (ap (place_at (chars front)) c.count.ensures
+          ∙ ap (λ t. place_at (chars t) (length (chars t))) same);
+      fails = λ n. tt;
+    }

@@ -1,0 +1,9 @@
+pub mod DocumentTypes
+pub mod Endings
+pub mod PageAnswers
+pub mod PagePlaces
+pub mod PageReading
+pub mod PageReferences
+pub mod PageTokens
+pub mod RawEnds
+pub mod ReaderViews

@@ -1,0 +1,94 @@
+-- What reading a page gives: the element and the errors of the definition, or its refusal; want of
+-- memory may come before.
+use Rattle.std.specs.Prelude.{◌≡◌, ℕ, true, false, List, map, chars, length, take, Some, Result, Ok, Err, IfOk, IfErr}
+use Rattle.std.specs.Str.{is_utf8}
+use Rattle.std.specs.Str.Lossy.{utf8_valid_len}
+use Rattle.html_dom_tree.specs.PlainTree.{Plain}
+use Rattle.html_dom_tree.specs.Views.{element_view}
+use Rattle.html_dom_tree.specs.declared.node.HtmlElement.{HtmlElement}
+use Rattle.typst_html_parse_tree.specs.Endings.{IsHalt}
+use Rattle.typst_html_parse_tree.specs.OpenElements.{root_element}
+use Rattle.typst_html_parse_tree.specs.PageViews.{notes_of}
+use Rattle.typst_html_parse_tree.specs.Pages as pages
+use Rattle.typst_html_parse_tree.specs.Pages.{Reads}
+use Rattle.typst_html_parse_tree.specs.declared.error.PageError.{PageError}
+use Rattle.typst_html_parse_tree.specs.declared.fault.Halt.{Halt}
+use Rattle.typst_html_parse_tree.specs.declared.fault.Halt.TheVariants as halt
+use Rattle.typst_html_parse_tree.specs.declared.notes.Notes.{Notes}
+use Rattle.typst_html_parse.specs.PagePlaces.{place_at}
+use Rattle.typst_html_parse.specs.PageReading.{page_read}
+use Rattle.typst_html_parse.specs.PageTokens.{PageReader}
+use Rattle.typst_html_parse.specs.ReaderViews.{reader_of}
+use Rattle.typst_html_parse.specs.declared.fault.PageFault.{PageFault}
+use Rattle.typst_html_parse.specs.declared.fault.PageFault.TheVariants as fault
+use Rattle.typst_html_parse.specs.declared.fault.PageNote.{PageNote}
+use Rattle.typst_html_parse.specs.declared.fault.PageNotes.{PageNotes}
+use Rattle.typst_html_parse.specs.declared.reader.Reader.{Reader}
+
+-- an error, with its place in the text
+abbrev pub placed : (text : List ℕ) → PageError × ℕ → PageNote
+placed text n = record { error = n.0; place = place_at text n.1 }
+
+abbrev pub ArePlaced : (text : List ℕ) → pages.Notes → PageNotes → Type 0
+ArePlaced text notes told =
+    (told.count ≡ notes.count) × (told.first.items ≡ map (placed text) notes.first)
+
+-- a reader is behind a text
+pub record Begins (r : Result Reader Halt) (expected : Reads PageReader) : Type 0 where
+  pub made : IfOk r (λ reader. expected ≡ Ok (reader_of reader))
+  pub halted : IfErr r (IsHalt expected)
+
+-- an element and errors are those that are expected
+pub record AreRead (expected : Reads (Plain × pages.Notes)) (e : HtmlElement)
+    (notes : pages.Notes) : Type 0 where
+  pub root : Plain
+  pub read : expected ≡ Ok (root, notes)
+  pub element : Some (element_view e) ≡ root_element (Some root)
+
+-- a text is read as it is expected
+pub record ReadsText (r : Result (HtmlElement × Notes) Halt)
+    (expected : Reads (Plain × pages.Notes)) : Type 0 where
+  pub made : IfOk r (λ read. AreRead expected read.0 (notes_of read.1))
+  pub halted : IfErr r (IsHalt expected)
+
+-- the fault is the refusal that is expected, with its place in the text
+abbrev pub IsFault : (text : List ℕ) → Reads (Plain × pages.Notes) → PageFault → Type 0
+IsFault text expected fault.OutOfMemory = Unit {0}
+IsFault text expected (fault.NotText place) = ⊥
+IsFault text expected (fault.Refused refusal place) =
+    (n : ℕ) × (expected ≡ Err (refusal, n)) × (place ≡ place_at text n)
+
+-- why reading stops, as a fault
+abbrev pub fault_of : (text : List ℕ) → Halt → PageFault
+fault_of text halt.OutOfMemory = fault.OutOfMemory
+fault_of text (halt.Refused refusal place) = fault.Refused refusal (place_at text place)
+
+-- an element and errors are those of the text
+pub record IsPage (text : List ℕ) (expected : Reads (Plain × pages.Notes)) (e : HtmlElement)
+    (told : PageNotes) : Type 0 where
+  pub notes : pages.Notes
+  pub read : AreRead expected e notes
+  pub placed : ArePlaced text notes told
+
+-- a page is read as it is expected, or not read
+pub record Gives (r : Result (HtmlElement × PageNotes) PageFault) (text : List ℕ)
+    (expected : Reads (Plain × pages.Notes)) : Type 0 where
+  pub made : IfOk r (λ read. IsPage text expected read.0 read.1)
+  pub fault : IfErr r (IsFault text expected)
+
+-- the place of the first byte that is no UTF-8
+abbrev pub valid_text : (page : List ℕ) → List ℕ
+valid_text page = chars (take (utf8_valid_len page) page)
+
+abbrev pub IsNoText : (page : List ℕ) → PageFault → Type 0
+IsNoText page fault.OutOfMemory = Unit {0}
+IsNoText page (fault.NotText place) =
+    place ≡ place_at (valid_text page) (length (valid_text page))
+IsNoText page (fault.Refused refusal place) = ⊥
+
+-- a page of bytes is read as its text is, or it is none
+pub record GivesBytes (r : Result (HtmlElement × PageNotes) PageFault) (page : List ℕ)
+    (limit : ℕ) : Type 0 where
+  pub text : is_utf8 page ≡ true → Gives r (chars page) (page_read limit (chars page))
+  pub no_text : is_utf8 page ≡ false → IfErr r (IsNoText page)
+  pub fails : is_utf8 page ≡ false → IfOk r (λ read. ⊥)

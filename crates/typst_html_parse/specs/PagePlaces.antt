@@ -1,0 +1,25 @@
+-- Places in a page: lines and columns are those of the text with its CR LF and CR as LF and without a
+-- byte order mark, and offsets are bytes of the text itself.
+use Rattle.std.specs.Prelude.{ℕ, ◌+◌, Bool, false, not, ◌&&◌, ◌||◌, ◌==◌, List, [], ◌∷◌, take, if◌then◌else◌}
+use Rattle.std.specs.Char.{len_utf8}
+use Rattle.typst_html_read.specs.Places.{beginning}
+use Rattle.typst_html_read.specs.declared.place.Place.{Place}
+
+-- behind one character more; a line feed behind a carriage return ends no other line, and a byte order
+-- mark at the beginning is no character of a line
+abbrev pub next_place : (after_return : Bool) → Place → ℕ → Place
+next_place after_return p c = record {
+  offset = p.offset + len_utf8 c;
+  line = if c == 13 || (c == 10 && not after_return) then p.line + 1 else p.line;
+  column = if c == 13 || c == 10 then 1
+      else (if c == 0xfeff && p.offset == 0 then p.column else p.column + 1);
+}
+
+-- behind these characters
+abbrev pub place_behind : (after_return : Bool) → Place → List ℕ → Place
+place_behind after_return p [] = p
+place_behind after_return p (c ∷ cs) = place_behind (c == 13) (next_place after_return p c) cs
+
+-- the place of the character of a text before which so many stand
+unfoldable pub place_at : (text : List ℕ) → (count : ℕ) → Place
+place_at text count = place_behind false beginning (take count text)

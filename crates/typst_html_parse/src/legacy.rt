@@ -1,0 +1,46 @@
+//! Names of characters that may stand without a `;` (HTML Standard 13.2.5.73).
+
+ghost use Rattle.std.specs.Prelude.{◌≡◌, ◌∷◌, IsTrue, chars, option_map, option_to_list};
+ghost use Rattle.html_names.specs.Names.{is_ascii};
+ghost use Rattle.typst_html_parse.specs.PageReferences as references;
+
+use typst_html_parse_names::legacy_reference;
+
+/// A name with which a text begins: what it stands for, and what is behind it.
+#[derive(Clone, Copy)]
+pub(crate) struct Legacy<'a> {
+    pub(crate) value: (char, Option<char>),
+    pub(crate) rest: &'a str,
+}
+
+impl Legacy<'_> {
+    /// Whether in a value something follows with which the name is none.
+    pub(crate) fn is_followed(&self, behind: Option<char>) -> bool
+        ensures { result ≡ references.is_followed (chars self.now.rest.now) behind }
+    {
+        match self.rest.chars().next() {
+            Some(_) => true,
+            None => behind == Some('='),
+        }
+    }
+}
+
+/// The longest name with which the text begins, of so many characters at most.
+pub(crate) fn longest_legacy(at_most: usize, text: &str) -> Option<Legacy<'_>>
+    requires { IsTrue (is_ascii text.now) }
+    ensures { option_map (λ found.
+        (found.value.0 ∷ option_to_list found.value.1, chars found.rest.now)) result
+        ≡ references.longest_legacy at_most (chars text.now) }
+{
+    if at_most == 0 {
+        return None;
+    }
+    let length = at_most.min(text.len());
+    match legacy_reference(&text[..length]) {
+        Some(value) => Some(Legacy {
+            value,
+            rest: &text[length..],
+        }),
+        None => longest_legacy(at_most - 1, text),
+    }
+}

@@ -1,0 +1,27 @@
+//! The tokens of a page, as a browser reads them (HTML Standard 13.2.5), and the element that they
+//! make.
+#![tactic(auto)]
+
+mod cdata;
+mod comment;
+mod data;
+mod doctype;
+mod draft;
+mod fault;
+mod holders;
+mod legacy;
+mod markup;
+mod number;
+mod place;
+mod raw;
+mod read;
+mod reader;
+mod reading;
+mod reference;
+mod since;
+mod split;
+mod tags;
+mod values;
+
+pub use fault::{PageFault, PageNote, PageNotes};
+pub use read::{read_page, read_page_bytes};

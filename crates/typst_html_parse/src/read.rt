@@ -1,0 +1,202 @@
+ghost use Rattle.std.specs.Prelude.{◌≡◌, ◌≤◌, ◌<◌, ◌+◌, ◌^◌, OnOk, IfOk, IfErr, chars, length};
+ghost use Rattle.typst_html_parse.specs.Endings.{Moves};
+ghost use Rattle.typst_html_parse.specs.PageAnswers.{ArePlaced, Begins, Gives, GivesBytes, ReadsText, fault_of, placed};
+ghost use Rattle.typst_html_parse_tree.specs.PageViews.{notes_of};
+ghost use Rattle.typst_html_parse.specs.PageReading as pages;
+ghost use Rattle.typst_html_parse.specs.ReaderViews.{reader_of, reading_of};
+
+use crate::fault::{PageFault, PageNote, PageNotes};
+use crate::place::place_at;
+use crate::reader::Reader;
+use crate::reading::Reading;
+use crate::split::split_first;
+use html_dom_tree::HtmlElement;
+use std::alloc::{AllocError, Global};
+use std::str;
+use typst_html_parse_tree::{Halt, Notes, PageError, PageRefusal};
+
+const BYTE_ORDER_MARK: char = '\u{feff}';
+
+/// The element of a page that comes from somewhere else, as browsers read it, and the errors in it.
+///
+/// It reads as HTML Standard 13.2 says, with scripting disabled, and goes over the errors that
+/// browsers go over. Comments and document types leave nothing in the element. A page is refused
+/// where a browser would move nodes, make them a second time, or change an element that is
+/// complete; [`PageRefusal`] says what there is.
+///
+/// `limit` is from 1 to 10,000 and bounds how deep elements may stand; the root stands at depth 1.
+///
+/// # Errors
+///
+/// [`PageFault::Refused`] with the first place from which on the page is not read: that of the `<` of
+/// the tag, or of the character.
+///
+/// Cost: grows with the length of the text times how deep elements stand in it, since each character is
+/// looked at together with the elements around it. Beside the element it needs memory for the elements
+/// that are open, and for one text and one tag.
+///
+/// ```
+/// use typst_html_parse::{PageFault, read_page};
+///
+/// let alloc = rt.alloc();
+/// let (root, notes) = read_page(alloc, "<!DOCTYPE html><ul><li>a<li>b</b></ul>", 50)?;
+/// assert_eq!(rt; root.children.len(), 2); // head and body
+/// assert_eq!(rt; notes.count, 1);
+/// for note in &notes.first {
+///     assert_eq!(rt; note.place.offset, 29); // `</b>`, which closes nothing
+/// }
+///
+/// let read = read_page(alloc, "<!DOCTYPE html><table>a", 50);
+/// let Err(PageFault::Refused { place, .. }) = read else {
+///     panic!(rt; "a text is moved out of a table");
+/// };
+/// assert_eq!(rt; place.column, 23);
+/// ```
+pub fn read_page(
+    alloc: Global,
+    text: &str,
+    limit: usize,
+) -> Result<(HtmlElement, PageNotes), PageFault>
+    requires some_limit { 1 ≤ limit }
+    requires low_limit { limit ≤ 10000 }
+    ensures { Gives result (chars text.now) (pages.page_read limit (chars text.now)) }
+{
+    match read_text(alloc, text, limit) {
+        Ok((root, notes)) => {
+            let notes = notes_at(alloc, text, notes)?;
+            Ok((root, notes))
+        }
+        Err(halt) => Err(fault_of(text, halt)),
+    }
+}
+
+/// The element of a page that comes from somewhere else, in bytes, and the errors in it.
+///
+/// It is what [`read_page`] reads.
+///
+/// # Errors
+///
+/// Those of [`read_page`], and [`PageFault::NotText`] with the place of the first byte that is no
+/// UTF-8, before all others.
+pub fn read_page_bytes(
+    alloc: Global,
+    page: &[u8],
+    limit: usize,
+) -> Result<(HtmlElement, PageNotes), PageFault>
+    requires some_limit { 1 ≤ limit }
+    requires low_limit { limit ≤ 10000 }
+    ensures { GivesBytes result page.now limit }
+{
+    match str::from_utf8(page) {
+        Ok(text) => read_page(alloc, text, limit),
+        Err(fault) => {
+            let front = str::from_utf8(&page[..fault.valid_up_to()]).unwrap();
+            let place = place_at(front, count(front));
+            Err(PageFault::NotText { place })
+        }
+    }
+}
+
+/// How many characters a text has.
+#[tactic(auto, using(std::proofs::lemmas::Str::chars_from_encodes))]
+fn count(text: &str) -> usize
+    ensures { result ≡ length (chars text.now) }
+{
+    text.chars().count()
+}
+
+/// Why a text is not read.
+fn fault_of(text: &str, halt: Halt) -> PageFault
+    ensures { result ≡ fault_of (chars text.now) halt }
+{
+    match halt {
+        Halt::OutOfMemory => PageFault::OutOfMemory,
+        Halt::Refused { refusal, place } => {
+            let place = place_at(text, place);
+            PageFault::Refused { refusal, place }
+        }
+    }
+}
+
+/// An error with its place in the text.
+fn note_at(text: &str, note: &(PageError, usize)) -> PageNote
+    ensures { result ≡ placed (chars text.now) note.now }
+{
+    let place = place_at(text, note.1);
+    PageNote {
+        error: note.0,
+        place,
+    }
+}
+
+/// The errors with their places in the text.
+fn notes_at(alloc: Global, text: &str, notes: Notes) -> Result<PageNotes, AllocError>
+    ensures { IfOk result (ArePlaced (chars text.now) (notes_of notes)) }
+{
+    let count = notes.count;
+    let mut first = Vec::new(alloc);
+    for note in &notes.first {
+        first.push(note_at(text, note))?;
+    }
+    Ok(PageNotes { count, first })
+}
+
+/// Reads the characters of a text.
+fn run(reader: &mut Reader, text: &str) -> Result<(), Halt>
+    requires { reader.old.reading.place + length text.now < 2 ^ 64 }
+    ensures { Moves result (pages.run (reader_of reader.old) (chars text.now))
+        (reader_of reader.new) }
+{
+    for c in text.chars() {
+        reader.step(c)?;
+    }
+    Ok(())
+}
+
+/// A reader behind a text before which so many characters were read.
+fn read_from(alloc: Global, text: &str, limit: usize, place: usize) -> Result<Reader, Halt>
+    requires { place + length text.now < 2 ^ 64 }
+    ensures { Begins result (pages.run (pages.first_reader limit place) (chars text.now)) }
+{
+    let mut reader = Reader::new(alloc, limit, place);
+    run(&mut reader, text)?;
+    Ok(reader)
+}
+
+/// A reader behind a text, of which a byte order mark is dropped.
+fn reader_behind(alloc: Global, text: &str, limit: usize) -> Result<Reader, Halt>
+    ensures { Begins result (pages.begun limit (chars text.now)) }
+{
+    let Some((first, rest)) = split_first(text) else {
+        return Ok(Reader::new(alloc, limit, 0));
+    };
+    if first == BYTE_ORDER_MARK {
+        read_from(alloc, rest, limit, 1)
+    } else {
+        read_from(alloc, text, limit, 0)
+    }
+}
+
+/// The element of a page that is read, and the errors that were gone over.
+fn page_made(reading: Reading) -> Result<(HtmlElement, Notes), Halt>
+    ensures { ReadsText result (pages.page_made (reading_of reading)) }
+{
+    let place = reading.place;
+    let (root, notes) = reading.page.finish()?;
+    match root {
+        Some(root) => Ok((root, notes)),
+        None => {
+            let refusal = PageRefusal::Unsettled;
+            Err(Halt::Refused { refusal, place })
+        }
+    }
+}
+
+/// The element that the text is read as, and the errors that were gone over.
+fn read_text(alloc: Global, text: &str, limit: usize) -> Result<(HtmlElement, Notes), Halt>
+    ensures { ReadsText result (pages.page_read limit (chars text.now)) }
+{
+    let mut reader = reader_behind(alloc, text, limit)?;
+    reader.finish()?;
+    page_made(reader.reading)
+}

@@ -1,0 +1,102 @@
+//! How far a page is read: the tree so far, and what tokens do to it.
+
+ghost use Rattle.std.specs.Prelude.{◌≡◌, OnOk, chars};
+ghost use Rattle.typst_html_parse_tree.specs.PageViews.{token_of};
+ghost use Rattle.typst_html_parse.specs.Endings.{Emits};
+ghost use Rattle.typst_html_parse.specs.PageTokens as tokens;
+ghost use Rattle.typst_html_parse.specs.ReaderViews.{reading_of, bracket_count};
+
+use crate::reader::Brackets;
+use std::alloc::AllocError;
+use typst_html_parse_tree::{Halt, Page, PageError, PageRefusal, Token};
+
+/// How far a page is read, but for the state.
+#[derive(Drop)]
+pub(crate) struct Reading {
+    pub(crate) page: Page,
+    /// How many characters were read.
+    pub(crate) place: usize,
+    /// The token before was a start tag after which a line feed is dropped.
+    pub(crate) fresh: bool,
+    /// The character before was a carriage return.
+    pub(crate) after_return: bool,
+}
+
+impl Reading {
+    /// An error at the next character is gone over.
+    pub(crate) fn note(&mut self, error: PageError) -> Result<(), AllocError>
+        ensures { OnOk result (reading_of self.new ≡ tokens.erring error (reading_of self.old)) }
+    {
+        self.page.notes.add(error, self.place)
+    }
+
+    pub(crate) fn note_if(&mut self, told: bool, error: PageError) -> Result<(), AllocError>
+        ensures { OnOk result (reading_of self.new
+            ≡ tokens.erring_if told error (reading_of self.old)) }
+    {
+        if told { self.note(error) } else { Ok(()) }
+    }
+
+    pub(crate) fn note_some(&mut self, error: Option<PageError>) -> Result<(), AllocError>
+        ensures { OnOk result (reading_of self.new
+            ≡ tokens.erring_some error (reading_of self.old)) }
+    {
+        match error {
+            Some(error) => self.note(error),
+            None => Ok(()),
+        }
+    }
+
+    /// Why reading stops at the token.
+    pub(crate) fn refusal(&self, refusal: PageRefusal) -> Halt
+        ensures { result ≡ Halt.Refused refusal self.now.page.start }
+    {
+        let place = self.page.start;
+        Halt::Refused { refusal, place }
+    }
+
+    pub(crate) fn emit(&mut self, token: Token) -> Result<(), Halt>
+        ensures { Emits result (tokens.emitted (token_of token) (reading_of self.old))
+            (reading_of self.new) }
+    {
+        self.page.read(token)?;
+        self.fresh = false;
+        Ok(())
+    }
+
+    /// A character. A line feed right after a start tag that drops it is dropped.
+    pub(crate) fn emit_char(&mut self, c: char) -> Result<(), Halt>
+        ensures { Emits result (tokens.char_emitted c (reading_of self.old))
+            (reading_of self.new) }
+    {
+        if self.fresh && c == '\n' {
+            self.fresh = false;
+            return Ok(());
+        }
+        self.emit(Token::Char(c))
+    }
+
+    pub(crate) fn emit_text(&mut self, text: &str) -> Result<(), Halt>
+        ensures { Emits result (tokens.chars_emitted (chars text.now) (reading_of self.old))
+            (reading_of self.new) }
+    {
+        for c in text.chars() {
+            self.emit_char(c)?;
+        }
+        Ok(())
+    }
+
+    pub(crate) fn emit_brackets(&mut self, brackets: Brackets) -> Result<(), Halt>
+        ensures { Emits result (tokens.brackets_emitted (bracket_count brackets)
+            (reading_of self.old)) (reading_of self.new) }
+    {
+        match brackets {
+            Brackets::None => Ok(()),
+            Brackets::One => self.emit_char(']'),
+            Brackets::Two => {
+                self.emit_char(']')?;
+                self.emit_char(']')
+            }
+        }
+    }
+}

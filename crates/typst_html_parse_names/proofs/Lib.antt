@@ -1,0 +1,4 @@
+pub mod ByLetter
+pub mod Capitals
+pub mod KindTable
+pub mod Lowered

@@ -1,0 +1,51 @@
+ghost use Rattle.std.specs.Prelude.{◌≡◌, chars, map};
+ghost use Rattle.html_names.specs.Held.{IsLookup};
+ghost use Rattle.typst_html_parse_names.specs.Kinds.{IsKindsOf, has};
+
+use crate::kind::Kind;
+use crate::kind_table::{KIND_BITS, NAMES, STARTS};
+use crate::lookup::place_in;
+
+/// The kinds that a name is of.
+#[derive(Clone, Copy, Debug)]
+pub struct Kinds {
+    bits: u64,
+}
+
+impl Kinds {
+    /// Whether that kind is one of them.
+    pub fn has(self, kind: Kind) -> bool
+        ensures { result ≡ has self kind }
+    {
+        self.bits & kind.bit() != 0
+    }
+}
+
+#[tactic(auto, using(crate::proofs::KindTable::names_ascii, crate::proofs::KindTable::names_started))]
+fn place_of(name: &str) -> Option<u8>
+    ensures { IsLookup (map (λ n. n.now) NAMES) (chars name.now) result }
+{
+    place_in(&NAMES, &STARTS, name)
+}
+
+/// The kinds that the name is of, an element's name as it stands in the page's tree.
+///
+/// ```
+/// use typst_html_parse_names::{Kind, kinds_of};
+///
+/// let kinds = kinds_of("h2");
+/// assert!(rt; kinds.has(Kind::Heading));
+/// assert!(rt; !kinds.has(Kind::Formatting));
+/// assert!(rt; !kinds_of("my-card").has(Kind::Special));
+/// ```
+#[tactic(auto, using(crate::proofs::KindTable::of_known, crate::proofs::KindTable::of_unknown, crate::proofs::KindTable::names_long))]
+pub fn kinds_of(name: &str) -> Kinds
+    ensures { IsKindsOf (chars name.now) result }
+{
+    match place_of(name) {
+        Some(place) => Kinds {
+            bits: KIND_BITS[place as usize],
+        },
+        None => Kinds { bits: 0 },
+    }
+}

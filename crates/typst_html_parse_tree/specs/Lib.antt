@@ -1,0 +1,9 @@
+pub mod Endings
+pub mod LostNames
+pub mod OpenCounts
+pub mod OpenElements
+pub mod PageBodies
+pub mod PageTrees
+pub mod PageViews
+pub mod Pages
+pub mod TakenTexts

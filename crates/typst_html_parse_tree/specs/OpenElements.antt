@@ -1,0 +1,158 @@
+-- The elements that are open, the innermost first, what is in scope, and the insertion mode, which
+-- follows from them (HTML Standard 13.2.4).
+use Rattle.std.specs.Prelude.{ℕ, Bool, true, false, not, ◌&&◌, ◌||◌, ◌==◌, List, [], ◌∷◌, length, if◌then◌else◌, Option, Some, None, unwrap_or}
+use Rattle.html_dom_tree.specs.Tree.{TextPair, ElementView}
+use Rattle.html_dom_tree.specs.PlainTree.{Plain, words, branch, Plains, no_plains, plain}
+use Rattle.typst_html_encode.specs.Reader.{◌then◌, with_text}
+use Rattle.typst_html_read.specs.PlainElements.{plain_element}
+use Rattle.typst_html_parse_names.specs.PageNames.{of}
+use Rattle.typst_html_parse_names.specs.declared.kind.Kind.TheVariants as kind
+use Rattle.typst_html_parse_tree.specs.declared.modes.Mode.{Mode}
+use Rattle.typst_html_parse_tree.specs.declared.modes.Mode.TheVariants.{BeforeHtml, BeforeHead, InHead, InHeadNoscript, AfterHead, InBody, InText, InTable, InCaption, InColumns, InSection, InRow, InCell}
+use Rattle.typst_html_parse_tree.specs.declared.modes.Scope.{Scope}
+use Rattle.typst_html_parse_tree.specs.declared.modes.Scope.TheVariants.{General, ListItem, Button, Table}
+use Rattle.typst_html_parse_tree.specs.declared.modes.Space.{Space}
+use Rattle.typst_html_parse_tree.specs.declared.modes.Space.TheVariants.{Html, Svg, MathMl}
+
+-- an open element, and its children so far
+pub record OpenElement : Type 0 where
+  pub name : List ℕ
+  pub space : Space
+  pub attrs : List TextPair
+  pub children : Plains
+
+abbrev pub is_html : Space → Bool
+is_html Html = true
+is_html space = false
+
+-- an element of HTML with such a name
+abbrev pub is_of : (test : List ℕ → Bool) → OpenElement → Bool
+is_of test o = is_html o.space && test o.name
+
+-- the current node is a goal
+abbrev pub at : (goal : OpenElement → Bool) → List OpenElement → Bool
+at goal [] = false
+at goal (o ∷ os) = goal o
+
+-- the current node is one
+abbrev pub is_at : (test : List ℕ → Bool) → List OpenElement → Bool
+is_at test = at (is_of test)
+
+-- the current node is one of SVG or MathML
+abbrev pub is_in_foreign : List OpenElement → Bool
+is_in_foreign = at (λ o. not (is_html o.space))
+
+-- the nearest element that is a goal is reached, from the current node outwards, before one that bounds
+-- the search
+abbrev pub reaches : (goal bound : OpenElement → Bool) → List OpenElement → Bool
+reaches goal bound [] = false
+reaches goal bound (o ∷ os) = goal o || (not (bound o) && reaches goal bound os)
+
+-- some open element is one
+abbrev pub has : (test : List ℕ → Bool) → List OpenElement → Bool
+has test = reaches (is_of test) (λ o. false)
+
+-- an element of SVG or MathML that bounds scopes, and is special
+abbrev pub is_foreign_bound : Space → (name : List ℕ) → Bool
+is_foreign_bound Html name = false
+is_foreign_bound Svg name = of kind.SvgHtml name
+is_foreign_bound MathMl name = of kind.MathText name || of kind.AnnotationXml name
+
+abbrev pub bounds_general : OpenElement → Bool
+bounds_general o = is_of (of kind.BoundsScope) o || is_foreign_bound o.space o.name
+
+abbrev pub bounds : Scope → OpenElement → Bool
+bounds General o = bounds_general o
+bounds ListItem o = is_of (of kind.BoundsList) o || bounds_general o
+bounds Button o = is_of (of kind.Button) o || bounds_general o
+bounds Table o = is_of (λ n. of kind.Html n || of kind.Table n || of kind.Template n) o
+
+-- one is in scope: no other element that bounds the scope stands within it
+abbrev pub in_scope : Scope → (test : List ℕ → Bool) → List OpenElement → Bool
+in_scope scope test = reaches (is_of test) (bounds scope)
+
+abbrev pub is_special : OpenElement → Bool
+is_special o = is_of (of kind.Special) o || is_foreign_bound o.space o.name
+
+-- one is open, and no special element stands within it
+abbrev pub is_near : (test : List ℕ → Bool) → List OpenElement → Bool
+is_near test = reaches (is_of test) is_special
+
+-- one is open, and no element stands within it that hides it
+abbrev pub is_active : (test : List ℕ → Bool) → List OpenElement → Bool
+is_active test = reaches (is_of test) (is_of (of kind.Marker))
+
+-- the same of an item, within which `address`, `div` and `p` may stand (13.2.6.4.7, start tags of `li`,
+-- `dd`, `dt`)
+abbrev pub bounds_item : OpenElement → Bool
+bounds_item o = is_special o && not (is_of (of kind.PassedByItems) o)
+
+abbrev pub has_item : (test : List ℕ → Bool) → List OpenElement → Bool
+has_item test = reaches (is_of test) bounds_item
+
+-- the mode that an element of HTML brings
+abbrev pub named_mode : (name : List ℕ) (below : List OpenElement) → Option Mode
+named_mode name below = if of kind.Cell name then Some InCell
+    else (if of kind.Section name then Some InSection
+    else (if of kind.Tr name then Some InRow
+    else (if of kind.Caption name then Some InCaption
+    else (if of kind.Colgroup name then Some InColumns
+    else (if of kind.Table name then Some InTable
+    else (if of kind.Body name then Some InBody
+    else (if of kind.Head name then Some InHead
+    else (if of kind.Raw name then Some InText
+    else (if of kind.Noscript name && is_at (of kind.Head) below then Some InHeadNoscript
+    else None)))))))))
+
+-- some of them is an element
+abbrev pub has_elements : Plains → Bool
+has_elements no_plains = false
+has_elements (plain (words text) ps) = has_elements ps
+has_elements (plain (branch name attrs children) ps) = true
+
+-- within `html`, and neither in the head nor in the body
+abbrev pub html_mode : Plains → Mode
+html_mode children = if has_elements children then AfterHead else BeforeHead
+
+-- the insertion mode (13.2.4.1, "reset the insertion mode appropriately")
+abbrev pub mode : List OpenElement → Mode
+mode [] = BeforeHtml
+mode (o ∷ os) = unwrap_or (if is_html o.space then named_mode o.name os else None)
+    (if length os == 0 then html_mode o.children else mode os)
+
+-- a text is the last child of the current node, unless it is empty
+abbrev pub with_last_text : List ℕ → List OpenElement → List OpenElement
+with_last_text text [] = []
+with_last_text text (o ∷ os) = record o { children = with_text text o.children } ∷ os
+
+abbrev pub completed : OpenElement → Plain
+completed o = branch o.name o.attrs o.children
+
+abbrev pub with_last_child : Plain → OpenElement → OpenElement
+with_last_child child o = record o { children = o.children then plain child no_plains }
+
+-- the current node is complete, unless it is the root
+abbrev pub without_current : List OpenElement → List OpenElement
+without_current [] = []
+without_current (o ∷ []) = o ∷ []
+without_current (o ∷ p ∷ ps) = with_last_child (completed o) p ∷ ps
+
+-- all of them are complete
+abbrev pub all_completed : Plain → List OpenElement → Plain
+all_completed child [] = child
+all_completed child (o ∷ os) = all_completed (completed (with_last_child child o)) os
+
+abbrev pub root_of : List OpenElement → Option Plain
+root_of [] = None
+root_of (o ∷ os) = Some (all_completed (completed o) os)
+
+-- the name of the current node
+abbrev pub current_name : List OpenElement → Option (List ℕ)
+current_name [] = None
+current_name (o ∷ os) = Some o.name
+
+-- the element that is made of the root
+abbrev pub root_element : Option Plain → Option ElementView
+root_element None = None
+root_element (Some (words text)) = None
+root_element (Some (branch name attrs children)) = Some (plain_element name attrs children)

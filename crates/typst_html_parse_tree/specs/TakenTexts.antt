@@ -1,0 +1,23 @@
+-- Where a page takes any text as it is.
+use Rattle.std.specs.Prelude.{ℕ, Bool, true, false, not, ◌&&◌, ◌||◌, List, ◌++◌}
+use Rattle.typst_html_parse_tree.specs.OpenElements.{mode}
+use Rattle.typst_html_parse_tree.specs.PageTrees.{is_foreign_token, is_unseen}
+use Rattle.typst_html_parse_tree.specs.Pages.{Page, Char, loses_some}
+use Rattle.typst_html_parse_tree.specs.declared.modes.Mode.{Mode}
+use Rattle.typst_html_parse_tree.specs.declared.modes.Mode.TheVariants.{InBody, InText, InCaption, InCell}
+
+-- in these modes characters are added to the current node, where no formatting element is lost
+abbrev pub mode_takes_text : Mode → Page → Bool
+mode_takes_text InText p = true
+mode_takes_text InBody p = not (loses_some p.lost)
+mode_takes_text InCaption p = not (loses_some p.lost)
+mode_takes_text InCell p = not (loses_some p.lost)
+mode_takes_text m p = false
+
+-- each character is added to the current node
+unfoldable pub takes_text : Page → Bool
+takes_text p = not (is_unseen p.tables)
+    && (is_foreign_token (Char 0) p.stack || mode_takes_text (mode p.stack) p)
+
+abbrev pub with_chars : List ℕ → Page → Page
+with_chars cs p = record p { text = p.text ++ cs }

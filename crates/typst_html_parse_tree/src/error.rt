@@ -1,0 +1,106 @@
+//! Errors of a page that reading goes on over.
+
+use thiserror::Error;
+
+/// An error of a page that reading goes on over, as a browser does. Those of the text have the names of
+/// HTML Standard 13.2.2; those of the tree have none there, and so have names of this project.
+#[derive(Clone, Copy, Debug, PartialEq, Eq, Error)]
+pub enum PageError {
+    #[error("abrupt-closing-of-empty-comment")]
+    AbruptClosingOfEmptyComment,
+    #[error("absence-of-digits-in-numeric-character-reference")]
+    AbsenceOfDigitsInNumericCharacterReference,
+    #[error("cdata-in-html-content")]
+    CdataInHtmlContent,
+    #[error("character-reference-outside-unicode-range")]
+    CharacterReferenceOutsideUnicodeRange,
+    #[error("control-character-reference")]
+    ControlCharacterReference,
+    #[error("duplicate-attribute")]
+    DuplicateAttribute,
+    #[error("end-tag-with-attributes")]
+    EndTagWithAttributes,
+    #[error("end-tag-with-trailing-solidus")]
+    EndTagWithTrailingSolidus,
+    #[error("eof-before-tag-name")]
+    EofBeforeTagName,
+    #[error("eof-in-cdata")]
+    EofInCdata,
+    #[error("eof-in-comment")]
+    EofInComment,
+    #[error("eof-in-doctype")]
+    EofInDoctype,
+    #[error("eof-in-script-html-comment-like-text")]
+    EofInScriptHtmlCommentLikeText,
+    #[error("eof-in-tag")]
+    EofInTag,
+    #[error("incorrectly-closed-comment")]
+    IncorrectlyClosedComment,
+    #[error("incorrectly-opened-comment")]
+    IncorrectlyOpenedComment,
+    #[error("invalid-first-character-of-tag-name")]
+    InvalidFirstCharacterOfTagName,
+    #[error("missing-attribute-value")]
+    MissingAttributeValue,
+    #[error("missing-end-tag-name")]
+    MissingEndTagName,
+    #[error("missing-semicolon-after-character-reference")]
+    MissingSemicolonAfterCharacterReference,
+    #[error("missing-whitespace-between-attributes")]
+    MissingWhitespaceBetweenAttributes,
+    #[error("nested-comment")]
+    NestedComment,
+    #[error("noncharacter-character-reference")]
+    NoncharacterCharacterReference,
+    #[error("null-character-reference")]
+    NullCharacterReference,
+    #[error("surrogate-character-reference")]
+    SurrogateCharacterReference,
+    #[error("unexpected-character-in-unquoted-attribute-value")]
+    UnexpectedCharacterInUnquotedAttributeValue,
+    #[error("unexpected-question-mark-instead-of-tag-name")]
+    UnexpectedQuestionMarkInsteadOfTagName,
+    #[error("unexpected-solidus-in-tag")]
+    UnexpectedSolidusInTag,
+    #[error("unknown-named-character-reference")]
+    UnknownNamedCharacterReference,
+    /// No document type stands before the first tag or text.
+    #[error("no document type")]
+    NoDocumentType,
+    /// A document type stands behind the first tag, text or document type.
+    #[error("a misplaced document type")]
+    MisplacedDocumentType,
+    /// An end tag closes no element.
+    #[error("an end tag that closes nothing")]
+    EndTagWithoutStart,
+    /// An end tag closes elements that it doesn't name.
+    #[error("an end tag over open elements")]
+    EndTagOverOpenElements,
+    /// An end tag names a formatting element that another tag has closed.
+    #[error("an end tag of an element that is closed")]
+    EndTagOfClosedElement,
+    /// `</br>`, which is read as `<br>`.
+    #[error("an end tag of br")]
+    EndTagBr,
+    /// A start tag that stands where its element can't.
+    #[error("a start tag that is ignored")]
+    IgnoredStartTag,
+    /// An `html`, a `head` or a `body` is begun a second time.
+    #[error("a second html, head or body")]
+    SecondStartTag,
+    /// An element is closed where another of its kind begins, as an `a` in an `a`.
+    #[error("an element within another of its kind")]
+    NestedElement,
+    /// A `noscript` in the head holds what can't stand there, and is closed.
+    #[error("a noscript of the head that ends early")]
+    UnexpectedInNoscript,
+    /// A cell stands outside of a row.
+    #[error("a cell outside of a row")]
+    CellWithoutRow,
+    /// A cell or a caption is closed while elements in it are open.
+    #[error("a cell or caption over open elements")]
+    CellOverOpenElements,
+    /// `image`, which is read as `img`.
+    #[error("image in place of img")]
+    ImageTag,
+}

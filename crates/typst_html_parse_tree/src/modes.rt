@@ -1,0 +1,46 @@
+//! Where reading a page stands.
+
+/// The namespace of an element.
+#[derive(Clone, Copy, Debug, PartialEq, Eq)]
+pub enum Space {
+    Html,
+    Svg,
+    MathMl,
+}
+
+/// What bounds the elements that an end tag may close (HTML Standard 13.2.4.2).
+#[derive(Clone, Copy, Debug, PartialEq, Eq)]
+pub enum Scope {
+    General,
+    ListItem,
+    Button,
+    Table,
+}
+
+/// The insertion mode (HTML Standard 13.2.4.1).
+#[derive(Clone, Copy, Debug, PartialEq, Eq)]
+pub enum Mode {
+    BeforeHtml,
+    BeforeHead,
+    InHead,
+    InHeadNoscript,
+    AfterHead,
+    InBody,
+    InText,
+    InTable,
+    InCaption,
+    InColumns,
+    InSection,
+    InRow,
+    InCell,
+}
+
+/// What a table does to an open `p`, which hangs on the document type.
+#[derive(Clone, Copy, Debug, PartialEq, Eq)]
+pub enum TableRule {
+    /// No document type, tag or text was read.
+    Unseen,
+    ClosesP,
+    KeepsP,
+    Unknown,
+}

@@ -1,0 +1,9 @@
+use Rattle.std.proofs.Common.{string_bytes}
+use Rattle.std.proofs.lemmas.Str.{IsUtf8-string_bytes}
+use Rattle.html_names.proofs.Texts.{chars_add}
+use Rattle.typst_html_read.proofs.text.add_text.Goals as goal
+
+pub returns : goal.returns
+returns c =
+    chars_add (string_bytes c.args.text.now) _ c.args.more.now
+    (IsUtf8-string_bytes c.args.text.now) c.in_ok-push_str.ensures.bytes
