@@ -1,3 +1,4 @@
+pub mod CommonStretches
 pub mod Halts
 pub mod PageRoots
 pub mod Places

@@ -1,3 +1,4 @@
+pub mod CommonStretches
 pub mod DocumentTypes
 pub mod Endings
 pub mod PageAnswers

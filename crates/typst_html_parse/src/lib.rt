@@ -4,6 +4,7 @@
 
 mod cdata;
 mod comment;
+mod common;
 mod data;
 mod doctype;
 mod draft;

@@ -31,9 +31,9 @@ const BYTE_ORDER_MARK: char = '\u{feff}';
 /// [`PageFault::Refused`] with the first place from which on the page is not read: that of the `<` of
 /// the tag, or of the character.
 ///
-/// Cost: grows with the length of the text times how deep elements stand in it, since each character is
-/// looked at together with the elements around it. Beside the element it needs memory for the elements
-/// that are open, and for one text and one tag.
+/// Cost: grows with the length of the text times how deep elements stand in it, since each tag, and each
+/// stretch of text, is looked at together with the elements around it. Beside the element it needs
+/// memory for the elements that are open, and for one text and one tag.
 ///
 /// ```
 /// use typst_html_parse::{PageFault, read_page};
@@ -147,10 +147,16 @@ fn run(reader: &mut Reader, text: &str) -> Result<(), Halt>
     ensures { Moves result (pages.run (reader_of reader.old) (chars text.now))
         (reader_of reader.new) }
 {
-    for c in text.chars() {
+    let mut rest = text;
+    loop {
+        let past = reader.read_common(rest)?;
+        let mut left = past.chars();
+        let Some(c) = left.next() else {
+            return Ok(());
+        };
         reader.step(c)?;
+        rest = left.as_str();
     }
-    Ok(())
 }
 
 /// A reader behind a text before which so many characters were read.

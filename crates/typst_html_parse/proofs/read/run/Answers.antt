@@ -1,8 +1,8 @@
-use Rattle.std.proofs.Common.{chars, length, sym, ap, ◌∙◌, subst, arith, length-append}
+use Rattle.std.proofs.Common.{◌≡◌, ◌++◌, chars, length, sym, ap, ◌∙◌, subst, arith, length-append}
 use Rattle.std.specs.Str.Iter.{chars_rest}
 use Rattle.std.proofs.StrCases.{chars_of_empty}
 use Rattle.std.proofs.lemmas.Result.{err_from_is_err_and}
-use Rattle.std.proofs.lemmas.Str.{IsUtf8-past_char, chars_past_char, length-encode, len_utf8_bounds}
+use Rattle.std.proofs.lemmas.Str.{chars_past_char, length-encode, len_utf8_bounds}
 use lib.Utf8.{encode}
 use Rattle.typst_html_parse_tree.specs.Endings.{IsHalt}
 use Rattle.typst_html_parse_tree.specs.Pages.{◌next◌}
@@ -12,63 +12,104 @@ use Rattle.typst_html_parse.specs.ReaderViews.{reader_of}
 use Rattle.typst_html_parse.proofs.Halts.{halt_next}
 use Rattle.typst_html_parse.proofs.read.run.Goals as goal
 
+pub read_common-requires : goal.read_common-requires
+read_common-requires c = omega (arith, c.loop-past.invariant.few, c.requires)
+
 pub step-requires : goal.step-requires
 step-requires c =
-    let held = c.loop-c.invariant in
+    let held = c.loop-past.invariant in
+    let got = c.in_ok-past.ensures.read in
+    let past = c.in_ok-past.past.now in
     let d = c.in-Some.c in
-    let parts = c.in-Some.ensures.steps.0 in
+    let later = chars_rest c.next.new.self in
+    let parts : past ≡ encode d ++ later =
+    sym c.chars-left.ensures.rest ∙ c.in-Some.ensures.steps.0 in
     omega (
       arith,
       held.few,
+      got.place,
+      c.requires,
       ap length parts,
-      length-append (encode d) (chars_rest c.next.new.self),
+      length-append (encode d) later,
       length-encode d,
       len_utf8_bounds d,
     )
 
 pub returns-in_err-step : goal.returns-in_err-step
 returns-in_err-step c =
-    let held = c.loop-c.invariant in
+    let held = c.loop-past.invariant in
+    let got = c.in_ok-past.ensures.read in
+    let past = c.in_ok-past.past.now in
     let d = c.in-Some.c in
-    let q = reader_of c.loop-c.reader in
+    let q = reader_of c.read_common.new.self in
     let e = c.in_err-step.field-0.0 in
-    let later = chars (chars_rest c.next.new.self) in
-    let left = chars_past_char _ _ d held.utf8 c.in-Some.ensures.steps.0 in
-    let failed = err_from_is_err_and c.from_residual.result c.from_residual.ensures.1 in
-    let first = halt_next (step q d) (λ p. run p later) e c.in_err-step.ensures.moves.halted in
+    let later = chars_rest c.next.new.self in
+    let left = chars_past_char past later d got.rest_utf8
+    (sym c.chars-left.ensures.rest ∙ c.in-Some.ensures.steps.0) in
+    let failed = err_from_is_err_and c.from_residual-in_err-step.result c.from_residual-in_err-step.ensures.1 in
+    let first = halt_next (step q d) (λ p. run p (chars later)) e c.in_err-step.ensures.moves.halted in
     let all = subst (λ cs. IsHalt (run q cs) e) (sym left) first in
     record {
       made = rw failed.1 tt;
-      halted = rw (failed.1, failed.2) (subst (λ x. IsHalt x e) held.same all);
+      halted = rw (failed.1, failed.2)
+          (subst (λ x. IsHalt x e) (sym got.same ∙ held.same) all);
     }
 
-pub loop-c-preserved : goal.loop-c-preserved
-loop-c-preserved c =
-    let held = c.loop-c.invariant in
+pub loop-past-smaller : goal.loop-past-smaller
+loop-past-smaller c =
+    let got = c.in_ok-past.ensures.read in
+    let past = c.in_ok-past.past.now in
     let d = c.in-Some.c in
-    let q = reader_of c.loop-c.reader in
-    let later = chars (chars_rest c.next.new.self) in
-    let parts = c.in-Some.ensures.steps.0 in
-    let left = chars_past_char _ _ d held.utf8 parts in
-    let place = c.in_ok-step.ensures.place in
+    let later = c.as_str-rest.result.now in
+    let parts : past ≡ encode d ++ later =
+    sym c.chars-left.ensures.rest ∙ (c.in-Some.ensures.steps.0
+    ∙ ap (λ l. encode d ++ l) (sym c.as_str-rest.ensures)) in
+    omega (
+      arith,
+      got.fewer,
+      ap length parts,
+      length-append (encode d) later,
+      length-encode d,
+      len_utf8_bounds d,
+    )
+
+pub loop-past-preserved : goal.loop-past-preserved
+loop-past-preserved c =
+    let held = c.loop-past.invariant in
+    let got = c.in_ok-past.ensures.read in
+    let past = c.in_ok-past.past.now in
+    let d = c.in-Some.c in
+    let q = reader_of c.read_common.new.self in
+    let later = c.as_str-rest.result.now in
+    let parts : past ≡ encode d ++ later =
+    sym c.chars-left.ensures.rest ∙ (c.in-Some.ensures.steps.0
+    ∙ ap (λ l. encode d ++ l) (sym c.as_str-rest.ensures)) in
+    let left = chars_past_char past later d got.rest_utf8 parts in
     record {
-      utf8 = IsUtf8-past_char _ _ d held.utf8 parts;
-      same = sym (ap (run q) left
-          ∙ ap (λ x. x next (λ p. run p later)) c.in_ok-step.ensures.moves.made) ∙ held.same;
+      is_text = c.as_str-rest.utf8;
+      same = sym (ap (λ cs. run q cs) left
+          ∙ ap (λ x. x next (λ p. run p (chars later))) c.in_ok-step.ensures.moves.made)
+          ∙ (sym got.same ∙ held.same);
       few = omega (
         arith,
         held.few,
-        place,
+        got.place,
+        c.in_ok-step.ensures.place,
         ap length parts,
-        length-append (encode d) (chars_rest c.next.new.self),
+        length-append (encode d) later,
         length-encode d,
         len_utf8_bounds d,
       );
     }
 
-pub returns : goal.returns
-returns c =
-    let held = c.loop-c.invariant in
-    let q = reader_of c.loop-c.reader in
-    let left = chars_of_empty _ c.in-None.ensures.steps.0.0 in
-    record { made = sym held.same ∙ ap (run q) left; halted = tt }
+pub returns-in_default : goal.returns-in_default
+returns-in_default c =
+    let held = c.loop-past.invariant in
+    let got = c.in_ok-past.ensures.read in
+    let q = reader_of c.read_common.new.self in
+    let empty = ap chars (sym c.chars-left.ensures.rest)
+    ∙ chars_of_empty _ c.in_default.ensures.steps.0.0 in
+    record {
+      made = sym (sym got.same ∙ held.same) ∙ ap (λ cs. run q cs) empty;
+      halted = tt;
+    }

@@ -1,15 +1,19 @@
-use Rattle.std.proofs.Common.{◌≡◌, ◌+◌, ◌≤◌, IsUtf8, chars, length}
-use Rattle.std.specs.Str.Iter.{chars_rest}
+use Rattle.std.proofs.Common.{◌≡◌, ◌+◌, ◌≤◌, chars, length}
+use denote.Text.{Utf8}
+use denote.Shadow.{shadow}
 use Rattle.typst_html_parse.specs.PageReading.{run}
 use Rattle.typst_html_parse.specs.ReaderViews.{reader_of}
 use Rattle.typst_html_parse.proofs.read.run.Given as goal
 
-abbrev pub invariant-loop-c : goal.invariant-loop-c
-invariant-loop-c l =
+abbrev pub invariant-loop-past : goal.invariant-loop-past
+invariant-loop-past l =
     record {
-      utf8 : IsUtf8 (chars_rest l.c-iterator);
-      same : run (reader_of l.reader) (chars (chars_rest l.c-iterator))
-          ≡ run (reader_of l.fn.reader) (chars l.text);
-      few : l.reader.reading.place + length (chars_rest l.c-iterator)
-          ≤ l.fn.reader.reading.place + length l.text;
+      is_text : shadow (Utf8 l.rest);
+      same : run (reader_of l.reader) (chars l.rest)
+          ≡ run (reader_of l.fn.reader) (chars l.fn.text);
+      few : l.reader.reading.place + length l.rest
+          ≤ l.fn.reader.reading.place + length l.fn.text;
     }
+
+abbrev pub decreases-loop-past : goal.decreases-loop-past
+decreases-loop-past l = length l.rest
