@@ -22,14 +22,17 @@ pub use Rattle.typst_html_read.specs.Places
 pub use Rattle.typst_html_parse_names.specs.PageNames
 pub use Rattle.typst_html_parse_tree.specs.OpenElements
 pub use Rattle.typst_html_parse_tree.specs.PageBodies
+pub use Rattle.typst_html_parse_tree.specs.PageRefusals
 pub use Rattle.typst_html_parse_tree.specs.PageTrees
 pub use Rattle.typst_html_parse_tree.specs.Pages
 pub use Rattle.typst_html_parse.specs.DocumentTypes
 pub use Rattle.typst_html_parse.specs.PageAnswers
+pub use Rattle.typst_html_parse.specs.PageFaults
 pub use Rattle.typst_html_parse.specs.PagePlaces
 pub use Rattle.typst_html_parse.specs.PageReading
 pub use Rattle.typst_html_parse.specs.PageReferences
 pub use Rattle.typst_html_parse.specs.PageTokens
+pub use Rattle.typst_html_parse.specs.PlaceViews
 pub use Rattle.typst_html_page.specs.PageLaws
 pub use Rattle.typst_html_page.specs.PageTexts
 pub use Rattle.typst_html_page.specs.PageViews
