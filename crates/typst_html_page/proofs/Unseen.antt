@@ -15,8 +15,11 @@ seen_nodes_stay (node (text_node s span) ns) all =
 seen_nodes_stay (node (element_node h kids) ns) all =
     let both = and_parts (is_seen h) (are_seen kids && are_seen ns) all in
     let inside = and_parts (are_seen kids) (are_seen ns) both.1 in
-    rw (not-true (is_unseen h.name h.attrs) both.0, seen_nodes_stay kids inside.0,
-    seen_nodes_stay ns inside.1) refl
+    rw (
+      not-true (is_unseen h.name h.attrs) both.0,
+      seen_nodes_stay kids inside.0,
+      seen_nodes_stay ns inside.1,
+    ) refl
 seen_nodes_stay (node (frame_node f) ns) all = ap (node (frame_node f)) (seen_nodes_stay ns all)
 
 -- an element that is not named `body` is passed, whether it is seen or not

@@ -17,7 +17,7 @@ returns-in-Some c =
     let child = c.child-item.result in
     let rest = nodes_view (drop (i + 1) nodes) in
     let one : Some (seen_nodes (element_view c.in-Some.body.now).1)
-        ≡ body_children (seen_nodes (node (node_view child) none)) =
+    ≡ body_children (seen_nodes (node (node_view child) none)) =
     ap (option_map (λ b. seen_nodes (element_view b.now).1)) (sym c.in-Some.is) ∙ c.as_body.ensures in
     ap (λ o. or_else o (body_children (seen_nodes rest))) one
     ∙ (sym (body_first (node_view child) rest)
