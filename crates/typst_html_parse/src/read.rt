@@ -35,9 +35,9 @@ const BYTE_ORDER_MARK: char = '\u{feff}';
 /// [`PageFault::Refused`] with the first place from which on the page is not read: that of the `<` of
 /// the tag, or of the character.
 ///
-/// Cost: grows with the length of the text times how deep elements stand in it, since each tag, and each
-/// stretch of text, is looked at together with the elements around it. Beside the element it needs
-/// memory for the elements that are open, and for one text and one tag.
+/// Cost: grows with the length of the text. A tag that looks for an open element, as an end tag does,
+/// goes through those that stand in it, or through all where there is none. Beside the element it
+/// needs memory for the elements that are open, and for one text and one tag.
 ///
 /// ```
 /// use typst_html_parse::{PageFault, read_page};
