@@ -17,7 +17,7 @@ use html_dom_tree::HtmlAttrs;
 use html_names::charsets::is_valid_in_tag_name;
 use html_names::{HtmlAttr, HtmlTag, NameFault};
 use std::alloc::{AllocError, Global};
-use typst_html_parse_tree::{Halt, PageError, PageRefusal};
+use typst_html_parse_open::{Halt, PageError, PageRefusal};
 use typst_html_read::text;
 
 /// Most tags have fewer attributes.

@@ -14,7 +14,7 @@ use crate::comment::CommentPart;
 use crate::doctype::table_rule;
 use crate::reader::{Brackets, Reader, State};
 use std::alloc::AllocError;
-use typst_html_parse_tree::{Halt, PageError, TableRule};
+use typst_html_parse_open::{Halt, PageError, TableRule};
 use typst_html_read::text;
 
 /// Whether the text is a word of ASCII.

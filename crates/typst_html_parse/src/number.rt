@@ -7,7 +7,7 @@ ghost use Rattle.html_names.specs.Characters as class;
 ghost use Rattle.typst_html_parse.specs.PageReferences as references;
 ghost use Rattle.typst_html_parse_tree.specs.PageBodies.{is_space};
 
-use typst_html_parse_tree::PageError;
+use typst_html_parse_open::PageError;
 
 /// Above the numbers of all characters.
 const TOO_HIGH: u32 = 0x11_0000;

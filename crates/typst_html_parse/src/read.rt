@@ -1,7 +1,7 @@
 ghost use Rattle.std.specs.Prelude.{◌≡◌, ◌≤◌, ◌<◌, ◌+◌, ◌^◌, OnOk, IfOk, IfErr, chars, length};
 ghost use Rattle.typst_html_parse.specs.Endings.{Moves};
 ghost use Rattle.typst_html_parse.specs.PageAnswers.{ArePlaced, Begins, Gives, GivesBytes, ReadsText, fault_of, placed};
-ghost use Rattle.typst_html_parse_tree.specs.PageViews.{notes_of};
+ghost use Rattle.typst_html_parse_open.specs.PageViews.{notes_of};
 ghost use Rattle.typst_html_parse.specs.PageReading as pages;
 ghost use Rattle.typst_html_parse.specs.ReaderViews.{reader_of, reading_of};
 
@@ -13,7 +13,7 @@ use crate::split::split_first;
 use html_dom_tree::HtmlElement;
 use std::alloc::{AllocError, Global};
 use std::str;
-use typst_html_parse_tree::{Halt, Notes, PageError, PageRefusal};
+use typst_html_parse_open::{Halt, Notes, PageError, PageRefusal};
 
 const BYTE_ORDER_MARK: char = '\u{feff}';
 

@@ -12,7 +12,7 @@ use crate::draft::Draft;
 use crate::reading::Reading;
 use crate::since::Since;
 use std::alloc::Global;
-use typst_html_parse_tree::{Halt, Page, PageRefusal, Token};
+use typst_html_parse_open::{Halt, Page, PageRefusal, Token};
 
 /// Where a reader stands.
 #[derive(Clone, Copy)]
