@@ -1,10 +1,10 @@
 //! A tag so far.
 
-ghost use Rattle.std.specs.Prelude.{◌≡◌, ◌++◌, ◌∷◌, [], IfOk, MatchOption, OnOk, bytes_eq, chars, false, true, is_some, None};
 ghost use Rattle.std.specs.Char.{to_ascii_lowercase};
+ghost use Rattle.std.specs.List.{list_all};
+ghost use Rattle.std.specs.Prelude.{◌≡◌, ◌++◌, ◌∷◌, [], IfOk, MatchOption, OnOk, bytes_eq, chars, false, true, is_some, None};
 ghost use Rattle.html_dom_tree.specs.Attributes.{has_name};
 ghost use Rattle.html_dom_tree.specs.Views.{attrs_view, text_view};
-ghost use Rattle.std.specs.List.{list_all};
 ghost use Rattle.html_names.specs.Characters.{is_tag_char};
 ghost use Rattle.html_names.specs.Names.{attr_fault};
 ghost use Rattle.typst_html_parse.specs.Endings.{Adds};

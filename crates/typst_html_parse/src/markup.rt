@@ -1,11 +1,11 @@
 //! What stands behind `<!`, and document types (HTML Standard 13.2.5.42, 13.2.5.53).
 
-ghost use Rattle.std.specs.Prelude.{◌≡◌, ◌∷◌, ◌++◌, [], OnOk, IsTrue, bytes_eq, chars, codes, map};
 ghost use Rattle.std.specs.Char.{to_ascii_lowercase};
+ghost use Rattle.std.specs.Prelude.{◌≡◌, ◌∷◌, ◌++◌, [], OnOk, IsTrue, bytes_eq, chars, codes, map};
 ghost use Rattle.html_dom_tree.specs.Views.{text_view};
 ghost use Rattle.html_names.specs.Names.{is_ascii};
-ghost use Rattle.typst_html_parse.specs.PageTokens.{begins};
 ghost use Rattle.typst_html_parse.specs.Endings.{Moves};
+ghost use Rattle.typst_html_parse.specs.PageTokens.{begins};
 ghost use Rattle.typst_html_parse.specs.PageTokens as tokens;
 ghost use Rattle.typst_html_parse.specs.ReaderViews.{reader_of, reading_of};
 ghost use Rattle.typst_html_parse_names.specs.ForeignNames.{lowered};

@@ -1,7 +1,7 @@
 //! Character references by number (HTML Standard 13.2.5.80).
 
-ghost use Rattle.std.specs.Prelude.{◌≡◌, ◌≤◌, chars, min, unwrap_or};
 ghost use Rattle.std.specs.Char.{digit_value};
+ghost use Rattle.std.specs.Prelude.{◌≡◌, ◌≤◌, chars, min, unwrap_or};
 ghost use Rattle.std.specs.Str.Parse.{digits_value};
 ghost use Rattle.html_names.specs.Characters as class;
 ghost use Rattle.typst_html_parse.specs.PageReferences as references;

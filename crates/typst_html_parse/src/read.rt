@@ -1,9 +1,9 @@
 ghost use Rattle.std.specs.Prelude.{◌≡◌, ◌≤◌, ◌<◌, ◌+◌, ◌^◌, OnOk, IfOk, IfErr, chars, length};
 ghost use Rattle.typst_html_parse.specs.Endings.{Moves};
 ghost use Rattle.typst_html_parse.specs.PageAnswers.{ArePlaced, Begins, Gives, GivesBytes, ReadsText, fault_of, placed};
-ghost use Rattle.typst_html_parse_open.specs.PageViews.{notes_of};
 ghost use Rattle.typst_html_parse.specs.PageReading as pages;
 ghost use Rattle.typst_html_parse.specs.ReaderViews.{reader_of, reading_of};
+ghost use Rattle.typst_html_parse_open.specs.PageViews.{notes_of};
 
 use crate::fault::{PageFault, PageNote, PageNotes};
 use crate::place::place_at;

@@ -1,10 +1,10 @@
 //! How far a page is read: the tree so far, and what tokens do to it.
 
 ghost use Rattle.std.specs.Prelude.{◌≡◌, OnOk, chars};
-ghost use Rattle.typst_html_parse_open.specs.PageViews.{token_of};
 ghost use Rattle.typst_html_parse.specs.Endings.{Emits};
 ghost use Rattle.typst_html_parse.specs.PageTokens as tokens;
 ghost use Rattle.typst_html_parse.specs.ReaderViews.{reading_of, bracket_count};
+ghost use Rattle.typst_html_parse_open.specs.PageViews.{token_of};
 
 use crate::reader::Brackets;
 use std::alloc::AllocError;

@@ -1,8 +1,8 @@
 //! An element of a page that is open.
 
 ghost use Rattle.std.specs.Prelude.{◌≡◌};
-ghost use Rattle.typst_html_parse_names.specs.Kinds.{IsKindsOf};
 ghost use Rattle.html_dom_tree.specs.Views.{element_view};
+ghost use Rattle.typst_html_parse_names.specs.Kinds.{IsKindsOf};
 ghost use Rattle.typst_html_parse_open.specs.OpenCounts.{has_child_elements};
 
 use crate::context::Context;
@@ -36,8 +36,8 @@ impl PageElement {
     ghost use Rattle.typst_html_parse_names.specs.PageNames.{of};
     ghost use Rattle.typst_html_parse_open.specs.OpenElements.{completed, is_html, is_of, with_last_child, with_text};
     ghost use Rattle.typst_html_parse_open.specs.OpenElements.{is_foreign_of};
-    ghost use Rattle.typst_html_parse_open.specs.Pages.{page_head};
     ghost use Rattle.typst_html_parse_open.specs.PageViews.{element_of, target_test};
+    ghost use Rattle.typst_html_parse_open.specs.Pages.{page_head};
 
     /// An element without children, before whose token so many bytes stand.
     pub(crate) fn new(

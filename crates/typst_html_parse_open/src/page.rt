@@ -6,8 +6,8 @@ ghost use Rattle.typst_html_parse_names.specs.Kinds.{IsKindsOf};
 ghost use Rattle.typst_html_parse_names.specs.PageNames.{of};
 ghost use Rattle.typst_html_parse_names.specs.declared.kind.Kind.TheVariants as kind;
 ghost use Rattle.typst_html_parse_open.specs.Endings.{Changes, Finishes, Steps};
-ghost use Rattle.typst_html_parse_open.specs.PageViews.{element_of, goal_test, page_of, target_test, while_test};
 ghost use Rattle.typst_html_parse_open.specs.OpenElements.{in_scope};
+ghost use Rattle.typst_html_parse_open.specs.PageViews.{element_of, goal_test, page_of, target_test, while_test};
 ghost use Rattle.typst_html_parse_open.specs.Pages as pages;
 
 use crate::element::PageElement;

@@ -2,9 +2,9 @@
 
 ghost use Rattle.std.specs.Prelude.{[], codes};
 ghost use Rattle.typst_html_parse_open.specs.Endings.{Steps, Turns};
-ghost use Rattle.typst_html_parse_tree.specs.PageBodies as bodies;
 ghost use Rattle.typst_html_parse_open.specs.PageViews.{page_of, token_of};
 ghost use Rattle.typst_html_parse_open.specs.Pages as pages;
+ghost use Rattle.typst_html_parse_tree.specs.PageBodies as bodies;
 
 use crate::body_start::{adopt, close_other, close_p, in_body_start, open_implied};
 use html_dom_tree::HtmlAttrs;

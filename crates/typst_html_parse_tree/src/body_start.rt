@@ -3,11 +3,11 @@
 ghost use Rattle.std.specs.Prelude.{◌≡◌, [], codes};
 ghost use Rattle.html_dom_tree.specs.Views.{attrs_view};
 ghost use Rattle.typst_html_parse_names.specs.PageNames.{of};
-ghost use Rattle.typst_html_parse_open.specs.OpenElements.{is_active};
 ghost use Rattle.typst_html_parse_open.specs.Endings.{Steps, Turns};
-ghost use Rattle.typst_html_parse_tree.specs.PageBodies as bodies;
+ghost use Rattle.typst_html_parse_open.specs.OpenElements.{is_active};
 ghost use Rattle.typst_html_parse_open.specs.PageViews.{page_of, start_of};
 ghost use Rattle.typst_html_parse_open.specs.Pages as pages;
+ghost use Rattle.typst_html_parse_tree.specs.PageBodies as bodies;
 
 use crate::foreign::enter;
 use html_dom_tree::HtmlAttrs;

@@ -1,14 +1,14 @@
 //! Tokens in SVG and MathML (HTML Standard 13.2.6.5).
 
-ghost use Rattle.std.specs.Prelude.{◌≡◌, IfErr, IfOk};
 ghost use Rattle.std.specs.List.{list_any};
+ghost use Rattle.std.specs.Prelude.{◌≡◌, IfErr, IfOk};
 ghost use Rattle.html_dom_tree.specs.Views.{attrs_view};
 ghost use Rattle.typst_html_parse_names.specs.ForeignNames.{is_font_attr};
 ghost use Rattle.typst_html_parse_open.specs.Endings.{Steps, Turns};
-ghost use Rattle.typst_html_parse_tree.specs.PageBodies as bodies;
-ghost use Rattle.typst_html_parse_open.specs.declared.fault.Halt.TheVariants.{OutOfMemory};
-ghost use Rattle.typst_html_parse_tree.specs.PageTrees as trees;
 ghost use Rattle.typst_html_parse_open.specs.PageViews.{element_of, page_of, start_of, token_of};
+ghost use Rattle.typst_html_parse_open.specs.declared.fault.Halt.TheVariants.{OutOfMemory};
+ghost use Rattle.typst_html_parse_tree.specs.PageBodies as bodies;
+ghost use Rattle.typst_html_parse_tree.specs.PageTrees as trees;
 
 use crate::turn::by_mode;
 use html_dom_tree::HtmlAttrs;

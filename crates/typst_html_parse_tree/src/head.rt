@@ -3,8 +3,8 @@
 
 ghost use Rattle.std.specs.Prelude.{◌≡◌, codes};
 ghost use Rattle.typst_html_parse_open.specs.Endings.{Turns};
-ghost use Rattle.typst_html_parse_tree.specs.PageBodies as bodies;
 ghost use Rattle.typst_html_parse_open.specs.PageViews.{page_of, token_of};
+ghost use Rattle.typst_html_parse_tree.specs.PageBodies as bodies;
 
 use crate::body_start::{add_to_head, open, open_implied, repeat};
 use html_names::{HtmlTag, tag};

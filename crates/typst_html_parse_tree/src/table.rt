@@ -3,8 +3,8 @@
 ghost use Rattle.std.specs.Prelude.{◌≡◌, codes};
 ghost use Rattle.typst_html_parse_names.specs.PageNames.{of};
 ghost use Rattle.typst_html_parse_open.specs.Endings.{Steps, Turns};
-ghost use Rattle.typst_html_parse_tree.specs.PageTrees as trees;
 ghost use Rattle.typst_html_parse_open.specs.PageViews.{page_of, start_of, target_test, token_of};
+ghost use Rattle.typst_html_parse_tree.specs.PageTrees as trees;
 
 use crate::body_end::{in_body, in_body_end};
 use crate::body_start::{add_leaf, add_to_head, in_body_start, open, open_implied, repeat};

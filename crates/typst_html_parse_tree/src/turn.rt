@@ -3,9 +3,9 @@
 ghost use Rattle.std.specs.Prelude.{◌≡◌};
 ghost use Rattle.typst_html_parse_open.specs.Endings.{Changes, Steps, Turns};
 ghost use Rattle.typst_html_parse_open.specs.OpenElements.{mode};
+ghost use Rattle.typst_html_parse_open.specs.PageViews.{page_of, token_of};
 ghost use Rattle.typst_html_parse_tree.specs.PageTrees as trees;
 ghost use Rattle.typst_html_parse_tree.specs.TakenTexts.{takes_text};
-ghost use Rattle.typst_html_parse_open.specs.PageViews.{page_of, token_of};
 
 use crate::body_end::in_body;
 use crate::foreign::{in_foreign, is_foreign};
