@@ -1,8 +1,8 @@
 //! The elements of a tree by their paths.
 
-ghost use Rattle.std.specs.Prelude.{◌≡◌, option_map};
+ghost use Rattle.std.specs.Prelude.{◌≡◌, Some, option_map};
 ghost use Rattle.html_dom_document.specs.Documents as documents;
-ghost use Rattle.html_dom_tree.specs.Views.{element_view, nodes_view};
+ghost use Rattle.html_dom_tree.specs.Views.{element_view, node_view, nodes_view};
 ghost use Rattle.html_dom_check.specs.ElementPaths.{element_at};
 
 use html_dom_tree::{HtmlElement, HtmlNode};
@@ -28,7 +28,8 @@ use html_dom_tree::{HtmlElement, HtmlNode};
 /// assert!(rt; element_at(&root, &[0, 0]).is_none());
 /// ```
 pub fn element_at<'a>(root: &'a HtmlElement, path: &[usize]) -> Option<&'a HtmlElement>
-    ensures { option_map (λ e. element_view e.now) result ≡ element_at path.now (element_view root.now) }
+    ensures { option_map (λ e. element_view e.now) result
+        ≡ element_at path.now (element_view root.now) }
 {
     let mut element = root;
     for index in path {
@@ -38,12 +39,23 @@ pub fn element_at<'a>(root: &'a HtmlElement, path: &[usize]) -> Option<&'a HtmlE
 }
 
 /// The element that is the child of that index.
+#[tactic(auto, using(crate::proofs::ElementPaths::node_within, crate::proofs::ElementPaths::none_past))]
 fn child_at(children: &[HtmlNode], index: usize) -> Option<&HtmlElement>
     ensures { option_map (λ e. element_view e.now) result
         ≡ documents.element_at (nodes_view children.now) index }
 {
     match children.get(index) {
-        Some(HtmlNode::Element(element)) => Some(element),
+        Some(node) => as_element(node),
+        None => None,
+    }
+}
+
+fn as_element(node: &HtmlNode) -> Option<&HtmlElement>
+    ensures { option_map (λ e. element_view e.now) result
+        ≡ documents.as_element (Some (node_view node.now)) }
+{
+    match node {
+        HtmlNode::Element(element) => Some(element),
         _ => None,
     }
 }

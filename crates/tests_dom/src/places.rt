@@ -131,9 +131,13 @@ fn paths_lead_to_elements(rt: HostRuntime) -> TestResult {
     let alloc = rt.alloc();
     let link = HtmlElement::new(alloc, tag::a).spanned(Span(3));
     let bold = HtmlElement::new(alloc, tag::b).spanned(Span(2));
-    let bold = bold.with_child(text_of(alloc, "x", 9)?)?.with_child(HtmlNode::from(link))?;
+    let bold = bold
+        .with_child(text_of(alloc, "x", 9)?)?
+        .with_child(HtmlNode::from(link))?;
     let nodes = vec![in alloc; HtmlNode::from(start(1, None)), HtmlNode::from(bold)]?;
-    let root = HtmlElement::new(alloc, tag::p).spanned(Span(1)).with_children(nodes);
+    let root = HtmlElement::new(alloc, tag::p)
+        .spanned(Span(1))
+        .with_children(nodes);
     for (path, wanted) in &PATHS {
         assert_element_at(&rt, &root, path, *wanted);
     }
