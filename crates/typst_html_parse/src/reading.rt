@@ -65,11 +65,17 @@ impl Reading {
     }
 
     /// A character. A line feed right after a start tag that drops it is dropped.
+    #[tactic(auto, using(typst_html_parse_tree::proofs::TakenTexts::text_taken))]
     pub(crate) fn emit_char(&mut self, c: char) -> Result<(), Halt>
         ensures { Emits result (tokens.char_emitted c (reading_of self.old))
             (reading_of self.new) }
     {
         if self.fresh && c == '\n' {
+            self.fresh = false;
+            return Ok(());
+        }
+        if self.page.takes_text() {
+            self.page.add_char(c)?;
             self.fresh = false;
             return Ok(());
         }

@@ -1,7 +1,7 @@
 -- The elements that are open, with the last of them first.
 use Rattle.std.proofs.Common.{◌≡◌, List, [], ◌∷◌, ◌++◌, map, reverse, ap, ◌∙◌}
 use Rattle.std.proofs.lemmas.List.{map-append, reverse-append}
-use Rattle.typst_html_parse_tree.specs.PageViews.{element_of, list_of}
+use Rattle.typst_html_parse_tree.specs.ElementViews.{element_of, list_of}
 use Rattle.typst_html_parse_tree.specs.declared.element.PageElement.{PageElement}
 
 pub last_first : (es : List PageElement) (e : PageElement) →

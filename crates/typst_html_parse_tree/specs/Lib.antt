@@ -1,3 +1,5 @@
+pub mod Contexts
+pub mod ElementViews
 pub mod Endings
 pub mod LostNames
 pub mod OpenCounts

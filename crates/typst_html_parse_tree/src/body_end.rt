@@ -46,7 +46,7 @@ impl Page {
     fn end_p(&mut self) -> Result<(), Halt>
         ensures { Steps result (bodies.p_ended (page_of self.old)) (page_of self.new) }
     {
-        if self.in_scope(Scope::Button, Target::Kind(Kind::P)) {
+        if self.has_paragraph() {
             return self.close_p();
         }
         self.note(PageError::EndTagWithoutStart)?;

@@ -168,7 +168,7 @@ impl Page {
         ensures { Steps result (bodies.p_closed (page_of self.old)) (page_of self.new) }
     {
         let p = Target::Kind(Kind::P);
-        if !self.in_scope(Scope::Button, p) {
+        if !self.has_paragraph() {
             return Ok(());
         }
         self.close_over(p, p, p)
@@ -231,7 +231,7 @@ impl Page {
     fn close_before_table(&mut self) -> Result<(), Halt>
         ensures { Steps result (bodies.table_closes (page_of self.old)) (page_of self.new) }
     {
-        if !self.in_scope(Scope::Button, Target::Kind(Kind::P)) {
+        if !self.has_paragraph() {
             return Ok(());
         }
         match self.tables {

@@ -5,6 +5,7 @@ ghost use Rattle.typst_html_parse_names.specs.Kinds.{IsKindsOf};
 ghost use Rattle.html_dom_tree.specs.Views.{element_view};
 ghost use Rattle.typst_html_parse_tree.specs.OpenCounts.{has_child_elements};
 
+use crate::context::Context;
 use crate::modes::Space;
 use crate::search::Target;
 use html_dom_tree::{HtmlAttrs, HtmlElement, HtmlNode, Span};
@@ -20,6 +21,8 @@ pub struct PageElement {
     pub(crate) kinds: Kinds,
     /// Whether some of its children is an element.
     pub(crate) has_elements: bool,
+    /// What is known at it, once it stands among the open elements.
+    pub(crate) context: Context,
     ghost told: { IsKindsOf (element_view element).0.name kinds },
     ghost counted: { has_elements ≡ has_child_elements (element_view element) },
 }
@@ -57,6 +60,7 @@ impl PageElement {
             space,
             kinds,
             has_elements: false,
+            context: Context::OUTSIDE,
         }
     }
 
@@ -109,8 +113,9 @@ impl PageElement {
     /// The element with a text as its last child, with its span, unless the text is empty.
     #[tactic(auto, using(crate::proofs::Children::text_counts))]
     pub(crate) fn with_text(self, text: String) -> Result<PageElement, AllocError>
-        ensures { IfOk result (λ grown.
+        ensures grown { IfOk result (λ grown.
             element_of grown ≡ with_text (text_view text) (element_of self)) }
+        ensures context { IfOk result (λ grown. grown.context ≡ self.context) }
     {
         if text.as_str().is_empty() {
             return Ok(self);
@@ -120,6 +125,7 @@ impl PageElement {
             space,
             kinds,
             has_elements,
+            context,
         } = self;
         let child = HtmlNode::text(text, element.span);
         let element = element.with_child(child)?;
@@ -128,19 +134,22 @@ impl PageElement {
             space,
             kinds,
             has_elements,
+            context,
         })
     }
 
     /// The element with an element as its last child.
     #[tactic(auto, using(crate::proofs::Children::element_counts))]
     pub(crate) fn with_child(self, child: PageElement) -> Result<PageElement, AllocError>
-        ensures { IfOk result (λ grown. element_of grown
+        ensures grown { IfOk result (λ grown. element_of grown
             ≡ with_last_child (completed (element_of child)) (element_of self)) }
+        ensures context { IfOk result (λ grown. grown.context ≡ self.context) }
     {
         let PageElement {
             element,
             space,
             kinds,
+            context,
             ..
         } = self;
         let element = element.with_child(HtmlNode::from(child.element))?;
@@ -149,6 +158,7 @@ impl PageElement {
             space,
             kinds,
             has_elements: true,
+            context,
         })
     }
 }

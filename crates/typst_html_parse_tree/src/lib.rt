@@ -4,7 +4,9 @@
 
 mod body_end;
 mod body_start;
+mod context;
 mod element;
+mod elements;
 mod error;
 mod fault;
 mod foreign;

@@ -3,6 +3,8 @@
 ghost use Rattle.std.specs.Prelude.{◌≡◌, length};
 ghost use Rattle.html_dom_tree.specs.Views.{attrs_view};
 ghost use Rattle.typst_html_parse_names.specs.Kinds.{IsKindsOf};
+ghost use Rattle.typst_html_parse_names.specs.PageNames.{of};
+ghost use Rattle.typst_html_parse_names.specs.declared.kind.Kind.TheVariants as kind;
 ghost use Rattle.typst_html_parse_tree.specs.Endings.{Changes, Finishes, Steps};
 ghost use Rattle.typst_html_parse_tree.specs.PageViews.{element_of, goal_test, page_of, target_test, while_test};
 ghost use Rattle.typst_html_parse_tree.specs.OpenElements.{in_scope};
@@ -81,7 +83,8 @@ impl Page {
         if told { self.note(error) } else { Ok(()) }
     }
 
-    pub(crate) fn add_char(&mut self, c: char) -> Result<(), Halt>
+    /// Adds a character to the current node.
+    pub fn add_char(&mut self, c: char) -> Result<(), Halt>
         ensures { Changes result (pages.with_char c (page_of self.old)) (page_of self.new) }
     {
         text::add(&mut self.text, c)?;
@@ -221,6 +224,13 @@ impl Page {
         ensures { result ≡ in_scope scope (target_test target.entry) (page_of self.now).stack }
     {
         self.stack.reaches(Goal::Of(target), Bound::Scope(scope))
+    }
+
+    /// Whether a `p` is in button scope.
+    pub(crate) fn has_paragraph(&self) -> bool
+        ensures { result ≡ in_scope Scope.Button (of kind.P) (page_of self.now).stack }
+    {
+        self.stack.has_paragraph()
     }
 
     /// Closes such an element by its end tag, where it is in scope.

@@ -74,7 +74,7 @@ fn bounds_table(element: &PageElement) -> bool
 }
 
 /// Whether the element bounds the scope (HTML Standard 13.2.4.2).
-fn bounds(scope: Scope, element: &PageElement) -> bool
+pub(crate) fn bounds(scope: Scope, element: &PageElement) -> bool
     ensures { result ≡ bounds scope (element_of element.now) }
 {
     match scope {

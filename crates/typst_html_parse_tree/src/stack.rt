@@ -1,15 +1,13 @@
 //! The elements of a page that are open.
 
-ghost use Rattle.std.specs.Prelude.{◌≡◌, ◌∷◌, [], IfOk, OnOk, length, option_map};
-ghost use Rattle.html_dom_tree.specs.Views.{element_view, text_view};
-ghost use Rattle.typst_html_parse_names.specs.PageNames.{of};
-ghost use Rattle.typst_html_parse_tree.specs.OpenElements.{at, current_name, html_mode, is_at, is_in_foreign, mode, named_mode, reaches, root_of, with_last_text, without_current};
-ghost use Rattle.typst_html_parse_tree.specs.PageTrees.{current_space};
-ghost use Rattle.typst_html_parse_tree.specs.PageViews.{bound_test, element_of, goal_test, list_of, stack_of, target_test, while_test};
+ghost use Rattle.std.proofs.Props.{props};
+ghost use Rattle.typst_html_parse_tree.specs.Contexts.{AreKnown, contexts_are_set};
 
+use crate::context::Context;
 use crate::element::PageElement;
-use crate::modes::{Mode, Space};
-use crate::search::{Bound, Goal, Target, While};
+use crate::elements::{at, own_mode, reaches, root_mode};
+use crate::modes::{Mode, Scope, Space};
+use crate::search::{Bound, Goal, Target, While, bounds};
 use html_dom_tree::HtmlElement;
 use html_names::HtmlTag;
 use std::alloc::{AllocError, Global};
@@ -19,94 +17,19 @@ use typst_html_parse_names::Kind;
 #[derive(Drop)]
 pub struct Stack {
     pub(crate) items: Vec<PageElement>,
-}
-
-/// Whether such an element is reached, from the last on, before one that bounds the search.
-fn reaches(elements: &[PageElement], goal: Goal<'_>, bound: Bound) -> bool
-    ensures { result ≡ reaches (goal_test goal.entry) (bound_test bound) (list_of elements.now) }
-{
-    let mut outer = elements;
-    while let Some((element, rest)) = outer.split_last() {
-        if goal.is(element) {
-            return true;
-        }
-        if bound.is(element) {
-            return false;
-        }
-        outer = rest;
-    }
-    false
-}
-
-/// Whether the last of them is a goal.
-fn at(elements: &[PageElement], goal: Goal<'_>) -> bool
-    ensures { result ≡ at (goal_test goal.entry) (list_of elements.now) }
-{
-    match elements.last() {
-        None => false,
-        Some(element) => goal.is(element),
-    }
-}
-
-/// The mode that an element of HTML brings, with those around it.
-fn named_mode(element: &PageElement, outer: &[PageElement]) -> Option<Mode>
-    ensures { result ≡ named_mode (element_of element.now).head.name (list_of outer.now) }
-{
-    if element.has_kind(Kind::Cell) {
-        Some(Mode::InCell)
-    } else if element.has_kind(Kind::Section) {
-        Some(Mode::InSection)
-    } else if element.has_kind(Kind::Tr) {
-        Some(Mode::InRow)
-    } else if element.has_kind(Kind::Caption) {
-        Some(Mode::InCaption)
-    } else if element.has_kind(Kind::Colgroup) {
-        Some(Mode::InColumns)
-    } else if element.has_kind(Kind::Table) {
-        Some(Mode::InTable)
-    } else if element.has_kind(Kind::Body) {
-        Some(Mode::InBody)
-    } else if element.has_kind(Kind::Head) {
-        Some(Mode::InHead)
-    } else if element.has_kind(Kind::Raw) {
-        Some(Mode::InText)
-    } else if element.has_kind(Kind::Noscript) && at(outer, Goal::Of(Target::Kind(Kind::Head))) {
-        Some(Mode::InHeadNoscript)
-    } else {
-        None
-    }
-}
-
-/// The mode within `html`, and neither in the head nor in the body.
-fn html_mode(root: &PageElement) -> Mode
-    ensures { result ≡ html_mode (element_of root.now).children }
-{
-    if root.has_elements {
-        Mode::AfterHead
-    } else {
-        Mode::BeforeHead
-    }
-}
-
-fn mode(elements: &[PageElement]) -> Mode
-    ensures { result ≡ mode (list_of elements.now) }
-{
-    let mut outer = elements;
-    while let Some((element, rest)) = outer.split_last() {
-        if element.is_html() {
-            if let Some(mode) = named_mode(element, rest) {
-                return mode;
-            }
-        }
-        if rest.is_empty() {
-            return html_mode(element);
-        }
-        outer = rest;
-    }
-    Mode::BeforeHtml
+    ghost known: { AreKnown items.items } by { Prim.hlevel (props, contexts_are_set) },
 }
 
 impl Stack {
+    ghost use Rattle.std.specs.Prelude.{◌≡◌, ◌∷◌, [], IfOk, OnOk, length, option_map};
+    ghost use Rattle.html_dom_tree.specs.Views.{element_view, text_view};
+    ghost use Rattle.typst_html_parse_names.specs.PageNames.{of};
+    ghost use Rattle.typst_html_parse_names.specs.declared.kind.Kind.TheVariants as kind;
+    ghost use Rattle.typst_html_parse_tree.specs.Contexts.{context};
+    ghost use Rattle.typst_html_parse_tree.specs.OpenElements.{at, current_name, in_scope, is_at, is_in_foreign, mode, reaches, root_of, with_last_text, without_current};
+    ghost use Rattle.typst_html_parse_tree.specs.PageTrees.{current_space};
+    ghost use Rattle.typst_html_parse_tree.specs.PageViews.{bound_test, element_of, goal_test, stack_of, target_test, while_test};
+
     /// No element.
     pub fn new(alloc: Global) -> Stack
         ensures { stack_of result ≡ [] }
@@ -192,18 +115,66 @@ impl Stack {
         }
     }
 
+    /// What is known at the current node.
+    fn context(&self) -> Context
+        ensures { result ≡ context (stack_of self.now) }
+    {
+        match self.items.last() {
+            None => Context::OUTSIDE,
+            Some(element) => element.context,
+        }
+    }
+
     /// The insertion mode (HTML Standard 13.2.4.1).
+    #[tactic(auto, using(crate::proofs::Contexts::mode_known))]
     pub(crate) fn mode(&self) -> Mode
         ensures { result ≡ mode (stack_of self.now) }
     {
-        mode(&self.items)
+        match self.context().mode {
+            None => root_mode(&self.items),
+            Some(mode) => mode,
+        }
+    }
+
+    /// Whether a `p` is in button scope.
+    pub(crate) fn has_paragraph(&self) -> bool
+        ensures { result ≡ in_scope Scope.Button (of kind.P) (stack_of self.now) }
+    {
+        self.context().has_paragraph
+    }
+
+    /// What is known at an element once it is the current node.
+    fn context_with(&self, element: &PageElement) -> Context
+        ensures { result ≡ context (element_of element.now ∷ stack_of self.now) }
+    {
+        let around = self.context();
+        let mode = match own_mode(element, &self.items) {
+            None => around.mode,
+            Some(mode) => Some(mode),
+        };
+        let has_paragraph =
+            element.is(Kind::P) || (!bounds(Scope::Button, element) && around.has_paragraph);
+        Context {
+            mode,
+            has_paragraph,
+        }
+    }
+
+    /// Puts an element at which that is known which is to be known at it.
+    fn put(&mut self, element: PageElement) -> Result<(), AllocError>
+        requires { element.context ≡ context (element_of element ∷ stack_of self.old) }
+        ensures { OnOk result (stack_of self.new ≡ element_of element ∷ stack_of self.old) }
+    {
+        self.items.push(element)?;
+        Ok(())
     }
 
     pub(crate) fn push(&mut self, element: PageElement) -> Result<(), AllocError>
         ensures { OnOk result (stack_of self.new ≡ element_of element ∷ stack_of self.old) }
     {
-        self.items.push(element)?;
-        Ok(())
+        let mut element = element;
+        element.context = self.context_with(&element);
+        self.put(element)
     }
 
     /// Adds a text to the current node, unless the text is empty.
@@ -213,7 +184,7 @@ impl Stack {
     {
         match self.items.pop() {
             None => Ok(()),
-            Some(element) => self.push(element.with_text(text)?),
+            Some(element) => self.put(element.with_text(text)?),
         }
     }
 
@@ -225,8 +196,8 @@ impl Stack {
             return Ok(());
         };
         match self.items.pop() {
-            None => self.push(child),
-            Some(parent) => self.push(parent.with_child(child)?),
+            None => self.put(child),
+            Some(parent) => self.put(parent.with_child(child)?),
         }
     }
 

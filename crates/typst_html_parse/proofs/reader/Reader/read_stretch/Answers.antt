@@ -9,7 +9,7 @@ use Rattle.typst_html_parse.specs.CommonStretches.{behind_stretch, in_data}
 use Rattle.typst_html_parse.specs.PageReading.{run}
 use Rattle.typst_html_parse.specs.ReaderViews.{reader_of, reading_of}
 use Rattle.typst_html_parse.proofs.CommonStretches.{front_run, state_kept, stretch_place}
-use Rattle.typst_html_parse.proofs.reader.Reader.read_common.Goals as goal
+use Rattle.typst_html_parse.proofs.reader.Reader.read_stretch.Goals as goal
 use native.Mathlib.Numerals.{unary_clauses}
 
 pub range-requires-clause-end_boundary : goal.range-requires-clause-end_boundary
@@ -37,7 +37,7 @@ returns-clause-read c =
     let rest = c.past_common-rest.result.now in
     let self = c.args.self.now in
     let r = reading_of self.reading in
-    let held = c.takes_common.ensures c.if-not-takes_common.false in
+    let held = c.requires.taken in
     let pushed : c.range.result.now ≡ front =
     (simp unary_clauses at c.range.ensures.value) ∙ front_taken text front rest passed.split in
     let added : reading_of c.add_stretch.new.self ≡ behind_stretch front r =

@@ -1,7 +1,7 @@
 use Rattle.std.proofs.Common.{◌≡◌, length}
 use Rattle.typst_html_parse_tree.specs.OpenElements.{reaches}
 use Rattle.typst_html_parse_tree.specs.PageViews.{bound_test, goal_test, list_of}
-use Rattle.typst_html_parse_tree.proofs.stack.reaches.Given as goal
+use Rattle.typst_html_parse_tree.proofs.elements.reaches.Given as goal
 
 abbrev pub invariant-loop-element : goal.invariant-loop-element
 invariant-loop-element l =
