@@ -36,7 +36,7 @@ impl Findings {
 }
 
 /// A link to a fragment of its own page that leads nowhere.
-#[derive(Clone, Debug, PartialEq, Eq, Deserialize)]
+#[derive(Clone, Debug, PartialEq, Eq)]
 pub struct DeadFragment {
     /// The index of each child on the way to the link, from the root on, texts counted.
     pub path: Vec<usize>,
@@ -47,7 +47,7 @@ pub struct DeadFragment {
 }
 
 /// An id that stands before in its page.
-#[derive(Clone, Debug, PartialEq, Eq, Deserialize)]
+#[derive(Clone, Debug, PartialEq, Eq)]
 pub struct RepeatedId {
     /// The index of each child on the way to the element, from the root on, texts counted.
     pub path: Vec<usize>,
