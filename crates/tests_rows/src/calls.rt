@@ -38,6 +38,7 @@
 //!
 //! - `as-browsers [limit=N]`: the text of the tree that `read_page_bytes` reads, and behind each ` ! ` an error
 //!   that was gone over, with its line and column; or `refused, `, why and where
+//! - `page-places`: the elements of that tree, in document order, each with the place that its span tells
 //!
 //! Of an input, by the library for C, what it replies and what its buffer has then, which had `room=N` points:
 //!
@@ -76,6 +77,7 @@ impl Caller for Library {
             "distinct-ids" => checks::have_distinct_ids(alloc, row),
             "read" => pages::read(alloc, row),
             "as-browsers" => pages::as_browsers(alloc, row),
+            "page-places" => pages::element_places(alloc, row),
             "page-text" => pages::text(alloc, row),
             "items-text" => pages::items_text(alloc, row),
             "dead-fragments" => checks::dead_fragment_list(alloc, row),

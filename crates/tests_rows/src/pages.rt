@@ -3,15 +3,16 @@
 use crate::runs::inner_text;
 use anyhow::{Result, ensure};
 use html_dom_document::DocumentInfo;
-use html_dom_tree::HtmlElement;
+use html_dom_tree::{HtmlElement, HtmlNode};
 use html_flow_convert::is_depth_limit;
 use std::alloc::Global;
+use std::str;
 use tests_rows_items::items_in;
 use tests_rows_run::Row;
 use typst_html_encode::{HtmlOptions, html_in_bundle};
 use typst_html_export::export;
 use typst_html_page::{Shown, page_text};
-use typst_html_parse::{PageFault, read_page_bytes};
+use typst_html_parse::{PageFault, Places, read_page_bytes};
 use typst_html_read::{ReadFault, read_html};
 
 /// How deep elements may stand where that is not said.
@@ -95,4 +96,27 @@ pub(crate) fn as_browsers(alloc: Global, row: &Row<'_>) -> Result<String> {
         write!(told, " ! {} at {}", note.error, note.place)?;
     }
     Ok(told)
+}
+
+/// The elements of a page that `read_page_bytes` reads, each with the place that its span tells.
+pub(crate) fn element_places(alloc: Global, row: &Row<'_>) -> Result<String> {
+    let (root, _) = read_page_bytes(alloc, &row.input, DEEPEST)?;
+    let mut places = Places::new(str::from_utf8(&row.input)?);
+    let mut told = String::new(alloc);
+    tell_places(&root, &mut places, &mut told)?;
+    Ok(told)
+}
+
+fn tell_places(element: &HtmlElement, places: &mut Places<'_>, told: &mut String) -> Result<()> {
+    if !told.is_empty() {
+        told.push(' ')?;
+    }
+    let place = places.at(usize::try_from(element.span.0)?);
+    write!(told, "{} {place}", element.tag.resolve())?;
+    for child in &element.children {
+        if let HtmlNode::Element(element) = child {
+            tell_places(element, places, told)?;
+        }
+    }
+    Ok(())
 }

@@ -20,11 +20,11 @@ pub use Rattle.typst_html_read.specs.LimitedReading
 pub use Rattle.typst_html_read.specs.BegunReferences
 pub use Rattle.typst_html_read.specs.Places
 pub use Rattle.typst_html_parse_names.specs.PageNames
-pub use Rattle.typst_html_parse_tree.specs.OpenElements
+pub use Rattle.typst_html_parse_open.specs.OpenElements
 pub use Rattle.typst_html_parse_tree.specs.PageBodies
-pub use Rattle.typst_html_parse_tree.specs.PageRefusals
+pub use Rattle.typst_html_parse_open.specs.PageRefusals
 pub use Rattle.typst_html_parse_tree.specs.PageTrees
-pub use Rattle.typst_html_parse_tree.specs.Pages
+pub use Rattle.typst_html_parse_open.specs.Pages
 pub use Rattle.typst_html_parse.specs.DocumentTypes
 pub use Rattle.typst_html_parse.specs.PageAnswers
 pub use Rattle.typst_html_parse.specs.PageFaults
@@ -72,8 +72,8 @@ pub use Rattle.typst_html_encode.specs.declared.fault.ExportFault
 pub use Rattle.typst_html_encode.specs.declared.frame.FrameFault
 pub use Rattle.typst_html_read.specs.declared.fault.ReadFault
 pub use Rattle.typst_html_read.specs.declared.place.Place
-pub use Rattle.typst_html_parse_tree.specs.declared.error.PageError
-pub use Rattle.typst_html_parse_tree.specs.declared.fault.PageRefusal
+pub use Rattle.typst_html_parse_open.specs.declared.error.PageError
+pub use Rattle.typst_html_parse_open.specs.declared.fault.PageRefusal
 pub use Rattle.typst_html_parse.specs.declared.fault.PageFault
 pub use Rattle.typst_html_parse.specs.declared.fault.PageNote
 pub use Rattle.typst_html_parse.specs.declared.fault.PageNotes

@@ -13,11 +13,11 @@ use Rattle.typst_html_parse.specs.declared.reader.Reader.{Reader}
 use Rattle.typst_html_parse.specs.declared.reader.State.{State}
 use Rattle.typst_html_parse.specs.declared.reader.State.TheVariants as state
 use Rattle.typst_html_parse.specs.declared.reading.Reading as declared
-use Rattle.typst_html_parse_tree.specs.Pages.{Page, Char, ◌next◌}
-use Rattle.typst_html_parse_tree.specs.OpenElements.{mode}
+use Rattle.typst_html_parse_open.specs.Pages.{Page, Char, ◌next◌}
+use Rattle.typst_html_parse_open.specs.OpenElements.{mode}
 use Rattle.typst_html_parse_tree.specs.PageTrees.{is_foreign_token, is_unseen}
-use Rattle.typst_html_parse_tree.specs.declared.modes.Mode.{Mode}
-use Rattle.typst_html_parse_tree.specs.declared.modes.Mode.TheVariants.{InText}
+use Rattle.typst_html_parse_open.specs.declared.modes.Mode.{Mode}
+use Rattle.typst_html_parse_open.specs.declared.modes.Mode.TheVariants.{InText}
 use Rattle.typst_html_parse_tree.specs.TakenTexts.{mode_takes_text, takes_text}
 use Rattle.typst_html_parse_tree.proofs.TakenTexts.{text_taken}
 

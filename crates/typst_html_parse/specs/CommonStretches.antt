@@ -5,7 +5,7 @@ use Rattle.typst_html_parse.specs.PageReading.{run}
 use Rattle.typst_html_parse.specs.PageTokens.{TagDraft, Data, Value, PageReader, Reading, beginning}
 use Rattle.typst_html_parse.specs.declared.reader.Reader.{Reader}
 use Rattle.typst_html_parse.specs.declared.reader.State.TheVariants as state
-use Rattle.typst_html_parse_tree.specs.Pages.{with_char}
+use Rattle.typst_html_parse_open.specs.Pages.{with_char}
 use Rattle.typst_html_parse_tree.specs.TakenTexts.{takes_text}
 
 -- in a text

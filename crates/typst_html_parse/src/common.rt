@@ -6,12 +6,13 @@ ghost use Rattle.html_names.specs.Characters.{all};
 ghost use Rattle.typst_html_encode.specs.PlainStretches.{is_common};
 ghost use Rattle.typst_html_parse.specs.CommonStretches.{behind_quoted, behind_stretch, in_quotes, IsInQuotes, ReadsFront, TakesCommon};
 ghost use Rattle.typst_html_parse.specs.ReaderViews.{draft_of, reader_of, reading_of};
-ghost use Rattle.typst_html_parse_tree.specs.declared.fault.Halt.TheVariants.{OutOfMemory};
+ghost use Rattle.typst_html_parse_open.specs.declared.fault.Halt.TheVariants.{OutOfMemory};
 
 use crate::reader::{Reader, State};
 use crate::reading::Reading;
 use typst_html_encode::past_common;
-use typst_html_parse_tree::Halt;
+use typst_html_parse_open::Halt;
+use typst_html_parse_tree::takes_text;
 use typst_html_read::text;
 
 impl Reading {
@@ -40,7 +41,7 @@ impl Reader {
     fn takes_common(&self) -> bool
         ensures { result ≡ true → TakesCommon (reader_of self.now) }
     {
-        matches!(self.state, State::Data) && !self.reading.fresh && self.reading.page.takes_text()
+        matches!(self.state, State::Data) && !self.reading.fresh && takes_text(&self.reading.page)
     }
 
     /// Whether the reader is in a value in double quotes.
