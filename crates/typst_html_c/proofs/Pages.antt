@@ -1,5 +1,6 @@
 -- What is found in a page has a text, and what is answered where a page is read, and where it is not.
-use Rattle.std.proofs.Common.{◌≡◌, ◌∙◌, sym, ap, ℕ, List, [], ◌∷◌, ◌++◌, Bool, true, false, Ok, Err, String, string_bytes, chars, refl, append_assoc}
+use Rattle.std.proofs.Common.{◌≡◌, ◌∙◌, sym, ap, ℕ, List, [], ◌∷◌, ◌++◌, Bool, true, false, Result, Ok, Err, String, string_bytes, chars, refl, append_assoc}
+use Rattle.std.specs.Result.{IsOk, MatchResult}
 use Rattle.std.specs.Str.{is_utf8}
 use Rattle.std.specs.declared.alloc.Global.{Global}
 use Rattle.std.proofs.lemmas.Str.{encodes-chars, IsUtf8-string_bytes}
@@ -19,6 +20,12 @@ use Rattle.typst_html_c.specs.PageSteps.{IsTold, unread_reply}
 
 pub text_written : (s : String Global) → encodes (text_view s) ≡ string_bytes s
 text_written s = encodes-chars (string_bytes s) (IsUtf8-string_bytes s)
+
+-- what is not refused is given
+pub given_unless : {A B : Type 0} (r : Result A B) (P : A → Type 0) (Q : B → Type 0) →
+    MatchResult r P Q → ((e : B) → Q e → ⊥) → IsOk r
+given_unless (Ok a) P Q found never = refl
+given_unless (Err e) P Q found never = absurd (never e found)
 
 -- the text of an object, one member after the other
 pub no_member_yet : (ms : Members) (old a : List ℕ) → a ≡ old ++ 123 ∷ [] →

@@ -18,8 +18,8 @@ use Rattle.html_dom_tree.specs.Tree.{ElementView}
 use Rattle.typst_html_parse.specs.PageAnswers.{valid_text}
 use Rattle.typst_html_parse.specs.PagePlaces.{place_at}
 use Rattle.typst_html_parse.specs.PageReading.{page_read}
-use Rattle.typst_html_parse_tree.specs.PageRefusals.{refusal_number}
-use Rattle.typst_html_parse_tree.specs.Pages.{Notes, Reads}
+use Rattle.typst_html_parse_open.specs.PageRefusals.{refusal_number}
+use Rattle.typst_html_parse_open.specs.Pages.{Notes, Reads}
 use Rattle.typst_html_read.specs.declared.place.Place.{Place}
 use Rattle.typst_html_c.specs.CallReplies.{buffer_with, page_limit_of, text_reply, without_text}
 use Rattle.typst_html_c.specs.declared.reply.Reply.{Reply}

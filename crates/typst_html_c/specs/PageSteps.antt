@@ -8,7 +8,7 @@ use Rattle.html_dom_tree.specs.Views.{element_view}
 use Rattle.typst_html_parse.specs.PlaceViews.{text_of}
 use Rattle.typst_html_parse.specs.declared.fault.PageFault.{PageFault}
 use Rattle.typst_html_parse.specs.declared.fault.PageFault.TheVariants.{OutOfMemory, NotText, Refused}
-use Rattle.typst_html_parse_tree.specs.PageRefusals.{refusal_number}
+use Rattle.typst_html_parse_open.specs.PageRefusals.{refusal_number}
 use Rattle.typst_html_read.specs.declared.place.Place.{Place}
 use Rattle.typst_html_c.specs.CallReplies.{without_text}
 use Rattle.typst_html_c.specs.PageFindings.{Told, element_place, findings_behind, placed}

@@ -1,6 +1,6 @@
 //! What is wrong with the links of a page, as JSON.
 
-ghost use Rattle.std.specs.Prelude.{◌≡◌, ◌≤◌, ℕ, List, [], ◌++◌, drop, length, codes, decimal, string_bytes, IfOk, OnOk};
+ghost use Rattle.std.specs.Prelude.{◌≡◌, ◌≤◌, true, ℕ, List, [], ◌++◌, drop, length, codes, decimal, string_bytes, IfOk, OnOk};
 ghost use Rattle.serde_json.specs.Data.{number, string, unsigned};
 ghost use Rattle.serde_json.specs.Written.{comma_if, compact_text};
 ghost use Rattle.html_dom_check.specs.PlacedTexts.{Placed};
@@ -58,14 +58,15 @@ fn findings_of(alloc: Global, page: &[u8], limit: usize) -> Result<String, PageF
     requires low_limit { limit ≤ 10000 }
     ensures { GivesTold result (page_told page.now limit) }
 {
-    let (root, _) = read_page_bytes(alloc, page, limit)?;
-    // A page that is read is a text.
-    let places = Places::new(str::from_utf8(page).unwrap());
-    let page = Page {
-        root: &root,
-        places,
-    };
-    Ok(findings_text(alloc, page)?)
+    match read_page_bytes(alloc, page, limit) {
+        Ok((root, _)) => {
+            // A page that is read is a text.
+            let places = Places::new(str::from_utf8(page).unwrap());
+            let root = &root;
+            Ok(findings_text(alloc, Page { root, places })?)
+        }
+        Err(fault) => Err(fault),
+    }
 }
 
 /// What is wrong with the links of a page, as JSON.

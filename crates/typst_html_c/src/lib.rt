@@ -159,7 +159,7 @@ pub fn typst_html_dead_links(alloc: Global, limit: u32, input: &[u8], output: &m
 ///
 /// Any page is read as a browser reads it (HTML Standard 13.2, with scripting disabled), by
 /// [`read_page_bytes`](typst_html_parse::read_page_bytes). It is refused, with the number of the refusal
-/// ([`PageRefusal`](typst_html_parse_tree::PageRefusal)) and the place of the tag or character, where a
+/// ([`PageRefusal`](typst_html_parse_open::PageRefusal)) and the place of the tag or character, where a
 /// browser would move nodes or make them a second time, where it holds what no element can have here, and
 /// where an element would stand deeper than the limit. A page that is no UTF-8 is bad input, with the
 /// place of the first byte that is none. A limit that is not from 1 to 1,000 is bad input without a place.

@@ -1,4 +1,4 @@
-use Rattle.std.proofs.Common.{◌≡◌, refl, false, true, codes, ◌∙◌}
+use Rattle.std.proofs.Common.{refl, false, true, codes, ◌∙◌}
 use Rattle.serde_json.specs.Data.{string, number, unsigned, member, no_members}
 use Rattle.typst_html_c.specs.PageFindings.{path_data, place_members}
 use Rattle.typst_html_c.proofs.Pages.{no_member_yet, one_more_member}

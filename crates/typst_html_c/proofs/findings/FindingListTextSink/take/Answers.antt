@@ -29,10 +29,11 @@ returns c rest =
       c.place_of-place.ensures.told,
       text_written c.args.text,
     ) refl in
-    ap (λ places. new ++ items_text true (items_of (findings_behind places name c.in_ok-self.new.self.items rest)))
-    c.place_of-place.ensures.kept
-    ∙ (ap (λ previous. new ++ items_text true (items_of (findings_behind place_of name previous rest)))
+    let after = place_in c.place_of-place.new.self in
+    ap (λ previous. new ++ items_text true (items_of (findings_behind after name previous rest)))
     (c.in_ok-self.ensures.items_if_clones_equal (λ x y is. is))
+    ∙ (ap (λ places. new ++ items_text true (items_of (findings_behind places name path rest)))
+    c.place_of-place.ensures.kept
     ∙ one_more_item list.later (finding place_of name list.previous.items here)
     (findings_behind place_of name path rest)
     (text_with list (here ∷ rest)) (string_bytes list.text) mid new refl c.in_ok-push_comma_if.ensures
