@@ -1,4 +1,5 @@
 pub mod Walks
+pub mod ElementPaths
 pub mod Finds
 pub mod Hyperlinks
 pub mod LinkedChecks
