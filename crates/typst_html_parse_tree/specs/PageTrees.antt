@@ -4,7 +4,7 @@ use Rattle.std.specs.Prelude.{ℕ, zero, suc, Bool, true, false, not, ◌&&◌, 
 use Rattle.std.specs.List.{list_any}
 use Rattle.html_dom_tree.specs.Tree.{TextPair}
 use Rattle.typst_html_parse_names.specs.ForeignNames.{lowered, is_encoding, is_font_attr, is_html_encoding}
-use Rattle.typst_html_parse_open.specs.OpenElements.{OpenElement, at, is_html, reaches, is_at, has, in_scope, mode}
+use Rattle.typst_html_parse_open.specs.OpenElements.{OpenElement, at, is_html, reaches, is_at, has, in_scope, mode, current_space, is_foreign_of}
 use Rattle.typst_html_parse_tree.specs.PageBodies.{is_space, leaf, repeated, head_element, entered, in_body, in_body_start, in_body_end, left, before, in_head, in_head_noscript, after_head, in_text}
 use Rattle.typst_html_parse_names.specs.PageNames.{is, of}
 use Rattle.typst_html_parse_open.specs.Pages.{Page, StartTag, Token, Char, Start, End, Finish, Reads, ◌next◌, refused, noted, noted_if, with_char, opened, closed, closed_to, closed_to_goal, implied_closed, no_name, without_lost, Turn, Taken, Again, taken, again, taken_with}
