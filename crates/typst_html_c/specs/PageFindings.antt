@@ -62,8 +62,8 @@ module _ (place_of : List ℕ → Place) where
   abbrev pub findings : (name : List ℕ) → List Placed → Data
   findings name ps = array (items_of (findings_behind name [] ps))
 
--- how many bytes of its page stand before the element at a path, as its span says (0 where no element
--- stands; each finding of a page has one)
+-- how many bytes of its page stand before the element at a path, as its span says; 0 where none stands,
+-- which is at no finding in a tree without frames
 abbrev pub offset_at : (root : ElementView) → (path : List ℕ) → ℕ
 offset_at root path = option_map_or (λ (e : ElementView). e.0.span) (element_at path root) 0
 
