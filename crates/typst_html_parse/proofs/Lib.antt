@@ -1,6 +1,5 @@
 pub mod CommonStretches
 pub mod Halts
-pub mod PageRoots
 pub mod Places
 pub mod References
 pub mod Spaces

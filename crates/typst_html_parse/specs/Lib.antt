@@ -2,9 +2,12 @@ pub mod CommonStretches
 pub mod DocumentTypes
 pub mod Endings
 pub mod PageAnswers
+pub mod PageFaults
 pub mod PagePlaces
 pub mod PageReading
 pub mod PageReferences
 pub mod PageTokens
+pub mod PlaceViews
+pub mod ReachedPlaces
 pub mod RawEnds
 pub mod ReaderViews

@@ -3,11 +3,10 @@
 use Rattle.std.specs.Prelude.{◌≡◌, ℕ, true, false, List, map, chars, length, take, Some, Result, Ok, Err, IfOk, IfErr}
 use Rattle.std.specs.Str.{is_utf8}
 use Rattle.std.specs.Str.Lossy.{utf8_valid_len}
-use Rattle.html_dom_tree.specs.PlainTree.{Plain}
+use Rattle.html_dom_tree.specs.Tree.{ElementView}
 use Rattle.html_dom_tree.specs.Views.{element_view}
 use Rattle.html_dom_tree.specs.declared.node.HtmlElement.{HtmlElement}
 use Rattle.typst_html_parse_tree.specs.Endings.{IsHalt}
-use Rattle.typst_html_parse_tree.specs.OpenElements.{root_element}
 use Rattle.typst_html_parse_tree.specs.PageViews.{notes_of}
 use Rattle.typst_html_parse_tree.specs.Pages as pages
 use Rattle.typst_html_parse_tree.specs.Pages.{Reads}
@@ -38,21 +37,14 @@ pub record Begins (r : Result Reader Halt) (expected : Reads PageReader) : Type 
   pub made : IfOk r (λ reader. expected ≡ Ok (reader_of reader))
   pub halted : IfErr r (IsHalt expected)
 
--- an element and errors are those that are expected
-pub record AreRead (expected : Reads (Plain × pages.Notes)) (e : HtmlElement)
-    (notes : pages.Notes) : Type 0 where
-  pub root : Plain
-  pub read : expected ≡ Ok (root, notes)
-  pub element : Some (element_view e) ≡ root_element (Some root)
-
 -- a text is read as it is expected
 pub record ReadsText (r : Result (HtmlElement × Notes) Halt)
-    (expected : Reads (Plain × pages.Notes)) : Type 0 where
-  pub made : IfOk r (λ read. AreRead expected read.0 (notes_of read.1))
+    (expected : Reads (ElementView × pages.Notes)) : Type 0 where
+  pub made : IfOk r (λ read. expected ≡ Ok (element_view read.0, notes_of read.1))
   pub halted : IfErr r (IsHalt expected)
 
 -- the fault is the refusal that is expected, with its place in the text
-abbrev pub IsFault : (text : List ℕ) → Reads (Plain × pages.Notes) → PageFault → Type 0
+abbrev pub IsFault : (text : List ℕ) → Reads (ElementView × pages.Notes) → PageFault → Type 0
 IsFault text expected fault.OutOfMemory = Unit {0}
 IsFault text expected (fault.NotText place) = ⊥
 IsFault text expected (fault.Refused refusal place) =
@@ -64,15 +56,15 @@ fault_of text halt.OutOfMemory = fault.OutOfMemory
 fault_of text (halt.Refused refusal place) = fault.Refused refusal (place_at text place)
 
 -- an element and errors are those of the text
-pub record IsPage (text : List ℕ) (expected : Reads (Plain × pages.Notes)) (e : HtmlElement)
+pub record IsPage (text : List ℕ) (expected : Reads (ElementView × pages.Notes)) (e : HtmlElement)
     (told : PageNotes) : Type 0 where
   pub notes : pages.Notes
-  pub read : AreRead expected e notes
+  pub read : expected ≡ Ok (element_view e, notes)
   pub placed : ArePlaced text notes told
 
 -- a page is read as it is expected, or not read
 pub record Gives (r : Result (HtmlElement × PageNotes) PageFault) (text : List ℕ)
-    (expected : Reads (Plain × pages.Notes)) : Type 0 where
+    (expected : Reads (ElementView × pages.Notes)) : Type 0 where
   pub made : IfOk r (λ read. IsPage text expected read.0 read.1)
   pub fault : IfErr r (IsFault text expected)
 
@@ -83,7 +75,7 @@ valid_text page = chars (take (utf8_valid_len page) page)
 abbrev pub IsNoText : (page : List ℕ) → PageFault → Type 0
 IsNoText page fault.OutOfMemory = Unit {0}
 IsNoText page (fault.NotText place) =
-    place ≡ place_at (valid_text page) (length (valid_text page))
+    place ≡ place_at (valid_text page) (utf8_valid_len page)
 IsNoText page (fault.Refused refusal place) = ⊥
 
 -- a page of bytes is read as its text is, or it is none

@@ -1,6 +1,6 @@
 -- Places in a page: lines and columns are those of the text with its CR LF and CR as LF and without a
 -- byte order mark, and offsets are bytes of the text itself.
-use Rattle.std.specs.Prelude.{ℕ, ◌+◌, Bool, false, not, ◌&&◌, ◌||◌, ◌==◌, List, [], ◌∷◌, take, if◌then◌else◌}
+use Rattle.std.specs.Prelude.{ℕ, ◌+◌, Bool, false, not, ◌&&◌, ◌||◌, ◌==◌, nat_le, List, [], ◌∷◌, if◌then◌else◌}
 use Rattle.std.specs.Char.{len_utf8}
 use Rattle.typst_html_read.specs.Places.{beginning}
 use Rattle.typst_html_read.specs.declared.place.Place.{Place}
@@ -15,11 +15,12 @@ next_place after_return p c = record {
       else (if c == 0xfeff && p.offset == 0 then p.column else p.column + 1);
 }
 
--- behind these characters
-abbrev pub place_behind : (after_return : Bool) → Place → List ℕ → Place
-place_behind after_return p [] = p
-place_behind after_return p (c ∷ cs) = place_behind (c == 13) (next_place after_return p c) cs
+-- from a place on, the first place before which no fewer bytes stand, or the end of the text
+abbrev pub place_from : (after_return : Bool) → Place → (text : List ℕ) → (offset : ℕ) → Place
+place_from after_return p [] offset = p
+place_from after_return p (c ∷ cs) offset = if nat_le offset p.offset then p
+    else place_from (c == 13) (next_place after_return p c) cs offset
 
--- the place of the character of a text before which so many stand
-unfoldable pub place_at : (text : List ℕ) → (count : ℕ) → Place
-place_at text count = place_behind false beginning (take count text)
+-- the place of the character of a text before which so many bytes stand
+unfoldable pub place_at : (text : List ℕ) → (offset : ℕ) → Place
+place_at text offset = place_from false beginning text offset

@@ -1,13 +1,13 @@
 -- Reading a page as a browser does (HTML Standard 13.2), stopped where nodes would be moved or made a
 -- second time.
 use Rattle.std.specs.Prelude.{ℕ, false, ◌==◌, List, [], ◌∷◌, if◌then◌else◌, Option, Some, None, Ok, Err}
-use Rattle.html_dom_tree.specs.PlainTree.{Plain}
+use Rattle.html_dom_tree.specs.Tree.{ElementView}
 use Rattle.typst_html_parse_tree.specs.OpenElements.{root_of}
 use Rattle.typst_html_parse_tree.specs.Pages.{Notes, Reads, ◌next◌, first_page, settled}
 use Rattle.typst_html_parse_tree.specs.declared.fault.PageRefusal.TheVariants as refusal
 use Rattle.typst_html_parse.specs.PageTokens.{PageReader, Reading, Data, step, finished}
 
--- before a text of which so many characters were read
+-- before a text in front of which so many bytes were read
 abbrev pub first_reader : (limit place : ℕ) → PageReader
 first_reader limit place = record {
   state = Data;
@@ -26,17 +26,17 @@ run r (c ∷ cs) = (step r c) next (λ q. run q cs)
 -- a byte order mark is dropped
 abbrev pub begun : (limit : ℕ) → List ℕ → Reads PageReader
 begun limit [] = Ok (first_reader limit 0)
-begun limit (c ∷ cs) = if c == 0xfeff then run (first_reader limit 1) cs
+begun limit (c ∷ cs) = if c == 0xfeff then run (first_reader limit 3) cs
     else run (first_reader limit 0) (c ∷ cs)
 
 -- a page has an element
-abbrev pub root_made : Option Plain → Reading → Reads (Plain × Notes)
+abbrev pub root_made : Option ElementView → Reading → Reads (ElementView × Notes)
 root_made None r = Err (refusal.Unsettled, r.place)
 root_made (Some root) r = Ok (root, r.page.notes)
 
-abbrev pub page_made : Reading → Reads (Plain × Notes)
+abbrev pub page_made : Reading → Reads (ElementView × Notes)
 page_made r = root_made (root_of (settled r.page).stack) r
 
 -- the element that the text is read as, and the errors that were gone over
-abbrev pub page_read : (limit : ℕ) → List ℕ → Reads (Plain × Notes)
+abbrev pub page_read : (limit : ℕ) → List ℕ → Reads (ElementView × Notes)
 page_read limit text = ((begun limit text) next finished) next page_made

@@ -1,7 +1,7 @@
 -- The tokens of a page, read from left to right (HTML Standard 13.2.5): all states but those of U+0000,
 -- which is refused, and of PLAINTEXT.
 use Rattle.std.specs.Prelude.{ℕ, zero, suc, ◌+◌, min, Bool, true, false, not, ◌&&◌, ◌||◌, ◌==◌, nat_lt, nat_le, List, [], ◌∷◌, ◌++◌, if◌then◌else◌, codes, bytes_eq, length, Option, Some, None, is_some, Ok, Err}
-use Rattle.std.specs.Char.{to_ascii_lowercase}
+use Rattle.std.specs.Char.{len_utf8, to_ascii_lowercase}
 use Rattle.std.specs.List.{list_all, starts_with}
 use Rattle.html_dom_tree.specs.Attributes.{has_name}
 use Rattle.html_dom_tree.specs.Tree.{TextPair}
@@ -64,7 +64,7 @@ pub data TokenState : Type 0 where
 -- how far a page is read, but for the state
 pub record Reading : Type 0 where
   pub page : Page
-  -- how many characters were read
+  -- how many bytes of the text were read
   pub place : ℕ
   -- the token before was a start tag after which a line feed is dropped
   pub fresh : Bool
@@ -419,7 +419,7 @@ moved (Reference since s) c r = reference_state_read since s c r
 
 abbrev pub past_char : ℕ → (place : ℕ) → PageReader → PageReader
 past_char c place q =
-    record q { reading = record q.reading { place = place + 1; after_return = c == 13 } }
+    record q { reading = record q.reading { place = place + len_utf8 c; after_return = c == 13 } }
 
 -- behind a character; a line feed behind a carriage return is part of it (13.2.3.5)
 abbrev pub step : PageReader → ℕ → Reads PageReader

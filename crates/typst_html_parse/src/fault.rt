@@ -1,13 +1,15 @@
 //! Why a page is not read, and the errors that reading goes on over.
 
 ghost use Rattle.std.specs.Prelude.{◌≡◌};
+ghost use Rattle.typst_html_parse.specs.PageFaults.{number_of};
 
 use std::alloc::{AllocError, AllocFailed};
 use thiserror::Error;
 use typst_html_parse_tree::{PageError, PageRefusal};
 use typst_html_read::Place;
 
-/// Why a page was not read.
+/// Why a page was not read. Offsets of places are in bytes of the page as it was given; a line ends with a
+/// line feed, a carriage return or both, in that order, and a byte order mark is no character of the first.
 #[derive(Clone, Copy, Debug, PartialEq, Eq, Error)]
 pub enum PageFault {
     /// An allocation failed.
@@ -24,12 +26,12 @@ pub enum PageFault {
     Refused {
         /// What it holds.
         refusal: PageRefusal,
-        /// Where.
+        /// Where the token begins: the `<` of a tag, or a character.
         place: Place,
     },
 }
 
-/// An error of a page that reading went on over.
+/// An error of a page that reading went on over, with its place, which is told as in [`PageFault`].
 #[derive(Clone, Copy, Debug, PartialEq, Eq)]
 pub struct PageNote {
     /// What is wrong.
@@ -45,6 +47,20 @@ pub struct PageNotes {
     pub count: u32,
     /// The first ten.
     pub first: Vec<PageNote>,
+}
+
+impl PageFault {
+    /// The fault's number: 0 for out of memory, 25 for what is no text, as where a text has another
+    /// syntax, and else that of the refusal.
+    pub fn number(&self) -> u8
+        ensures { result ≡ number_of self.now }
+    {
+        match self {
+            PageFault::OutOfMemory => 0,
+            PageFault::NotText { .. } => 25,
+            PageFault::Refused { refusal, .. } => refusal.number(),
+        }
+    }
 }
 
 impl From<AllocError> for PageFault {

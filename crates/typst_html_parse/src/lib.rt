@@ -25,4 +25,5 @@ mod tags;
 mod values;
 
 pub use fault::{PageFault, PageNote, PageNotes};
+pub use place::Places;
 pub use read::{read_page, read_page_bytes};

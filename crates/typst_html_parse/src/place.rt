@@ -1,8 +1,9 @@
 //! Places in a page.
 
-ghost use Rattle.std.specs.Prelude.{◌≡◌, ◌+◌, ◌^◌, ◌<◌, chars};
+ghost use Rattle.std.specs.Prelude.{◌≡◌, ◌+◌, ◌^◌, ◌<◌, ◌≤◌, chars};
 ghost use Rattle.std.specs.Char.{len_utf8};
 ghost use Rattle.typst_html_parse.specs.PagePlaces as places;
+ghost use Rattle.typst_html_parse.specs.ReachedPlaces.{IsReached};
 
 use typst_html_read::Place;
 
@@ -29,25 +30,105 @@ fn next_place(after_return: bool, place: Place, c: char) -> Place
     }
 }
 
-/// The place of the character of a page before which so many stand.
-pub(crate) fn place_at(text: &str, count: usize) -> Place
-    ensures { result ≡ places.place_at (chars text.now) count }
-{
-    let mut place = Place {
-        offset: 0,
-        line: 1,
-        column: 1,
-    };
-    let mut after_return = false;
-    let mut rest = text;
-    for done in 0..count {
-        let mut left = rest.chars();
-        let Some(c) = left.next() else {
-            return place;
+/// The places of a page's characters, by how many bytes of the page stand before them, as the spans of
+/// the elements that are read tell.
+///
+/// A line of a page ends with a line feed, a carriage return or both, in that order, and a byte order
+/// mark at the beginning is no character of the first.
+///
+/// ```
+/// use typst_html_parse::{Places, read_page};
+///
+/// let text = "<!DOCTYPE html>\r\n<body id=a>";
+/// let (root, _) = read_page(rt.alloc(), text, 50)?;
+/// let mut places = Places::new(text);
+/// for child in &root.children {
+///     let place = places.at(child.span().0 as usize); // the head is implied by `<body`
+///     assert_eq!(rt; place.offset, 17);
+///     assert_eq!(rt; place.line, 2);
+///     assert_eq!(rt; place.column, 1);
+/// }
+/// ```
+#[derive(Clone, Copy)]
+pub struct Places<'a> {
+    text: &'a str,
+    /// What stands behind the last place that was told.
+    rest: &'a str,
+    place: Place,
+    after_return: bool,
+    ghost reached: { IsReached text.now rest.now place after_return },
+}
+
+impl<'a> Places<'a> {
+    ghost use Rattle.typst_html_parse.specs.PlaceViews.{text_of};
+
+    /// The places of that page.
+    pub fn new(text: &'a str) -> Places<'a>
+        ensures { text_of result ≡ chars text.now }
+    {
+        let place = Place {
+            offset: 0,
+            line: 1,
+            column: 1,
         };
-        place = next_place(after_return, place, c);
-        after_return = c == '\r';
-        rest = left.as_str();
+        Places {
+            text,
+            rest: text,
+            place,
+            after_return: false,
+        }
     }
-    place
+
+    /// The place of the character before which so many bytes stand. Where none begins there, it is
+    /// that of the next, or the end.
+    ///
+    /// Cost: grows with how far it is from the place that was told before, or from the beginning,
+    /// where it is before that.
+    pub fn at(&mut self, offset: usize) -> Place
+        ensures told { result ≡ places.place_at (text_of self.old) offset }
+        ensures text { text_of self.new ≡ text_of self.old }
+    {
+        let begun = if offset < self.place.offset {
+            Places::new(self.text)
+        } else {
+            *self
+        };
+        *self = begun.moved_to(offset);
+        self.place
+    }
+
+    fn moved_to(self, offset: usize) -> Places<'a>
+        requires { self.place.offset ≤ offset }
+        ensures told { result.place ≡ places.place_at (text_of self) offset }
+        ensures text { text_of result ≡ text_of self }
+    {
+        let Places {
+            text,
+            mut rest,
+            mut place,
+            mut after_return,
+        } = self;
+        while place.offset < offset {
+            let mut left = rest.chars();
+            let Some(c) = left.next() else {
+                break;
+            };
+            place = next_place(after_return, place, c);
+            after_return = c == '\r';
+            rest = left.as_str();
+        }
+        Places {
+            text,
+            rest,
+            place,
+            after_return,
+        }
+    }
+}
+
+/// The place of the character of a page before which so many bytes stand.
+pub(crate) fn place_at(text: &str, offset: usize) -> Place
+    ensures { result ≡ places.place_at (chars text.now) offset }
+{
+    Places::new(text).at(offset)
 }

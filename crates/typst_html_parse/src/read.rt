@@ -24,6 +24,10 @@ const BYTE_ORDER_MARK: char = '\u{feff}';
 /// where a browser would move nodes, make them a second time, or change an element that is
 /// complete; [`PageRefusal`] says what there is.
 ///
+/// The span of an element tells how many bytes of the text stand before the `<` of its start tag, or
+/// before the tag or the character that implied it; [`Places`](crate::Places) leads from there to lines
+/// and columns. A text has the span of its element.
+///
 /// `limit` is from 1 to 10,000 and bounds how deep elements may stand; the root stands at depth 1.
 ///
 /// # Errors
@@ -90,19 +94,12 @@ pub fn read_page_bytes(
     match str::from_utf8(page) {
         Ok(text) => read_page(alloc, text, limit),
         Err(fault) => {
-            let front = str::from_utf8(&page[..fault.valid_up_to()]).unwrap();
-            let place = place_at(front, count(front));
+            let valid = fault.valid_up_to();
+            let front = str::from_utf8(&page[..valid]).unwrap();
+            let place = place_at(front, valid);
             Err(PageFault::NotText { place })
         }
     }
-}
-
-/// How many characters a text has.
-#[tactic(auto, using(std::proofs::lemmas::Str::chars_from_encodes))]
-fn count(text: &str) -> usize
-    ensures { result ≡ length (chars text.now) }
-{
-    text.chars().count()
 }
 
 /// Why a text is not read.
@@ -159,7 +156,7 @@ fn run(reader: &mut Reader, text: &str) -> Result<(), Halt>
     }
 }
 
-/// A reader behind a text before which so many characters were read.
+/// A reader behind a text in front of which so many bytes were read.
 fn read_from(alloc: Global, text: &str, limit: usize, place: usize) -> Result<Reader, Halt>
     requires { place + length text.now < 2 ^ 64 }
     ensures { Begins result (pages.run (pages.first_reader limit place) (chars text.now)) }
@@ -177,7 +174,7 @@ fn reader_behind(alloc: Global, text: &str, limit: usize) -> Result<Reader, Halt
         return Ok(Reader::new(alloc, limit, 0));
     };
     if first == BYTE_ORDER_MARK {
-        read_from(alloc, rest, limit, 1)
+        read_from(alloc, rest, limit, BYTE_ORDER_MARK.len_utf8())
     } else {
         read_from(alloc, text, limit, 0)
     }

@@ -1,6 +1,7 @@
 //! A reader of pages, which takes one character after the other (HTML Standard 13.2.5).
 
 ghost use Rattle.std.specs.Prelude.{◌≡◌, ◌+◌, ◌<◌, ◌^◌, OnOk};
+ghost use Rattle.std.specs.Char.{len_utf8};
 ghost use Rattle.typst_html_parse.specs.Endings.{Emits, Moves};
 ghost use Rattle.typst_html_parse.specs.PageReading.{first_reader};
 ghost use Rattle.typst_html_parse.specs.PageTokens as tokens;
@@ -105,7 +106,7 @@ pub(crate) struct Reader {
 }
 
 impl Reader {
-    /// Before a text of which so many characters were read.
+    /// Before a text in front of which so many bytes were read.
     pub(crate) fn new(alloc: Global, limit: usize, place: usize) -> Reader
         ensures { reader_of result ≡ first_reader limit place }
     {
@@ -159,9 +160,9 @@ impl Reader {
     /// Reads a character. A line feed behind a carriage return is part of it (HTML Standard
     /// 13.2.3.5).
     pub(crate) fn step(&mut self, c: char) -> Result<(), Halt>
-        requires { self.old.reading.place + 1 < 2 ^ 64 }
+        requires { self.old.reading.place + len_utf8 c < 2 ^ 64 }
         ensures moves { Moves result (tokens.step (reader_of self.old) c) (reader_of self.new) }
-        ensures place { OnOk result (self.new.reading.place ≡ self.old.reading.place + 1) }
+        ensures place { OnOk result (self.new.reading.place ≡ self.old.reading.place + len_utf8 c) }
     {
         let place = self.reading.place;
         if c == '\0' {
@@ -174,7 +175,7 @@ impl Reader {
             return Ok(());
         }
         self.move_by(if c == '\r' { '\n' } else { c })?;
-        self.reading.place = place + 1;
+        self.reading.place = place + c.len_utf8();
         self.reading.after_return = c == '\r';
         Ok(())
     }

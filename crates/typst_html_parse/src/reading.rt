@@ -14,7 +14,7 @@ use typst_html_parse_tree::{Halt, Page, PageError, PageRefusal, Token};
 #[derive(Drop)]
 pub(crate) struct Reading {
     pub(crate) page: Page,
-    /// How many characters were read.
+    /// How many bytes of the text were read.
     pub(crate) place: usize,
     /// The token before was a start tag after which a line feed is dropped.
     pub(crate) fresh: bool,

@@ -3,7 +3,7 @@
 use Rattle.std.specs.Prelude.{◌≡◌, ℕ, Option, Some, None, option_map, Result, Ok, Err, OnOk, IfOk, IfErr}
 use Rattle.html_dom_tree.specs.Views.{element_view}
 use Rattle.html_dom_tree.specs.declared.node.HtmlElement.{HtmlElement}
-use Rattle.typst_html_parse_tree.specs.OpenElements.{root_of, root_element}
+use Rattle.typst_html_parse_tree.specs.OpenElements.{root_of}
 use Rattle.typst_html_parse_tree.specs.PageViews.{notes_of, token_of}
 use Rattle.typst_html_parse_tree.specs.Pages.{Page, Reads, Turn, Taken, Again, settled}
 use Rattle.typst_html_parse_tree.specs.declared.fault.Halt.{Halt}
@@ -38,7 +38,6 @@ pub record Turns (r : Result (Option Token) Halt) (expected : Reads Turn) (new :
 
 -- a page is read to its end: the root is made, and the errors are told
 pub record Finishes (r : Result (Option HtmlElement × Notes) Halt) (p : Page) : Type 0 where
-  pub root : IfOk r (λ read. option_map element_view read.0
-      ≡ root_element (root_of (settled p).stack))
+  pub root : IfOk r (λ read. option_map element_view read.0 ≡ root_of (settled p).stack)
   pub notes : IfOk r (λ read. notes_of read.1 ≡ p.notes)
   pub halted : IfErr r (λ e. e ≡ OutOfMemory)

@@ -3,6 +3,7 @@ pub mod LostNames
 pub mod OpenCounts
 pub mod OpenElements
 pub mod PageBodies
+pub mod PageRefusals
 pub mod PageTrees
 pub mod PageViews
 pub mod Pages

@@ -1,7 +1,7 @@
--- Whether an open element has elements among its children.
+-- Whether an element has elements among its children.
 use Rattle.std.specs.Prelude.{Bool}
-use Rattle.typst_html_encode.specs.Reader.{Open}
+use Rattle.html_dom_tree.specs.Tree.{ElementView}
 use Rattle.typst_html_parse_tree.specs.OpenElements.{has_elements}
 
-abbrev pub open_has_elements : Open → Bool
-open_has_elements o = has_elements o.children
+abbrev pub has_child_elements : ElementView → Bool
+has_child_elements e = has_elements e.1

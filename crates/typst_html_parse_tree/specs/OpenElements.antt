@@ -1,10 +1,7 @@
 -- The elements that are open, the innermost first, what is in scope, and the insertion mode, which
 -- follows from them (HTML Standard 13.2.4).
 use Rattle.std.specs.Prelude.{ℕ, Bool, true, false, not, ◌&&◌, ◌||◌, ◌==◌, List, [], ◌∷◌, length, if◌then◌else◌, Option, Some, None, unwrap_or}
-use Rattle.html_dom_tree.specs.Tree.{TextPair, ElementView}
-use Rattle.html_dom_tree.specs.PlainTree.{Plain, words, branch, Plains, no_plains, plain}
-use Rattle.typst_html_encode.specs.Reader.{◌then◌, with_text}
-use Rattle.typst_html_read.specs.PlainElements.{plain_element}
+use Rattle.html_dom_tree.specs.Tree.{Head, NodeView, tag_node, text_node, element_node, frame_node, NodesView, none, node, ElementView, with_last}
 use Rattle.typst_html_parse_names.specs.PageNames.{of}
 use Rattle.typst_html_parse_names.specs.declared.kind.Kind.TheVariants as kind
 use Rattle.typst_html_parse_tree.specs.declared.modes.Mode.{Mode}
@@ -16,10 +13,9 @@ use Rattle.typst_html_parse_tree.specs.declared.modes.Space.TheVariants.{Html, S
 
 -- an open element, and its children so far
 pub record OpenElement : Type 0 where
-  pub name : List ℕ
+  pub head : Head
   pub space : Space
-  pub attrs : List TextPair
-  pub children : Plains
+  pub children : NodesView
 
 abbrev pub is_html : Space → Bool
 is_html Html = true
@@ -27,7 +23,7 @@ is_html space = false
 
 -- an element of HTML with such a name
 abbrev pub is_of : (test : List ℕ → Bool) → OpenElement → Bool
-is_of test o = is_html o.space && test o.name
+is_of test o = is_html o.space && test o.head.name
 
 -- the current node is a goal
 abbrev pub at : (goal : OpenElement → Bool) → List OpenElement → Bool
@@ -59,7 +55,7 @@ is_foreign_bound Svg name = of kind.SvgHtml name
 is_foreign_bound MathMl name = of kind.MathText name || of kind.AnnotationXml name
 
 abbrev pub bounds_general : OpenElement → Bool
-bounds_general o = is_of (of kind.BoundsScope) o || is_foreign_bound o.space o.name
+bounds_general o = is_of (of kind.BoundsScope) o || is_foreign_bound o.space o.head.name
 
 abbrev pub bounds : Scope → OpenElement → Bool
 bounds General o = bounds_general o
@@ -72,7 +68,7 @@ abbrev pub in_scope : Scope → (test : List ℕ → Bool) → List OpenElement 
 in_scope scope test = reaches (is_of test) (bounds scope)
 
 abbrev pub is_special : OpenElement → Bool
-is_special o = is_of (of kind.Special) o || is_foreign_bound o.space o.name
+is_special o = is_of (of kind.Special) o || is_foreign_bound o.space o.head.name
 
 -- one is open, and no special element stands within it
 abbrev pub is_near : (test : List ℕ → Bool) → List OpenElement → Bool
@@ -105,31 +101,39 @@ named_mode name below = if of kind.Cell name then Some InCell
     else None)))))))))
 
 -- some of them is an element
-abbrev pub has_elements : Plains → Bool
-has_elements no_plains = false
-has_elements (plain (words text) ps) = has_elements ps
-has_elements (plain (branch name attrs children) ps) = true
+abbrev pub has_elements : NodesView → Bool
+has_elements none = false
+has_elements (node (tag_node t) ns) = has_elements ns
+has_elements (node (text_node text span) ns) = has_elements ns
+has_elements (node (element_node h children) ns) = true
+has_elements (node (frame_node f) ns) = has_elements ns
 
 -- within `html`, and neither in the head nor in the body
-abbrev pub html_mode : Plains → Mode
+abbrev pub html_mode : NodesView → Mode
 html_mode children = if has_elements children then AfterHead else BeforeHead
 
 -- the insertion mode (13.2.4.1, "reset the insertion mode appropriately")
 abbrev pub mode : List OpenElement → Mode
 mode [] = BeforeHtml
-mode (o ∷ os) = unwrap_or (if is_html o.space then named_mode o.name os else None)
+mode (o ∷ os) = unwrap_or (if is_html o.space then named_mode o.head.name os else None)
     (if length os == 0 then html_mode o.children else mode os)
+
+-- a text is the last child of an element, with the span of the element, unless the text is empty
+abbrev pub with_text : List ℕ → OpenElement → OpenElement
+with_text [] o = o
+with_text (c ∷ cs) o =
+    record o { children = with_last o.children (text_node (c ∷ cs) o.head.span) }
 
 -- a text is the last child of the current node, unless it is empty
 abbrev pub with_last_text : List ℕ → List OpenElement → List OpenElement
 with_last_text text [] = []
-with_last_text text (o ∷ os) = record o { children = with_text text o.children } ∷ os
+with_last_text text (o ∷ os) = with_text text o ∷ os
 
-abbrev pub completed : OpenElement → Plain
-completed o = branch o.name o.attrs o.children
+abbrev pub completed : OpenElement → NodeView
+completed o = element_node o.head o.children
 
-abbrev pub with_last_child : Plain → OpenElement → OpenElement
-with_last_child child o = record o { children = o.children then plain child no_plains }
+abbrev pub with_last_child : NodeView → OpenElement → OpenElement
+with_last_child child o = record o { children = with_last o.children child }
 
 -- the current node is complete, unless it is the root
 abbrev pub without_current : List OpenElement → List OpenElement
@@ -138,21 +142,15 @@ without_current (o ∷ []) = o ∷ []
 without_current (o ∷ p ∷ ps) = with_last_child (completed o) p ∷ ps
 
 -- all of them are complete
-abbrev pub all_completed : Plain → List OpenElement → Plain
-all_completed child [] = child
-all_completed child (o ∷ os) = all_completed (completed (with_last_child child o)) os
+abbrev pub all_completed : OpenElement → List OpenElement → ElementView
+all_completed o [] = (o.head, o.children)
+all_completed o (p ∷ ps) = all_completed (with_last_child (completed o) p) ps
 
-abbrev pub root_of : List OpenElement → Option Plain
+abbrev pub root_of : List OpenElement → Option ElementView
 root_of [] = None
-root_of (o ∷ os) = Some (all_completed (completed o) os)
+root_of (o ∷ os) = Some (all_completed o os)
 
 -- the name of the current node
 abbrev pub current_name : List OpenElement → Option (List ℕ)
 current_name [] = None
-current_name (o ∷ os) = Some o.name
-
--- the element that is made of the root
-abbrev pub root_element : Option Plain → Option ElementView
-root_element None = None
-root_element (Some (words text)) = None
-root_element (Some (branch name attrs children)) = Some (plain_element name attrs children)
+current_name (o ∷ os) = Some o.head.name

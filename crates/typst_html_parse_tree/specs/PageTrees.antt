@@ -145,7 +145,7 @@ breaks_out tag = of kind.Breakout tag.name
 
 -- an element of SVG or MathML of that name, in small letters
 abbrev pub is_foreign_of : (name : List ℕ) → OpenElement → Bool
-is_foreign_of name o = not (is_html o.space) && bytes_eq (lowered o.name) name
+is_foreign_of name o = not (is_html o.space) && bytes_eq (lowered o.head.name) name
 
 -- an element of that name is open, and none of HTML stands within it
 abbrev pub closes_foreign : (name : List ℕ) → List OpenElement → Bool
@@ -181,15 +181,15 @@ says_html a = is_encoding a.0 && is_html_encoding (lowered a.1)
 
 abbrev pub holds_html_in : Space → OpenElement → Bool
 holds_html_in Html o = true
-holds_html_in Svg o = of kind.SvgHtml o.name
-holds_html_in MathMl o = of kind.AnnotationXml o.name && list_any says_html o.attrs
+holds_html_in Svg o = of kind.SvgHtml o.head.name
+holds_html_in MathMl o = of kind.AnnotationXml o.head.name && list_any says_html o.head.attrs
 
 abbrev pub holds_text_in : Space → OpenElement → Bool
-holds_text_in MathMl o = of kind.MathText o.name
+holds_text_in MathMl o = of kind.MathText o.head.name
 holds_text_in space o = false
 
 abbrev pub holds_svg_in : Space → OpenElement → Bool
-holds_svg_in MathMl o = of kind.AnnotationXml o.name
+holds_svg_in MathMl o = of kind.AnnotationXml o.head.name
 holds_svg_in space o = false
 
 abbrev pub stands_as_html : Token → OpenElement → Bool

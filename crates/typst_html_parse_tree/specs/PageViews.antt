@@ -1,12 +1,11 @@
 -- The program's page, its elements and its tokens as those of the definition, and what it looks for.
 use Rattle.std.specs.Prelude.{ℕ, Bool, false, not, ◌&&◌, List, map, reverse}
-use Rattle.html_dom_tree.specs.Views.{attrs_view, text_view}
+use Rattle.html_dom_tree.specs.Views.{attrs_view, element_view, text_view}
 use Rattle.typst_html_parse_names.specs.PageNames.{is, of}
 use Rattle.typst_html_parse_tree.specs.OpenElements as elements
 use Rattle.typst_html_parse_tree.specs.OpenElements.{OpenElement, bounds, bounds_item, is_html, is_of, is_special}
 use Rattle.typst_html_parse_tree.specs.PageTrees.{is_foreign_of}
 use Rattle.typst_html_parse_tree.specs.Pages as pages
-use Rattle.typst_html_read.specs.OpenViews.{open_of}
 use Rattle.typst_html_parse_names.specs.declared.kind.Kind.TheVariants as kind
 use Rattle.typst_html_parse_tree.specs.declared.element.PageElement.{PageElement}
 use Rattle.typst_html_parse_tree.specs.declared.notes.Notes.{Notes}
@@ -25,12 +24,8 @@ use Rattle.typst_html_parse_tree.specs.declared.token.Token.{Token}
 use Rattle.typst_html_parse_tree.specs.declared.token.Token.TheVariants as token
 
 abbrev pub element_of : PageElement → OpenElement
-element_of e = let o = open_of e.element in record {
-  name = o.name;
-  space = e.space;
-  attrs = o.attrs;
-  children = o.children;
-}
+element_of e = let v = element_view e.element in
+    record { head = v.0; space = e.space; children = v.1 }
 
 -- the innermost first
 abbrev pub list_of : List PageElement → List OpenElement

@@ -1,8 +1,7 @@
 -- What is kept of a page that is being read, and the steps that reading its tokens takes: elements are
 -- opened and closed (HTML Standard 13.2.4 and 13.2.6).
 use Rattle.std.specs.Prelude.{ℕ, zero, suc, ◌+◌, min, Bool, true, false, not, ◌&&◌, ◌||◌, nat_lt, nat_le, List, [], ◌∷◌, ◌++◌, length, if◌then◌else◌, bytes_eq, Option, Some, None, Result, Ok, Err}
-use Rattle.html_dom_tree.specs.Tree.{TextPair}
-use Rattle.html_dom_tree.specs.PlainTree.{no_plains}
+use Rattle.html_dom_tree.specs.Tree.{TextPair, Head, none}
 use Rattle.typst_html_parse_tree.specs.OpenElements.{OpenElement, at, is_of, is_at, in_scope, with_last_text, without_current}
 use Rattle.typst_html_parse_names.specs.PageNames.{of}
 use Rattle.typst_html_parse_names.specs.declared.kind.Kind.TheVariants as kind
@@ -17,7 +16,7 @@ use Rattle.typst_html_parse_tree.specs.declared.modes.TableRule.{TableRule}
 use Rattle.typst_html_parse_tree.specs.declared.modes.TableRule.TheVariants as rule
 
 -- the errors that were gone over: how many (counted as far as 32 bits go), and the first ten, each with
--- how many characters stand before it
+-- how many bytes stand before it
 pub record Notes : Type 0 where
   pub count : ℕ
   pub first : List (PageError × ℕ)
@@ -39,7 +38,7 @@ pub record Page : Type 0 where
   pub tables : TableRule
   -- how deep elements may stand
   pub limit : ℕ
-  -- how many characters stand before the token
+  -- how many bytes of the text stand before the token
   pub start : ℕ
   pub notes : Notes
 
@@ -68,7 +67,7 @@ pub data Token : Type 0 where
   -- the end of the page
   Finish : Token
 
--- what a token leads to, or why the page is not read, with how many characters stand before the place
+-- what a token leads to, or why the page is not read, with how many bytes stand before the place
 abbrev pub Reads : Type 0 → Type 0
 Reads A = Result A (PageRefusal × ℕ)
 
@@ -100,11 +99,22 @@ with_element o p = record p {
   lost = if is_of (of kind.Marker) o then None ∷ p.lost else p.lost;
 }
 
+-- an element as its tag makes it; its span is how many bytes stand before the token that opens it
+abbrev pub page_head : (name : List ℕ) → List TextPair → (start : ℕ) → Head
+page_head name attrs start = record {
+  name = name;
+  attrs = attrs;
+  css = [];
+  parent = None;
+  span = start;
+  pre_span = false;
+}
+
 -- an element is opened, unless it stands too deep (13.2.6.1)
 abbrev pub opened_in : Space → (name : List ℕ) → List TextPair → Page → Reads Page
 opened_in space name attrs p = if nat_le p.limit (length p.stack) then refused refusal.TooDeep p
     else Ok (with_element
-    (record { name = name; space = space; attrs = attrs; children = no_plains }) (settled p))
+    (record { head = page_head name attrs p.start; space = space; children = none }) (settled p))
 
 abbrev pub opened : (name : List ℕ) → List TextPair → Page → Reads Page
 opened = opened_in Html
@@ -120,7 +130,7 @@ abbrev pub lost_with : (own : Bool) → List OpenElement → List (Option (List 
     List (Option (List ℕ))
 lost_with own [] lost = lost
 lost_with own (o ∷ os) lost = if is_of (of kind.Marker) o then behind_marker lost
-    else (if is_of (of kind.Formatting) o && not own then Some o.name ∷ lost else lost)
+    else (if is_of (of kind.Formatting) o && not own then Some o.head.name ∷ lost else lost)
 
 -- the current node is closed, whose text is a child of it
 abbrev pub settled_closed : (own : Bool) → Page → Reads Page

@@ -2,56 +2,56 @@
 
 ghost use Rattle.std.specs.Prelude.{◌≡◌};
 ghost use Rattle.typst_html_parse_names.specs.Kinds.{IsKindsOf};
-ghost use Rattle.typst_html_parse_tree.specs.OpenCounts.{open_has_elements};
-ghost use Rattle.typst_html_read.specs.OpenViews.{open_of};
+ghost use Rattle.html_dom_tree.specs.Views.{element_view};
+ghost use Rattle.typst_html_parse_tree.specs.OpenCounts.{has_child_elements};
 
 use crate::modes::Space;
 use crate::search::Target;
-use html_dom_tree::HtmlAttrs;
+use html_dom_tree::{HtmlAttrs, HtmlElement, HtmlNode, Span};
 use html_names::HtmlTag;
 use std::alloc::{AllocError, Global};
 use typst_html_parse_names::{Kind, Kinds, is_same_lowered};
-use typst_html_read::OpenElement;
 
 /// An element of a page that is open, with its children so far.
 #[derive(Drop)]
 pub struct PageElement {
-    pub(crate) element: OpenElement,
+    pub(crate) element: HtmlElement,
     pub(crate) space: Space,
     pub(crate) kinds: Kinds,
     /// Whether some of its children is an element.
     pub(crate) has_elements: bool,
-    ghost told: { IsKindsOf (open_of element).name kinds },
-    ghost counted: { has_elements ≡ open_has_elements (open_of element) },
+    ghost told: { IsKindsOf (element_view element).0.name kinds },
+    ghost counted: { has_elements ≡ has_child_elements (element_view element) },
 }
 
 impl PageElement {
     ghost use Rattle.std.specs.Prelude.{IfOk, bytes_eq};
-    ghost use Rattle.html_dom_tree.specs.PlainTree.{no_plains};
+    ghost use Rattle.html_dom_tree.specs.Tree.{none};
     ghost use Rattle.html_dom_tree.specs.Views.{attrs_view, text_view};
-    ghost use Rattle.typst_html_encode.specs.Reader.{with_text};
     ghost use Rattle.typst_html_parse_names.specs.PageNames.{of};
-    ghost use Rattle.typst_html_parse_tree.specs.OpenElements.{completed, is_html, is_of, with_last_child};
+    ghost use Rattle.typst_html_parse_tree.specs.OpenElements.{completed, is_html, is_of, with_last_child, with_text};
     ghost use Rattle.typst_html_parse_tree.specs.PageTrees.{is_foreign_of};
+    ghost use Rattle.typst_html_parse_tree.specs.Pages.{page_head};
     ghost use Rattle.typst_html_parse_tree.specs.PageViews.{element_of, target_test};
 
-    /// An element without children.
+    /// An element without children, before whose token so many bytes stand.
     pub(crate) fn new(
         alloc: Global,
         space: Space,
         tag: HtmlTag,
         kinds: Kinds,
         attrs: HtmlAttrs,
+        start: usize,
     ) -> PageElement
         requires { IsKindsOf tag kinds }
         ensures { element_of result ≡ record {
-          name = tag;
+          head = page_head tag (attrs_view attrs) start;
           space = space;
-          attrs = attrs_view attrs;
-          children = no_plains;
+          children = none;
         } }
     {
-        let element = OpenElement::new(alloc, tag, attrs);
+        let mut element = HtmlElement::new(alloc, tag).spanned(Span(start as u64));
+        element.attrs = attrs;
         PageElement {
             element,
             space,
@@ -69,15 +69,15 @@ impl PageElement {
 
     /// Whether its name is one of the kind, in any namespace.
     pub(crate) fn has_kind(&self, kind: Kind) -> bool
-        ensures { result ≡ of kind (element_of self.now).name }
+        ensures { result ≡ of kind (element_of self.now).head.name }
     {
         self.kinds.has(kind)
     }
 
     pub(crate) fn has_name(&self, tag: &HtmlTag) -> bool
-        ensures { result ≡ bytes_eq (element_of self.now).name tag.now }
+        ensures { result ≡ bytes_eq (element_of self.now).head.name tag.now }
     {
-        self.element.tag() == tag
+        self.element.tag == *tag
     }
 
     /// Whether it is an element of HTML of the kind.
@@ -103,23 +103,26 @@ impl PageElement {
     pub(crate) fn is_foreign_of(&self, tag: &HtmlTag) -> bool
         ensures { result ≡ is_foreign_of tag.now (element_of self.now) }
     {
-        !self.is_html() && is_same_lowered(self.element.tag().resolve(), tag.resolve())
+        !self.is_html() && is_same_lowered(self.element.tag.resolve(), tag.resolve())
     }
 
-    /// The element with a text as its last child, unless the text is empty.
+    /// The element with a text as its last child, with its span, unless the text is empty.
     #[tactic(auto, using(crate::proofs::Children::text_counts))]
     pub(crate) fn with_text(self, text: String) -> Result<PageElement, AllocError>
-        ensures { IfOk result (λ grown. element_of grown ≡ record (element_of self) {
-          children = with_text (text_view text) (element_of self).children;
-        }) }
+        ensures { IfOk result (λ grown.
+            element_of grown ≡ with_text (text_view text) (element_of self)) }
     {
+        if text.as_str().is_empty() {
+            return Ok(self);
+        }
         let PageElement {
             element,
             space,
             kinds,
             has_elements,
         } = self;
-        let element = element.with_text(text)?;
+        let child = HtmlNode::text(text, element.span);
+        let element = element.with_child(child)?;
         Ok(PageElement {
             element,
             space,
@@ -140,7 +143,7 @@ impl PageElement {
             kinds,
             ..
         } = self;
-        let element = element.with_element(child.element)?;
+        let element = element.with_child(HtmlNode::from(child.element))?;
         Ok(PageElement {
             element,
             space,

@@ -1,6 +1,7 @@
 //! Why a page is not read.
 
 ghost use Rattle.std.specs.Prelude.{◌≡◌};
+ghost use Rattle.typst_html_parse_tree.specs.PageRefusals.{refusal_number};
 
 use html_names::Refused;
 use std::alloc::{AllocError, AllocFailed};
@@ -58,6 +59,32 @@ pub enum PageRefusal {
     Unsettled,
 }
 
+impl PageRefusal {
+    /// The refusal's number: 8 for an element that stands too deep, as where a tree is written, and 26
+    /// to 39 for the others.
+    pub fn number(&self) -> u8
+        ensures { result ≡ refusal_number self.now }
+    {
+        match self {
+            PageRefusal::TooDeep => 8,
+            PageRefusal::NullCharacter => 26,
+            PageRefusal::UnknownName => 27,
+            PageRefusal::TooManyAttributes => 28,
+            PageRefusal::Reconstruction => 29,
+            PageRefusal::AdoptionAgency => 30,
+            PageRefusal::OpenAnchorRemoved => 31,
+            PageRefusal::FosterParenting => 32,
+            PageRefusal::MergedAttributes => 33,
+            PageRefusal::HeadReopened => 34,
+            PageRefusal::UnreadElement => 35,
+            PageRefusal::CrossedElement => 36,
+            PageRefusal::HtmlInForeign => 37,
+            PageRefusal::DocumentType => 38,
+            PageRefusal::Unsettled => 39,
+        }
+    }
+}
+
 /// Why reading stops.
 #[derive(Clone, Copy, Debug, PartialEq, Eq)]
 pub enum Halt {
@@ -67,7 +94,7 @@ pub enum Halt {
     Refused {
         /// What it holds.
         refusal: PageRefusal,
-        /// How many characters stand before the place.
+        /// How many bytes of the text stand before the place.
         place: usize,
     },
 }

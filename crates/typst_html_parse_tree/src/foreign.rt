@@ -93,7 +93,7 @@ impl PageElement {
         match self.space {
             Space::Html => true,
             Space::Svg => self.has_kind(Kind::SvgHtml),
-            Space::MathMl => self.has_kind(Kind::AnnotationXml) && says_html(self.element.attrs()),
+            Space::MathMl => self.has_kind(Kind::AnnotationXml) && says_html(&self.element.attrs),
         }
     }
 

@@ -15,7 +15,7 @@ const MOST_TOLD: usize = 10;
 pub struct Notes {
     /// How many there are, as far as 32 bits go.
     pub count: u32,
-    /// The first ten, each with how many characters stand before it.
+    /// The first ten, each with how many bytes of the text stand before it.
     pub first: Vec<(PageError, usize)>,
 }
 

@@ -34,7 +34,7 @@ pub struct Page {
     /// What a table does to an open `p`.
     pub tables: TableRule,
     pub(crate) limit: usize,
-    /// How many characters stand before the token.
+    /// How many bytes of the text stand before the token.
     pub start: usize,
     /// The errors that reading went on over.
     pub notes: Notes,
@@ -124,7 +124,7 @@ impl Page {
             return Err(self.refusal(PageRefusal::TooDeep));
         }
         self.settle()?;
-        let element = PageElement::new(self.alloc, space, tag, kinds, attrs);
+        let element = PageElement::new(self.alloc, space, tag, kinds, attrs, self.start);
         self.push(element)
     }
 
@@ -139,7 +139,7 @@ impl Page {
         if element.is(Kind::Marker) {
             self.lost.leave_marker();
         } else if element.is(Kind::Formatting) && !own {
-            let tag = element.element.tag().try_clone()?;
+            let tag = element.element.tag.try_clone()?;
             self.lost.push(tag)?;
         }
         Ok(())

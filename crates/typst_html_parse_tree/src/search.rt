@@ -47,7 +47,7 @@ pub(crate) enum Bound {
 
 /// Whether an element of SVG or MathML bounds scopes, and is special.
 fn is_foreign_bound(element: &PageElement) -> bool
-    ensures { let e = element_of element.now in result ≡ is_foreign_bound e.space e.name }
+    ensures { let e = element_of element.now in result ≡ is_foreign_bound e.space e.head.name }
 {
     match element.space {
         Space::Html => false,

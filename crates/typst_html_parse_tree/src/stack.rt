@@ -3,7 +3,7 @@
 ghost use Rattle.std.specs.Prelude.{◌≡◌, ◌∷◌, [], IfOk, OnOk, length, option_map};
 ghost use Rattle.html_dom_tree.specs.Views.{element_view, text_view};
 ghost use Rattle.typst_html_parse_names.specs.PageNames.{of};
-ghost use Rattle.typst_html_parse_tree.specs.OpenElements.{at, current_name, html_mode, is_at, is_in_foreign, mode, named_mode, reaches, root_element, root_of, with_last_text, without_current};
+ghost use Rattle.typst_html_parse_tree.specs.OpenElements.{at, current_name, html_mode, is_at, is_in_foreign, mode, named_mode, reaches, root_of, with_last_text, without_current};
 ghost use Rattle.typst_html_parse_tree.specs.PageTrees.{current_space};
 ghost use Rattle.typst_html_parse_tree.specs.PageViews.{bound_test, element_of, goal_test, list_of, stack_of, target_test, while_test};
 
@@ -50,7 +50,7 @@ fn at(elements: &[PageElement], goal: Goal<'_>) -> bool
 
 /// The mode that an element of HTML brings, with those around it.
 fn named_mode(element: &PageElement, outer: &[PageElement]) -> Option<Mode>
-    ensures { result ≡ named_mode (element_of element.now).name (list_of outer.now) }
+    ensures { result ≡ named_mode (element_of element.now).head.name (list_of outer.now) }
 {
     if element.has_kind(Kind::Cell) {
         Some(Mode::InCell)
@@ -178,7 +178,7 @@ impl Stack {
     {
         match self.items.last() {
             None => None,
-            Some(element) => Some(element.element.tag()),
+            Some(element) => Some(&element.element.tag),
         }
     }
 
@@ -234,7 +234,7 @@ impl Stack {
     #[tactic(auto, using(crate::proofs::Stacks::last_first))]
     pub(crate) fn into_root(self) -> Result<Option<HtmlElement>, AllocError>
         ensures { IfOk result (λ root.
-            option_map element_view root ≡ root_element (root_of (stack_of self))) }
+            option_map element_view root ≡ root_of (stack_of self)) }
     {
         let mut items = self.items;
         let Some(mut child) = items.pop() else {
@@ -243,6 +243,6 @@ impl Stack {
         while let Some(parent) = items.pop() {
             child = parent.with_child(child)?;
         }
-        Ok(Some(child.element.into_element()))
+        Ok(Some(child.element))
     }
 }

@@ -1,0 +1,6 @@
+-- The page whose places are told.
+use Rattle.std.specs.Prelude.{ℕ, List, chars}
+use Rattle.typst_html_parse.specs.declared.place.Places.{Places}
+
+abbrev pub text_of : Places → List ℕ
+text_of p = chars p.text.now
