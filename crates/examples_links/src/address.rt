@@ -60,25 +60,24 @@ pub fn fragment_of(address: &str) -> Option<&str> {
     }
 }
 
-/// The path of a relative address, decoded.
-fn path_of(alloc: Global, address: &str) -> Result<String, AllocError> {
-    let before = |text, end| match str::split_once(text, end) {
+/// What stands before a character, or all.
+fn front(text: &str, end: char) -> &str {
+    match text.split_once(end) {
         Some((front, _)) => front,
         None => text,
-    };
-    let path = before(before(address, '#'), '?');
+    }
+}
+
+/// The path of a relative address, decoded.
+fn path_of(alloc: Global, address: &str) -> Result<String, AllocError> {
+    let path = front(front(address, '#'), '?');
     let path = path.replace(alloc, '\\', "/")?;
     let decoded = percent_decode(path.as_bytes()).decode_utf8_lossy(alloc)?;
     decoded.into_owned(alloc)
 }
 
 /// Where a relative address leads from a spot, in a site whose folder is `root`.
-pub fn spot_of(
-    alloc: Global,
-    base: &Spot,
-    root: &str,
-    address: &str,
-) -> Result<Spot, AllocError> {
+pub fn spot_of(alloc: Global, base: &Spot, root: &str, address: &str) -> Result<Spot, AllocError> {
     let path = path_of(alloc, address)?;
     let path = path.as_str();
     if path.is_empty() {
@@ -87,16 +86,26 @@ pub fn spot_of(
             is_folder: base.is_folder,
         });
     }
-    let mut way = if path.starts_with('/') {
-        Way::new(alloc, root)?.kept()
+    let start = if path.starts_with('/') {
+        root
     } else {
-        Way::new(alloc, base.folder())?
+        base.folder()
     };
-    way.follow(path)?;
     Ok(Spot {
-        path: way.into_path(alloc)?,
+        path: path_from(alloc, start, path)?,
         is_folder: ends_with_folder(path),
     })
+}
+
+/// The path to which another leads from a folder. No `..` leads back from there where that other begins
+/// with `/`.
+fn path_from<'a>(alloc: Global, folder: &'a str, path: &'a str) -> Result<String, AllocError> {
+    let mut way = Way::new(alloc, folder)?;
+    if path.starts_with('/') {
+        way.keep();
+    }
+    way.follow(path)?;
+    way.into_path(alloc)
 }
 
 fn ends_with_folder(path: &str) -> bool {

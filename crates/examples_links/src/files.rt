@@ -41,7 +41,7 @@ pub enum Found {
 pub struct Files<'a> {
     alloc: Global,
     entries: BTreeMap<String, Entry<'a>>,
-    /// For each path in small letters, one that is there.
+    /// For each path in small letters, the first that is there.
     by_small: BTreeMap<String, String>,
     /// The folders that the system does not give.
     pub unread: Vec<Unread>,
@@ -101,7 +101,8 @@ impl<'a> Files<'a> {
         let entries = match fs::read_dir(rt, system_path(folder)) {
             Ok(entries) => entries,
             Err(error) => {
-                self.unread.push(Unread::by_system(self.alloc, folder, &error)?)?;
+                self.unread
+                    .push(Unread::by_system(self.alloc, folder, &error)?)?;
                 return Ok(inner);
             }
         };
@@ -113,7 +114,9 @@ impl<'a> Files<'a> {
                         inner.push(path)?;
                     }
                 }
-                Err(error) => self.unread.push(Unread::by_system(self.alloc, folder, &error)?)?,
+                Err(error) => self
+                    .unread
+                    .push(Unread::by_system(self.alloc, folder, &error)?)?,
             }
         }
         Ok(inner)
@@ -136,7 +139,9 @@ impl<'a> Files<'a> {
         };
         let kind = match root {
             _ if behind.is_dir() => Entry::Folder,
-            Some(root) if behind.is_file() && is_page_name(entry.file_name()) => Entry::Page { root },
+            Some(root) if behind.is_file() && is_page_name(entry.file_name()) => Entry::Page {
+                root,
+            },
             _ => Entry::File,
         };
         self.put(path, kind)?;
@@ -149,7 +154,13 @@ impl<'a> Files<'a> {
             return Ok(());
         }
         let small = path.as_str().to_lowercase(self.alloc)?;
-        self.by_small.insert(small, path.clone()?)?;
+        let is_first = match self.by_small.get(small.as_str()) {
+            Some(other) => path.as_str() < other.as_str(),
+            None => true,
+        };
+        if is_first {
+            self.by_small.insert(small, path.clone()?)?;
+        }
         self.entries.insert(path, entry)?;
         Ok(())
     }
@@ -214,9 +225,7 @@ fn entry_elsewhere<'a>(metadata: io::Result<fs::Metadata>) -> Option<Entry<'a>> 
 /// Whether a file of that name is a page.
 fn is_page_name(name: &str) -> bool {
     match name.rsplit_once('.') {
-        Some((_, end)) => {
-            end.eq_ignore_ascii_case("html") || end.eq_ignore_ascii_case("htm")
-        }
+        Some((_, end)) => { end.eq_ignore_ascii_case("html") || end.eq_ignore_ascii_case("htm") }
         None => false,
     }
 }

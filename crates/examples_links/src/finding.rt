@@ -1,8 +1,7 @@
 //! What is found in a site.
 
 use std::alloc::{AllocError, Global};
-use std::fmt;
-use std::io;
+use std::{fmt, io};
 use typst_html_parse::PageFault;
 use typst_html_read::Place;
 
@@ -110,8 +109,8 @@ impl fmt::Display for Finding<'_> {
                 write!(f, "{link:?} leads nowhere: there is no place {target}")
             }
             Kind::MissingFile => write!(f, "{link:?} leads nowhere: there is no file {target}"),
-            Kind::OtherCase => write!(f, "{link:?} differs in case: the file is {target}"),
-            Kind::RepeatedId => write!(f, "the id {target:?} stands before"),
+            Kind::OtherCase => write!(f, "{link:?} differs in case from the file {target}"),
+            Kind::RepeatedId => write!(f, "an element before has the id {target:?}"),
         }
     }
 }

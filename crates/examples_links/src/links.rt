@@ -60,17 +60,23 @@ impl<'a> Links<'a> {
         Ok(())
     }
 
-    /// The first base counts, unless it is none from which anything can lead (HTML Standard 4.2.3).
+    /// The first base counts. Where nothing can lead from it, links lead from the page (HTML Standard
+    /// 4.2.3).
     fn set_base(&mut self, address: String) {
-        let counts = match scheme_of(address.as_str()) {
+        if self.base.is_some() {
+            return;
+        }
+        let leads = match scheme_of(address.as_str()) {
             Some(scheme) => {
                 !scheme.eq_ignore_ascii_case("data") && !scheme.eq_ignore_ascii_case("javascript")
             }
             None => true,
         };
-        if counts && self.base.is_none() {
-            self.base = Some(address);
-        }
+        self.base = Some(if leads {
+            address
+        } else {
+            String::new(self.alloc)
+        });
     }
 }
 

@@ -72,6 +72,7 @@ use anyhow::{Context, Result};
 use report::write_report;
 use site::{check_site, read_site};
 use std::env;
+use std::io::ErrorKind;
 use std::process::ExitCode;
 use words::{command, inputs_of};
 
@@ -91,9 +92,16 @@ fn main(rt: HostRuntime) -> ExitCode {
     }
 }
 
-/// Reads the words, and checks the site. The answer is the status.
+/// Reads the words, and checks the site. Words that are no UTF-8 are wrong. The answer is the status.
 fn run(rt: &HostRuntime) -> Result<ExitCode> {
-    let words: Vec<String> = env::args(rt)?.collect(rt.alloc())?;
+    let words: Vec<String> = match env::args(rt) {
+        Ok(words) => words.collect(rt.alloc())?,
+        Err(error) if error.kind() == ErrorKind::InvalidData => {
+            eprintln!(rt; "a word is no UTF-8")?;
+            return Ok(ExitCode::from(WRONG_WORDS));
+        }
+        Err(error) => return Err(error.into()),
+    };
     match command(rt.alloc())?.try_get_matches_from(&words) {
         Ok(matches) => {
             let paths = matches.get_strs("PATH").context("no path")?;

@@ -55,31 +55,39 @@ pub struct Way<'a> {
 }
 
 impl<'a> Way<'a> {
-    /// The way to a path.
+    /// The way to a path of the system.
     pub fn new(alloc: Global, path: &'a str) -> Result<Way<'a>, AllocError> {
         let mut way = Way {
             parts: Vec::new(alloc),
             is_absolute: path.starts_with('/'),
             kept: None,
         };
-        way.follow(path)?;
+        for part in path.split('/') {
+            if !part.is_empty() {
+                way.go(part)?;
+            }
+        }
         Ok(way)
     }
 
-    /// The way from which no `..` leads back.
-    pub fn kept(mut self) -> Way<'a> {
+    /// Lets no `..` lead back from where the way is now.
+    pub fn keep(&mut self) {
         self.kept = Some(self.parts.len());
-        self
     }
 
-    /// Goes on by these parts.
+    /// Goes on by the parts of an address. An empty part counts, for a `..` behind it.
     pub fn follow(&mut self, path: &'a str) -> Result<(), AllocError> {
-        for part in path.split('/') {
-            match part {
-                "" | "." => {}
-                ".." => self.go_back()?,
-                _ => self.parts.push(part)?,
-            }
+        for part in path.strip_prefix('/').unwrap_or(path).split('/') {
+            self.go(part)?;
+        }
+        Ok(())
+    }
+
+    fn go(&mut self, part: &'a str) -> Result<(), AllocError> {
+        match part {
+            "." => {}
+            ".." => self.go_back()?,
+            _ => self.parts.push(part)?,
         }
         Ok(())
     }
@@ -96,13 +104,23 @@ impl<'a> Way<'a> {
         Ok(())
     }
 
-    /// The path.
+    /// The path, without empty parts.
     pub fn into_path(self, alloc: Global) -> Result<String, AllocError> {
         let mut path = String::new(alloc);
         if self.is_absolute {
             path.push('/')?;
         }
-        path.push_str(self.parts.as_slice().join(alloc, "/")?.as_str())?;
+        let mut is_first = true;
+        for part in &self.parts {
+            if part.is_empty() {
+                continue;
+            }
+            if !is_first {
+                path.push('/')?;
+            }
+            path.push_str(part)?;
+            is_first = false;
+        }
         Ok(path)
     }
 }

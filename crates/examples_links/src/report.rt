@@ -43,18 +43,17 @@ fn write_lines<W: Write>(
     let found_word = if found == 1 { "finding" } else { "findings" };
     let unread = site.unread.len();
     if unread > 0 {
-        writeln!(output, "{pages} {pages_word}, {unread} not read: {found} {found_word}")
+        writeln!(
+            output,
+            "{pages} {pages_word}, {unread} not read: {found} {found_word}"
+        )
     } else {
         writeln!(output, "{pages} {pages_word}: {found} {found_word}")
     }
 }
 
 /// The JSON object of a report.
-fn object(
-    alloc: Global,
-    site: &Site<'_>,
-    findings: &[Finding<'_>],
-) -> Result<Value, AllocError> {
+fn object(alloc: Global, site: &Site<'_>, findings: &[Finding<'_>]) -> Result<Value, AllocError> {
     let mut all_unread = Vec::new(alloc);
     for unread in &site.unread {
         all_unread.push(unread_object(alloc, unread)?)?;

@@ -41,7 +41,7 @@ pub fn inputs_of(rt: &HostRuntime, words: &[&str]) -> Result<Option<Vec<Input>>>
     let mut all_exist = true;
     for word in words {
         match fs::metadata(rt, *word) {
-            Ok(metadata) => inputs.push(input(rt.alloc(), word, metadata.is_dir())?)?,
+            Ok(metadata) => inputs.push(made_input(rt.alloc(), word, metadata.is_dir())?)?,
             Err(error) => {
                 eprintln!(rt; "{word}: {error}")?;
                 all_exist = false;
@@ -51,7 +51,7 @@ pub fn inputs_of(rt: &HostRuntime, words: &[&str]) -> Result<Option<Vec<Input>>>
     Ok(if all_exist { Some(inputs) } else { None })
 }
 
-fn input(alloc: Global, word: &str, is_folder: bool) -> Result<Input, AllocError> {
+fn made_input(alloc: Global, word: &str, is_folder: bool) -> Result<Input, AllocError> {
     let path = Way::new(alloc, word)?.into_path(alloc)?;
     let root = if is_folder {
         path.clone()?
