@@ -31,9 +31,14 @@
 //! - `read [limit=N]`: the text of the tree that is read, `same` where that is the input; `none at N, L:C`
 //!   where nothing is read from there on: how many bytes of the page stand before, line and column;
 //!   `too deep at N, L:C`
-//! - `read-page [limit=N]`: the same by `read_page`
 //! - `page-text`: what is visible: each text in brackets, objects, `/` for a line break, `|` for an edge
 //! - `dead-fragments`, `repeated-ids`: path and name of each
+//!
+//! Of a page as it comes:
+//!
+//! - `as-browsers [limit=N]`: the text of the tree that `read_page_bytes` reads, and behind each ` ! ` an error
+//!   that was gone over, with its line and column; or `refused, `, why and where
+//! - `page-places`: the elements of that tree, in document order, each with the place that its span tells
 //!
 //! Of an input, by the library for C, what it replies and what its buffer has then, which had `room=N` points:
 //!
@@ -71,8 +76,8 @@ impl Caller for Library {
             "dead-links" => checks::dead_link_list(alloc, row),
             "distinct-ids" => checks::have_distinct_ids(alloc, row),
             "read" => pages::read(alloc, row),
-            "read-page" => pages::read_strictly(alloc, row),
             "as-browsers" => pages::as_browsers(alloc, row),
+            "page-places" => pages::element_places(alloc, row),
             "page-text" => pages::text(alloc, row),
             "items-text" => pages::items_text(alloc, row),
             "dead-fragments" => checks::dead_fragment_list(alloc, row),

@@ -3,16 +3,17 @@
 use crate::runs::inner_text;
 use anyhow::{Result, ensure};
 use html_dom_document::DocumentInfo;
-use html_dom_tree::HtmlElement;
+use html_dom_tree::{HtmlElement, HtmlNode};
 use html_flow_convert::is_depth_limit;
 use std::alloc::Global;
+use std::str;
 use tests_rows_items::items_in;
 use tests_rows_run::Row;
 use typst_html_encode::{HtmlOptions, html_in_bundle};
 use typst_html_export::export;
 use typst_html_page::{Shown, page_text};
-use typst_html_parse::{PageFault, read_page_bytes};
-use typst_html_read::{ReadFault, read_html, read_page};
+use typst_html_parse::{PageFault, Places, read_page_bytes};
+use typst_html_read::{ReadFault, read_html};
 
 /// How deep elements may stand where that is not said.
 const DEEPEST: usize = 10_000;
@@ -31,22 +32,7 @@ pub(crate) fn read(alloc: Global, row: &Row<'_>) -> Result<String> {
     let text = page_of(alloc, row)?;
     let limit = row.number("limit", DEEPEST)?;
     ensure!(is_depth_limit(limit), "no limit");
-    read_text(alloc, text.as_bytes(), read_html(alloc, &text, limit))
-}
-
-/// The same of what `read_page` reads.
-pub(crate) fn read_strictly(alloc: Global, row: &Row<'_>) -> Result<String> {
-    let mut page = Vec::new(alloc);
-    page.extend_from_slice(DOCUMENT_TYPE.as_bytes())?;
-    page.extend_from_slice(&row.input)?;
-    let limit = row.number("limit", DEEPEST)?;
-    ensure!(is_depth_limit(limit), "no limit");
-    read_text(alloc, &page, read_page(alloc, &page, limit))
-}
-
-/// What is told of a page that is read, or is not.
-fn read_text(alloc: Global, page: &[u8], read: Result<HtmlElement, ReadFault>) -> Result<String> {
-    let root = match read {
+    let root = match read_html(alloc, &text, limit) {
         Ok(root) => root,
         Err(ReadFault::TooDeep { place }) => {
             return Ok(format!(in alloc; "too deep at {}, {place}", place.offset)?);
@@ -56,11 +42,11 @@ fn read_text(alloc: Global, page: &[u8], read: Result<HtmlElement, ReadFault>) -
         }
         Err(fault) => return Err(fault.into()),
     };
-    let text = html_in_bundle(alloc, &root, &HtmlOptions::default(), &())?;
-    if text.as_bytes() == page {
+    let written = html_in_bundle(alloc, &root, &HtmlOptions::default(), &())?;
+    if written == text {
         return Ok(String::from_str(alloc, "same")?);
     }
-    inner_text(alloc, &text, (DOCUMENT_TYPE, ""))
+    inner_text(alloc, &written, (DOCUMENT_TYPE, ""))
 }
 
 pub(crate) fn text(alloc: Global, row: &Row<'_>) -> Result<String> {
@@ -110,4 +96,27 @@ pub(crate) fn as_browsers(alloc: Global, row: &Row<'_>) -> Result<String> {
         write!(told, " ! {} at {}", note.error, note.place)?;
     }
     Ok(told)
+}
+
+/// The elements of a page that `read_page_bytes` reads, each with the place that its span tells.
+pub(crate) fn element_places(alloc: Global, row: &Row<'_>) -> Result<String> {
+    let (root, _) = read_page_bytes(alloc, &row.input, DEEPEST)?;
+    let mut places = Places::new(str::from_utf8(&row.input)?);
+    let mut told = String::new(alloc);
+    tell_places(&root, &mut places, &mut told)?;
+    Ok(told)
+}
+
+fn tell_places(element: &HtmlElement, places: &mut Places<'_>, told: &mut String) -> Result<()> {
+    if !told.is_empty() {
+        told.push(' ')?;
+    }
+    let place = places.at(usize::try_from(element.span.0)?);
+    write!(told, "{} {place}", element.tag.resolve())?;
+    for child in &element.children {
+        if let HtmlNode::Element(element) = child {
+            tell_places(element, places, told)?;
+        }
+    }
+    Ok(())
 }

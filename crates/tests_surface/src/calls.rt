@@ -5,7 +5,8 @@ use tests_asserts::assert_text;
 use typst_html::output::Output;
 use typst_html::property::Display;
 use typst_html::{
-    ConstructFault, Dir, HorizontalDir, HtmlAttrs, HtmlElem, HtmlElement, Span, ToCss, attr, tag,
+    ConstructFault, Dir, HorizontalDir, HtmlAttrs, HtmlElem, HtmlElement, PageError, PageNote,
+    PageNotes, Place, Places, Span, ToCss, attr, read_page, read_page_bytes, tag,
 };
 
 #[test]
@@ -58,4 +59,45 @@ fn outputs_are_written(rt: HostRuntime) -> Result<(), Fail> {
     let mut output = Output::new(rt.alloc());
     output.push_decimal(12)?;
     assert_text(&output.into_string(), "12")
+}
+
+/// A page with an end tag that closes nothing.
+const PAGE: &str = "<!doctype html><p>a</b>";
+
+/// Asserts that a page is read as that one.
+fn assert_read(root: &HtmlElement, notes: &PageNotes) -> Result<(), Fail> {
+    let place = Place {
+        offset: 19,
+        line: 1,
+        column: 20,
+    };
+    let error = PageError::EndTagWithoutStart;
+    let told = PageNote { error, place };
+    match notes.first.as_slice() {
+        [note] if root.tag == tag::html && *note == told => Ok(()),
+        _ => Err(Fail::new("an html is to be read, and one error told")),
+    }
+}
+
+#[test]
+fn pages_are_read(rt: HostRuntime) -> Result<(), Fail> {
+    let (root, notes) = read_page(rt.alloc(), PAGE, 50)?;
+    assert_read(&root, &notes)
+}
+
+#[test]
+fn pages_in_bytes_are_read(rt: HostRuntime) -> Result<(), Fail> {
+    let (root, notes) = read_page_bytes(rt.alloc(), PAGE.as_bytes(), 50)?;
+    assert_read(&root, &notes)
+}
+
+#[test]
+fn offsets_have_places(rt: HostRuntime) {
+    let (offset, line, column) = (3, 2, 1);
+    let place = Place {
+        offset,
+        line,
+        column,
+    };
+    assert!(rt; Places::new("a\r\nb").at(offset) == place);
 }

@@ -5,8 +5,8 @@ use std::alloc::{AllocError, AllocFailed};
 use std::test::Fail;
 use tests_asserts::assert_text;
 use typst_html::{
-    CastFault, ConstructFault, ExportFault, FlowFault, FrameFault, NameFault, NameTable, Place,
-    ReadFault, Refused, Span,
+    CastFault, ConstructFault, ExportFault, FlowFault, FrameFault, NameFault, NameTable, PageFault,
+    PageRefusal, Place, ReadFault, Refused, Span,
 };
 
 /// What is made of faults of the layers below: numbers, spans and texts.
@@ -69,6 +69,8 @@ fn want_of_memory_is_one_fault(rt: HostRuntime) {
         assert!(rt; *fault == ExportFault::OutOfMemory);
     }
     assert!(rt; Fault::from(Refused { back: 1u8 }) == Fault::OutOfMemory);
+    assert!(rt; PageFault::from(AllocError) == PageFault::OutOfMemory);
+    assert!(rt; PageFault::from(AllocFailed { value: 1u8 }) == PageFault::OutOfMemory);
 }
 
 /// Faults with texts of their own, and their numbers.
@@ -78,6 +80,9 @@ const OWN: &str = "\
     0: out of memory\n\
     8: elements are nested too deeply at 3:14\n\
     25: other syntax than that of written pages at 3:14\n\
+    0: out of memory\n\
+    25: a byte that is no text at 3:14\n\
+    26: U+0000 at 3:14\n\
     a write failed\n";
 
 #[test]
@@ -99,8 +104,59 @@ fn faults_with_texts_of_their_own(rt: HostRuntime) -> Result<(), Fail> {
     ] {
         write!(shown, "{}: {fault}\n", fault.number())?;
     }
+    let refusal = PageRefusal::NullCharacter;
+    for fault in [
+        PageFault::OutOfMemory,
+        PageFault::NotText { place },
+        PageFault::Refused { refusal, place },
+    ] {
+        write!(shown, "{}: {fault}\n", fault.number())?;
+    }
     write!(shown, "{WriteFailed}\n")?;
     assert_text(&shown, OWN)
+}
+
+/// What pages are refused for, and its numbers.
+const REFUSALS: &str = "\
+    8: elements are nested too deeply\n\
+    26: U+0000\n\
+    27: a name that no element of this project has\n\
+    28: a tag has too many attributes\n\
+    29: a formatting element would be made again\n\
+    30: an end tag would move nodes out of a formatting element\n\
+    31: an open a would be removed\n\
+    32: a text or an element would be moved out of a table\n\
+    33: attributes would be added to those of html or body\n\
+    34: the head would be opened again\n\
+    35: a frameset, plaintext or template\n\
+    36: a form, object, applet or marquee would be closed by another tag\n\
+    37: an element of HTML would close svg or math\n\
+    38: a table hangs on a document type that is not known\n\
+    39: a token finds no place\n";
+
+#[test]
+fn refusals_of_pages(rt: HostRuntime) -> Result<(), Fail> {
+    let mut shown = String::new(rt.alloc());
+    for refusal in [
+        PageRefusal::TooDeep,
+        PageRefusal::NullCharacter,
+        PageRefusal::UnknownName,
+        PageRefusal::TooManyAttributes,
+        PageRefusal::Reconstruction,
+        PageRefusal::AdoptionAgency,
+        PageRefusal::OpenAnchorRemoved,
+        PageRefusal::FosterParenting,
+        PageRefusal::MergedAttributes,
+        PageRefusal::HeadReopened,
+        PageRefusal::UnreadElement,
+        PageRefusal::CrossedElement,
+        PageRefusal::HtmlInForeign,
+        PageRefusal::DocumentType,
+        PageRefusal::Unsettled,
+    ] {
+        write!(shown, "{}: {refusal}\n", refusal.number())?;
+    }
+    assert_text(&shown, REFUSALS)
 }
 
 /// Values whose fields are not shown.

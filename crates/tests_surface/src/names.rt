@@ -56,9 +56,10 @@ mod all_types {
         HtmlIntrospector, HtmlNode, HtmlOptions, HtmlOutput, HtmlPosition, HtmlSliceExt, HtmlTag,
         IconSize, ImageCandidate, Inline, IntoAttr, Item, Length, ListType, Locale, Location,
         Moment, NameFault, NameTable, NativeType, NoneEmpty, NoneUndefined, NoneValue, OnOffBool,
-        PageText, Paint, Pair, Place, Point, Properties, PropertiesBuilder, Property, Ratio,
-        ReadFault, Refused, Rel, RepeatedId, Rgba, Role, Separator, Shown, Span, Str, Tag, ToCss,
-        TrueFalseBool, Value, Warning, WarningSink, Whitespace, YesNoBool,
+        PageError, PageFault, PageNote, PageNotes, PageRefusal, PageText, Paint, Pair, Place,
+        Places, Point, Properties, PropertiesBuilder, Property, Ratio, ReadFault, Refused, Rel,
+        RepeatedId, Rgba, Role, Separator, Shown, Span, Str, Tag, ToCss, TrueFalseBool, Value,
+        Warning, WarningSink, Whitespace, YesNoBool,
     };
 }
 
@@ -69,7 +70,7 @@ mod all_calls {
         dead_fragments, dead_links, export, export_linked, fragment_in, fragment_leads, href_to,
         html, html_block_fragment, html_document, html_document_for_bundle, html_in_bundle,
         html_inline_fragment, html_math_fragment, ids_are_distinct, is_depth_limit, laws, output,
-        page_text, place_names, property, push_located, read_html, read_page, repeated_ids,
-        resolve_inline_styles, resolve_links, tag, with_resolved_links,
+        page_text, place_names, property, push_located, read_html, read_page, read_page_bytes,
+        repeated_ids, resolve_inline_styles, resolve_links, tag, with_resolved_links,
     };
 }

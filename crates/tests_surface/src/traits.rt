@@ -16,9 +16,9 @@ use typst_html::{
     FrameFault, FrameItem, FrameWriter, HorizontalDir, HtmlAttr, HtmlAttrs, HtmlElement, HtmlFrame,
     HtmlNode, HtmlOptions, HtmlTag, IconSize, ImageCandidate, Inline, IntoAttr, Length, Locale,
     Location, Moment, NameFault, NativeType, NoneEmpty, NoneUndefined, NoneValue, OnOffBool,
-    PageText, Paint, Place, Point, Properties, Property, Ratio, ReadFault, Refused, Rel,
-    RepeatedId, Rgba, Separator, Span, Str, Tag, ToCss, TrueFalseBool, Warning, WarningSink,
-    Whitespace, YesNoBool, attr, tag,
+    PageError, PageFault, PageNote, PageRefusal, PageText, Paint, Place, Point, Properties,
+    Property, Ratio, ReadFault, Refused, Rel, RepeatedId, Rgba, Separator, Span, Str, Tag, ToCss,
+    TrueFalseBool, Warning, WarningSink, Whitespace, YesNoBool, attr, tag,
 };
 
 fn are_compared<T: Debug + Drop + Eq>() {}
@@ -53,7 +53,8 @@ fn types_that_are_copied() {
     are_copied::<(AutoValue, Datetime, Dir, Duration, Fault)>();
     are_copied::<(HorizontalDir, IconSize, LastCall, Moment, NativeType)>();
     are_copied::<(NoneEmpty, NoneUndefined, NoneValue, OnOffBool, Point)>();
-    are_copied::<(InputPlace, Separator, Settings, Status, Task)>();
+    are_copied::<(InputPlace, PageError, PageFault, PageNote, PageRefusal)>();
+    are_copied::<(Separator, Settings, Status, Task)>();
     are_copied::<(TrueFalseBool, YesNoBool)>();
 }
 
@@ -74,6 +75,9 @@ fn types_that_are_errors() {
     is_error::<FlowFault>();
     is_error::<FrameFault>();
     is_error::<NameFault>();
+    is_error::<PageError>();
+    is_error::<PageFault>();
+    is_error::<PageRefusal>();
     is_error::<ReadFault>();
     is_error::<Refused<u8>>();
     is_error::<Warning>();

@@ -8,6 +8,7 @@ use Rattle.typst_html_encode.specs.Collapsing.{Piece, char, thing, line, edge, m
 use Rattle.typst_html_spaces.specs.SeenBody.{seen_body, tree_body}
 use Rattle.typst_html_page.specs.PageTexts.{page_parts}
 use Rattle.typst_html_page.specs.Parts.{Part, text_part, object_part, line_part, edge_part, put_text, joined_parts, begins_with_edge, stand_apart}
+use Rattle.typst_html_page.specs.Unseen.{seen_element}
 
 with_char : (c : ℕ) (ps : List Part) → stand_apart ps ≡ true → stand_apart (put_text (c ∷ []) ps) ≡ true
 with_char c [] e = refl
@@ -49,4 +50,4 @@ body_stands_apart None = refl
 body_stands_apart (Some body) = merged_stand_apart false (atoms_pieces false (plains_atoms false body))
 
 pub parts_stand_apart : (root : ElementView) → stand_apart (page_parts root) ≡ true
-parts_stand_apart root = body_stands_apart (tree_body (element_normal root))
+parts_stand_apart root = body_stands_apart (tree_body (element_normal (seen_element root)))

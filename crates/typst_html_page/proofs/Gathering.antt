@@ -2,10 +2,11 @@
 use Rattle.std.proofs.Common.{◌≡◌, ℕ, Bool, true, false, List, [], ◌∷◌, ◌++◌, map, chars, length, eqb, refl, ap, ◌∙◌, sym, append_assoc}
 use Rattle.std.proofs.lemmas.List.{append-nil, map-append}
 use Rattle.std.specs.Str.{IsUtf8}
+use Rattle.html_dom_tree.specs.PlainTree.{nodes_normal}
 use Rattle.html_dom_tree.specs.Tree.{NodeView, NodesView, none, node}
-use Rattle.typst_html_encode.specs.Collapsing.{Atom, visible, ignorable, collapsible, kept, object, break, border, Piece, char, thing, line, edge, is_supported_by, atom_pieces, atoms_pieces, merged_edges, collapsed_pieces}
+use Rattle.typst_html_encode.specs.Collapsing.{Atom, visible, ignorable, collapsible, kept, object, break, border, Piece, char, thing, line, edge, is_supported_by, atom_pieces, atoms_pieces, merged_edges, collapsed_pieces, plains_atoms}
 use Rattle.typst_html_encode.proofs.NodeAtoms.{node_atoms, nodes_atoms, normal_atoms}
-use Rattle.typst_html_page.specs.Gathering.{Page, ended_parts, with_piece, with_pieces, Before, bare, support, blank, released, seen_at, past, Seen, nothing_seen, step, run, final, past_nodes}
+use Rattle.typst_html_page.specs.Gathering.{Page, ended_parts, with_piece, with_pieces, Before, bare, support, blank, released, seen_at, past, Seen, nothing_seen, step, run, final}
 use Rattle.typst_html_page.specs.Parts.{Part, object_part, line_part, edge_part, put_text, joined_parts, begins_with_text}
 use Rattle.typst_html_page.proofs.Parts.{some_chars, put_twice, put_before}
 
@@ -178,16 +179,19 @@ unfolding run
 run-append s [] ys = refl
 run-append s (x ∷ xs) ys = run-append (step s x) xs ys
 
+-- past nodes of which nothing is left out
+abbrev pub past_all : (preserved : Bool) → Seen → NodesView → Seen
+past_all preserved s ns = run s (plains_atoms preserved (nodes_normal ns))
+
 pub past_one : (preserved : Bool) (s : Seen) (n : NodeView) →
-    past_nodes preserved s (node n none) ≡ run s (node_atoms preserved n)
+    past_all preserved s (node n none) ≡ run s (node_atoms preserved n)
 past_one preserved s n =
     ap (run s) (normal_atoms (node n none) preserved ∙ append-nil (node_atoms preserved n))
 
 pub past_first : (preserved : Bool) (s : Seen) (n : NodeView) (ns : NodesView) →
-    past_nodes preserved s (node n ns)
-    ≡ past_nodes preserved (past_nodes preserved s (node n none)) ns
+    past_all preserved s (node n ns) ≡ past_all preserved (past_all preserved s (node n none)) ns
 past_first preserved s n ns =
     ap (run s) (normal_atoms (node n ns) preserved)
     ∙ (run-append s (node_atoms preserved n) (nodes_atoms preserved ns)
     ∙ (ap (λ t. run t (nodes_atoms preserved ns)) (sym (past_one preserved s n))
-    ∙ ap (run (past_nodes preserved s (node n none))) (sym (normal_atoms ns preserved))))
+    ∙ ap (run (past_all preserved s (node n none))) (sym (normal_atoms ns preserved))))

@@ -4,7 +4,7 @@ use Rattle.std.specs.Prelude.{if◌then◌else◌, option_map, unwrap_or}
 use Rattle.html_names.specs.Kinds.{is_line_break, is_replaced}
 use Rattle.html_dom_tree.specs.Attributes.{or_else}
 use Rattle.html_dom_tree.specs.PlainTree.{nodes_normal}
-use Rattle.html_dom_tree.specs.Tree.{TextPair, NodeView, NodesView, tag_node, text_node, element_node, frame_node, none, node}
+use Rattle.html_dom_tree.specs.Tree.{Head, TextPair, NodeView, NodesView, tag_node, text_node, element_node, frame_node, none, node}
 use Rattle.typst_html_encode.specs.Collapsing.{Atom, object, break, border, Piece, preserves, has_border, bordered_atoms, element_atoms, plains_atoms}
 use Rattle.typst_html_encode.specs.IndentsCollapse.{body_children, body_in}
 use Rattle.typst_html_encode.proofs.IndentsCollapse.{past_words}
@@ -12,22 +12,63 @@ use Rattle.typst_html_encode.proofs.NodeAtoms.{normal_atoms}
 use Rattle.typst_html_spaces.specs.SeenBody.{seen_body}
 use Rattle.typst_html_page.specs.Gathering.{Seen, nothing_seen, step, run, border_atoms, final, past_node, past_nodes, with_pieces}
 use Rattle.typst_html_page.specs.Parts.{Part, joined_parts}
-use Rattle.typst_html_page.proofs.Gathering.{gathered_is_seen, run-append, past_one}
+use Rattle.typst_html_page.specs.Unseen.{is_unseen, seen_nodes}
+use Rattle.typst_html_page.proofs.Gathering.{gathered_is_seen, run-append, past_all, past_one, past_first}
 
 -- one node
 
-pub past_node_is : (preserved : Bool) (s : Seen) (n : NodeView) →
-    past_node preserved s n ≡ past_nodes preserved s (node n none)
+past_by_seen : (unseen : Bool) (preserved : Bool) (s : Seen) (h : Head) (kids : NodesView) →
+    (if unseen then s else run s (element_atoms h.name h.attrs
+    (plains_atoms (preserved || preserves h.name h.attrs) (nodes_normal kids))))
+    ≡ past_all preserved s (if unseen then none else node (element_node h kids) none)
 unfolding run nodes_normal
-past_node_is preserved s (tag_node t) = refl
-past_node_is preserved s (text_node text span) = sym (past_one preserved s (text_node text span))
-past_node_is preserved s (element_node h kids) =
+past_by_seen true preserved s h kids = refl
+past_by_seen false preserved s h kids =
     ap (λ l. run s (element_atoms h.name h.attrs l))
     (normal_atoms kids (preserved || preserves h.name h.attrs))
     ∙ sym (past_one preserved s (element_node h kids))
+
+pub past_node_is : (preserved : Bool) (s : Seen) (n : NodeView) →
+    past_node preserved s n ≡ past_nodes preserved s (node n none)
+unfolding run nodes_normal seen_nodes
+past_node_is preserved s (tag_node t) = refl
+past_node_is preserved s (text_node text span) = sym (past_one preserved s (text_node text span))
+past_node_is preserved s (element_node h kids) =
+    past_by_seen (is_unseen h.name h.attrs) preserved s h (seen_nodes kids)
 past_node_is preserved s (frame_node b) = refl
 
+-- nodes one after the other
+
+first_by_seen : (unseen : Bool) (preserved : Bool) (s : Seen) (n : NodeView) (ns : NodesView) →
+    past_all preserved s (if unseen then ns else node n ns)
+    ≡ past_all preserved (past_all preserved s (if unseen then none else node n none)) ns
+unfolding run nodes_normal
+first_by_seen true preserved s n ns = refl
+first_by_seen false preserved s n ns = past_first preserved s n ns
+
+pub past_both : (preserved : Bool) (s : Seen) (n : NodeView) (ns : NodesView) →
+    past_nodes preserved s (node n ns)
+    ≡ past_nodes preserved (past_nodes preserved s (node n none)) ns
+unfolding seen_nodes
+past_both preserved s (tag_node t) ns = past_first preserved s (tag_node t) (seen_nodes ns)
+past_both preserved s (text_node text span) ns =
+    past_first preserved s (text_node text span) (seen_nodes ns)
+past_both preserved s (element_node h kids) ns =
+    first_by_seen (is_unseen h.name h.attrs) preserved s (element_node h (seen_nodes kids))
+    (seen_nodes ns)
+past_both preserved s (frame_node b) ns = past_first preserved s (frame_node b) (seen_nodes ns)
+
 -- an element
+
+module _ (preserved : Bool) (s : Seen) (h : Head) (kids : NodesView) where
+  pub past_unseen : is_unseen h.name h.attrs ≡ true → s ≡ past_node preserved s (element_node h kids)
+  past_unseen is = rw is refl
+
+  pub past_seen : is_unseen h.name h.attrs ≡ false →
+      run s (element_atoms h.name h.attrs (plains_atoms (preserved || preserves h.name h.attrs)
+      (nodes_normal (seen_nodes kids))))
+      ≡ past_node preserved s (element_node h kids)
+  past_seen other = rw other refl
 
 between_borders : (b : Bool) (s t u v : Seen) (inner : List Atom) → t ≡ run s (border_atoms b) →
     u ≡ run t inner → v ≡ run u (border_atoms b) → v ≡ run s (bordered_atoms b inner)
@@ -65,10 +106,23 @@ by_name : (b : Bool) (kids : NodesView) (rest : Option NodesView) →
 by_name true kids rest = refl
 by_name false kids rest = refl
 
+first_body_by_seen : (unseen : Bool) (h : Head) (kids ns : NodesView) →
+    body_children (if unseen then ns else node (element_node h kids) ns)
+    ≡ or_else (body_children (if unseen then none else node (element_node h kids) none))
+    (body_children ns)
+first_body_by_seen true h kids ns = refl
+first_body_by_seen false h kids ns =
+    by_name (bytes_eq h.name (codes "body")) kids (body_children ns)
+
 pub body_first : (n : NodeView) (ns : NodesView) →
-    body_children (node n ns) ≡ or_else (body_children (node n none)) (body_children ns)
-body_first (element_node h kids) ns = by_name (bytes_eq h.name (codes "body")) kids (body_children ns)
-body_first x ns = refl
+    body_children (seen_nodes (node n ns))
+    ≡ or_else (body_children (seen_nodes (node n none))) (body_children (seen_nodes ns))
+unfolding seen_nodes
+body_first (tag_node t) ns = refl
+body_first (text_node s span) ns = refl
+body_first (element_node h kids) ns =
+    first_body_by_seen (is_unseen h.name h.attrs) h (seen_nodes kids) (seen_nodes ns)
+body_first (frame_node b) ns = refl
 
 normal_by_name : (b : Bool) (kids ns : NodesView) →
     body_in (nodes_normal ns) ≡ option_map nodes_normal (body_children ns) →
@@ -77,7 +131,7 @@ normal_by_name : (b : Bool) (kids ns : NodesView) →
 normal_by_name true kids ns e = refl
 normal_by_name false kids ns e = e
 
-body_in_normal : (ns : NodesView) →
+pub body_in_normal : (ns : NodesView) →
     body_in (nodes_normal ns) ≡ option_map nodes_normal (body_children ns)
 unfolding nodes_normal
 body_in_normal none = refl
@@ -100,10 +154,10 @@ seen_by : (ns : NodesView) (o : Option NodesView) → body_children ns ≡ o →
 seen_by ns o e =
     ap (λ l. unwrap_or (seen_body l) []) (body_in_normal ns ∙ ap (option_map nodes_normal) e)
 
-pub body_seen : (ns body : NodesView) (s t : Seen) → body_children ns ≡ Some body → s ≡ nothing_seen →
-    t ≡ past_nodes false s body → final t ≡ parts_in ns
-body_seen ns body s t is e f =
-    ap final (f ∙ ap (λ l. past_nodes false l body) e)
+pub body_seen : (ns kids body : NodesView) (s t : Seen) → body_children ns ≡ Some body →
+    seen_nodes kids ≡ body → s ≡ nothing_seen → t ≡ past_nodes false s kids → final t ≡ parts_in ns
+body_seen ns kids body s t is of e f =
+    ap final (f ∙ (ap (λ l. past_nodes false l kids) e ∙ ap (past_all false nothing_seen) of))
     ∙ (gathered_is_seen (plains_atoms false (nodes_normal body))
     ∙ ap joined_parts (sym (seen_by ns (Some body) is)))
 

@@ -5,6 +5,7 @@ use Rattle.html_dom_tree.specs.PlainTree.{nodes_normal}
 use Rattle.html_dom_tree.specs.Tree.{NodeView, tag_node, text_node, element_node, frame_node, NodesView}
 use Rattle.typst_html_encode.specs.Collapsing.{Atom, visible, ignorable, collapsible, kept, object, break, border, Piece, char, thing, line, edge, text_atoms, preserves, element_atoms, plains_atoms}
 use Rattle.typst_html_page.specs.Parts.{Part, object_part, line_part, edge_part, put_text}
+use Rattle.typst_html_page.specs.Unseen.{is_unseen, seen_nodes}
 
 -- parts that are complete, in which neighbouring edges are one, the text behind them, and whether an
 -- edge stands last
@@ -115,10 +116,11 @@ final s = ended_parts (with_pieces s.page (released false s.before))
 abbrev pub past_node : (preserved : Bool) → Seen → NodeView → Seen
 past_node preserved s (tag_node t) = s
 past_node preserved s (text_node text span) = run s (text_atoms preserved text)
-past_node preserved s (element_node h kids) = run s (element_atoms h.name h.attrs
-    (plains_atoms (preserved || preserves h.name h.attrs) (nodes_normal kids)))
+past_node preserved s (element_node h kids) = if is_unseen h.name h.attrs then s
+    else run s (element_atoms h.name h.attrs
+    (plains_atoms (preserved || preserves h.name h.attrs) (nodes_normal (seen_nodes kids))))
 past_node preserved s (frame_node b) = s
 
 -- past the nodes of a list
 abbrev pub past_nodes : (preserved : Bool) → Seen → NodesView → Seen
-past_nodes preserved s ns = run s (plains_atoms preserved (nodes_normal ns))
+past_nodes preserved s ns = run s (plains_atoms preserved (nodes_normal (seen_nodes ns)))

@@ -4,3 +4,4 @@ pub mod PageTexts
 pub mod PageViews
 pub mod Parts
 pub mod PlainTexts
+pub mod Unseen

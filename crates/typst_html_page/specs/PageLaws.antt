@@ -1,14 +1,28 @@
 -- What is shown of a page that was read.
-use Rattle.std.specs.Prelude.{◌≡◌, ℕ, List, Some}
-use Rattle.html_dom_tree.specs.Tree.{ElementView}
+use Rattle.std.specs.Prelude.{◌≡◌, ℕ, true, List, Some}
+use Rattle.html_dom_tree.specs.Tree.{NodesView, ElementView}
 use Rattle.typst_html_encode.specs.Collapsing.{Piece}
+use Rattle.typst_html_encode.specs.FrameWriters.{Frames}
+use Rattle.typst_html_encode.specs.IndentsCollapse.{NodesAreEdged, body_children}
 use Rattle.typst_html_encode.specs.Reader.{read}
+use Rattle.typst_html_encode.specs.Text.{document_text}
+use Rattle.typst_html_encode.specs.declared.options.HtmlOptions.{HtmlOptions}
 use Rattle.typst_html_read.specs.PlainElements.{accepted}
-use Rattle.typst_html_spaces.specs.SeenBody.{seen_text}
+use Rattle.typst_html_spaces.specs.SeenBody.{CanBeRead, seen_text}
 use Rattle.typst_html_page.specs.PageTexts.{page_pieces}
+use Rattle.typst_html_page.specs.Unseen.{seen_element, shows_all}
 
--- of an element that was read that is shown which is seen of the body of the text that it was read
--- from
+-- of an element that was read, whose body hides nothing, that is shown which is seen of the body of
+-- the text that it was read from
 abbrev pub ReadPagesAreSeen : Type 0
 ReadPagesAreSeen = (text : List ℕ) (root : ElementView) (pieces : List Piece) →
-    accepted (read text) ≡ Some root → seen_text text ≡ Some pieces → page_pieces root ≡ pieces
+    accepted (read text) ≡ Some root → shows_all root ≡ true → seen_text text ≡ Some pieces →
+    page_pieces root ≡ pieces
+
+-- of any element that is shown which is seen of the body of the text that the element without what
+-- is unseen is written as, if that can be read back and what has indents in its body is a border
+abbrev pub UnseenPartsAreLeftOut : Type 0
+UnseenPartsAreLeftOut = (frames : Frames) (options : HtmlOptions) (root : ElementView)
+    (body : NodesView) → CanBeRead frames options (seen_element root) →
+    body_children (seen_element root).1 ≡ Some body → NodesAreEdged body →
+    seen_text (document_text frames options (seen_element root)) ≡ Some (page_pieces root)

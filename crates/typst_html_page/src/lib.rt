@@ -6,6 +6,7 @@ mod page;
 mod seen;
 mod shown;
 mod style;
+mod unseen;
 mod walk;
 
 pub use shown::{PageText, Shown};

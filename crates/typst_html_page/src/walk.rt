@@ -8,17 +8,31 @@ ghost use Rattle.typst_html_page.specs.Gathering.{past_node, past_nodes};
 ghost use Rattle.typst_html_page.specs.PageTexts.{page_parts};
 ghost use Rattle.typst_html_page.specs.PageViews.{page_text_view, seen_view};
 ghost use Rattle.typst_html_page.specs.Parts.{stand_apart};
+ghost use Rattle.typst_html_page.specs.Unseen.{seen_element, seen_nodes};
 
 use crate::seen::Seen;
 use crate::shown::PageText;
 use crate::style::{has_border, is_line_break, preserves_inside};
+use crate::unseen::is_unseen;
 use html_dom_tree::{HtmlElement, HtmlNode};
 use html_names::tag;
 use std::alloc::{AllocError, Global};
 
-/// What a browser shows of a root's body, the first of its children that is named `body`, once white
-/// space has collapsed (CSS Text, white space processing, as this project states it). A root without
-/// such a child shows nothing, and neither does a frame. It fails only where an allocation does.
+/// What a browser shows of a root's body, the first of its children that is named `body` and not
+/// hidden, once white space has collapsed (CSS Text, white space processing, as this project states
+/// it). A root without such a child shows nothing, and neither does a frame. It fails only where an
+/// allocation does.
+///
+/// An element is hidden, with all that is in it, if HTML Standard 15.3.1 gives it `display: none`:
+///
+/// - `area`, `base`, `basefont`, `datalist`, `head`, `link`, `meta`, `noembed`, `noframes`, `param`,
+///   `rp`, `script`, `style`, `template` and `title`, in SVG too, where they are elements of its own;
+/// - one with the attribute `hidden`, unless its value is `until-found` in any ASCII case, or the
+///   element is an `embed`;
+/// - an `input` whose `type` is `hidden` in any ASCII case.
+///
+/// Of an attribute that comes more than once the first counts. It is as if these elements were not
+/// there. A `noscript` is shown, as it is where scripting is disabled.
 ///
 /// A tab, line feed, carriage return or space is shown as a space where it is supported by what
 /// stands before it and by what stands after it, further such blanks after it aside; else it is not
@@ -31,14 +45,15 @@ use std::alloc::{AllocError, Global};
 /// as they are. An edge stands where a block, a list item, a table or a caption, row group, row or
 /// cell of one begins and ends, by default, and so where the first `style` is exactly
 /// `display: block` or the latter of the two. Neighbouring edges are one. A replaced element is one
-/// object, whatever is in it, and a `br` a line break alone. No other css counts, nor whether an
-/// element is hidden, as `script` is.
+/// object, whatever is in it, and a `br` a line break alone. No other css counts: what it hides is
+/// shown, as a `dialog` or what stands in `details` that are not open.
 ///
 /// All characters that are shown side by side are one text, also those of several nodes, so no text
 /// is empty, and neither two texts nor two edges stand side by side.
 ///
-/// Items in plain flow are shown as they are: of what is read of the text that `export` makes of
-/// them without footnotes, plain or pretty, the page text is exactly the items' text.
+/// Items in plain flow are shown as they are, where none of them is hidden: of what is read of the
+/// text that `export` makes of them without footnotes, plain or pretty, the page text is exactly the
+/// items' text.
 ///
 /// Cost: grows with the size of the tree.
 ///
@@ -58,20 +73,31 @@ pub fn page_text(alloc: Global, root: &HtmlElement) -> Result<PageText, AllocErr
     ensures apart { IfOk result (λ text. IsTrue (stand_apart (page_text_view text))) }
 {
     let mut seen = Seen::new(alloc);
-    if let Some(body) = body_of(&root.children) {
+    if let Some(body) = seen_body(root) {
         add_nodes(&body.children, false, &mut seen)?;
     }
     seen.into_page_text()
 }
 
-#[tactic(auto, unfolding(html_names::specs::Tables::known_tags))]
+/// The body of a root that is not hidden.
+fn seen_body(root: &HtmlElement) -> Option<&HtmlElement>
+    ensures { option_map (λ body. seen_nodes (element_view body.now).1) result
+        ≡ body_children (seen_element (element_view root.now)).1 }
+{
+    if is_unseen(root) {
+        return None;
+    }
+    body_of(&root.children)
+}
+
+#[tactic(auto, unfolding(html_names::specs::Tables::known_tags, crate::specs::Unseen::seen_nodes))]
 fn as_body(child: &HtmlNode) -> Option<&HtmlElement>
-    ensures { option_map (λ body. (element_view body.now).1) result
-        ≡ body_children (node (node_view child.now) none) }
+    ensures { option_map (λ body. seen_nodes (element_view body.now).1) result
+        ≡ body_children (seen_nodes (node (node_view child.now) none)) }
 {
     match child {
         HtmlNode::Element(element) => {
-            if element.tag == tag::body {
+            if element.tag == tag::body && !is_unseen(element) {
                 Some(element)
             } else {
                 None
@@ -81,10 +107,10 @@ fn as_body(child: &HtmlNode) -> Option<&HtmlElement>
     }
 }
 
-/// The first element of the nodes whose name is `body`.
+/// The first element of the nodes whose name is `body` and that is not hidden.
 fn body_of(nodes: &[HtmlNode]) -> Option<&HtmlElement>
-    ensures { option_map (λ body. (element_view body.now).1) result
-        ≡ body_children (nodes_view nodes.now) }
+    ensures { option_map (λ body. seen_nodes (element_view body.now).1) result
+        ≡ body_children (seen_nodes (nodes_view nodes.now)) }
 {
     for child in nodes {
         if let Some(body) = as_body(child) {
@@ -103,6 +129,9 @@ fn add_element(element: &HtmlElement, preserved: bool, seen: &mut Seen) -> Resul
         OnOk result (seen_view seen.new
         ≡ past_node preserved (seen_view seen.old) (element_node e.0 e.1)) }
 {
+    if is_unseen(element) {
+        return Ok(());
+    }
     if is_line_break(&element.tag) {
         return seen.line_break();
     }

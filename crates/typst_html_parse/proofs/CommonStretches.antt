@@ -1,21 +1,23 @@
 -- Stretches of common characters are read as these characters one by one.
-use Rattle.std.proofs.Common.{◌≡◌, ℕ, ◌+◌, ◌-◌, true, false, not, ◌&&◌, ◌||◌, List, [], ◌∷◌, ◌++◌, length, eqb, ne_eqb, refl, sym, ap, ◌∙◌, arith, append_assoc, Ok}
+use Rattle.std.proofs.Common.{◌≡◌, ℕ, ◌+◌, ◌-◌, true, false, not, ◌&&◌, ◌||◌, List, [], ◌∷◌, ◌++◌, length, eqb, ne_eqb, refl, sym, ap, ◌∙◌, arith, append_assoc, append_nil, Ok}
 use Rattle.std.proofs.lemmas.Bool.{and_parts, false≢true}
 use Rattle.html_names.specs.Characters.{all}
+use Rattle.std.proofs.lemmas.Str.{len_utf8_ascii}
 use Rattle.typst_html_encode.specs.PlainStretches.{is_common}
-use Rattle.typst_html_parse.specs.CommonStretches.{behind_char, behind_stretch, in_data}
+use Rattle.typst_html_encode.proofs.Stretches.{common_small}
+use Rattle.typst_html_parse.specs.CommonStretches.{behind_char, behind_quoted, behind_stretch, in_data, in_quotes}
 use Rattle.typst_html_parse.specs.PageReading.{run}
-use Rattle.typst_html_parse.specs.PageTokens.{Reading, step}
+use Rattle.typst_html_parse.specs.PageTokens.{TagDraft, Reading, step}
 use Rattle.typst_html_parse.specs.ReaderViews.{state_at}
 use Rattle.typst_html_parse.specs.declared.reader.Reader.{Reader}
 use Rattle.typst_html_parse.specs.declared.reader.State.{State}
 use Rattle.typst_html_parse.specs.declared.reader.State.TheVariants as state
 use Rattle.typst_html_parse.specs.declared.reading.Reading as declared
-use Rattle.typst_html_parse_tree.specs.Pages.{Page, Char, ◌next◌}
-use Rattle.typst_html_parse_tree.specs.OpenElements.{mode}
+use Rattle.typst_html_parse_open.specs.Pages.{Page, Char, ◌next◌}
+use Rattle.typst_html_parse_open.specs.OpenElements.{mode}
 use Rattle.typst_html_parse_tree.specs.PageTrees.{is_foreign_token, is_unseen}
-use Rattle.typst_html_parse_tree.specs.declared.modes.Mode.{Mode}
-use Rattle.typst_html_parse_tree.specs.declared.modes.Mode.TheVariants.{InText}
+use Rattle.typst_html_parse_open.specs.declared.modes.Mode.{Mode}
+use Rattle.typst_html_parse_open.specs.declared.modes.Mode.TheVariants.{InText}
 use Rattle.typst_html_parse_tree.specs.TakenTexts.{mode_takes_text, takes_text}
 use Rattle.typst_html_parse_tree.proofs.TakenTexts.{text_taken}
 
@@ -46,6 +48,7 @@ char_step c r h f t =
       other c 13 h refl,
       other c 60 h refl,
       other c 38 h refl,
+      len_utf8_ascii c (common_small c h),
       f,
       taken,
     ) refl
@@ -58,6 +61,52 @@ front_run (c ∷ front) cs r h f t =
     let both = and_parts (is_common c) (all is_common front) h in
     ap (λ x. x next (λ q. run q (front ++ cs))) (char_step c r both.0 f t)
     ∙ front_run front cs (behind_char c r) both.1 refl (taken_still (r.page.text ++ c ∷ []) r.place r.page ∙ t)
+
+quoted_step : (c : ℕ) (tag : TagDraft) (attr value : List ℕ) (r : Reading) →
+    is_common c ≡ true → step (in_quotes tag attr value r) c
+    ≡ Ok (in_quotes tag attr (value ++ c ∷ []) (record r { place = r.place + 1; after_return = false }))
+unfolding is_common
+quoted_step c tag attr value r h =
+    rw (
+      other c 0 h refl,
+      other c 10 h refl,
+      other c 13 h refl,
+      other c 34 h refl,
+      other c 38 h refl,
+      len_utf8_ascii c (common_small c h),
+    ) refl
+
+pub quoted_run : (front cs : List ℕ) (tag : TagDraft) (attr value : List ℕ) (r : Reading) →
+    all is_common front ≡ true → run (in_quotes tag attr value r) (front ++ cs)
+    ≡ run (in_quotes tag attr (value ++ front) (behind_quoted front r)) cs
+quoted_run [] cs tag attr value r h =
+    ap (λ v. run (in_quotes tag attr v r) cs) (sym (append_nil value))
+quoted_run (c ∷ front) cs tag attr value r h =
+    let both = and_parts (is_common c) (all is_common front) h in
+    let q = record r { place = r.place + 1; after_return = false } in
+    ap (λ x. x next (λ q. run q (front ++ cs))) (quoted_step c tag attr value r both.0)
+    ∙ (quoted_run front cs tag attr (value ++ c ∷ []) q both.1
+    ∙ ap (λ v. run (in_quotes tag attr v (behind_quoted front q)) cs)
+    (append_assoc value (c ∷ []) front))
+
+pub quoted_form : (c : ℕ) (cs : List ℕ) (r : Reading) → behind_quoted (c ∷ cs) r
+    ≡ record r { place = r.place + length (c ∷ cs); after_return = false }
+quoted_form c [] r = refl
+quoted_form c (d ∷ ds) r =
+    quoted_form d ds (record r { place = r.place + 1; after_return = false })
+    ∙ ap (λ n. record r { place = n; after_return = false })
+    {x = r.place + 1 + length (d ∷ ds)} {y = r.place + length (c ∷ d ∷ ds)} (omega arith)
+
+pub quoted_some : (front : List ℕ) (r : Reading) → eqb (length front) 0 ≡ false →
+    behind_quoted front r
+    ≡ record r { place = r.place + length front; after_return = false }
+quoted_some [] r h = absurd (false≢true (sym h))
+quoted_some (c ∷ cs) r h = quoted_form c cs r
+
+pub quoted_place : (front : List ℕ) (r : Reading) →
+    (behind_quoted front r).place ≡ r.place + length front
+quoted_place [] r = omega arith
+quoted_place (c ∷ cs) r = ap (λ r. r.place) (quoted_form c cs r)
 
 abbrev pub grown : Reading → (text : List ℕ) (start place : ℕ) → Reading
 grown r text start place = record {

@@ -1,9 +1,9 @@
 -- Reading that stops does so whatever would follow.
 use Rattle.std.proofs.Common.{ap}
-use Rattle.typst_html_parse_tree.specs.Endings.{IsHalt}
-use Rattle.typst_html_parse_tree.specs.Pages.{Reads, ◌next◌}
-use Rattle.typst_html_parse_tree.specs.declared.fault.Halt.{Halt}
-use Rattle.typst_html_parse_tree.specs.declared.fault.Halt.TheVariants.{OutOfMemory, Refused}
+use Rattle.typst_html_parse_open.specs.Endings.{IsHalt}
+use Rattle.typst_html_parse_open.specs.Pages.{Reads, ◌next◌}
+use Rattle.typst_html_parse_open.specs.declared.fault.Halt.{Halt}
+use Rattle.typst_html_parse_open.specs.declared.fault.Halt.TheVariants.{OutOfMemory, Refused}
 
 pub halt_next : {A B : Type 0} (x : Reads A) (f : A → Reads B) (e : Halt) → IsHalt x e →
     IsHalt (x next f) e

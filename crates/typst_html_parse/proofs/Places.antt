@@ -1,18 +1,13 @@
 -- Places in a page, one character after the other.
-use Rattle.std.proofs.Common.{◌≡◌, ℕ, zero, suc, ◌+◌, ◌-◌, ◌<◌, ◌≤◌, Bool, not, ◌&&◌, ◌||◌, inl, inr, eqb, List, [], ◌∷◌, take, refl, ap, arith}
+use Rattle.std.proofs.Common.{◌≡◌, ℕ, ◌+◌, ◌<◌, ◌≤◌, Bool, not, ◌&&◌, ◌||◌, inl, inr, eqb, List, [], ◌∷◌, ◌++◌, chars, length, refl, sym, ap, ◌∙◌, arith, length-append}
 use Rattle.std.specs.Prelude.{if◌then◌else◌}
 use Rattle.std.specs.Char.{len_utf8}
-use Rattle.std.proofs.lemmas.Bool.{cases_Bool}
-use Rattle.typst_html_parse.specs.PagePlaces.{next_place, place_behind}
+use Rattle.std.proofs.lemmas.Bool.{cases_Bool, le-leb, lt-leb}
+use Rattle.std.proofs.lemmas.Str.{length-encode, len_utf8_bounds}
+use lib.Utf8.{encode}
+use Rattle.typst_html_parse.specs.PagePlaces.{next_place, place_at, place_from}
+use Rattle.typst_html_parse.specs.ReachedPlaces.{IsReached}
 use Rattle.typst_html_read.specs.declared.place.Place.{Place}
-
--- of those that are to come, the first is passed
-pub one_more : (b : Bool) (p : Place) (count done c : ℕ) (cs : List ℕ) → done < count →
-    place_behind b p (take (count - done) (c ∷ cs))
-    ≡ place_behind (eqb c 13) (next_place b p c) (take (count - (done + 1)) cs)
-one_more b p count done c cs h =
-    let more : count - done ≡ suc (count - (done + 1)) = omega arith in
-    ap (λ n. place_behind b p (take n (c ∷ cs))) more
 
 line_at_most : (t : Bool) (n : ℕ) → (if t then n + 1 else n) ≤ n + 1
 line_at_most t n = elim (cases_Bool t) [
@@ -41,6 +36,38 @@ passed b p q c e = rw e (
   column_at_most (eqb c 13 || eqb c 10) (eqb c 0xfeff && eqb p.offset 0) p.column,
 )
 
-pub none_more : (b : Bool) (p : Place) (n : ℕ) → place_behind b p (take n []) ≡ p
-none_more b p zero = refl
-none_more b p (suc n) = refl
+-- a place that is not yet reached is found from the next one
+pub one_more : (b : Bool) (p : Place) (c : ℕ) (cs : List ℕ) (offset : ℕ) → p.offset < offset →
+    place_from b p (c ∷ cs) offset ≡ place_from (eqb c 13) (next_place b p c) cs offset
+one_more b p c cs offset h = rw (lt-leb offset p.offset h) refl
+
+-- a place that is reached
+pub none_more : (b : Bool) (p : Place) (cs : List ℕ) (offset : ℕ) → offset ≤ p.offset →
+    place_from b p cs offset ≡ p
+none_more b p [] offset h = refl
+none_more b p (c ∷ cs) offset h = rw (le-leb offset p.offset h) refl
+
+-- the next place is reached
+pub next_reached : (text rest later : List ℕ) (b : Bool) (p q : Place) (c : ℕ) →
+    q ≡ next_place b p c → rest ≡ encode c ++ later → chars rest ≡ c ∷ chars later →
+    IsReached text rest p b → IsReached text later q (eqb c 13)
+next_reached text rest later b p q c e parts left at =
+    let one = passed b p q c e in
+    record {
+      same = λ offset h.
+          let before : p.offset < offset = omega (arith, one.0, h, len_utf8_bounds c) in
+          ap (λ x. place_from (eqb c 13) x (chars later) offset) e
+          ∙ (sym (one_more b p c (chars later) offset before)
+          ∙ (ap (λ cs. place_from b p cs offset) (sym left)
+          ∙ at.same offset (omega (arith, before))));
+      room = omega (
+        arith,
+        at.room,
+        one.0,
+        ap length parts,
+        length-append (encode c) later,
+        length-encode c,
+      );
+      line = omega (arith, at.line, one.0, one.1, len_utf8_bounds c);
+      column = omega (arith, at.column, one.0, one.2, len_utf8_bounds c);
+    }

@@ -1,9 +1,11 @@
--- Stretches of common characters in a text, each of which is only added to the current node.
+-- Stretches of common characters, each of which is only added to the current node or to a value.
 use Rattle.std.specs.Prelude.{◌≡◌, ℕ, ◌+◌, true, false, List, [], ◌∷◌, chars, length, ◌≤◌}
 use Rattle.std.specs.Str.{IsUtf8}
 use Rattle.typst_html_parse.specs.PageReading.{run}
-use Rattle.typst_html_parse.specs.PageTokens.{Data, PageReader, Reading, beginning}
-use Rattle.typst_html_parse_tree.specs.Pages.{with_char}
+use Rattle.typst_html_parse.specs.PageTokens.{TagDraft, Data, Value, PageReader, Reading, beginning}
+use Rattle.typst_html_parse.specs.declared.reader.Reader.{Reader}
+use Rattle.typst_html_parse.specs.declared.reader.State.TheVariants as state
+use Rattle.typst_html_parse_open.specs.Pages.{with_char}
 use Rattle.typst_html_parse_tree.specs.TakenTexts.{takes_text}
 
 -- in a text
@@ -27,6 +29,20 @@ behind_char c r = record {
 abbrev pub behind_stretch : List ℕ → Reading → Reading
 behind_stretch [] r = r
 behind_stretch (c ∷ cs) r = behind_stretch cs (behind_char c r)
+
+-- in a value in double quotes
+abbrev pub in_quotes : TagDraft → (attr value : List ℕ) → Reading → PageReader
+in_quotes tag attr value r = record { state = Value tag attr value 34; reading = r }
+
+pub record IsInQuotes (r : Reader) : Type 0 where
+  pub state : r.state ≡ state.Value
+  pub quote : r.draft.quote ≡ 34
+
+-- behind characters of it
+abbrev pub behind_quoted : List ℕ → Reading → Reading
+behind_quoted [] r = r
+behind_quoted (c ∷ cs) r =
+    behind_quoted cs (record r { place = r.place + 1; after_return = false })
 
 -- of the text, some characters are read, and the rest is left
 pub record ReadsFront (old new : PageReader) (text rest : List ℕ) : Type 0 where

@@ -4,8 +4,8 @@ use Rattle.std.specs.Prelude.{ℕ, Bool, true, false, List, [], ◌∷◌, ◌++
 use Rattle.std.specs.Char.{to_ascii_lowercase}
 use Rattle.html_names.specs.Names.{stands_in}
 use Rattle.typst_html_parse_tree.specs.PageBodies.{is_space}
-use Rattle.typst_html_parse_tree.specs.declared.modes.TableRule.{TableRule}
-use Rattle.typst_html_parse_tree.specs.declared.modes.TableRule.TheVariants.{ClosesP, Unknown}
+use Rattle.typst_html_parse_open.specs.declared.modes.TableRule.{TableRule}
+use Rattle.typst_html_parse_open.specs.declared.modes.TableRule.TheVariants.{ClosesP, Unknown}
 
 -- in small letters, and with one space in place of blanks, but none at the end; and whether a blank
 -- stands before

@@ -1,9 +1,9 @@
 -- How the rules of the reader end: as it is expected, or reading stops as it is expected; want of memory
 -- may come before.
 use Rattle.std.specs.Prelude.{◌≡◌, Result, Ok, OnOk, IfErr}
-use Rattle.typst_html_parse_tree.specs.Endings.{IsHalt}
-use Rattle.typst_html_parse_tree.specs.Pages.{Reads}
-use Rattle.typst_html_parse_tree.specs.declared.fault.Halt.{Halt}
+use Rattle.typst_html_parse_open.specs.Endings.{IsHalt}
+use Rattle.typst_html_parse_open.specs.Pages.{Reads}
+use Rattle.typst_html_parse_open.specs.declared.fault.Halt.{Halt}
 use Rattle.typst_html_parse.specs.PageTokens.{TagDraft, Reading, PageReader}
 
 -- a character moves the reader so

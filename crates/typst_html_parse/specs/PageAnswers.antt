@@ -6,14 +6,14 @@ use Rattle.std.specs.Str.Lossy.{utf8_valid_len}
 use Rattle.html_dom_tree.specs.Tree.{ElementView}
 use Rattle.html_dom_tree.specs.Views.{element_view}
 use Rattle.html_dom_tree.specs.declared.node.HtmlElement.{HtmlElement}
-use Rattle.typst_html_parse_tree.specs.Endings.{IsHalt}
-use Rattle.typst_html_parse_tree.specs.PageViews.{notes_of}
-use Rattle.typst_html_parse_tree.specs.Pages as pages
-use Rattle.typst_html_parse_tree.specs.Pages.{Reads}
-use Rattle.typst_html_parse_tree.specs.declared.error.PageError.{PageError}
-use Rattle.typst_html_parse_tree.specs.declared.fault.Halt.{Halt}
-use Rattle.typst_html_parse_tree.specs.declared.fault.Halt.TheVariants as halt
-use Rattle.typst_html_parse_tree.specs.declared.notes.Notes.{Notes}
+use Rattle.typst_html_parse_open.specs.Endings.{IsHalt}
+use Rattle.typst_html_parse_open.specs.PageViews.{notes_of}
+use Rattle.typst_html_parse_open.specs.Pages as pages
+use Rattle.typst_html_parse_open.specs.Pages.{Reads}
+use Rattle.typst_html_parse_open.specs.declared.error.PageError.{PageError}
+use Rattle.typst_html_parse_open.specs.declared.fault.Halt.{Halt}
+use Rattle.typst_html_parse_open.specs.declared.fault.Halt.TheVariants as halt
+use Rattle.typst_html_parse_open.specs.declared.notes.Notes.{Notes}
 use Rattle.typst_html_parse.specs.PagePlaces.{place_at}
 use Rattle.typst_html_parse.specs.PageReading.{page_read}
 use Rattle.typst_html_parse.specs.PageTokens.{PageReader}

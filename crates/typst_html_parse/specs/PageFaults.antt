@@ -1,6 +1,6 @@
 -- The numbers of faults of pages.
 use Rattle.std.specs.Prelude.{ℕ}
-use Rattle.typst_html_parse_tree.specs.PageRefusals.{refusal_number}
+use Rattle.typst_html_parse_open.specs.PageRefusals.{refusal_number}
 use Rattle.typst_html_parse.specs.declared.fault.PageFault.{PageFault}
 use Rattle.typst_html_parse.specs.declared.fault.PageFault.TheVariants as fault
 

@@ -2,9 +2,9 @@
 -- second time.
 use Rattle.std.specs.Prelude.{ℕ, false, ◌==◌, List, [], ◌∷◌, if◌then◌else◌, Option, Some, None, Ok, Err}
 use Rattle.html_dom_tree.specs.Tree.{ElementView}
-use Rattle.typst_html_parse_tree.specs.OpenElements.{root_of}
-use Rattle.typst_html_parse_tree.specs.Pages.{Notes, Reads, ◌next◌, first_page, settled}
-use Rattle.typst_html_parse_tree.specs.declared.fault.PageRefusal.TheVariants as refusal
+use Rattle.typst_html_parse_open.specs.OpenElements.{root_of}
+use Rattle.typst_html_parse_open.specs.Pages.{Notes, Reads, ◌next◌, first_page, settled}
+use Rattle.typst_html_parse_open.specs.declared.fault.PageRefusal.TheVariants as refusal
 use Rattle.typst_html_parse.specs.PageTokens.{PageReader, Reading, Data, step, finished}
 
 -- before a text in front of which so many bytes were read

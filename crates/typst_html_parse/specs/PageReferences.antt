@@ -5,8 +5,8 @@ use Rattle.std.specs.Str.Parse.{digits_value}
 use Rattle.html_names.specs.Characters.{is_lower, is_capital, is_digit, is_control, is_noncharacter}
 use Rattle.typst_html_parse_names.specs.NamedReferences.{named_reference, legacy_reference}
 use Rattle.typst_html_parse_tree.specs.PageBodies.{is_space}
-use Rattle.typst_html_parse_tree.specs.declared.error.PageError.{PageError}
-use Rattle.typst_html_parse_tree.specs.declared.error.PageError.TheVariants as error
+use Rattle.typst_html_parse_open.specs.declared.error.PageError.{PageError}
+use Rattle.typst_html_parse_open.specs.declared.error.PageError.TheVariants as error
 
 abbrev pub is_letter : ℕ → Bool
 is_letter c = is_lower c || is_capital c

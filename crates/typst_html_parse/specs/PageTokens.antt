@@ -11,17 +11,17 @@ use Rattle.typst_html_encode.specs.ClosingTags.{is_tag_end, closing, before_clos
 use Rattle.typst_html_read.specs.RawEnds.{ends_in, ends_raw}
 use Rattle.typst_html_parse.specs.DocumentTypes.{table_rule}
 use Rattle.typst_html_parse_names.specs.ForeignNames.{lowered}
-use Rattle.typst_html_parse_tree.specs.OpenElements.{OpenElement, current_name, is_at, is_in_foreign}
+use Rattle.typst_html_parse_open.specs.OpenElements.{OpenElement, current_name, is_at, is_in_foreign}
 use Rattle.typst_html_parse_tree.specs.PageBodies.{is_space}
 use Rattle.typst_html_parse_names.specs.PageNames.{of}
 use Rattle.typst_html_parse_names.specs.declared.kind.Kind.TheVariants as kind
 use Rattle.typst_html_parse.specs.PageReferences.{is_letter, continues, Resolved, resolved}
 use Rattle.typst_html_parse_tree.specs.PageTrees.{token_read, is_unseen}
-use Rattle.typst_html_parse_tree.specs.Pages.{Page, Notes, with_note, StartTag, Token, Char, Start, End, Finish, Reads, ◌next◌}
-use Rattle.typst_html_parse_tree.specs.declared.error.PageError.{PageError}
-use Rattle.typst_html_parse_tree.specs.declared.error.PageError.TheVariants as error
-use Rattle.typst_html_parse_tree.specs.declared.fault.PageRefusal.{PageRefusal}
-use Rattle.typst_html_parse_tree.specs.declared.fault.PageRefusal.TheVariants as refusal
+use Rattle.typst_html_parse_open.specs.Pages.{Page, Notes, with_note, StartTag, Token, Char, Start, End, Finish, Reads, ◌next◌}
+use Rattle.typst_html_parse_open.specs.declared.error.PageError.{PageError}
+use Rattle.typst_html_parse_open.specs.declared.error.PageError.TheVariants as error
+use Rattle.typst_html_parse_open.specs.declared.fault.PageRefusal.{PageRefusal}
+use Rattle.typst_html_parse_open.specs.declared.fault.PageRefusal.TheVariants as refusal
 use Rattle.typst_html_parse.specs.declared.comment.CommentPart.{CommentPart}
 use Rattle.typst_html_parse.specs.declared.comment.CommentPart.TheVariants as comment
 

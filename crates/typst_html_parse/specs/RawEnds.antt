@@ -6,8 +6,8 @@ use Rattle.html_dom_tree.specs.Views.{text_view}
 use Rattle.html_names.specs.declared.html_tag.HtmlTag.{HtmlTag}
 use Rattle.typst_html_encode.specs.ClosingTags.{before_closing}
 use Rattle.typst_html_parse.specs.PageTokens.{ended_name}
-use Rattle.typst_html_parse_tree.specs.PageViews.{stack_of}
-use Rattle.typst_html_parse_tree.specs.declared.page.Page.{Page}
+use Rattle.typst_html_parse_open.specs.PageViews.{stack_of}
+use Rattle.typst_html_parse_open.specs.declared.page.Page.{Page}
 
 -- the closing tag of that name begins at that byte of the text
 pub record IsRawEnd (page : Page) (depth run c : ℕ) (end : Bor HtmlTag × ℕ) : Type 0 where

@@ -1,7 +1,7 @@
 -- The program's reader as that of the definition.
 use Rattle.std.specs.Prelude.{ℕ}
 use Rattle.html_dom_tree.specs.Views.{text_view, attrs_view}
-use Rattle.typst_html_parse_tree.specs.PageViews.{page_of}
+use Rattle.typst_html_parse_open.specs.PageViews.{page_of}
 use Rattle.typst_html_parse.specs.PageReferences as references
 use Rattle.typst_html_parse.specs.PageTokens as tokens
 use Rattle.typst_html_parse.specs.declared.draft.Draft.{Draft}

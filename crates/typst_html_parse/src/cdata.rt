@@ -6,7 +6,7 @@ ghost use Rattle.typst_html_parse.specs.PageTokens as tokens;
 ghost use Rattle.typst_html_parse.specs.ReaderViews.{bracket_count, reader_of, reading_of};
 
 use crate::reader::{Brackets, Reader, State};
-use typst_html_parse_tree::Halt;
+use typst_html_parse_open::Halt;
 
 impl Reader {
     fn stay_in_cdata(&mut self, brackets: Brackets)

@@ -6,7 +6,7 @@ ghost use Rattle.typst_html_parse.specs.PageTokens as tokens;
 ghost use Rattle.typst_html_parse.specs.ReaderViews.{reader_of, reading_of};
 
 use crate::reader::{Reader, State};
-use typst_html_parse_tree::{Halt, PageError};
+use typst_html_parse_open::{Halt, PageError};
 
 /// Where in a comment reading stands (HTML Standard 13.2.5.43 to 13.2.5.52).
 #[derive(Clone, Copy, Debug, PartialEq, Eq)]

@@ -1,16 +1,19 @@
 //! Reading stretches of the characters that most texts are made of.
 
-ghost use Rattle.std.specs.Prelude.{◌≡◌, ◌+◌, ◌<◌, ◌^◌, true, IfErr, IfOk, OnOk, chars, length};
+ghost use Rattle.std.specs.Prelude.{◌≡◌, ◌+◌, ◌++◌, ◌<◌, ◌^◌, true, IfErr, IfOk, OnOk, chars, length};
+ghost use Rattle.html_dom_tree.specs.Views.{text_view};
 ghost use Rattle.html_names.specs.Characters.{all};
 ghost use Rattle.typst_html_encode.specs.PlainStretches.{is_common};
-ghost use Rattle.typst_html_parse.specs.CommonStretches.{behind_stretch, ReadsFront, TakesCommon};
-ghost use Rattle.typst_html_parse.specs.ReaderViews.{reader_of, reading_of};
-ghost use Rattle.typst_html_parse_tree.specs.declared.fault.Halt.TheVariants.{OutOfMemory};
+ghost use Rattle.typst_html_parse.specs.CommonStretches.{behind_quoted, behind_stretch, in_quotes, IsInQuotes, ReadsFront, TakesCommon};
+ghost use Rattle.typst_html_parse.specs.ReaderViews.{draft_of, reader_of, reading_of};
+ghost use Rattle.typst_html_parse_open.specs.declared.fault.Halt.TheVariants.{OutOfMemory};
 
 use crate::reader::{Reader, State};
 use crate::reading::Reading;
 use typst_html_encode::past_common;
-use typst_html_parse_tree::Halt;
+use typst_html_parse_open::Halt;
+use typst_html_parse_tree::takes_text;
+use typst_html_read::text;
 
 impl Reading {
     /// Adds a stretch of common characters to the current node.
@@ -38,22 +41,77 @@ impl Reader {
     fn takes_common(&self) -> bool
         ensures { result ≡ true → TakesCommon (reader_of self.now) }
     {
-        matches!(self.state, State::Data) && !self.reading.fresh && self.reading.page.takes_text()
+        matches!(self.state, State::Data) && !self.reading.fresh && takes_text(&self.reading.page)
+    }
+
+    /// Whether the reader is in a value in double quotes.
+    fn is_in_quotes(&self) -> bool
+        ensures { result ≡ true → IsInQuotes self.now }
+    {
+        matches!(self.state, State::Value) && self.draft.quote == '"'
+    }
+
+    /// Adds a stretch of common characters to the value.
+    fn add_value(&mut self, front: &str) -> Result<(), Halt>
+        requires quoted { IsInQuotes self.old }
+        requires common { all is_common front.now ≡ true }
+        requires room { self.old.reading.place + length front.now < 2 ^ 64 }
+        ensures added { OnOk result (reader_of self.new ≡ in_quotes (draft_of self.old.draft)
+            (text_view self.old.draft.attr) (text_view self.old.draft.value ++ front.now)
+            (behind_quoted front.now (reading_of self.old.reading))) }
+        ensures halted { IfErr result (λ e. e ≡ OutOfMemory) }
+    {
+        if front.is_empty() {
+            return Ok(());
+        }
+        text::add_text(&mut self.draft.value, front)?;
+        self.reading.place += front.len();
+        self.reading.after_return = false;
+        Ok(())
+    }
+
+    /// Reads the common characters that a text begins with, where each is only added to the current
+    /// node, and gives the rest.
+    fn read_stretch<'a>(&mut self, text: &'a str) -> Result<&'a str, Halt>
+        requires taken { TakesCommon (reader_of self.old) }
+        requires room { self.old.reading.place + length text.now < 2 ^ 64 }
+        ensures read { IfOk result (λ rest.
+            ReadsFront (reader_of self.old) (reader_of self.new) text.now rest.now) }
+        ensures halted { IfErr result (λ e. e ≡ OutOfMemory) }
+    {
+        let rest = past_common(text);
+        self.reading.add_stretch(&text[..text.len() - rest.len()])?;
+        Ok(rest)
+    }
+
+    /// Reads the common characters that a text begins with, in a value in double quotes, and gives the
+    /// rest.
+    fn read_value<'a>(&mut self, text: &'a str) -> Result<&'a str, Halt>
+        requires quoted { IsInQuotes self.old }
+        requires room { self.old.reading.place + length text.now < 2 ^ 64 }
+        ensures read { IfOk result (λ rest.
+            ReadsFront (reader_of self.old) (reader_of self.new) text.now rest.now) }
+        ensures halted { IfErr result (λ e. e ≡ OutOfMemory) }
+    {
+        let rest = past_common(text);
+        self.add_value(&text[..text.len() - rest.len()])?;
+        Ok(rest)
     }
 
     /// Reads the common characters that a text begins with, all at once, where each is only added to
-    /// the current node, and gives the rest.
+    /// the current node or to a value, and gives the rest.
     pub(crate) fn read_common<'a>(&mut self, text: &'a str) -> Result<&'a str, Halt>
         requires { self.old.reading.place + length text.now < 2 ^ 64 }
         ensures read { IfOk result (λ rest.
             ReadsFront (reader_of self.old) (reader_of self.new) text.now rest.now) }
         ensures halted { IfErr result (λ e. e ≡ OutOfMemory) }
     {
-        if !self.takes_common() {
-            return Ok(text);
+        if self.takes_common() {
+            self.read_stretch(text)
+        } else if self.is_in_quotes() {
+            self.read_value(text)
+        } else {
+            Ok(text)
         }
-        let rest = past_common(text);
-        self.reading.add_stretch(&text[..text.len() - rest.len()])?;
-        Ok(rest)
     }
 }

@@ -7,7 +7,7 @@ ghost use Rattle.typst_html_parse.specs.ReaderViews.{holder_at, reader_of, readi
 
 use crate::reader::{Holder, Reader, State};
 use crate::reference::is_letter;
-use typst_html_parse_tree::{Halt, PageError};
+use typst_html_parse_open::{Halt, PageError};
 use typst_html_read::text;
 
 impl Reader {

@@ -1,14 +1,14 @@
 //! What a document type says of tables (HTML Standard 13.2.6.4.1).
 
-ghost use Rattle.std.specs.Prelude.{◌≡◌, ◌++◌, ◌∷◌, [], IfOk, OnOk, chars, true, if◌then◌else◌};
 ghost use Rattle.std.specs.Char.{to_ascii_lowercase};
+ghost use Rattle.std.specs.Prelude.{◌≡◌, ◌++◌, ◌∷◌, [], IfOk, OnOk, chars, true, if◌then◌else◌};
 ghost use Rattle.html_dom_tree.specs.Views.{text_view};
 ghost use Rattle.typst_html_parse.specs.DocumentTypes as types;
 
-use crate::reference::is_space;
 use std::alloc::{AllocError, Global};
 use typst_html_parse_names::is_one_of;
-use typst_html_parse_tree::TableRule;
+use typst_html_parse_open::TableRule;
+use typst_html_parse_tree::is_space;
 use typst_html_read::text;
 
 /// Document types that are known not to bring quirks mode.

@@ -1,10 +1,10 @@
 //! A tag so far.
 
-ghost use Rattle.std.specs.Prelude.{◌≡◌, ◌++◌, ◌∷◌, [], IfOk, MatchOption, OnOk, bytes_eq, chars, false, true, is_some, None};
 ghost use Rattle.std.specs.Char.{to_ascii_lowercase};
+ghost use Rattle.std.specs.List.{list_all};
+ghost use Rattle.std.specs.Prelude.{◌≡◌, ◌++◌, ◌∷◌, [], IfOk, MatchOption, OnOk, bytes_eq, chars, false, true, is_some, None};
 ghost use Rattle.html_dom_tree.specs.Attributes.{has_name};
 ghost use Rattle.html_dom_tree.specs.Views.{attrs_view, text_view};
-ghost use Rattle.std.specs.List.{list_all};
 ghost use Rattle.html_names.specs.Characters.{is_tag_char};
 ghost use Rattle.html_names.specs.Names.{attr_fault};
 ghost use Rattle.typst_html_parse.specs.Endings.{Adds};
@@ -17,7 +17,7 @@ use html_dom_tree::HtmlAttrs;
 use html_names::charsets::is_valid_in_tag_name;
 use html_names::{HtmlAttr, HtmlTag, NameFault};
 use std::alloc::{AllocError, Global};
-use typst_html_parse_tree::{Halt, PageError, PageRefusal};
+use typst_html_parse_open::{Halt, PageError, PageRefusal};
 use typst_html_read::text;
 
 /// Most tags have fewer attributes.

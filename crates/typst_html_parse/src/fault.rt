@@ -5,7 +5,7 @@ ghost use Rattle.typst_html_parse.specs.PageFaults.{number_of};
 
 use std::alloc::{AllocError, AllocFailed};
 use thiserror::Error;
-use typst_html_parse_tree::{PageError, PageRefusal};
+use typst_html_parse_open::{PageError, PageRefusal};
 use typst_html_read::Place;
 
 /// Why a page was not read. Offsets of places are in bytes of the page as it was given; a line ends with a

@@ -8,7 +8,7 @@ ghost use Rattle.typst_html_parse.specs.ReaderViews.{holder_at, reader_of, readi
 
 use crate::reader::{Depth, Holder, Reader, State};
 use crate::reference::{Resolved, continues, resolve};
-use typst_html_parse_tree::{Halt, PageError};
+use typst_html_parse_open::{Halt, PageError};
 use typst_html_read::text::add_text;
 
 impl Reader {

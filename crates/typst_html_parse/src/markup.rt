@@ -1,11 +1,11 @@
 //! What stands behind `<!`, and document types (HTML Standard 13.2.5.42, 13.2.5.53).
 
-ghost use Rattle.std.specs.Prelude.{◌≡◌, ◌∷◌, ◌++◌, [], OnOk, IsTrue, bytes_eq, chars, codes, map};
 ghost use Rattle.std.specs.Char.{to_ascii_lowercase};
+ghost use Rattle.std.specs.Prelude.{◌≡◌, ◌∷◌, ◌++◌, [], OnOk, IsTrue, bytes_eq, chars, codes, map};
 ghost use Rattle.html_dom_tree.specs.Views.{text_view};
 ghost use Rattle.html_names.specs.Names.{is_ascii};
-ghost use Rattle.typst_html_parse.specs.PageTokens.{begins};
 ghost use Rattle.typst_html_parse.specs.Endings.{Moves};
+ghost use Rattle.typst_html_parse.specs.PageTokens.{begins};
 ghost use Rattle.typst_html_parse.specs.PageTokens as tokens;
 ghost use Rattle.typst_html_parse.specs.ReaderViews.{reader_of, reading_of};
 ghost use Rattle.typst_html_parse_names.specs.ForeignNames.{lowered};
@@ -14,7 +14,7 @@ use crate::comment::CommentPart;
 use crate::doctype::table_rule;
 use crate::reader::{Brackets, Reader, State};
 use std::alloc::AllocError;
-use typst_html_parse_tree::{Halt, PageError, TableRule};
+use typst_html_parse_open::{Halt, PageError, TableRule};
 use typst_html_read::text;
 
 /// Whether the text is a word of ASCII.

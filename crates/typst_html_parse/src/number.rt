@@ -1,13 +1,13 @@
 //! Character references by number (HTML Standard 13.2.5.80).
 
-ghost use Rattle.std.specs.Prelude.{◌≡◌, ◌≤◌, chars, min, unwrap_or};
 ghost use Rattle.std.specs.Char.{digit_value};
+ghost use Rattle.std.specs.Prelude.{◌≡◌, ◌≤◌, chars, min, unwrap_or};
 ghost use Rattle.std.specs.Str.Parse.{digits_value};
 ghost use Rattle.html_names.specs.Characters as class;
 ghost use Rattle.typst_html_parse.specs.PageReferences as references;
 ghost use Rattle.typst_html_parse_tree.specs.PageBodies.{is_space};
 
-use typst_html_parse_tree::PageError;
+use typst_html_parse_open::PageError;
 
 /// Above the numbers of all characters.
 const TOO_HIGH: u32 = 0x11_0000;

@@ -1,7 +1,7 @@
 //! Places in a page.
 
-ghost use Rattle.std.specs.Prelude.{◌≡◌, ◌+◌, ◌^◌, ◌<◌, ◌≤◌, chars};
 ghost use Rattle.std.specs.Char.{len_utf8};
+ghost use Rattle.std.specs.Prelude.{◌≡◌, ◌+◌, ◌^◌, ◌<◌, ◌≤◌, chars};
 ghost use Rattle.typst_html_parse.specs.PagePlaces as places;
 ghost use Rattle.typst_html_parse.specs.ReachedPlaces.{IsReached};
 

@@ -4,16 +4,16 @@ ghost use Rattle.std.specs.Prelude.{◌≡◌, MatchOption, None, chars, length}
 ghost use Rattle.html_dom_tree.specs.Views.{text_view};
 ghost use Rattle.html_names.specs.Characters.{IsOf, is_tag_char};
 ghost use Rattle.typst_html_encode.specs.ClosingTags.{closing};
-ghost use Rattle.typst_html_parse_tree.specs.PageViews.{page_of, stack_of};
 ghost use Rattle.typst_html_parse.specs.Endings.{Moves};
 ghost use Rattle.typst_html_parse.specs.PageTokens as tokens;
 ghost use Rattle.typst_html_parse.specs.RawEnds.{IsRawEnd};
 ghost use Rattle.typst_html_parse.specs.ReaderViews.{depth_of, reader_of, reading_of};
+ghost use Rattle.typst_html_parse_open.specs.PageViews.{page_of, stack_of};
 
 use crate::reader::{Depth, Holder, Reader, State};
 use html_names::HtmlTag;
 use typst_html_parse_names::Kind;
-use typst_html_parse_tree::{Halt, Page};
+use typst_html_parse_open::{Halt, Page};
 use typst_html_read::{end_of, ends_in, is_tag_end};
 
 /// How many characters a closing tag of that name has, without its last.

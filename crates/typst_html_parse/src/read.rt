@@ -1,9 +1,9 @@
 ghost use Rattle.std.specs.Prelude.{◌≡◌, ◌≤◌, ◌<◌, ◌+◌, ◌^◌, OnOk, IfOk, IfErr, chars, length};
 ghost use Rattle.typst_html_parse.specs.Endings.{Moves};
 ghost use Rattle.typst_html_parse.specs.PageAnswers.{ArePlaced, Begins, Gives, GivesBytes, ReadsText, fault_of, placed};
-ghost use Rattle.typst_html_parse_tree.specs.PageViews.{notes_of};
 ghost use Rattle.typst_html_parse.specs.PageReading as pages;
 ghost use Rattle.typst_html_parse.specs.ReaderViews.{reader_of, reading_of};
+ghost use Rattle.typst_html_parse_open.specs.PageViews.{notes_of};
 
 use crate::fault::{PageFault, PageNote, PageNotes};
 use crate::place::place_at;
@@ -13,7 +13,7 @@ use crate::split::split_first;
 use html_dom_tree::HtmlElement;
 use std::alloc::{AllocError, Global};
 use std::str;
-use typst_html_parse_tree::{Halt, Notes, PageError, PageRefusal};
+use typst_html_parse_open::{Halt, Notes, PageError, PageRefusal};
 
 const BYTE_ORDER_MARK: char = '\u{feff}';
 
@@ -35,9 +35,9 @@ const BYTE_ORDER_MARK: char = '\u{feff}';
 /// [`PageFault::Refused`] with the first place from which on the page is not read: that of the `<` of
 /// the tag, or of the character.
 ///
-/// Cost: grows with the length of the text times how deep elements stand in it, since each tag, and each
-/// stretch of text, is looked at together with the elements around it. Beside the element it needs
-/// memory for the elements that are open, and for one text and one tag.
+/// Cost: grows with the length of the text. A tag that looks for an open element, as an end tag does,
+/// goes through those that stand in it, or through all where there is none. Beside the element it
+/// needs memory for the elements that are open, and for one text and one tag.
 ///
 /// ```
 /// use typst_html_parse::{PageFault, read_page};

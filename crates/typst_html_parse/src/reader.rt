@@ -1,7 +1,7 @@
 //! A reader of pages, which takes one character after the other (HTML Standard 13.2.5).
 
-ghost use Rattle.std.specs.Prelude.{◌≡◌, ◌+◌, ◌<◌, ◌^◌, OnOk};
 ghost use Rattle.std.specs.Char.{len_utf8};
+ghost use Rattle.std.specs.Prelude.{◌≡◌, ◌+◌, ◌<◌, ◌^◌, OnOk};
 ghost use Rattle.typst_html_parse.specs.Endings.{Emits, Moves};
 ghost use Rattle.typst_html_parse.specs.PageReading.{first_reader};
 ghost use Rattle.typst_html_parse.specs.PageTokens as tokens;
@@ -12,7 +12,7 @@ use crate::draft::Draft;
 use crate::reading::Reading;
 use crate::since::Since;
 use std::alloc::Global;
-use typst_html_parse_tree::{Halt, Page, PageRefusal, Token};
+use typst_html_parse_open::{Halt, Page, PageRefusal, Token};
 
 /// Where a reader stands.
 #[derive(Clone, Copy)]

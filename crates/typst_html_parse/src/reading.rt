@@ -1,14 +1,15 @@
 //! How far a page is read: the tree so far, and what tokens do to it.
 
 ghost use Rattle.std.specs.Prelude.{◌≡◌, OnOk, chars};
-ghost use Rattle.typst_html_parse_tree.specs.PageViews.{token_of};
 ghost use Rattle.typst_html_parse.specs.Endings.{Emits};
 ghost use Rattle.typst_html_parse.specs.PageTokens as tokens;
 ghost use Rattle.typst_html_parse.specs.ReaderViews.{reading_of, bracket_count};
+ghost use Rattle.typst_html_parse_open.specs.PageViews.{token_of};
 
 use crate::reader::Brackets;
 use std::alloc::AllocError;
-use typst_html_parse_tree::{Halt, Page, PageError, PageRefusal, Token};
+use typst_html_parse_open::{Halt, Page, PageError, PageRefusal, Token};
+use typst_html_parse_tree::{read_token, takes_text};
 
 /// How far a page is read, but for the state.
 #[derive(Drop)]
@@ -59,17 +60,23 @@ impl Reading {
         ensures { Emits result (tokens.emitted (token_of token) (reading_of self.old))
             (reading_of self.new) }
     {
-        self.page.read(token)?;
+        read_token(&mut self.page, token)?;
         self.fresh = false;
         Ok(())
     }
 
     /// A character. A line feed right after a start tag that drops it is dropped.
+    #[tactic(auto, using(typst_html_parse_tree::proofs::TakenTexts::text_taken))]
     pub(crate) fn emit_char(&mut self, c: char) -> Result<(), Halt>
         ensures { Emits result (tokens.char_emitted c (reading_of self.old))
             (reading_of self.new) }
     {
         if self.fresh && c == '\n' {
+            self.fresh = false;
+            return Ok(());
+        }
+        if takes_text(&self.page) {
+            self.page.add_char(c)?;
             self.fresh = false;
             return Ok(());
         }

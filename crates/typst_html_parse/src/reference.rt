@@ -12,15 +12,8 @@ use crate::number::{error_of, number_of, numbered_char};
 use crate::split::split_first;
 use std::alloc::{AllocError, Global};
 use typst_html_parse_names::named_reference;
-use typst_html_parse_tree::PageError;
+use typst_html_parse_open::PageError;
 use typst_html_read::text::{add, add_text};
-
-/// Whether it is a tab, a line feed, a form feed or a space.
-pub(crate) fn is_space(c: char) -> bool
-    ensures { result ≡ bodies.is_space c }
-{
-    matches!(c, '\t' | '\n' | '\u{c}' | ' ')
-}
 
 /// Whether it is an ASCII letter.
 pub(crate) fn is_letter(c: char) -> bool

@@ -8,12 +8,12 @@ ghost use Rattle.typst_html_parse.specs.ReaderViews.{draft_of, reader_of, readin
 
 use crate::draft::tag_named;
 use crate::reader::{Depth, Reader, State};
-use crate::reference::is_space;
 use html_dom_tree::HtmlAttrs;
 use html_names::HtmlTag;
 use std::mem;
 use typst_html_parse_names::Kind;
-use typst_html_parse_tree::{Halt, PageError, PageRefusal, StartTag, TagName, Token};
+use typst_html_parse_open::{Halt, PageError, PageRefusal, StartTag, TagName, Token};
+use typst_html_parse_tree::is_space;
 use typst_html_read::text;
 
 impl Reader {

@@ -1,8 +1,8 @@
 -- Processing a token again, once more and no more.
 use Rattle.std.proofs.Common.{◌≡◌, ℕ, zero, suc, ◌+◌, ◌-◌, ◌<◌, ◌≤◌, ap, arith}
 use Rattle.typst_html_parse_tree.specs.PageTrees.{behind_turn, processed, turn}
-use Rattle.typst_html_parse_tree.specs.Pages.{Page, Token, ◌next◌, refused}
-use Rattle.typst_html_parse_tree.specs.declared.fault.PageRefusal.TheVariants.{Unsettled}
+use Rattle.typst_html_parse_open.specs.Pages.{Page, Token, ◌next◌, refused}
+use Rattle.typst_html_parse_open.specs.declared.fault.PageRefusal.TheVariants.{Unsettled}
 
 pub processed_once : (n k : ℕ) (t : Token) (p : Page) → k < n →
     processed (n - k) t p ≡ ((turn t p) next behind_turn (processed (n - (k + 1))))

@@ -1,10 +1,3 @@
-pub mod Endings
-pub mod LostNames
-pub mod OpenCounts
-pub mod OpenElements
 pub mod PageBodies
-pub mod PageRefusals
 pub mod PageTrees
-pub mod PageViews
-pub mod Pages
 pub mod TakenTexts

@@ -2,18 +2,18 @@
 use Rattle.std.specs.Prelude.{ℕ, Bool, true, false, not, ◌&&◌, ◌||◌, ◌==◌, List, [], length, if◌then◌else◌, codes, map, Ok}
 use Rattle.html_dom_tree.specs.Tree.{TextPair}
 use Rattle.typst_html_parse_names.specs.ForeignNames.{svg_names, svg_attrs, math_attrs, with_capitals}
-use Rattle.typst_html_parse_tree.specs.OpenElements.{is_at, has, in_scope, is_near, is_active, has_item}
+use Rattle.typst_html_parse_open.specs.OpenElements.{is_at, has, in_scope, is_near, is_active, has_item}
 use Rattle.typst_html_parse_names.specs.PageNames.{is, of}
-use Rattle.typst_html_parse_tree.specs.Pages.{Page, StartTag, Token, Char, Start, End, Finish, Reads, ◌next◌, refused, noted, noted_if, with_char, opened, opened_in, closed, closed_to, implied_closed, no_name, closed_over, closed_in, is_lost, without_lost, reconstructed, Turn, Taken, Again, taken, again, taken_with}
-use Rattle.typst_html_parse_tree.specs.declared.error.PageError.TheVariants as error
-use Rattle.typst_html_parse_tree.specs.declared.fault.PageRefusal.TheVariants as refusal
+use Rattle.typst_html_parse_open.specs.Pages.{Page, StartTag, Token, Char, Start, End, Finish, Reads, ◌next◌, refused, noted, noted_if, with_char, opened, opened_in, closed, closed_to, implied_closed, no_name, closed_over, closed_in, is_lost, without_lost, reconstructed, Turn, Taken, Again, taken, again, taken_with}
+use Rattle.typst_html_parse_open.specs.declared.error.PageError.TheVariants as error
+use Rattle.typst_html_parse_open.specs.declared.fault.PageRefusal.TheVariants as refusal
 use Rattle.typst_html_parse_names.specs.declared.kind.Kind.{Kind}
 use Rattle.typst_html_parse_names.specs.declared.kind.Kind.TheVariants as kind
-use Rattle.typst_html_parse_tree.specs.declared.modes.Scope.TheVariants as scope
-use Rattle.typst_html_parse_tree.specs.declared.modes.Space.{Space}
-use Rattle.typst_html_parse_tree.specs.declared.modes.Space.TheVariants.{Html, Svg, MathMl}
-use Rattle.typst_html_parse_tree.specs.declared.modes.TableRule.{TableRule}
-use Rattle.typst_html_parse_tree.specs.declared.modes.TableRule.TheVariants as rule
+use Rattle.typst_html_parse_open.specs.declared.modes.Scope.TheVariants as scope
+use Rattle.typst_html_parse_open.specs.declared.modes.Space.{Space}
+use Rattle.typst_html_parse_open.specs.declared.modes.Space.TheVariants.{Html, Svg, MathMl}
+use Rattle.typst_html_parse_open.specs.declared.modes.TableRule.{TableRule}
+use Rattle.typst_html_parse_open.specs.declared.modes.TableRule.TheVariants as rule
 
 -- tab, LF, FF, space
 abbrev pub is_space : ℕ → Bool

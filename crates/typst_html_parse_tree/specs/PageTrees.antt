@@ -4,20 +4,20 @@ use Rattle.std.specs.Prelude.{ℕ, zero, suc, Bool, true, false, not, ◌&&◌, 
 use Rattle.std.specs.List.{list_any}
 use Rattle.html_dom_tree.specs.Tree.{TextPair}
 use Rattle.typst_html_parse_names.specs.ForeignNames.{lowered, is_encoding, is_font_attr, is_html_encoding}
-use Rattle.typst_html_parse_tree.specs.OpenElements.{OpenElement, at, is_html, reaches, is_at, has, in_scope, mode}
+use Rattle.typst_html_parse_open.specs.OpenElements.{OpenElement, at, is_html, reaches, is_at, has, in_scope, mode, current_space, is_foreign_of}
 use Rattle.typst_html_parse_tree.specs.PageBodies.{is_space, leaf, repeated, head_element, entered, in_body, in_body_start, in_body_end, left, before, in_head, in_head_noscript, after_head, in_text}
 use Rattle.typst_html_parse_names.specs.PageNames.{is, of}
-use Rattle.typst_html_parse_tree.specs.Pages.{Page, StartTag, Token, Char, Start, End, Finish, Reads, ◌next◌, refused, noted, noted_if, with_char, opened, closed, closed_to, closed_to_goal, implied_closed, no_name, without_lost, Turn, Taken, Again, taken, again, taken_with}
-use Rattle.typst_html_parse_tree.specs.declared.error.PageError.TheVariants as error
-use Rattle.typst_html_parse_tree.specs.declared.fault.PageRefusal.TheVariants as refusal
+use Rattle.typst_html_parse_open.specs.Pages.{Page, StartTag, Token, Char, Start, End, Finish, Reads, ◌next◌, refused, noted, noted_if, with_char, opened, closed, closed_to, closed_to_goal, implied_closed, no_name, without_lost, Turn, Taken, Again, taken, again, taken_with}
+use Rattle.typst_html_parse_open.specs.declared.error.PageError.TheVariants as error
+use Rattle.typst_html_parse_open.specs.declared.fault.PageRefusal.TheVariants as refusal
 use Rattle.typst_html_parse_names.specs.declared.kind.Kind.TheVariants as kind
-use Rattle.typst_html_parse_tree.specs.declared.modes.Mode.{Mode}
-use Rattle.typst_html_parse_tree.specs.declared.modes.Mode.TheVariants.{BeforeHtml, BeforeHead, InHead, InHeadNoscript, AfterHead, InBody, InText, InTable, InCaption, InColumns, InSection, InRow, InCell}
-use Rattle.typst_html_parse_tree.specs.declared.modes.Scope.TheVariants as scope
-use Rattle.typst_html_parse_tree.specs.declared.modes.Space.{Space}
-use Rattle.typst_html_parse_tree.specs.declared.modes.Space.TheVariants.{Html, Svg, MathMl}
-use Rattle.typst_html_parse_tree.specs.declared.modes.TableRule.{TableRule}
-use Rattle.typst_html_parse_tree.specs.declared.modes.TableRule.TheVariants as rule
+use Rattle.typst_html_parse_open.specs.declared.modes.Mode.{Mode}
+use Rattle.typst_html_parse_open.specs.declared.modes.Mode.TheVariants.{BeforeHtml, BeforeHead, InHead, InHeadNoscript, AfterHead, InBody, InText, InTable, InCaption, InColumns, InSection, InRow, InCell}
+use Rattle.typst_html_parse_open.specs.declared.modes.Scope.TheVariants as scope
+use Rattle.typst_html_parse_open.specs.declared.modes.Space.{Space}
+use Rattle.typst_html_parse_open.specs.declared.modes.Space.TheVariants.{Html, Svg, MathMl}
+use Rattle.typst_html_parse_open.specs.declared.modes.TableRule.{TableRule}
+use Rattle.typst_html_parse_open.specs.declared.modes.TableRule.TheVariants as rule
 
 -- a part of a table is opened before the start tag
 abbrev pub part_implied : (name : List ℕ) → StartTag → Page → Reads Turn
@@ -143,10 +143,6 @@ abbrev pub breaks_out : StartTag → Bool
 breaks_out tag = of kind.Breakout tag.name
     || (of kind.Font tag.name && list_any (λ a. is_font_attr a.0) tag.attrs)
 
--- an element of SVG or MathML of that name, in small letters
-abbrev pub is_foreign_of : (name : List ℕ) → OpenElement → Bool
-is_foreign_of name o = not (is_html o.space) && bytes_eq (lowered o.head.name) name
-
 -- an element of that name is open, and none of HTML stands within it
 abbrev pub closes_foreign : (name : List ℕ) → List OpenElement → Bool
 closes_foreign name = reaches (is_foreign_of name) (λ o. is_html o.space)
@@ -154,11 +150,6 @@ closes_foreign name = reaches (is_foreign_of name) (λ o. is_html o.space)
 abbrev pub foreign_closed : (name : List ℕ) → Page → Reads Page
 foreign_closed name p = closed_to_goal (is_foreign_of name)
     (noted_if (not (at (is_foreign_of name) p.stack)) error.EndTagOverOpenElements p)
-
--- the namespace of the current node
-abbrev pub current_space : List OpenElement → Space
-current_space [] = Html
-current_space (o ∷ os) = o.space
 
 abbrev pub in_foreign_end : (name : List ℕ) → Page → Reads Turn
 in_foreign_end name p = if of kind.Br name || of kind.P name

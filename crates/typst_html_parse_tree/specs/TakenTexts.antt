@@ -1,10 +1,10 @@
 -- Where a page takes any text as it is.
 use Rattle.std.specs.Prelude.{ℕ, Bool, true, false, not, ◌&&◌, ◌||◌, List, ◌++◌}
-use Rattle.typst_html_parse_tree.specs.OpenElements.{mode}
+use Rattle.typst_html_parse_open.specs.OpenElements.{mode}
 use Rattle.typst_html_parse_tree.specs.PageTrees.{is_foreign_token, is_unseen}
-use Rattle.typst_html_parse_tree.specs.Pages.{Page, Char, loses_some}
-use Rattle.typst_html_parse_tree.specs.declared.modes.Mode.{Mode}
-use Rattle.typst_html_parse_tree.specs.declared.modes.Mode.TheVariants.{InBody, InText, InCaption, InCell}
+use Rattle.typst_html_parse_open.specs.Pages.{Page, Char, loses_some}
+use Rattle.typst_html_parse_open.specs.declared.modes.Mode.{Mode}
+use Rattle.typst_html_parse_open.specs.declared.modes.Mode.TheVariants.{InBody, InText, InCaption, InCell}
 
 -- in these modes characters are added to the current node, where no formatting element is lost
 abbrev pub mode_takes_text : Mode → Page → Bool
@@ -18,6 +18,3 @@ mode_takes_text m p = false
 unfoldable pub takes_text : Page → Bool
 takes_text p = not (is_unseen p.tables)
     && (is_foreign_token (Char 0) p.stack || mode_takes_text (mode p.stack) p)
-
-abbrev pub with_chars : List ℕ → Page → Page
-with_chars cs p = record p { text = p.text ++ cs }

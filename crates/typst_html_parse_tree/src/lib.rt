@@ -4,26 +4,10 @@
 
 mod body_end;
 mod body_start;
-mod element;
-mod error;
-mod fault;
 mod foreign;
 mod head;
-mod lost;
-mod modes;
-mod notes;
-mod page;
-mod search;
-mod stack;
 mod table;
-mod token;
 mod turn;
 
-pub use element::PageElement;
-pub use error::PageError;
-pub use fault::{Halt, PageRefusal};
-pub use modes::{Mode, Scope, Space, TableRule};
-pub use notes::Notes;
-pub use page::Page;
-pub use stack::Stack;
-pub use token::{StartTag, TagName, Token};
+pub use head::is_space;
+pub use turn::{read_token, takes_text};

@@ -5,12 +5,10 @@ pub mod Loops
 pub mod Names
 pub mod Normal
 pub mod Numbers
-pub mod Pages
 pub mod Places
 pub mod Plain
 pub mod ReadLaws
 pub mod References
 pub mod Refusals
 pub mod Steps
-pub mod Strict
 pub mod Words

@@ -1,5 +1,5 @@
 -- Reading by what is left of the characters.
-use Rattle.std.proofs.Common.{◌≡◌, ℕ, ◌+◌, ◌-◌, Bool, true, false, ◌&&◌, inl, inr, List, [], ◌∷◌, ◌++◌, bytes_eq, chars, take, drop, length, refl, sym, ap, ◌∙◌}
+use Rattle.std.proofs.Common.{◌≡◌, ℕ, ◌+◌, ◌-◌, true, false, inl, inr, List, [], ◌∷◌, ◌++◌, bytes_eq, chars, take, drop, length, refl, sym, ap, ◌∙◌}
 use Rattle.std.specs.Prelude.{if◌then◌else◌}
 use Rattle.std.specs.Str.{IsUtf8}
 use Rattle.std.proofs.lemmas.Bool.{cases_Bool}
@@ -8,70 +8,55 @@ use Rattle.std.proofs.lemmas.Slice.Eq.{bytes_eq-Decides}
 use lib.Utf8.{encodes}
 use Rattle.html_names.specs.Names.{is_ascii}
 use Rattle.typst_html_encode.specs.Reader.{ReaderState, Stop}
-use Rattle.typst_html_read.specs.LimitedReading.{state_behind, begins_deep, deep_places, is_stop, stop_place}
-use Rattle.typst_html_read.specs.Misreadings.{misreads}
+use Rattle.typst_html_read.specs.LimitedReading.{next_state, begins_deep, deep_places, is_stop, stop_place}
 use Rattle.typst_html_read.proofs.Words.{word_before}
 
-pub deep_later : (strict : Bool) (limit before : ℕ) (s : ReaderState) (c : ℕ) (cs : List ℕ) →
+pub deep_later : (limit before : ℕ) (s : ReaderState) (c : ℕ) (cs : List ℕ) →
     begins_deep limit s c ≡ false →
-    deep_places strict limit before s (c ∷ cs)
-    ≡ deep_places strict limit (before + 1) (state_behind strict s c) cs
+    deep_places limit before s (c ∷ cs) ≡ deep_places limit (before + 1) (next_state s c) cs
 unfolding deep_places
-deep_later strict limit before s c cs h =
+deep_later limit before s c cs h =
     ap (λ b. (if b then (before - 1) ∷ [] else [])
-    ++ deep_places strict limit (before + 1) (state_behind strict s c) cs) h
+    ++ deep_places limit (before + 1) (next_state s c) cs) h
 
-pub deep_here : (strict : Bool) (limit before : ℕ) (s : ReaderState) (c : ℕ) (cs : List ℕ) →
+pub deep_here : (limit before : ℕ) (s : ReaderState) (c : ℕ) (cs : List ℕ) →
     begins_deep limit s c ≡ true →
-    deep_places strict limit before s (c ∷ cs)
-    ≡ (before - 1) ∷ deep_places strict limit (before + 1) (state_behind strict s c) cs
+    deep_places limit before s (c ∷ cs)
+    ≡ (before - 1) ∷ deep_places limit (before + 1) (next_state s c) cs
 unfolding deep_places
-deep_here strict limit before s c cs h =
+deep_here limit before s c cs h =
     ap (λ b. (if b then (before - 1) ∷ [] else [])
-    ++ deep_places strict limit (before + 1) (state_behind strict s c) cs) h
+    ++ deep_places limit (before + 1) (next_state s c) cs) h
 
-stopped_either : (b : Bool) → (if b then Stop else Stop) ≡ Stop
-stopped_either true = refl
-stopped_either false = refl
-
-stays_stopped : (strict : Bool) (c : ℕ) → state_behind strict Stop c ≡ Stop
-stays_stopped strict c = stopped_either (strict && misreads Stop c)
-
-pub deep_stopped : (strict : Bool) (limit before : ℕ) (cs : List ℕ) →
-    deep_places strict limit before Stop cs ≡ []
+pub deep_stopped : (limit before : ℕ) (cs : List ℕ) → deep_places limit before Stop cs ≡ []
 unfolding deep_places
-deep_stopped strict limit before [] = refl
-deep_stopped strict limit before (c ∷ cs) =
-    ap (λ s. deep_places strict limit (before + 1) s cs) (stays_stopped strict c)
-    ∙ deep_stopped strict limit (before + 1) cs
+deep_stopped limit before [] = refl
+deep_stopped limit before (c ∷ cs) = deep_stopped limit (before + 1) cs
 
-pub deep_ended : (strict : Bool) (limit before : ℕ) (s : ReaderState) →
-    deep_places strict limit before s [] ≡ []
+pub deep_ended : (limit before : ℕ) (s : ReaderState) → deep_places limit before s [] ≡ []
 unfolding deep_places
-deep_ended strict limit before s = refl
+deep_ended limit before s = refl
 
 pub not_stop : (s : ReaderState) → (s ≡ Stop → ⊥) → is_stop s ≡ false
 not_stop Stop h = absurd (h refl)
 not_stop s h = refl
 
-pub stop_later : (strict : Bool) (before : ℕ) (s : ReaderState) (c : ℕ) (cs : List ℕ) →
-    is_stop (state_behind strict s c) ≡ false →
-    stop_place strict before s (c ∷ cs)
-    ≡ stop_place strict (before + 1) (state_behind strict s c) cs
+pub stop_later : (before : ℕ) (s : ReaderState) (c : ℕ) (cs : List ℕ) →
+    is_stop (next_state s c) ≡ false →
+    stop_place before s (c ∷ cs) ≡ stop_place (before + 1) (next_state s c) cs
 unfolding stop_place
-stop_later strict before s c cs h =
-    ap (λ b. if b then before else stop_place strict (before + 1) (state_behind strict s c) cs) h
+stop_later before s c cs h =
+    ap (λ b. if b then before else stop_place (before + 1) (next_state s c) cs) h
 
-pub stop_here : (strict : Bool) (before : ℕ) (s : ReaderState) (c : ℕ) (cs : List ℕ) →
-    state_behind strict s c ≡ Stop → stop_place strict before s (c ∷ cs) ≡ before
+pub stop_here : (before : ℕ) (s : ReaderState) (c : ℕ) (cs : List ℕ) → next_state s c ≡ Stop →
+    stop_place before s (c ∷ cs) ≡ before
 unfolding stop_place
-stop_here strict before s c cs h = ap (λ t. if is_stop t then before
-    else stop_place strict (before + 1) (state_behind strict s c) cs) h
+stop_here before s c cs h =
+    ap (λ t. if is_stop t then before else stop_place (before + 1) (next_state s c) cs) h
 
-pub stop_ended : (strict : Bool) (before : ℕ) (s : ReaderState) →
-    stop_place strict before s [] ≡ before
+pub stop_ended : (before : ℕ) (s : ReaderState) → stop_place before s [] ≡ before
 unfolding stop_place
-stop_ended strict before s = refl
+stop_ended before s = refl
 
 -- a text that does not begin with a word
 pub begins_otherwise : (n s : List ℕ) → is_ascii n ≡ true → IsUtf8 s →

@@ -137,7 +137,7 @@ name_refused : (s : ReaderState) (c : ℕ) (cs : List ℕ) → ends_refused s c 
 name_refused s c cs h = none_after cs (step s c)
     (subst (λ b. Holds (step s c) (not b && taken s)) h (step_holds s c))
 
-pub refused_none : (s : ReaderState) (c : ℕ) (cs : List ℕ) → taken s ≡ true → refuses s c ≡ true →
+refused_none : (s : ReaderState) (c : ℕ) (cs : List ℕ) → taken s ≡ true → refuses s c ≡ true →
     outcome (step s c) cs ≡ None
 refused_none (Reference text since stack) c cs t h =
     since_refused (λ w. Reference text w stack) (λ d. Content (text ++ d ∷ []) stack)
@@ -156,12 +156,22 @@ refused_none (EndName name (o ∷ os)) c cs t h = end_refused o os name c cs (ow
     (not-true (ends_at (o ∷ os) (length (encodes name)) c) h)
 refused_none s c cs t h = absurd (false≢true h)
 
+-- what is read is the same where reading stops there
+pub next_outcome : (s : ReaderState) (c : ℕ) (cs : List ℕ) → taken s ≡ true →
+    outcome (next_state s c) cs ≡ outcome s (c ∷ cs)
+next_outcome s c cs t =
+    elim (cases_Bool (refuses s c)) [
+      | inl e ↦ ap (λ b. outcome (if b then Stop else step s c) cs) e
+          ∙ (stopped cs ∙ sym (refused_none s c cs t e))
+      | inr e ↦ ap (λ b. outcome (if b then Stop else step s c) cs) e
+    ]
+
 names_pass : (s : ReaderState) (c : ℕ) → refuses s c ≡ false → ends_refused s c ≡ false
 names_pass (StartName name stack) c h = h
 names_pass (AttrName name attrs attr stack) c h = h
 names_pass s c h = refl
 
--- where reading stops so or goes on, the names stay taken
+-- and the names stay taken
 pub next_taken : (s : ReaderState) (c : ℕ) → taken s ≡ true → Holds (next_state s c) true
 next_taken s c t =
     elim (cases_Bool (refuses s c)) [

@@ -2,9 +2,7 @@ pub mod BegunReferences
 pub mod CommonStretches
 pub mod Endings
 pub mod LimitedReading
-pub mod Misreadings
 pub mod OpenViews
-pub mod PageReading
 pub mod Places
 pub mod PlainElements
 pub mod PlainViews

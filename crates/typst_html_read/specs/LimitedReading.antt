@@ -1,16 +1,12 @@
 -- Reading with a limit on how deep elements may stand, with the names that the program takes, and up
--- to the first character that no text has which is read. Strict reading also ends where a text is
--- misread.
-use Rattle.std.specs.Prelude.{ℕ, ◌+◌, ◌-◌, Bool, true, false, not, ◌&&◌, ◌==◌, nat_le, List, [], ◌∷◌, ◌++◌, if◌then◌else◌, bytes_eq, codes, take, drop, get_or, length, Option, None, is_some}
+-- to the first character that no text has which is read.
+use Rattle.std.specs.Prelude.{ℕ, ◌+◌, ◌-◌, Bool, true, false, not, ◌&&◌, ◌==◌, nat_le, List, [], ◌∷◌, ◌++◌, if◌then◌else◌, bytes_eq, codes, take, drop, get_or, length, None, is_some}
 use Rattle.std.specs.List.{common_prefix_len}
 use lib.Utf8.{encodes}
 use Rattle.html_names.specs.Characters.{is_tag_char, is_attr_char}
 use Rattle.html_names.specs.Names.{tag_fault, attr_fault}
-use Rattle.html_dom_tree.specs.Tree.{ElementView}
-use Rattle.typst_html_encode.specs.Reader.{Open, ReaderState, Outside, Reference, Less, StartName, AttrName, ValueReference, EndName, Stop, holds_text_alone, step, read}
+use Rattle.typst_html_encode.specs.Reader.{Open, ReaderState, Outside, Reference, Less, StartName, AttrName, ValueReference, EndName, Stop, holds_text_alone, step}
 use Rattle.typst_html_read.specs.BegunReferences.{continues_reference}
-use Rattle.typst_html_read.specs.Misreadings.{misreads, is_misread}
-use Rattle.typst_html_read.specs.PlainElements.{accepted}
 
 -- in the name of the innermost element the character stands at that place, or it is the `>` behind
 -- that name
@@ -34,10 +30,6 @@ refuses s c = false
 abbrev pub next_state : ReaderState → ℕ → ReaderState
 next_state s c = if refuses s c then Stop else step s c
 
--- the same, and in strict reading nothing is read from a character on at which a text is misread
-abbrev pub state_behind : (strict : Bool) → ReaderState → ℕ → ReaderState
-state_behind strict s c = if strict && misreads s c then Stop else next_state s c
-
 -- with the character a start tag begins, of an element that would stand deeper than the limit
 abbrev pub begins_deep : (limit : ℕ) → ReaderState → ℕ → Bool
 begins_deep limit (Less stack) c =
@@ -46,11 +38,10 @@ begins_deep limit s c = false
 
 -- how many characters stand before the `<` of each of these start tags, where so many stand before
 -- the first of the text
-unfoldable pub deep_places : (strict : Bool) (limit before : ℕ) → ReaderState → List ℕ → List ℕ
-deep_places strict limit before s [] = []
-deep_places strict limit before s (c ∷ cs) =
-    (if begins_deep limit s c then (before - 1) ∷ [] else [])
-    ++ deep_places strict limit (before + 1) (state_behind strict s c) cs
+unfoldable pub deep_places : (limit before : ℕ) → ReaderState → List ℕ → List ℕ
+deep_places limit before s [] = []
+deep_places limit before s (c ∷ cs) = (if begins_deep limit s c then (before - 1) ∷ [] else [])
+    ++ deep_places limit (before + 1) (next_state s c) cs
 
 abbrev pub is_stop : ReaderState → Bool
 is_stop Stop = true
@@ -58,10 +49,10 @@ is_stop s = false
 
 -- how many characters stand before the one at which reading stops, or, where it does not stop, before
 -- the end
-unfoldable pub stop_place : (strict : Bool) (before : ℕ) → ReaderState → List ℕ → ℕ
-stop_place strict before s [] = before
-stop_place strict before s (c ∷ cs) = if is_stop (state_behind strict s c) then before
-    else stop_place strict (before + 1) (state_behind strict s c) cs
+unfoldable pub stop_place : (before : ℕ) → ReaderState → List ℕ → ℕ
+stop_place before s [] = before
+stop_place before s (c ∷ cs) = if is_stop (next_state s c) then before
+    else stop_place (before + 1) (next_state s c) cs
 
 abbrev pub document_type : List ℕ
 document_type = codes "<!DOCTYPE html>"
@@ -70,22 +61,11 @@ abbrev pub begins_page : List ℕ → Bool
 begins_page text = bytes_eq (take 15 text) document_type
 
 -- the places of the start tags that stand too deep in a text
-abbrev pub too_deep : (strict : Bool) (limit : ℕ) → List ℕ → List ℕ
-too_deep strict limit text =
-    if begins_page text then deep_places strict limit 15 (Outside None) (drop 15 text) else []
+abbrev pub too_deep : (limit : ℕ) → List ℕ → List ℕ
+too_deep limit text =
+    if begins_page text then deep_places limit 15 (Outside None) (drop 15 text) else []
 
 -- the place of the first character that no text has which is read
-abbrev pub unread : (strict : Bool) → List ℕ → ℕ
-unread strict text =
-    if begins_page text then stop_place strict 15 (Outside None) (drop 15 text)
+abbrev pub unread : List ℕ → ℕ
+unread text = if begins_page text then stop_place 15 (Outside None) (drop 15 text)
     else common_prefix_len ◌==◌ document_type text
-
--- an element, but none where reading is strict and the characters behind a state are misread
-abbrev pub unless_misread : (strict : Bool) → ReaderState → List ℕ → Option ElementView →
-    Option ElementView
-unless_misread strict s cs element = if strict && is_misread s cs then None else element
-
--- the element that is read, with names that are taken
-abbrev pub element_read : (strict : Bool) → List ℕ → Option ElementView
-element_read strict text =
-    unless_misread strict (Outside None) (drop 15 text) (accepted (read text))

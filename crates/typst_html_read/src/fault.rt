@@ -20,12 +20,10 @@ pub enum ReadFault {
         /// The place of the `<` of the element's start tag.
         place: Place,
     },
-    /// The text has another syntax than the pages that are read, or ends too early; or
-    /// [`read_page`](crate::read_page) was given what is no text, or something else in a browser.
+    /// The text has another syntax than those that are read, or ends too early.
     #[error("other syntax than that of written pages at {place}")]
     Syntax {
-        /// The place of the first character with which no page that is read goes on, or the end of the
-        /// text.
+        /// The place of the first character that no text has which is read, or the end of the text.
         place: Place,
     },
 }

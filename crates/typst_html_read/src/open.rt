@@ -4,7 +4,6 @@ ghost use Rattle.std.proofs.Props.{props};
 ghost use Rattle.html_dom_tree.specs.Views.{element_view};
 ghost use Rattle.typst_html_read.specs.PlainViews.{IsPlain, element_is_set};
 
-use crate::misreading::is_further_raw;
 use html_dom_tree::{HtmlAttrs, HtmlElement, HtmlNode, Span};
 use html_names::{HtmlTag, tag};
 use std::alloc::{AllocError, Global};
@@ -22,7 +21,6 @@ impl OpenElement {
     ghost use Rattle.html_dom_tree.specs.Views.{attrs_view, text_view};
     ghost use Rattle.html_names.specs.Kinds as kinds;
     ghost use Rattle.typst_html_encode.specs.Reader.{with_text, ◌then◌};
-    ghost use Rattle.typst_html_read.specs.Misreadings.{is_further_raw};
     ghost use Rattle.typst_html_read.specs.OpenViews.{open_of};
     ghost use Rattle.typst_html_read.specs.PlainElements.{plain_element};
     ghost use Rattle.typst_html_read.specs.PlainViews.{completed};
@@ -101,13 +99,6 @@ impl OpenElement {
         ensures { result ≡ kinds.is_escapable_raw (open_of self.now).name }
     {
         tag::is_escapable_raw(&self.element.tag)
-    }
-
-    /// Whether a browser reads raw text in it, where elements are read here.
-    pub(crate) fn is_further_raw(&self) -> bool
-        ensures { result ≡ is_further_raw (open_of self.now).name }
-    {
-        is_further_raw(self.element.tag.resolve())
     }
 
     /// The element, with its children.

@@ -1,6 +1,6 @@
 //! Places in a text.
 
-ghost use Rattle.std.specs.Prelude.{◌≡◌, ◌+◌, ◌^◌, ◌<◌, ◌==◌, chars, length};
+ghost use Rattle.std.specs.Prelude.{◌≡◌, ◌+◌, ◌^◌, ◌<◌, ◌==◌, chars};
 ghost use Rattle.std.specs.Char.{len_utf8};
 ghost use Rattle.std.specs.List.{common_prefix_len};
 ghost use Rattle.typst_html_read.specs.Places.{next_place, place_at};
@@ -12,8 +12,8 @@ use std::fmt;
 pub struct Place {
     /// How many bytes of the text stand before it.
     pub offset: usize,
-    /// Its line, counted from 1. A line ends with a line feed; a carriage return ends none, and is a
-    /// character as others are.
+    /// Its line, counted from 1. In a text that is read by `read_html` a line ends with a line feed; a
+    /// carriage return ends none, and is a character as others are.
     pub line: usize,
     /// Its column, counted from 1: how many characters of the line stand before it, and one.
     pub column: usize,
@@ -72,13 +72,6 @@ pub(crate) fn place_at(text: &str, count: usize) -> Place
         rest = left.as_str();
     }
     place
-}
-
-#[tactic(auto, using(std::proofs::lemmas::Str::chars_from_encodes))]
-pub(crate) fn length(text: &str) -> usize
-    ensures { result ≡ length (chars text.now) }
-{
-    text.chars().count()
 }
 
 /// How many characters the word and the text have in common before the first that differs.

@@ -1,17 +1,15 @@
-ghost use Rattle.std.specs.Prelude.{◌≡◌, ◌≤◌, chars, false, None};
+ghost use Rattle.std.specs.Prelude.{◌≡◌, ◌≤◌, chars, None};
 ghost use Rattle.typst_html_encode.specs.Reader.{Outside, final_root, read, run};
 ghost use Rattle.typst_html_read.specs.Endings.{Gives};
-ghost use Rattle.typst_html_read.specs.LimitedReading.{deep_places, element_read, stop_place, too_deep, unless_misread, unread};
-ghost use Rattle.typst_html_read.specs.PageReading.{page_element, page_text, page_too_deep, page_unread};
+ghost use Rattle.typst_html_read.specs.LimitedReading.{deep_places, stop_place, too_deep, unread};
 ghost use Rattle.typst_html_read.specs.PlainElements.{accepted};
 ghost use Rattle.typst_html_read.specs.Places.{place_at};
 
 use crate::fault::ReadFault;
-use crate::place::{common_length, length, place_at};
+use crate::place::{common_length, place_at};
 use crate::reader::Reader;
 use html_dom_tree::HtmlElement;
 use std::alloc::Global;
-use std::str;
 
 const DOCUMENT_TYPE: &str = "<!DOCTYPE html>";
 
@@ -55,78 +53,11 @@ pub fn read_html(alloc: Global, text: &str, limit: usize) -> Result<HtmlElement,
     requires some_limit { 1 ≤ limit }
     requires low_limit { limit ≤ 10000 }
     ensures { let cs = chars text.now in
-        Gives result cs (accepted (read cs)) (too_deep false limit cs) (unread false cs) }
-{
-    read_text(alloc, text, limit, false)
-}
-
-/// The element of a page that comes from somewhere else, where a browser is not known to take the page
-/// apart otherwise.
-///
-/// It reads what [`read_html`] does, but refuses a page in which that misreads what a browser sees
-/// (HTML Standard 13.2.5, 13.2.6):
-///
-/// - a capital in the name of a start tag or of an attribute, unless SVG or MathML has that name, as
-///   `viewBox` or `linearGradient`: a browser reads `<A HREF="x">` as `<a href="x">`;
-/// - a start tag whose name begins with no letter, which is text to a browser;
-/// - the start tag of `plaintext`, behind which all is text to a browser;
-/// - directly in an `iframe`, `noembed`, `noframes` or `xmp`, which hold text alone in a browser, a
-///   reference or a start tag;
-/// - U+0000, and references that are to other characters in a browser, as `&#x80;` is to the euro sign.
-///
-/// What a browser mends is not looked at, as a `p` in a `p`, nor carriage returns, what stands in `svg`
-/// and `math`, and what scripts do.
-///
-/// # Errors
-///
-/// Those of [`read_html`], and besides [`ReadFault::Syntax`] with the place of
-///
-/// - the first byte that is no UTF-8, before all others;
-/// - the character at which such a difference is seen: the one behind the name, the first of a name
-///   that begins with no letter, in raw text the `&` or the one behind the `<`, the U+0000, or the `;`.
-///
-/// Cost: that of [`read_html`].
-///
-/// ```
-/// use typst_html::{Place, ReadFault, read_page, tag};
-///
-/// let alloc = rt.alloc();
-/// let root = read_page(alloc, b"<!DOCTYPE html><a href=\"#b\">b</a>", 50)?;
-/// assert!(rt; root.tag == tag::a);
-///
-/// let read = read_page(alloc, b"<!DOCTYPE html><A HREF=\"#b\">b</A>", 50);
-/// let (offset, line, column) = (17, 1, 18); // the space behind `A`
-/// let place = Place { offset, line, column };
-/// assert!(rt; read == Err(ReadFault::Syntax { place }));
-/// ```
-pub fn read_page(alloc: Global, page: &[u8], limit: usize) -> Result<HtmlElement, ReadFault>
-    requires some_limit { 1 ≤ limit }
-    requires low_limit { limit ≤ 10000 }
-    ensures { Gives result (page_text page.now) (page_element page.now)
-        (page_too_deep limit page.now) (page_unread page.now) }
-{
-    match str::from_utf8(page) {
-        Ok(text) => read_text(alloc, text, limit, true),
-        Err(fault) => {
-            let front = str::from_utf8(&page[..fault.valid_up_to()]).unwrap();
-            Err(syntax_at(front, length(front)))
-        }
-    }
-}
-
-/// The element that a text spells. Strict reading refuses a text that is misread.
-fn read_text(
-    alloc: Global,
-    text: &str,
-    limit: usize,
-    strict: bool,
-) -> Result<HtmlElement, ReadFault>
-    ensures { let cs = chars text.now in
-        Gives result cs (element_read strict cs) (too_deep strict limit cs) (unread strict cs) }
+        Gives result cs (accepted (read cs)) (too_deep limit cs) (unread cs) }
 {
     match text.strip_prefix(DOCUMENT_TYPE) {
         None => Err(syntax_at(text, common_length(DOCUMENT_TYPE, text))),
-        Some(rest) => read_root(alloc, text, rest, limit, strict),
+        Some(rest) => read_root(alloc, text, rest, limit),
     }
 }
 
@@ -139,17 +70,10 @@ fn syntax_at(text: &str, count: usize) -> ReadFault
 }
 
 /// The tree that the text after the document type spells. Places are those of the whole text.
-fn read_root(
-    alloc: Global,
-    whole: &str,
-    text: &str,
-    limit: usize,
-    strict: bool,
-) -> Result<HtmlElement, ReadFault>
+fn read_root(alloc: Global, whole: &str, text: &str, limit: usize) -> Result<HtmlElement, ReadFault>
     ensures { let cs = chars text.now in
-        Gives result (chars whole.now)
-        (unless_misread strict (Outside None) cs (accepted (final_root (run (Outside None) cs))))
-        (deep_places strict limit 15 (Outside None) cs) (stop_place strict 15 (Outside None) cs) }
+        Gives result (chars whole.now) (accepted (final_root (run (Outside None) cs)))
+        (deep_places limit 15 (Outside None) cs) (stop_place 15 (Outside None) cs) }
 {
     let mut reader = Reader::new(alloc);
     let mut before = 15;
@@ -168,7 +92,7 @@ fn read_root(
             let place = place_at(whole, before - 1);
             return Err(ReadFault::TooDeep { place });
         }
-        reader.advance(c, strict)?;
+        reader.step(c)?;
         if reader.is_stopped() {
             return Err(syntax_at(whole, before));
         }

@@ -4,7 +4,6 @@ ghost use Rattle.std.specs.Prelude.{◌≡◌, ◌∷◌, [], OnOk, IfSome, IfNo
 ghost use Rattle.html_dom_tree.specs.Views.{text_view};
 ghost use Rattle.typst_html_encode.specs.Reader.{add_text, holds_text_alone};
 ghost use Rattle.typst_html_read.specs.LimitedReading.{ends_at};
-ghost use Rattle.typst_html_read.specs.Misreadings.{holds_further_raw};
 ghost use Rattle.typst_html_read.specs.OpenViews.{open_of, stack_of};
 
 use crate::open::OpenElement;
@@ -89,15 +88,6 @@ impl Stack {
         match self.items.last() {
             None => false,
             Some(element) => element.holds_text_alone(),
-        }
-    }
-
-    pub(crate) fn holds_further_raw(&self) -> bool
-        ensures { result ≡ holds_further_raw (stack_of self.now) }
-    {
-        match self.items.last() {
-            None => false,
-            Some(element) => element.is_further_raw(),
         }
     }
 }

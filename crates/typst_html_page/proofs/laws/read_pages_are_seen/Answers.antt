@@ -1,5 +1,6 @@
 use Rattle.typst_html_page.proofs.PageLaws.{read_pages_are_seen}
+use Rattle.typst_html_page.proofs.Unseen.{seen_nodes_stay}
 use Rattle.typst_html_page.proofs.laws.read_pages_are_seen.Goals as goal
 
 pub returns : goal.returns
-returns c = read_pages_are_seen
+returns c = record { seen = read_pages_are_seen; nodes = seen_nodes_stay }

@@ -3,24 +3,34 @@ use Rattle.std.proofs.lemmas.List.{nil_from_length}
 use Rattle.std.specs.Prelude.{OnOk}
 use Rattle.html_names.specs.Kinds.{is_line_break, is_replaced}
 use Rattle.html_dom_tree.specs.PlainTree.{nodes_normal}
-use Rattle.html_dom_tree.specs.Views.{attrs_view, node_view, nodes_view}
+use Rattle.html_dom_tree.specs.Views.{attrs_view, element_view, node_view, nodes_view}
 use Rattle.html_dom_tree.proofs.Nodes.{nodes_view-drop}
 use Rattle.typst_html_encode.specs.Collapsing.{object, preserves, has_border, element_atoms, plains_atoms}
 use Rattle.typst_html_page.specs.Gathering.{step, run, border_atoms, past_nodes}
 use Rattle.typst_html_page.specs.PageViews.{seen_view}
-use Rattle.typst_html_page.proofs.Gathering.{past_first}
-use Rattle.typst_html_page.proofs.Walks.{past_node_is, past_break, past_object, past_inner}
+use Rattle.typst_html_page.specs.Unseen.{seen_nodes}
+use Rattle.typst_html_page.proofs.Walks.{past_node_is, past_both, past_unseen, past_seen, past_break, past_object, past_inner}
 use Rattle.typst_html_page.proofs.walk.+walk.Goals as goal
 use Rattle.typst_html_page.proofs.walk.+walk.Goals.{add_element-then-is_replaced+in_ok-object, add_element-else-is_replaced+in_ok-add_nodes}
+
+pub add_element-returns-then-is_unseen : goal.add_element-returns-then-is_unseen
+add_element-returns-then-is_unseen t c =
+    let e = c.args.element.now in
+    past_unseen c.args.preserved (seen_view c.args.seen.now) (element_view e).0
+    (nodes_view e.children.items) (sym c.is_unseen.ensures ∙ c.if-is_unseen.true)
 
 pub add_element-returns-then-is_line_break : goal.add_element-returns-then-is_line_break
 add_element-returns-then-is_line_break t c =
     let e = c.args.element.now in
     let attrs = attrs_view e.attrs in
+    let kids = nodes_view e.children.items in
     let preserved = c.args.preserved || preserves e.tag attrs in
+    let s = seen_view c.args.seen.now in
     subst (λ x. OnOk c.line_break.result (seen_view c.line_break.new.self ≡ x))
-    (past_break e.tag attrs (plains_atoms preserved (nodes_normal (nodes_view e.children.items)))
-    (seen_view c.args.seen.now) (sym c.is_line_break.ensures ∙ c.if-is_line_break.true))
+    (past_break e.tag attrs (plains_atoms preserved (nodes_normal (seen_nodes kids))) s
+    (sym c.is_line_break.ensures ∙ c.if-is_line_break.true)
+    ∙ past_seen c.args.preserved s (element_view e).0 kids
+    (sym c.is_unseen.ensures ∙ c.if-is_unseen.false))
     c.line_break.ensures
 
 pub add_element-returns : goal.add_element-returns
@@ -29,7 +39,7 @@ add_element-returns t c =
     let attrs = attrs_view e.attrs in
     let kids = nodes_view e.children.items in
     let preserved = c.args.preserved || preserves e.tag attrs in
-    let inner = plains_atoms preserved (nodes_normal kids) in
+    let inner = plains_atoms preserved (nodes_normal (seen_nodes kids)) in
     let s = seen_view c.args.seen.now in
     let begun = seen_view c.border_if.new.self in
     let u = seen_view c.if-is_replaced.seen in
@@ -58,7 +68,9 @@ add_element-returns t c =
           past_inner e.tag attrs inner no_break s begun u before is here
     ] in
     subst (λ x. OnOk c.border_if-2.result (seen_view c.border_if-2.new.self ≡ x))
-    (ap (λ b. run u (border_atoms b)) borders ∙ whole) c.border_if-2.ensures
+    (ap (λ b. run u (border_atoms b)) borders ∙ (whole
+    ∙ past_seen c.args.preserved s (element_view e).0 kids
+    (sym c.is_unseen.ensures ∙ c.if-is_unseen.false))) c.border_if-2.ensures
 
 pub add_nodes-loop-child-preserved : goal.add_nodes-loop-child-preserved
 add_nodes-loop-child-preserved t c =
@@ -69,13 +81,13 @@ add_nodes-loop-child-preserved t c =
     let seen = seen_view c.loop-child.seen in
     ap (λ s. past_nodes c.args.preserved s rest)
     (c.in_ok-add_node.ensures ∙ past_node_is c.args.preserved seen (node_view child))
-    ∙ (sym (past_first c.args.preserved seen (node_view child) rest)
+    ∙ (sym (past_both c.args.preserved seen (node_view child) rest)
     ∙ (ap (past_nodes c.args.preserved seen)
     (sym (nodes_view-drop nodes i child c.loop-child-test.true c.child-item.is))
     ∙ c.loop-child.invariant))
 
 pub add_nodes-returns : goal.add_nodes-returns
-unfolding run nodes_normal
+unfolding run nodes_normal seen_nodes
 add_nodes-returns t c =
     let left = drop c.loop-child.child-index c.args.nodes.now in
     let none : left ≡ [] = nil_from_length left

@@ -6,6 +6,7 @@ use Rattle.html_dom_tree.specs.Tree.{none, node}
 use Rattle.html_dom_tree.specs.Views.{element_view, node_view, nodes_view}
 use Rattle.html_dom_tree.proofs.Nodes.{nodes_view-drop}
 use Rattle.typst_html_encode.specs.IndentsCollapse.{body_children}
+use Rattle.typst_html_page.specs.Unseen.{seen_nodes}
 use Rattle.typst_html_page.proofs.Walks.{body_first}
 use Rattle.typst_html_page.proofs.walk.body_of.Goals as goal
 
@@ -15,11 +16,13 @@ returns-in-Some c =
     let i = c.loop-child.child-index in
     let child = c.child-item.result in
     let rest = nodes_view (drop (i + 1) nodes) in
-    let one : Some (element_view c.in-Some.body.now).1 ≡ body_children (node (node_view child) none) =
-    ap (option_map (λ b. (element_view b.now).1)) (sym c.in-Some.is) ∙ c.as_body.ensures in
-    ap (λ o. or_else o (body_children rest)) one
+    let one : Some (seen_nodes (element_view c.in-Some.body.now).1)
+    ≡ body_children (seen_nodes (node (node_view child) none)) =
+    ap (option_map (λ b. seen_nodes (element_view b.now).1)) (sym c.in-Some.is) ∙ c.as_body.ensures in
+    ap (λ o. or_else o (body_children (seen_nodes rest))) one
     ∙ (sym (body_first (node_view child) rest)
-    ∙ (ap body_children (sym (nodes_view-drop nodes i child c.loop-child-test.true c.child-item.is))
+    ∙ (ap (λ l. body_children (seen_nodes l))
+    (sym (nodes_view-drop nodes i child c.loop-child-test.true c.child-item.is))
     ∙ c.loop-child.invariant))
 
 pub loop-child-preserved : goal.loop-child-preserved
@@ -28,16 +31,19 @@ loop-child-preserved c =
     let i = c.loop-child.child-index in
     let child = c.child-item.result in
     let rest = nodes_view (drop (i + 1) nodes) in
-    let one : None ≡ body_children (node (node_view child) none) =
-    ap (option_map (λ b. (element_view b.now).1)) (sym c.in_default.is) ∙ c.as_body.ensures in
-    ap (λ o. or_else o (body_children rest)) one
+    let one : None ≡ body_children (seen_nodes (node (node_view child) none)) =
+    ap (option_map (λ b. seen_nodes (element_view b.now).1)) (sym c.in_default.is)
+    ∙ c.as_body.ensures in
+    ap (λ o. or_else o (body_children (seen_nodes rest))) one
     ∙ (sym (body_first (node_view child) rest)
-    ∙ (ap body_children (sym (nodes_view-drop nodes i child c.loop-child-test.true c.child-item.is))
+    ∙ (ap (λ l. body_children (seen_nodes l))
+    (sym (nodes_view-drop nodes i child c.loop-child-test.true c.child-item.is))
     ∙ c.loop-child.invariant))
 
 pub returns : goal.returns
+unfolding seen_nodes
 returns c =
     let left = drop c.loop-child.child-index c.args.nodes.now in
     let none : left ≡ [] = nil_from_length left
     (length-drop c.loop-child.child-index c.args.nodes.now ∙ omega arith) in
-    ap (λ ns. body_children (nodes_view ns)) (sym none) ∙ c.loop-child.invariant
+    ap (λ ns. body_children (seen_nodes (nodes_view ns))) (sym none) ∙ c.loop-child.invariant

@@ -1,4 +1,4 @@
-use Rattle.std.proofs.Common.{◌≡◌, false, Some, None, ap, sym, subst, ◌∙◌}
+use Rattle.std.proofs.Common.{◌≡◌, false, Some, None, refl, ap, sym, subst, ◌∙◌}
 use Rattle.std.specs.Prelude.{option_map, IfOk}
 use Rattle.std.proofs.lemmas.Result.{IfOk-weaker}
 use Rattle.html_dom_tree.specs.Views.{element_view, nodes_view}
@@ -7,6 +7,7 @@ use Rattle.typst_html_page.specs.Gathering.{nothing_seen, final, past_nodes}
 use Rattle.typst_html_page.specs.PageTexts.{page_parts}
 use Rattle.typst_html_page.specs.PageViews.{page_text_view, seen_view}
 use Rattle.typst_html_page.specs.Parts.{stand_apart}
+use Rattle.typst_html_page.specs.Unseen.{seen_element, seen_nodes}
 use Rattle.typst_html_page.proofs.Apart.{parts_stand_apart}
 use Rattle.typst_html_page.proofs.Walks.{body_seen, nothing_in}
 use Rattle.typst_html_page.proofs.walk.page_text.Goals as goal
@@ -15,25 +16,25 @@ use Rattle.typst_html_page.proofs.walk.page_text.Goals.{in-Some+in_ok-add_nodes,
 pub returns : goal.returns
 returns c =
     let root = c.args.root.now in
-    let ns = nodes_view root.children.items in
+    let ns = (seen_element (element_view root)).1 in
     let s = seen_view c.new-seen.result in
-    let u = seen_view c.match-body_of.seen in
-    let found : option_map (λ b. (element_view b.now).1) c.body_of.result ≡ body_children ns =
-    c.body_of.ensures ∙ ap (λ l. body_children (nodes_view l)) c.deref.ensures.value in
+    let u = seen_view c.match-seen_body.seen in
+    let found : option_map (λ b. seen_nodes (element_view b.now).1) c.seen_body.result ≡ body_children ns =
+    c.seen_body.ensures in
     let start : s ≡ nothing_seen = c.new-seen.ensures in
-    let whole : final u ≡ page_parts (element_view root) = elim c.match-body_of.branch [
+    let whole : final u ≡ page_parts (element_view root) = elim c.match-seen_body.branch [
       | in-Some+in_ok-add_nodes w ↦
           let body = nodes_view w.in-Some.body.now.children.items in
-          let is : body_children ns ≡ Some body =
-          sym found ∙ ap (option_map (λ b. (element_view b.now).1)) w.in-Some.is in
+          let is : body_children ns ≡ Some (seen_nodes body) =
+          sym found ∙ ap (option_map (λ b. seen_nodes (element_view b.now).1)) w.in-Some.is in
           let added : seen_view w.add_nodes.new.seen ≡ past_nodes false s body =
           w.in_ok-add_nodes.ensures
           ∙ ap (λ l. past_nodes false s (nodes_view l)) w.deref-in-Some.ensures.value in
           let here : u ≡ past_nodes false s body = cc (added, w.seen-is) in
-          body_seen ns body s u is start here
+          body_seen ns body (seen_nodes body) s u is refl start here
       | in_default w ↦
           let is : body_children ns ≡ None =
-          sym found ∙ ap (option_map (λ b. (element_view b.now).1)) w.in_default.is in
+          sym found ∙ ap (option_map (λ b. seen_nodes (element_view b.now).1)) w.in_default.is in
           let here : u ≡ nothing_seen = cc (start, w.seen-is) in
           nothing_in ns u is here
     ] in

@@ -1,4 +1,4 @@
-use Rattle.std.proofs.Common.{◌≡◌, chars, length, take, sym, ap, ◌∙◌, subst}
+use Rattle.std.proofs.Common.{◌≡◌, chars, take, sym, ap, ◌∙◌, subst}
 use Rattle.std.specs.Str.Lossy.{utf8_valid_len}
 use Rattle.std.proofs.lemmas.Bool.{false≢true}
 use Rattle.std.proofs.lemmas.Str.{IsUtf8-from_is_utf8, is_utf8-from_IsUtf8}
@@ -22,11 +22,11 @@ returns-in-Err c =
     let page = c.args.page.now in
     let front = c.unwrap-front.result.now in
     let found = rw c.unwrap-front.ensures at c.from_utf8-in-Err.ensures.cases in
-    let same : front ≡ take (utf8_valid_len page) page =
-    found.0 ∙ ap (λ n. take n page) (c.valid_up_to.ensures ∙ c.in-Err.ensures.valid_len) in
+    let long = c.valid_up_to-valid.ensures ∙ c.in-Err.ensures.valid_len in
+    let same : front ≡ take (utf8_valid_len page) page = found.0 ∙ ap (λ n. take n page) long in
     record {
       text = λ u. absurd (c.in-Err.ensures.cases.0 (IsUtf8-from_is_utf8 page u));
-      no_text = λ n. c.place_at-place.ensures ∙ (ap (place_at (chars front)) c.count.ensures
-          ∙ ap (λ t. place_at (chars t) (length (chars t))) same);
+      no_text = λ n. c.place_at-place.ensures ∙ (ap (place_at (chars front)) long
+          ∙ ap (λ t. place_at (chars t) (utf8_valid_len page)) same);
       fails = λ n. tt;
     }

@@ -4,8 +4,8 @@ use Rattle.std.proofs.StrCases.{chars_of_empty}
 use Rattle.std.proofs.lemmas.Result.{err_from_is_err_and}
 use Rattle.std.proofs.lemmas.Str.{chars_past_char, length-encode, len_utf8_bounds}
 use lib.Utf8.{encode}
-use Rattle.typst_html_parse_tree.specs.Endings.{IsHalt}
-use Rattle.typst_html_parse_tree.specs.Pages.{◌next◌}
+use Rattle.typst_html_parse_open.specs.Endings.{IsHalt}
+use Rattle.typst_html_parse_open.specs.Pages.{◌next◌}
 use Rattle.typst_html_parse.specs.PageReading.{run}
 use Rattle.typst_html_parse.specs.PageTokens.{step}
 use Rattle.typst_html_parse.specs.ReaderViews.{reader_of}

@@ -9,12 +9,12 @@ use Rattle.typst_html_read.specs.OpenViews.{open_of}
 use Rattle.typst_html_read.specs.PlainElements.{accepted}
 use Rattle.typst_html_read.specs.PlainViews.{completed}
 use Rattle.typst_html_read.specs.ReaderViews.{reader_state}
-use Rattle.typst_html_read.specs.LimitedReading.{state_behind, deep_places, stop_place}
+use Rattle.typst_html_read.specs.LimitedReading.{next_state, deep_places, stop_place}
 use Rattle.typst_html_read.specs.Places.{place_at}
 use Rattle.typst_html_read.proofs.CommonStretches.{goes_on}
 use Rattle.typst_html_read.proofs.Loops.{deep_here, deep_later, deep_stopped, deep_ended, not_stop, stop_later, stop_here, stop_ended}
-use Rattle.typst_html_read.proofs.Names.{taken, root_read, root_accepted}
-use Rattle.typst_html_read.proofs.Strict.{result_of, next_result, strictly_taken, ended_result, nothing_stopped}
+use Rattle.typst_html_read.proofs.Names.{taken, outcome, stopped, root_read, root_accepted}
+use Rattle.typst_html_read.proofs.Refusals.{next_outcome, next_taken}
 use Rattle.typst_html_read.proofs.read.read_root.Goals as goal
 
 pub loop-reader-init : goal.loop-reader-init
@@ -24,9 +24,9 @@ loop-reader-init c =
     record {
       is_text = c.utf8.text;
       names = ap taken new;
-      read = ap (λ s. result_of c.args.strict s text) new;
-      deep = ap (λ s. deep_places c.args.strict c.args.limit 15 s text) new;
-      stop = ap (λ s. stop_place c.args.strict 15 s text) new;
+      read = ap (λ s. outcome s text) new;
+      deep = ap (λ s. deep_places c.args.limit 15 s text) new;
+      stop = ap (λ s. stop_place 15 s text) new;
       few = omega arith;
       some = omega arith;
     }
@@ -37,7 +37,7 @@ overflow_add-before-in-loop-reader c =
     let past = c.in_ok-past.past.now in
     let d = c.in-Some.c in
     let later = chars_rest c.next.new.self in
-    let gone = goes_on c.args.strict c.args.limit at.before (reader_state at.reader)
+    let gone = goes_on c.args.limit at.before (reader_state at.reader)
     (reader_state c.read_common.new.self) at.rest.now past c.in_ok-past.ensures in
     let parts : past ≡ encode d ++ later =
     sym c.chars-left.ensures.rest ∙ c.in-Some.ensures.steps.0 in
@@ -61,7 +61,7 @@ returns-then-begins_deep c =
     let later = chars_rest c.next.new.self in
     let state = reader_state c.read_common.new.self in
     let before = at.before + (length at.rest.now - length past) in
-    let gone = goes_on c.args.strict c.args.limit at.before (reader_state at.reader) state at.rest.now past got in
+    let gone = goes_on c.args.limit at.before (reader_state at.reader) state at.rest.now past got in
     let left = chars_past_char past later d got.rest_utf8
     (sym c.chars-left.ensures.rest ∙ c.in-Some.ensures.steps.0) in
     record {
@@ -69,9 +69,9 @@ returns-then-begins_deep c =
       clean = tt;
       fault = (
         before - 1,
-        deep_places c.args.strict c.args.limit (before + 1) (state_behind c.args.strict state d) (chars later),
-        sym (gone.deep ∙ held.deep) ∙ (ap (deep_places c.args.strict c.args.limit before state) left
-            ∙ deep_here c.args.strict c.args.limit before state d (chars later)
+        deep_places c.args.limit (before + 1) (next_state state d) (chars later),
+        sym (gone.deep ∙ held.deep) ∙ (ap (deep_places c.args.limit before state) left
+            ∙ deep_here c.args.limit before state d (chars later)
             (sym c.begins_deep.ensures ∙ c.if-begins_deep.true)),
         c.place_at-place.ensures,
       );
@@ -87,21 +87,21 @@ returns-then-is_stopped c =
     let later = chars_rest c.next.new.self in
     let state = reader_state c.read_common.new.self in
     let before = at.before + (length at.rest.now - length past) in
-    let gone = goes_on c.args.strict c.args.limit at.before (reader_state at.reader) state at.rest.now past got in
+    let gone = goes_on c.args.limit at.before (reader_state at.reader) state at.rest.now past got in
     let left = chars_past_char past later d got.rest_utf8
     (sym c.chars-left.ensures.rest ∙ c.in-Some.ensures.steps.0) in
-    let now : state_behind c.args.strict state d ≡ Stop =
-    sym c.in_ok-advance.ensures ∙ c.is_stopped.ensures.0 c.if-is_stopped.true in
-    let none = sym (gone.read ∙ held.read) ∙ (ap (result_of c.args.strict state) left
-    ∙ (sym (next_result c.args.strict state d (chars later) (gone.names ∙ held.names))
-    ∙ (ap (λ s. result_of c.args.strict s (chars later)) now ∙ nothing_stopped c.args.strict (chars later)))) in
-    let flat = sym (gone.deep ∙ held.deep) ∙ (ap (deep_places c.args.strict c.args.limit before state) left
-    ∙ (deep_later c.args.strict c.args.limit before state d (chars later)
+    let now : next_state state d ≡ Stop =
+    sym c.in_ok-step.ensures ∙ c.is_stopped.ensures.0 c.if-is_stopped.true in
+    let none = sym (gone.read ∙ held.read) ∙ (ap (outcome state) left
+    ∙ (sym (next_outcome state d (chars later) (gone.names ∙ held.names))
+    ∙ (ap (λ s. outcome s (chars later)) now ∙ stopped (chars later)))) in
+    let flat = sym (gone.deep ∙ held.deep) ∙ (ap (deep_places c.args.limit before state) left
+    ∙ (deep_later c.args.limit before state d (chars later)
     (sym c.begins_deep.ensures ∙ c.if-begins_deep.false)
-    ∙ (ap (λ s. deep_places c.args.strict c.args.limit (before + 1) s (chars later)) now
-    ∙ deep_stopped c.args.strict c.args.limit (before + 1) (chars later)))) in
+    ∙ (ap (λ s. deep_places c.args.limit (before + 1) s (chars later)) now
+    ∙ deep_stopped c.args.limit (before + 1) (chars later)))) in
     let here = sym (gone.stop ∙ held.stop)
-    ∙ (ap (stop_place c.args.strict before state) left ∙ stop_here c.args.strict before state d (chars later) now) in
+    ∙ (ap (stop_place before state) left ∙ stop_here before state d (chars later) now) in
     record {
       made = tt;
       clean = tt;
@@ -116,7 +116,7 @@ loop-reader-smaller c =
     let d = c.in-Some.c in
     let later = c.as_str-rest.result.now in
     let at = c.loop-reader in
-    let gone = goes_on c.args.strict c.args.limit at.before (reader_state at.reader)
+    let gone = goes_on c.args.limit at.before (reader_state at.reader)
     (reader_state c.read_common.new.self) at.rest.now past got in
     let parts : past ≡ encode d ++ later =
     sym c.chars-left.ensures.rest ∙ (c.in-Some.ensures.steps.0
@@ -133,33 +133,32 @@ loop-reader-preserved c =
     let later = c.as_str-rest.result.now in
     let state = reader_state c.read_common.new.self in
     let before = at.before + (length at.rest.now - length past) in
-    let gone = goes_on c.args.strict c.args.limit at.before (reader_state at.reader) state at.rest.now past got in
+    let gone = goes_on c.args.limit at.before (reader_state at.reader) state at.rest.now past got in
     let parts : past ≡ encode d ++ later =
     sym c.chars-left.ensures.rest ∙ (c.in-Some.ensures.steps.0
     ∙ ap (λ l. encode d ++ l) (sym c.as_str-rest.ensures)) in
     let left = chars_past_char past later d got.rest_utf8 parts in
-    let step : reader_state c.advance.new.self ≡ state_behind c.args.strict state d =
-    c.in_ok-advance.ensures in
-    let running : state_behind c.args.strict state d ≡ Stop → ⊥ =
+    let step : reader_state c.step.new.self ≡ next_state state d = c.in_ok-step.ensures in
+    let running : next_state state d ≡ Stop → ⊥ =
     λ e. false≢true (sym c.if-is_stopped.false ∙ c.is_stopped.ensures.1 (step ∙ e)) in
-    let names : taken (state_behind c.args.strict state d) ≡ true =
-    elim (strictly_taken c.args.strict state d (gone.names ∙ held.names)) [
+    let names : taken (next_state state d) ≡ true =
+    elim (next_taken state d (gone.names ∙ held.names)) [
       | inl e ↦ absurd (running e)
       | inr e ↦ e
     ] in
     record {
       is_text = c.as_str-rest.utf8;
       names = ap taken step ∙ names;
-      read = ap (λ s. result_of c.args.strict s (chars later)) step
-          ∙ (next_result c.args.strict state d (chars later) (gone.names ∙ held.names)
-          ∙ (ap (result_of c.args.strict state) (sym left) ∙ (gone.read ∙ held.read)));
-      deep = ap (λ s. deep_places c.args.strict c.args.limit (before + 1) s (chars later)) step
-          ∙ (sym (deep_later c.args.strict c.args.limit before state d (chars later)
+      read = ap (λ s. outcome s (chars later)) step
+          ∙ (next_outcome state d (chars later) (gone.names ∙ held.names)
+          ∙ (ap (outcome state) (sym left) ∙ (gone.read ∙ held.read)));
+      deep = ap (λ s. deep_places c.args.limit (before + 1) s (chars later)) step
+          ∙ (sym (deep_later c.args.limit before state d (chars later)
           (sym c.begins_deep.ensures ∙ c.if-begins_deep.false))
-          ∙ (ap (deep_places c.args.strict c.args.limit before state) (sym left) ∙ (gone.deep ∙ held.deep)));
-      stop = ap (λ s. stop_place c.args.strict (before + 1) s (chars later)) step
-          ∙ (sym (stop_later c.args.strict before state d (chars later) (not_stop (state_behind c.args.strict state d) running))
-          ∙ (ap (stop_place c.args.strict before state) (sym left) ∙ (gone.stop ∙ held.stop)));
+          ∙ (ap (deep_places c.args.limit before state) (sym left) ∙ (gone.deep ∙ held.deep)));
+      stop = ap (λ s. stop_place (before + 1) s (chars later)) step
+          ∙ (sym (stop_later before state d (chars later) (not_stop (next_state state d) running))
+          ∙ (ap (stop_place before state) (sym left) ∙ (gone.stop ∙ held.stop)));
       few = omega (
         arith,
         held.few,
@@ -179,16 +178,16 @@ returns-in-None c =
     let past = c.in_ok-past.past.now in
     let state = reader_state c.read_common.new.self in
     let before = at.before + (length at.rest.now - length past) in
-    let gone = goes_on c.args.strict c.args.limit at.before (reader_state at.reader) state at.rest.now past
+    let gone = goes_on c.args.limit at.before (reader_state at.reader) state at.rest.now past
     c.in_ok-past.ensures in
     let empty = ap chars (sym c.chars-left.ensures.rest)
     ∙ chars_of_empty _ c.in_default.ensures.steps.0.0 in
-    let none = ap accepted c.in-None.ensures ∙ (sym (ended_result c.args.strict state)
-    ∙ (ap (result_of c.args.strict state) (sym empty) ∙ (gone.read ∙ held.read))) in
-    let flat = sym (gone.deep ∙ held.deep) ∙ (ap (deep_places c.args.strict c.args.limit before state) empty
-    ∙ deep_ended c.args.strict c.args.limit before state) in
+    let none = ap accepted c.in-None.ensures
+    ∙ (ap (outcome state) (sym empty) ∙ (gone.read ∙ held.read)) in
+    let flat = sym (gone.deep ∙ held.deep) ∙ (ap (deep_places c.args.limit before state) empty
+    ∙ deep_ended c.args.limit before state) in
     let here = sym (gone.stop ∙ held.stop)
-    ∙ (ap (stop_place c.args.strict before state) empty ∙ stop_ended c.args.strict before state) in
+    ∙ (ap (stop_place before state) empty ∙ stop_ended before state) in
     record {
       made = tt;
       clean = tt;
@@ -203,7 +202,7 @@ returns-in-Some-into_root c =
     let past = c.in_ok-past.past.now in
     let state = reader_state c.read_common.new.self in
     let before = at.before + (length at.rest.now - length past) in
-    let gone = goes_on c.args.strict c.args.limit at.before (reader_state at.reader) state at.rest.now past
+    let gone = goes_on c.args.limit at.before (reader_state at.reader) state at.rest.now past
     c.in_ok-past.ensures in
     let o = open_of c.in-Some-into_root.root in
     let empty = ap chars (sym c.chars-left.ensures.rest)
@@ -213,9 +212,9 @@ returns-in-Some-into_root c =
     record {
       made = ap Some c.into_element.ensures
           ∙ (sym (root_accepted o.name o.attrs o.children names)
-          ∙ (ap accepted c.in-Some-into_root.ensures ∙ (sym (ended_result c.args.strict state)
-          ∙ (ap (result_of c.args.strict state) (sym empty) ∙ (gone.read ∙ held.read)))));
-      clean = sym (gone.deep ∙ held.deep) ∙ (ap (deep_places c.args.strict c.args.limit before state) empty
-          ∙ deep_ended c.args.strict c.args.limit before state);
+          ∙ (ap accepted c.in-Some-into_root.ensures
+          ∙ (ap (outcome state) (sym empty) ∙ (gone.read ∙ held.read))));
+      clean = sym (gone.deep ∙ held.deep) ∙ (ap (deep_places c.args.limit before state) empty
+          ∙ deep_ended c.args.limit before state);
       fault = tt;
     }

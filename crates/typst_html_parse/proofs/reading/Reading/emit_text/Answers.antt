@@ -3,8 +3,8 @@ use Rattle.std.specs.Str.Iter.{chars_rest}
 use Rattle.std.proofs.StrCases.{chars_of_empty}
 use Rattle.std.proofs.lemmas.Result.{err_from_is_err_and}
 use Rattle.std.proofs.lemmas.Str.{IsUtf8-past_char, chars_past_char}
-use Rattle.typst_html_parse_tree.specs.Endings.{IsHalt}
-use Rattle.typst_html_parse_tree.specs.Pages.{◌next◌}
+use Rattle.typst_html_parse_open.specs.Endings.{IsHalt}
+use Rattle.typst_html_parse_open.specs.Pages.{◌next◌}
 use Rattle.typst_html_parse.specs.PageTokens.{char_emitted, chars_emitted}
 use Rattle.typst_html_parse.specs.ReaderViews.{reading_of}
 use Rattle.typst_html_parse.proofs.Halts.{halt_next}

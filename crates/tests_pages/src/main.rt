@@ -1,0 +1,89 @@
+//! Reads pages, and prints the tree of each as a line of JSON, to be compared with those of other parsers
+//! (`tools/page_corpus`).
+//!
+//! ```text
+//! cd crates/tests_pages && rt try -- data/list.html
+//! ```
+//!
+//! An element is its name, its attributes and its children, of which a text is one:
+//! `["p",[["class","a"]],["b & c",["br",[],[]]]]`. Of a page that is not read, the line is why and where:
+//! `"a name that no element of this project has at 3:14"`.
+#![tactic(auto)]
+
+use anyhow::{Context, Result};
+use html_dom_tree::{HtmlAttrs, HtmlElement, HtmlNode};
+use serde_json::Value;
+use std::alloc::Global;
+use std::{env, fs};
+use typst_html_parse::read_page_bytes;
+
+/// How deep elements may stand in one another.
+const DEEPEST: usize = 1000;
+
+fn main(rt: HostRuntime) -> Result<()> {
+    let words: Vec<String> = env::args(&rt)?.collect(rt.alloc())?;
+    for page in words.iter().skip(1) {
+        let bytes = fs::read(&rt, page).context(format_args!("{page}"))?;
+        println!(rt; "{}", page_line(rt.alloc(), &bytes)?)?;
+    }
+    Ok(())
+}
+
+/// The line of a page.
+fn page_line(alloc: Global, page: &[u8]) -> Result<String> {
+    let mut line = String::new(alloc);
+    match read_page_bytes(alloc, page, DEEPEST) {
+        Ok((root, _)) => push_element(alloc, &mut line, &root)?,
+        Err(fault) => push_text(alloc, &mut line, &format!(in alloc; "{fault}")?)?,
+    }
+    Ok(line)
+}
+
+/// Adds an element.
+fn push_element(alloc: Global, line: &mut String, element: &HtmlElement) -> Result<()> {
+    line.push('[')?;
+    push_text(alloc, line, element.tag.resolve())?;
+    line.push_str(",[")?;
+    push_attrs(alloc, line, &element.attrs)?;
+    line.push_str("],[")?;
+    push_children(alloc, line, &element.children)?;
+    line.push_str("]]")?;
+    Ok(())
+}
+
+/// Adds attributes, with commas between them.
+fn push_attrs(alloc: Global, line: &mut String, attrs: &HtmlAttrs) -> Result<()> {
+    for (index, (attr, value)) in attrs.0.iter().enumerate() {
+        if index > 0 {
+            line.push(',')?;
+        }
+        line.push('[')?;
+        push_text(alloc, line, attr.resolve())?;
+        line.push(',')?;
+        push_text(alloc, line, value)?;
+        line.push(']')?;
+    }
+    Ok(())
+}
+
+/// Adds texts and elements, with commas between them.
+fn push_children(alloc: Global, line: &mut String, children: &[HtmlNode]) -> Result<()> {
+    for (index, child) in children.iter().enumerate() {
+        if index > 0 {
+            line.push(',')?;
+        }
+        match child {
+            HtmlNode::Text(text, _) => push_text(alloc, line, text)?,
+            HtmlNode::Element(element) => push_element(alloc, line, element)?,
+            HtmlNode::Tag(_) | HtmlNode::Frame(_) => {}
+        }
+    }
+    Ok(())
+}
+
+/// Adds a text in quotes.
+fn push_text(alloc: Global, line: &mut String, text: &str) -> Result<()> {
+    let value = Value::String(String::from_str(alloc, text)?);
+    line.push_str(value.to_string(alloc)?.as_str())?;
+    Ok(())
+}

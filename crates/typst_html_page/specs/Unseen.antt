@@ -1,0 +1,80 @@
+-- Elements that a browser does not show: those to which HTML Standard 15.3.1, hidden elements, gives
+-- `display: none`, but for `noscript`, which is shown where scripting is disabled. What other css
+-- hides, as that of a `dialog` that is not open, counts as seen.
+use Rattle.std.specs.Prelude.{◌≡◌, ℕ, Bool, true, not, ◌&&◌, ◌||◌, List, codes, bytes_eq, if◌then◌else◌, Option, option_map}
+use Rattle.html_names.specs.Displays.{default_display, is_hidden}
+use Rattle.html_names.specs.Names.{listed_names, stands_in}
+use Rattle.html_dom_tree.specs.Attributes.{first, has_name}
+use Rattle.html_dom_tree.specs.Tree.{TextPair, Head, tag_node, text_node, element_node, frame_node, NodesView, none, node, ElementView}
+use Rattle.typst_html_encode.specs.Layout.{is_text}
+use Rattle.typst_html_parse_names.specs.ForeignNames.{lowered}
+
+-- obsolete elements, of which the default displays say nothing
+abbrev pub obsolete_unseen_names : List (List ℕ)
+obsolete_unseen_names = listed_names (codes "basefont noembed noframes param")
+
+-- these, and by default `area`, `base`, `datalist`, `head`, `link`, `meta`, `rp`, `script`, `style`,
+-- `template` and `title`
+unfoldable pub is_unseen_name : List ℕ → Bool
+is_unseen_name name =
+    is_hidden (default_display name) || stands_in obsolete_unseen_names name
+
+-- the first value of an attribute, in small letters
+abbrev pub small_value : List TextPair → (name : List ℕ) → Option (List ℕ)
+small_value attrs name = option_map lowered (first attrs name)
+
+-- `hidden` with any value but `until-found`: what that hides has a display
+abbrev pub has_hidden : List TextPair → Bool
+has_hidden attrs = has_name attrs (codes "hidden")
+    && not (is_text (codes "until-found") (small_value attrs (codes "hidden")))
+
+abbrev pub is_hidden_input : List ℕ → List TextPair → Bool
+is_hidden_input name attrs =
+    bytes_eq name (codes "input") && is_text (codes "hidden") (small_value attrs (codes "type"))
+
+-- an `embed` with `hidden` is displayed
+unfoldable pub is_unseen : List ℕ → List TextPair → Bool
+is_unseen name attrs = is_unseen_name name ||
+    ((has_hidden attrs && not (bytes_eq name (codes "embed"))) || is_hidden_input name attrs)
+
+-- nodes without what is unseen, at any depth
+unfoldable pub seen_nodes : NodesView → NodesView
+seen_nodes none = none
+seen_nodes (node (tag_node t) ns) = node (tag_node t) (seen_nodes ns)
+seen_nodes (node (text_node s span) ns) = node (text_node s span) (seen_nodes ns)
+seen_nodes (node (element_node h kids) ns) = if is_unseen h.name h.attrs then seen_nodes ns
+    else node (element_node h (seen_nodes kids)) (seen_nodes ns)
+seen_nodes (node (frame_node f) ns) = node (frame_node f) (seen_nodes ns)
+
+-- a root without what is unseen; of one that is unseen nothing is seen
+abbrev pub seen_element : ElementView → ElementView
+seen_element root =
+    (root.0, if is_unseen root.0.name root.0.attrs then none else seen_nodes root.1)
+
+abbrev pub is_seen : Head → Bool
+is_seen h = not (is_unseen h.name h.attrs)
+
+-- each element of the nodes is seen, at any depth
+unfoldable pub are_seen : NodesView → Bool
+are_seen none = true
+are_seen (node (tag_node t) ns) = are_seen ns
+are_seen (node (text_node s span) ns) = are_seen ns
+are_seen (node (element_node h kids) ns) = is_seen h && (are_seen kids && are_seen ns)
+are_seen (node (frame_node f) ns) = are_seen ns
+
+-- so is the first `body`, and each element in it
+abbrev pub shows_body : NodesView → Bool
+shows_body none = true
+shows_body (node (tag_node t) ns) = shows_body ns
+shows_body (node (text_node s span) ns) = shows_body ns
+shows_body (node (element_node h kids) ns) =
+    if bytes_eq h.name (codes "body") then is_seen h && are_seen kids else shows_body ns
+shows_body (node (frame_node f) ns) = shows_body ns
+
+-- a root is seen, as are its first `body` and each element in that
+abbrev pub shows_all : ElementView → Bool
+shows_all root = is_seen root.0 && shows_body root.1
+
+-- where each element is seen, nothing is left out
+abbrev pub SeenNodesStay : Type 0
+SeenNodesStay = (ns : NodesView) → are_seen ns ≡ true → seen_nodes ns ≡ ns

@@ -1,0 +1,36 @@
+use Rattle.std.proofs.Common.{◌≡◌, ◌++◌, chars, eqb, sym, ap, ◌∙◌, arith}
+use Rattle.std.proofs.StrCases.{chars_of_empty}
+use Rattle.std.proofs.lemmas.Str.{chars_past_char}
+use lib.Utf8.{encode}
+use Rattle.typst_html_parse.specs.PagePlaces.{place_from}
+use Rattle.typst_html_parse.proofs.Places.{next_reached, none_more, one_more}
+use Rattle.typst_html_parse.proofs.place.Places.moved_to.Goals as goal
+
+pub loop-place-init : goal.loop-place-init
+loop-place-init c =
+    let at = c.args.self.reached in
+    record {
+      is_text = c.args.self.utf8.rest;
+      reached = at;
+      same = at.same c.args.offset c.requires;
+    }
+
+pub loop-place-preserved : goal.loop-place-preserved
+loop-place-preserved c =
+    let at = c.loop-place in
+    let held = at.invariant in
+    let d = c.in-Some.c in
+    let later = c.as_str-rest.result.now in
+    let parts : at.rest.now ≡ encode d ++ later =
+    sym c.chars-left.ensures.rest ∙ (c.in-Some.ensures.steps.0
+    ∙ ap (λ l. encode d ++ l) (sym c.as_str-rest.ensures)) in
+    let left = chars_past_char at.rest.now later d held.is_text parts in
+    record {
+      is_text = c.as_str-rest.utf8;
+      reached = next_reached c.args.self.text.now at.rest.now later at.after_return at.place
+          c.next_place-place.result d c.next_place-place.ensures parts left held.reached;
+      same = ap (λ p. place_from (eqb d 13) p (chars later) c.args.offset) c.next_place-place.ensures
+          ∙ (sym (one_more at.after_return at.place d (chars later) c.args.offset c.loop-place-test.true)
+          ∙ (ap (λ cs. place_from at.after_return at.place cs c.args.offset) (sym left)
+          ∙ held.same));
+    }

@@ -1,0 +1,4 @@
+pub mod Children
+pub mod Closing
+pub mod Contexts
+pub mod Stacks

@@ -1,0 +1,43 @@
+-- How steps end: with the page or the turn that is expected, or as it is expected that reading stops;
+-- want of memory may come before.
+use Rattle.std.specs.Prelude.{◌≡◌, ℕ, Option, Some, None, option_map, Result, Ok, Err, OnOk, IfOk, IfErr}
+use Rattle.html_dom_tree.specs.Views.{element_view}
+use Rattle.html_dom_tree.specs.declared.node.HtmlElement.{HtmlElement}
+use Rattle.typst_html_parse_open.specs.OpenElements.{root_of}
+use Rattle.typst_html_parse_open.specs.PageViews.{notes_of, token_of}
+use Rattle.typst_html_parse_open.specs.Pages.{Page, Reads, Turn, Taken, Again, settled}
+use Rattle.typst_html_parse_open.specs.declared.fault.Halt.{Halt}
+use Rattle.typst_html_parse_open.specs.declared.fault.Halt.TheVariants.{OutOfMemory, Refused}
+use Rattle.typst_html_parse_open.specs.declared.notes.Notes.{Notes}
+use Rattle.typst_html_parse_open.specs.declared.token.Token.{Token}
+
+-- reading stops as it is expected, unless memory ran out
+abbrev pub IsHalt : {A : Type 0} → Reads A → Halt → Type 0
+IsHalt expected OutOfMemory = Unit {0}
+IsHalt expected (Refused refusal place) = expected ≡ Err (refusal, place)
+
+-- a page changes as it is expected
+pub record Steps (r : Result (Unit {0}) Halt) (expected : Reads Page) (new : Page) : Type 0 where
+  pub made : OnOk r (expected ≡ Ok new)
+  pub halted : IfErr r (IsHalt expected)
+
+-- a page changes so, unless memory ran out
+pub record Changes (r : Result (Unit {0}) Halt) (expected new : Page) : Type 0 where
+  pub made : OnOk r (new ≡ expected)
+  pub halted : IfErr r (λ e. e ≡ OutOfMemory)
+
+-- the token that is processed again, if one is
+abbrev pub turn_of : Option Token → Page → Turn
+turn_of None p = Taken p
+turn_of (Some token) p = Again p (token_of token)
+
+-- a mode does with a token what is expected
+pub record Turns (r : Result (Option Token) Halt) (expected : Reads Turn) (new : Page) : Type 0 where
+  pub made : IfOk r (λ again. expected ≡ Ok (turn_of again new))
+  pub halted : IfErr r (IsHalt expected)
+
+-- a page is read to its end: the root is made, and the errors are told
+pub record Finishes (r : Result (Option HtmlElement × Notes) Halt) (p : Page) : Type 0 where
+  pub root : IfOk r (λ read. option_map element_view read.0 ≡ root_of (settled p).stack)
+  pub notes : IfOk r (λ read. notes_of read.1 ≡ p.notes)
+  pub halted : IfErr r (λ e. e ≡ OutOfMemory)

@@ -1,0 +1,9 @@
+pub mod Contexts
+pub mod ElementViews
+pub mod Endings
+pub mod LostNames
+pub mod OpenCounts
+pub mod OpenElements
+pub mod PageRefusals
+pub mod PageViews
+pub mod Pages

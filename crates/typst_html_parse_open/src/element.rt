@@ -1,0 +1,166 @@
+//! An element of a page that is open.
+
+ghost use Rattle.std.specs.Prelude.{◌≡◌};
+ghost use Rattle.html_dom_tree.specs.Views.{element_view};
+ghost use Rattle.typst_html_parse_names.specs.Kinds.{IsKindsOf};
+ghost use Rattle.typst_html_parse_open.specs.OpenCounts.{has_child_elements};
+
+use crate::context::Context;
+use crate::modes::Space;
+use crate::search::Target;
+use html_dom_tree::{HtmlAttrs, HtmlElement, HtmlNode, Span};
+use html_names::HtmlTag;
+use std::alloc::{AllocError, Global};
+use typst_html_parse_names::{Kind, Kinds, is_same_lowered};
+
+/// An element of a page that is open, with its children so far.
+#[derive(Drop)]
+pub struct PageElement {
+    /// The element, with its children so far.
+    pub element: HtmlElement,
+    /// Its namespace.
+    pub space: Space,
+    pub(crate) kinds: Kinds,
+    /// Whether some of its children is an element.
+    pub(crate) has_elements: bool,
+    /// What is known at it, once it stands among the open elements.
+    pub(crate) context: Context,
+    ghost told: { IsKindsOf (element_view element).0.name kinds },
+    ghost counted: { has_elements ≡ has_child_elements (element_view element) },
+}
+
+impl PageElement {
+    ghost use Rattle.std.specs.Prelude.{IfOk, bytes_eq};
+    ghost use Rattle.html_dom_tree.specs.Tree.{none};
+    ghost use Rattle.html_dom_tree.specs.Views.{attrs_view, text_view};
+    ghost use Rattle.typst_html_parse_names.specs.PageNames.{of};
+    ghost use Rattle.typst_html_parse_open.specs.OpenElements.{completed, is_html, is_of, with_last_child, with_text};
+    ghost use Rattle.typst_html_parse_open.specs.OpenElements.{is_foreign_of};
+    ghost use Rattle.typst_html_parse_open.specs.PageViews.{element_of, target_test};
+    ghost use Rattle.typst_html_parse_open.specs.Pages.{page_head};
+
+    /// An element without children, before whose token so many bytes stand.
+    pub(crate) fn new(
+        alloc: Global,
+        space: Space,
+        tag: HtmlTag,
+        kinds: Kinds,
+        attrs: HtmlAttrs,
+        start: usize,
+    ) -> PageElement
+        requires { IsKindsOf tag kinds }
+        ensures { element_of result ≡ record {
+          head = page_head tag (attrs_view attrs) start;
+          space = space;
+          children = none;
+        } }
+    {
+        let mut element = HtmlElement::new(alloc, tag).spanned(Span(start as u64));
+        element.attrs = attrs;
+        PageElement {
+            element,
+            space,
+            kinds,
+            has_elements: false,
+            context: Context::OUTSIDE,
+        }
+    }
+
+    /// Whether it is an element of HTML.
+    pub fn is_html(&self) -> bool
+        ensures { result ≡ is_html (element_of self.now).space }
+    {
+        matches!(self.space, Space::Html)
+    }
+
+    /// Whether its name is one of the kind, in any namespace.
+    pub fn has_kind(&self, kind: Kind) -> bool
+        ensures { result ≡ of kind (element_of self.now).head.name }
+    {
+        self.kinds.has(kind)
+    }
+
+    pub(crate) fn has_name(&self, tag: &HtmlTag) -> bool
+        ensures { result ≡ bytes_eq (element_of self.now).head.name tag.now }
+    {
+        self.element.tag == *tag
+    }
+
+    /// Whether it is an element of HTML of the kind.
+    pub(crate) fn is(&self, kind: Kind) -> bool
+        ensures { result ≡ is_of (of kind) (element_of self.now) }
+    {
+        self.is_html() && self.has_kind(kind)
+    }
+
+    /// Whether it is an element of HTML that is meant.
+    pub(crate) fn is_target(&self, target: Target<'_>) -> bool
+        ensures { result ≡ is_of (target_test target.entry) (element_of self.now) }
+    {
+        self.is_html()
+            && match target {
+                Target::Kind(kind) => self.has_kind(kind),
+                Target::Named(tag) => self.has_name(tag),
+                Target::Nothing => false,
+            }
+    }
+
+    /// Whether it is an element of SVG or MathML of that name, in small letters.
+    pub(crate) fn is_foreign_of(&self, tag: &HtmlTag) -> bool
+        ensures { result ≡ is_foreign_of tag.now (element_of self.now) }
+    {
+        !self.is_html() && is_same_lowered(self.element.tag.resolve(), tag.resolve())
+    }
+
+    /// The element with a text as its last child, with its span, unless the text is empty.
+    #[tactic(auto, using(crate::proofs::Children::text_counts))]
+    pub(crate) fn with_text(self, text: String) -> Result<PageElement, AllocError>
+        ensures grown { IfOk result (λ grown.
+            element_of grown ≡ with_text (text_view text) (element_of self)) }
+        ensures context { IfOk result (λ grown. grown.context ≡ self.context) }
+    {
+        if text.as_str().is_empty() {
+            return Ok(self);
+        }
+        let PageElement {
+            element,
+            space,
+            kinds,
+            has_elements,
+            context,
+        } = self;
+        let child = HtmlNode::text(text, element.span);
+        let element = element.with_child(child)?;
+        Ok(PageElement {
+            element,
+            space,
+            kinds,
+            has_elements,
+            context,
+        })
+    }
+
+    /// The element with an element as its last child.
+    #[tactic(auto, using(crate::proofs::Children::element_counts))]
+    pub(crate) fn with_child(self, child: PageElement) -> Result<PageElement, AllocError>
+        ensures grown { IfOk result (λ grown. element_of grown
+            ≡ with_last_child (completed (element_of child)) (element_of self)) }
+        ensures context { IfOk result (λ grown. grown.context ≡ self.context) }
+    {
+        let PageElement {
+            element,
+            space,
+            kinds,
+            context,
+            ..
+        } = self;
+        let element = element.with_child(HtmlNode::from(child.element))?;
+        Ok(PageElement {
+            element,
+            space,
+            kinds,
+            has_elements: true,
+            context,
+        })
+    }
+}

@@ -1,0 +1,27 @@
+//! A page that is being read: the elements that are open, and the steps that open and close them
+//! (HTML Standard 13.2.4, 13.2.6).
+#![tactic(auto)]
+
+mod context;
+mod element;
+mod elements;
+mod error;
+mod fault;
+mod lost;
+mod modes;
+mod notes;
+mod page;
+mod search;
+mod stack;
+mod token;
+
+pub use element::PageElement;
+pub use error::PageError;
+pub use fault::{Halt, PageRefusal};
+pub use lost::Lost;
+pub use modes::{Mode, Scope, Space, TableRule};
+pub use notes::Notes;
+pub use page::Page;
+pub use search::{Bound, Goal, Target, While};
+pub use stack::Stack;
+pub use token::{StartTag, TagName, Token};

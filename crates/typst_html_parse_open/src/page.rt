@@ -1,0 +1,287 @@
+//! A page that is being read, and the steps that its tokens take.
+
+ghost use Rattle.std.specs.Prelude.{◌≡◌, chars, length};
+ghost use Rattle.html_dom_tree.specs.Views.{attrs_view};
+ghost use Rattle.typst_html_parse_names.specs.Kinds.{IsKindsOf};
+ghost use Rattle.typst_html_parse_names.specs.PageNames.{of};
+ghost use Rattle.typst_html_parse_names.specs.declared.kind.Kind.TheVariants as kind;
+ghost use Rattle.typst_html_parse_open.specs.Endings.{Changes, Finishes, Steps};
+ghost use Rattle.typst_html_parse_open.specs.OpenElements.{in_scope};
+ghost use Rattle.typst_html_parse_open.specs.PageViews.{element_of, goal_test, page_of, target_test, while_test};
+ghost use Rattle.typst_html_parse_open.specs.Pages as pages;
+
+use crate::element::PageElement;
+use crate::error::PageError;
+use crate::fault::{Halt, PageRefusal};
+use crate::lost::Lost;
+use crate::modes::{Scope, Space, TableRule};
+use crate::notes::Notes;
+use crate::search::{Bound, Goal, Target, While};
+use crate::stack::Stack;
+use html_dom_tree::{HtmlAttrs, HtmlElement};
+use html_names::HtmlTag;
+use std::alloc::{AllocError, Global};
+use typst_html_parse_names::{Kind, Kinds};
+use typst_html_read::text;
+
+/// A page that is being read.
+#[derive(Drop)]
+pub struct Page {
+    /// What allocates its texts and elements.
+    pub alloc: Global,
+    /// The text since the last child of the current node.
+    pub text: String,
+    /// The elements that are open.
+    pub stack: Stack,
+    /// The formatting elements that a tag of another name closed.
+    pub lost: Lost,
+    /// What a table does to an open `p`.
+    pub tables: TableRule,
+    pub(crate) limit: usize,
+    /// How many bytes of the text stand before the token.
+    pub start: usize,
+    /// The errors that reading went on over.
+    pub notes: Notes,
+}
+
+impl Page {
+    /// A page of which nothing is read, and the limit of how deep its elements may stand.
+    #[tactic(auto, using(std::proofs::StrCases::chars_of_empty))]
+    pub fn new(alloc: Global, limit: usize) -> Page
+        ensures { page_of result ≡ pages.first_page limit }
+    {
+        Page {
+            alloc,
+            text: String::new(alloc),
+            stack: Stack::new(alloc),
+            lost: Lost::new(alloc),
+            tables: TableRule::Unseen,
+            limit,
+            start: 0,
+            notes: Notes::new(alloc),
+        }
+    }
+
+    /// Why reading stops at the token.
+    pub fn refusal(&self, refusal: PageRefusal) -> Halt
+        ensures { result ≡ Halt.Refused refusal self.now.start }
+    {
+        let place = self.start;
+        Halt::Refused { refusal, place }
+    }
+
+    /// An error of the token is gone over.
+    pub fn note(&mut self, error: PageError) -> Result<(), Halt>
+        ensures { Changes result (pages.noted error (page_of self.old)) (page_of self.new) }
+    {
+        let place = self.start;
+        self.notes.add(error, place)?;
+        Ok(())
+    }
+
+    /// An error of the token is gone over, where one is told.
+    pub fn note_if(&mut self, told: bool, error: PageError) -> Result<(), Halt>
+        ensures { Changes result (pages.noted_if told error (page_of self.old))
+            (page_of self.new) }
+    {
+        if told { self.note(error) } else { Ok(()) }
+    }
+
+    /// Adds a character to the current node.
+    pub fn add_char(&mut self, c: char) -> Result<(), Halt>
+        ensures { Changes result (pages.with_char c (page_of self.old)) (page_of self.new) }
+    {
+        text::add(&mut self.text, c)?;
+        Ok(())
+    }
+
+    /// Adds a text to the current node.
+    pub fn add_text(&mut self, text: &str) -> Result<(), Halt>
+        ensures { Changes result (pages.with_chars (chars text.now) (page_of self.old))
+            (page_of self.new) }
+    {
+        text::add_text(&mut self.text, text)?;
+        Ok(())
+    }
+
+    /// The text becomes a child of the current node.
+    pub(crate) fn settle(&mut self) -> Result<(), Halt>
+        ensures { Changes result (pages.settled (page_of self.old)) (page_of self.new) }
+    {
+        let text = text::take(self.alloc, &mut self.text);
+        self.stack.add_text(text)?;
+        Ok(())
+    }
+
+    fn push(&mut self, element: PageElement) -> Result<(), Halt>
+        ensures { Changes result (pages.with_element (element_of element) (page_of self.old))
+            (page_of self.new) }
+    {
+        if element.is(Kind::Marker) {
+            self.lost.push_marker()?;
+        }
+        self.stack.push(element)?;
+        Ok(())
+    }
+
+    /// Opens an element, unless it would stand too deep (HTML Standard 13.2.6.1).
+    pub fn open_in(
+        &mut self,
+        space: Space,
+        tag: HtmlTag,
+        kinds: Kinds,
+        attrs: HtmlAttrs,
+    ) -> Result<(), Halt>
+        requires { IsKindsOf tag kinds }
+        ensures { Steps result (pages.opened_in space tag (attrs_view attrs) (page_of self.old))
+            (page_of self.new) }
+    {
+        if self.limit <= self.stack.len() {
+            return Err(self.refusal(PageRefusal::TooDeep));
+        }
+        self.settle()?;
+        let element = PageElement::new(self.alloc, space, tag, kinds, attrs, self.start);
+        self.push(element)
+    }
+
+    /// Remembers what is lost once the current node is closed, by its own end tag or another.
+    fn lose_current(&mut self, own: bool) -> Result<(), Halt>
+        ensures { Changes result (let p = page_of self.old in
+            record p { lost = pages.lost_with own p.stack p.lost }) (page_of self.new) }
+    {
+        let Some(element) = self.stack.items.last() else {
+            return Ok(());
+        };
+        if element.is(Kind::Marker) {
+            self.lost.leave_marker();
+        } else if element.is(Kind::Formatting) && !own {
+            let tag = element.element.tag.try_clone()?;
+            self.lost.push(tag)?;
+        }
+        Ok(())
+    }
+
+    /// Closes the current node, by its own end tag or another.
+    pub fn close(&mut self, own: bool) -> Result<(), Halt>
+        ensures { Steps result (pages.closed own (page_of self.old)) (page_of self.new) }
+    {
+        self.settle()?;
+        if self.stack.is_at(Kind::Whole) && !own {
+            return Err(self.refusal(PageRefusal::CrossedElement));
+        }
+        self.lose_current(own)?;
+        self.stack.close_current()?;
+        Ok(())
+    }
+
+    /// Closes the current node while it is such a node.
+    #[tactic(auto, using(crate::proofs::Closing::while_once, crate::proofs::Closing::while_done))]
+    fn close_while(&mut self, goes_on: While<'_>) -> Result<(), Halt>
+        ensures { let p = page_of self.old in
+            Steps result (pages.closed_while (while_test goes_on.entry) (length p.stack) p)
+            (page_of self.new) }
+    {
+        let most = self.stack.len();
+        for count in 0..most {
+            if !self.stack.goes_on(goes_on) {
+                return Ok(());
+            }
+            self.close(false)?;
+        }
+        Ok(())
+    }
+
+    /// Closes the nearest element that is a goal, with all that stands in it.
+    pub fn close_to_goal(&mut self, goal: Goal<'_>) -> Result<(), Halt>
+        ensures { Steps result (pages.closed_to_goal (goal_test goal.entry) (page_of self.old))
+            (page_of self.new) }
+    {
+        self.close_while(While::Above(goal))?;
+        self.close(true)
+    }
+
+    /// Closes the nearest element of HTML that is meant, with all that stands in it.
+    pub fn close_to(&mut self, target: Target<'_>) -> Result<(), Halt>
+        ensures { Steps result (pages.closed_to (target_test target.entry) (page_of self.old))
+            (page_of self.new) }
+    {
+        self.close_to_goal(Goal::Of(target))
+    }
+
+    /// Closes elements whose end tag is implied, but not those that are named (HTML Standard
+    /// 13.2.6.3).
+    pub fn close_implied(&mut self, but: Target<'_>) -> Result<(), Halt>
+        ensures { Steps result (pages.implied_closed (target_test but.entry) (page_of self.old))
+            (page_of self.new) }
+    {
+        self.close_while(While::Implied(but))
+    }
+
+    /// Closes such an element, and tells an error where the current node is not the one that is named.
+    pub fn close_over(
+        &mut self,
+        named: Target<'_>,
+        target: Target<'_>,
+        but: Target<'_>,
+    ) -> Result<(), Halt>
+        ensures { Steps result (pages.closed_over (target_test named.entry) (target_test target.entry)
+            (target_test but.entry) (page_of self.old)) (page_of self.new) }
+    {
+        self.close_implied(but)?;
+        let told = !self.stack.is_target(named);
+        self.note_if(told, PageError::EndTagOverOpenElements)?;
+        self.close_to(target)
+    }
+
+    /// Whether such an element is in scope.
+    pub fn in_scope(&self, scope: Scope, target: Target<'_>) -> bool
+        ensures { result ≡ in_scope scope (target_test target.entry) (page_of self.now).stack }
+    {
+        self.stack.reaches(Goal::Of(target), Bound::Scope(scope))
+    }
+
+    /// Whether a `p` is in button scope.
+    pub fn has_paragraph(&self) -> bool
+        ensures { result ≡ in_scope Scope.Button (of kind.P) (page_of self.now).stack }
+    {
+        self.stack.has_paragraph()
+    }
+
+    /// Closes such an element by its end tag, where it is in scope.
+    pub fn close_in(
+        &mut self,
+        scope: Scope,
+        named: Target<'_>,
+        target: Target<'_>,
+        but: Target<'_>,
+    ) -> Result<(), Halt>
+        ensures { Steps result (pages.closed_in scope (target_test named.entry) (target_test target.entry)
+            (target_test but.entry) (page_of self.old)) (page_of self.new) }
+    {
+        if self.in_scope(scope, target) {
+            self.close_over(named, target, but)
+        } else {
+            self.note(PageError::EndTagWithoutStart)
+        }
+    }
+
+    /// Formatting elements would be made again here (HTML Standard 13.2.4.3), unless none is lost.
+    pub fn reconstruct(&self) -> Result<(), Halt>
+        ensures { Steps result (pages.reconstructed (page_of self.now)) (page_of self.now) }
+    {
+        if self.lost.loses_some() {
+            return Err(self.refusal(PageRefusal::Reconstruction));
+        }
+        Ok(())
+    }
+
+    /// The root, with all that is open in it complete, and the errors that reading went on over.
+    pub fn finish(mut self) -> Result<(Option<HtmlElement>, Notes), Halt>
+        ensures { Finishes result (page_of self) }
+    {
+        self.settle()?;
+        let Page { stack, notes, .. } = self;
+        let root = stack.into_root()?;
+        Ok((root, notes))
+    }
+}

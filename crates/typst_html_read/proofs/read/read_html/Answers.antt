@@ -1,0 +1,30 @@
+use Rattle.std.proofs.Common.{◌≡◌, false, ◌++◌, bytes_eq, chars, take, refl, sym, ap, ◌∙◌, subst}
+use Rattle.typst_html_encode.specs.Reader.{read}
+use Rattle.typst_html_read.specs.Endings.{Gives}
+use Rattle.typst_html_read.specs.PlainElements.{accepted}
+use Rattle.typst_html_read.specs.LimitedReading.{document_type, too_deep, unread}
+use Rattle.typst_html_read.proofs.Loops.{begins_otherwise}
+use Rattle.typst_html_read.proofs.Words.{chars_after_word}
+use Rattle.html_names.proofs.Lists.{chars_ascii}
+use Rattle.typst_html_read.proofs.read.read_html.Goals as goal
+
+pub returns-in-None : goal.returns-in-None
+returns-in-None c =
+    let own : chars document_type ≡ document_type = chars_ascii document_type refl in
+    let other : bytes_eq (take 15 (chars c.args.text.now)) document_type ≡ false =
+    begins_otherwise document_type c.args.text.now refl c.utf8.text c.in-None.ensures.cases in
+    record {
+      made = tt;
+      clean = tt;
+      fault = rw (c.syntax_at.ensures, c.common_length.ensures, own, other) (refl, refl, refl);
+    }
+
+pub returns-in-Some : goal.returns-in-Some
+returns-in-Some c =
+    let found = c.in-Some.ensures.cases in
+    let whole : c.args.text.now ≡ document_type ++ c.in-Some.rest.now =
+    found.1.1 ∙ sym (ap (λ l. document_type ++ l) found.2) in
+    subst (λ cs. Gives c.read_root.result (chars c.args.text.now) (accepted (read cs))
+    (too_deep c.args.limit cs) (unread cs))
+    (sym (chars_after_word document_type c.args.text.now c.in-Some.rest.now refl whole))
+    c.read_root.ensures
