@@ -1,12 +1,13 @@
 //! The files of a site.
 
 use crate::finding::Unread;
-use crate::paths::{Spot, path_in, system_path};
+use crate::paths::{Spot, folder_of, path_in, system_path};
 use crate::words::Input;
 use anyhow::Result;
 use std::alloc::{AllocError, Global};
-use std::collections::BTreeMap;
+use std::collections::{BTreeMap, BTreeSet};
 use std::fs::DirEntry;
+use std::io::ErrorKind;
 use std::{fs, io};
 
 /// What is at a path.
@@ -43,7 +44,9 @@ pub struct Files<'a> {
     entries: BTreeMap<String, Entry<'a>>,
     /// For each path in small letters, the first that is there.
     by_small: BTreeMap<String, String>,
-    /// The folders that the system does not give.
+    /// The folders of pages that are named, which are listed.
+    listed: BTreeSet<&'a str>,
+    /// The folders that the system does not give, of those whose pages are wanted.
     pub unread: Vec<Unread>,
 }
 
@@ -54,6 +57,7 @@ impl<'a> Files<'a> {
             alloc,
             entries: BTreeMap::new(alloc),
             by_small: BTreeMap::new(alloc),
+            listed: BTreeSet::new(alloc),
             unread: Vec::new(alloc),
         }
     }
@@ -65,18 +69,21 @@ impl<'a> Files<'a> {
 
     /// Adds what is named: a page, with the files beside it, or all that is in a folder.
     pub fn add(&mut self, rt: &HostRuntime, input: &'a Input) -> Result<()> {
-        let root = input.root.as_str();
+        let (path, root) = (input.path.as_str(), input.root.as_str());
         if input.is_folder {
-            return self.add_all(rt, root);
+            return self.add_all(rt, path, root);
         }
         self.put(input.path.clone()?, Entry::Page { root })?;
-        self.add_folder(rt, root, None)?;
+        let folder = folder_of(path);
+        if self.listed.insert(folder)? {
+            self.add_folder(rt, folder, None)?;
+        }
         Ok(())
     }
 
     /// Adds a folder and all that is in it, at any depth.
-    fn add_all(&mut self, rt: &HostRuntime, root: &'a str) -> Result<()> {
-        let mut left = vec![in self.alloc; String::from_str(self.alloc, root)?]?;
+    fn add_all(&mut self, rt: &HostRuntime, folder: &str, root: &'a str) -> Result<()> {
+        let mut left = vec![in self.alloc; String::from_str(self.alloc, folder)?]?;
         for _ in 0..u64::MAX {
             let Some(folder) = left.pop() else {
                 break;
@@ -101,8 +108,7 @@ impl<'a> Files<'a> {
         let entries = match fs::read_dir(rt, system_path(folder)) {
             Ok(entries) => entries,
             Err(error) => {
-                self.unread
-                    .push(Unread::by_system(self.alloc, folder, &error)?)?;
+                self.tell(folder, root, &error)?;
                 return Ok(inner);
             }
         };
@@ -114,12 +120,19 @@ impl<'a> Files<'a> {
                         inner.push(path)?;
                     }
                 }
-                Err(error) => self
-                    .unread
-                    .push(Unread::by_system(self.alloc, folder, &error)?)?,
+                Err(error) => self.tell(folder, root, &error)?,
             }
         }
         Ok(inner)
+    }
+
+    /// Keeps that the system does not give a folder, or a name in it, where its pages are wanted.
+    fn tell(&mut self, folder: &str, root: Option<&str>, error: &io::Error) -> Result<()> {
+        if root.is_some() {
+            let unread = Unread::by_system(self.alloc, folder, error)?;
+            self.unread.push(unread)?;
+        }
+        Ok(())
     }
 
     /// Adds what an entry of a folder is, and answers whether it is a folder to go into. What is behind a
@@ -214,10 +227,12 @@ impl<'a> Files<'a> {
     }
 }
 
+/// What is at a path by its metadata. Where the system refuses them, a file may be there.
 fn entry_elsewhere<'a>(metadata: io::Result<fs::Metadata>) -> Option<Entry<'a>> {
     match metadata {
         Ok(metadata) if metadata.is_dir() => Some(Entry::Folder),
         Ok(_) => Some(Entry::File),
+        Err(error) if error.kind() == ErrorKind::PermissionDenied => Some(Entry::File),
         Err(_) => None,
     }
 }

@@ -2,8 +2,7 @@
 
 use std::alloc::{AllocError, Global};
 use std::{fmt, io};
-use typst_html_parse::PageFault;
-use typst_html_read::Place;
+use typst_html::{PageFault, Place};
 
 /// A page that is not read, or a folder that the system does not give.
 #[derive(Drop)]

@@ -2,9 +2,7 @@
 
 use crate::address::{cleaned, is_external, scheme_of};
 use std::alloc::{AllocError, Global};
-use typst_html::{HtmlElement, HtmlNode, attr};
-use typst_html_parse::Places;
-use typst_html_read::Place;
+use typst_html::{HtmlElement, HtmlNode, Place, Places, attr};
 
 /// A link that leads to the site.
 #[derive(Drop)]

@@ -2,7 +2,7 @@
 //! each link that leads nowhere.
 //!
 //! ```text
-//! cd crates/examples_links && rt try -- data
+//! cd crates/examples_links && rt try -- data/site
 //! ```
 //!
 //! # What is checked
@@ -30,7 +30,8 @@
 //! Relative links are taken as the URL Standard takes them: from the page, or from its first `base` with an
 //! `href`; blanks around them count for nothing, and line breaks and tabs in them; `\` is `/`; a query is
 //! passed over; what is percent-encoded is decoded. A link that begins with `/` leads from the folder that
-//! was named, in which the page was found; where the page itself was named, from the folder that it is in.
+//! `--root` names, or else from the folder that was named, in which the page was found; where the page itself
+//! was named, from the folder that it is in.
 //!
 //! # What is written
 //!
@@ -38,8 +39,8 @@
 //! first, and a count last. Lines and columns are counted from 1, a column by characters.
 //!
 //! ```text
-//! herbs.html:7:5: "#mint" leads nowhere: nothing in this page has that id
-//! 4 pages: 1 finding
+//! site/herbs.html:3:57: "#mint" leads nowhere: there is no place site/herbs.html#mint
+//! 5 pages: 1 finding
 //! ```
 //!
 //! With `--json` it is one object. `target` is the page and the fragment, the path that is missing, that of
@@ -48,7 +49,7 @@
 //! null, as `line` and `column` are. `pages` counts those that are not read, too.
 //!
 //! ```text
-//! {"pages": 4,
+//! {"pages": 5,
 //!  "unread": [{"file", "line", "column", "number", "reason"}],
 //!  "findings": [{"file", "line", "column", "kind", "link", "target"}]}
 //! ```
@@ -105,7 +106,8 @@ fn run(rt: &HostRuntime) -> Result<ExitCode> {
     match command(rt.alloc())?.try_get_matches_from(&words) {
         Ok(matches) => {
             let paths = matches.get_strs("PATH").context("no path")?;
-            check(rt, paths, matches.get_flag("json"))
+            let root = matches.get_str("root");
+            check(rt, paths, root, matches.get_flag("json"))
         }
         Err(error) => {
             error.print(rt)?;
@@ -115,8 +117,8 @@ fn run(rt: &HostRuntime) -> Result<ExitCode> {
 }
 
 /// Checks the pages at these paths, and writes what is found. The answer is the status.
-fn check(rt: &HostRuntime, paths: &[&str], is_json: bool) -> Result<ExitCode> {
-    let Some(inputs) = inputs_of(rt, paths)? else {
+fn check(rt: &HostRuntime, paths: &[&str], root: Option<&str>, is_json: bool) -> Result<ExitCode> {
+    let Some(inputs) = inputs_of(rt, paths, root)? else {
         return Ok(ExitCode::from(WRONG_WORDS));
     };
     let site = read_site(rt, &inputs)?;

@@ -4,9 +4,9 @@ use crate::links::{Link, Links};
 use std::alloc::{AllocError, Global};
 use std::collections::BTreeSet;
 use std::str;
-use typst_html::{HtmlElement, HtmlNode, place_names, repeated_ids};
-use typst_html_parse::{PageFault, Places, read_page_bytes};
-use typst_html_read::Place;
+use typst_html::{
+    HtmlElement, HtmlNode, PageFault, Place, Places, place_names, read_page_bytes, repeated_ids,
+};
 
 /// How deep elements may stand in one another.
 const DEEPEST: usize = 1000;
