@@ -1,58 +1,114 @@
-//! A link checker: it reads pages and tells of each link to a fragment of its own page that leads
-//! nowhere, and of each id that stands in its page before.
+//! A link checker for written pages: it reads all pages of a site as browsers read them, and tells of
+//! each link that leads nowhere.
 //!
 //! ```text
-//! cd crates/examples_links && rt try -- data/herbs.html
+//! cd crates/examples_links && rt try -- data/site
 //! ```
 //!
-//! Each finding is a line on standard output: the page, the place and what is wrong there. A place is
-//! the way from the root down, by the index of each child, texts counted; that of the root is `root`.
+//! # What is checked
+//!
+//! Each word is a page or a folder. Of a folder all files `*.html` and `*.htm` are pages, at any depth, in
+//! any case; its other files can be led to. Folders behind symbolic links are led to, and not gone into.
+//!
+//! - `dead-fragment`: the `href` of an `a` or an `area` has a fragment that leads to no place of a page
+//!   that was read, this one or another: HTML Standard 7.4.6.3, with ids, names of `a`, percent-encoding
+//!   and `top`.
+//! - `missing-file`: nothing is where such an `href` leads, or the `href` of a `link`, the `src` of an
+//!   `img`, `script`, `iframe`, `embed`, `source`, `track`, `audio` or `video`, or the `data` of an
+//!   `object`. A folder stands for its `index.html` or `index.htm`.
+//! - `other-case`: the same, but a file of the folders that are named differs in case alone.
+//! - `repeated-id`: an element has an `id` that an element before it has.
+//!
+//! # What is not
+//!
+//! Links out of the site: those with a scheme (`https:`, `mailto:`, `data:`) or a host (`//host/x`), and
+//! all relative ones of a page whose `base` leads out. Fragments of what is no page that was read. `srcset`,
+//! `poster`, the actions of forms, addresses in CSS and in scripts, and the elements of SVG and MathML.
+//!
+//! # Where links lead
+//!
+//! Relative links are taken as the URL Standard takes them: from the page, or from its first `base` with an
+//! `href`; blanks around them count for nothing, and line breaks and tabs in them; `\` is `/`; a query is
+//! passed over; what is percent-encoded is decoded. A link that begins with `/` leads from the folder that
+//! `--root` names, or else from the folder that was named, in which the page was found; where the page itself
+//! was named, from the folder that it is in.
+//!
+//! # What is written
+//!
+//! For people, each finding is a line on standard output, by file and place; pages that are not read come
+//! first, and a count last. Lines and columns are counted from 1, a column by characters.
 //!
 //! ```text
-//! herbs.html: 1.3: nothing has the id of "#mint"
-//! herbs.html: 1.4: the id "dill" stands before
+//! site/herbs.html:3:57: "#mint" leads nowhere: there is no place site/herbs.html#mint
+//! 5 pages: 1 finding
 //! ```
 //!
-//! Pages are read by the syntax that is written here, with elements at most 1,000 deep, and not where a
-//! browser is known to read something else, as an `a` in `<A>`. A page that can't be read is told on
-//! standard error, with the line and the column from which on it isn't, and the others are checked:
+//! With `--json` it is one object. `target` is the page and the fragment, the path that is missing, that of
+//! the file in other case, or the id; `link` is the link as it stands there, and null for an id. `number` is
+//! that of the refusal in the project's guide. Where the system does not give a file or a folder, it is
+//! null, as `line` and `column` are. `pages` counts those that are not read, too.
 //!
 //! ```text
-//! other.html:3:14: not read from there on: other syntax, or something else in a browser
+//! {"pages": 5,
+//!  "unread": [{"file", "line", "column", "number", "reason"}],
+//!  "findings": [{"file", "line", "column", "kind", "link", "target"}]}
 //! ```
 //!
-//! The status is 0 where all pages were read and nothing is wrong, 2 where the words are wrong, and
-//! else 1.
+//! Elements may stand at most 1,000 deep. At each 500th page standard error says how many are read. The
+//! status is 0 where nothing is found, 1 where something is, 2 where the words are wrong or name nothing
+//! that exists, and 3 where a page or a folder is not read, or the report cannot be written.
 #![tactic(auto)]
 
-use anyhow::{Context, Result, bail};
-use clap::{Arg, ArgAction, ArgMatches, Command};
-use std::alloc::Global;
-use std::fmt::Write;
-use std::process::ExitCode;
-use std::{env, fs};
-use typst_html::{
-    DeadFragment, HtmlElement, ReadFault, RepeatedId, dead_fragments, read_page, repeated_ids,
-};
+mod address;
+mod files;
+mod finding;
+mod links;
+mod page;
+mod paths;
+mod report;
+mod site;
+mod words;
 
-/// How deep elements may stand in one another.
-const DEEPEST: usize = 1000;
+use anyhow::{Context, Result};
+use report::write_report;
+use site::{check_site, read_site};
+use std::env;
+use std::io::ErrorKind;
+use std::process::ExitCode;
+use words::{command, inputs_of};
+
+/// The status where the words are wrong or name nothing that exists.
+const WRONG_WORDS: u8 = 2;
+
+/// The status where not all is read, or the report is not written.
+const NOT_READ: u8 = 3;
 
 fn main(rt: HostRuntime) -> ExitCode {
     match run(&rt) {
         Ok(code) => code,
         Err(error) => {
             let _ = eprintln!(rt; "examples_links: {error:#}");
-            ExitCode::FAILURE
+            ExitCode::from(NOT_READ)
         }
     }
 }
 
-/// Reads the words, and checks the pages. The answer is the status.
+/// Reads the words, and checks the site. Words that are no UTF-8 are wrong. The answer is the status.
 fn run(rt: &HostRuntime) -> Result<ExitCode> {
-    let words: Vec<String> = env::args(rt)?.collect(rt.alloc())?;
+    let words: Vec<String> = match env::args(rt) {
+        Ok(words) => words.collect(rt.alloc())?,
+        Err(error) if error.kind() == ErrorKind::InvalidData => {
+            eprintln!(rt; "a word is no UTF-8")?;
+            return Ok(ExitCode::from(WRONG_WORDS));
+        }
+        Err(error) => return Err(error.into()),
+    };
     match command(rt.alloc())?.try_get_matches_from(&words) {
-        Ok(matches) => check_pages(rt, &matches),
+        Ok(matches) => {
+            let paths = matches.get_strs("PATH").context("no path")?;
+            let root = matches.get_str("root");
+            check(rt, paths, root, matches.get_flag("json"))
+        }
         Err(error) => {
             error.print(rt)?;
             Ok(ExitCode::from(u8::try_from(error.exit_code())?))
@@ -60,95 +116,19 @@ fn run(rt: &HostRuntime) -> Result<ExitCode> {
     }
 }
 
-/// Checks each page. The answer is the status.
-fn check_pages(rt: &HostRuntime, matches: &ArgMatches<'_>) -> Result<ExitCode> {
-    let mut code = ExitCode::SUCCESS;
-    for page in matches.get_strs("PAGE").context("no page")? {
-        if !is_clean(rt, page)? {
-            code = ExitCode::FAILURE;
-        }
-    }
-    Ok(code)
-}
-
-/// The words that the program takes.
-fn command<'a>(alloc: Global) -> Result<Command<'a>> {
-    let pages = Arg::new(alloc, "PAGE")
-        .required(true)
-        .num_args(1..)
-        .action(ArgAction::Append)
-        .help("The file of a page");
-    let command = Command::new(alloc, "examples_links")
-        .about("Tells of links within pages that lead nowhere, and of ids that come twice")
-        .arg(pages)?;
-    Ok(command)
-}
-
-/// Whether a page is read and nothing is wrong with it. What is wrong is told.
-fn is_clean(rt: &HostRuntime, page: &str) -> Result<bool> {
-    let root = match root_of(rt, page) {
-        Ok(root) => root,
-        Err(error) => {
-            eprintln!(rt; "{error:#}")?;
-            return Ok(false);
-        }
+/// Checks the pages at these paths, and writes what is found. The answer is the status.
+fn check(rt: &HostRuntime, paths: &[&str], root: Option<&str>, is_json: bool) -> Result<ExitCode> {
+    let Some(inputs) = inputs_of(rt, paths, root)? else {
+        return Ok(ExitCode::from(WRONG_WORDS));
     };
-    let findings = findings(rt.alloc(), &root)?;
-    for finding in &findings {
-        println!(rt; "{page}: {finding}").context("standard output")?;
-    }
-    Ok(findings.is_empty())
-}
-
-/// The tree of a page, or what is told where it is not read.
-fn root_of(rt: &HostRuntime, page: &str) -> Result<HtmlElement> {
-    let bytes = fs::read(rt, page).context(format_args!("{page}"))?;
-    match read_page(rt.alloc(), &bytes, DEEPEST) {
-        Ok(root) => Ok(root),
-        Err(ReadFault::TooDeep { place }) => {
-            bail!("{page}:{place}: not read: an element stands deeper than {DEEPEST}")
-        }
-        Err(ReadFault::Syntax { place }) => {
-            bail!(
-                "{page}:{place}: not read from there on: other syntax, or something else in a browser"
-            )
-        }
-        Err(fault) => Err(fault.into()),
-    }
-}
-
-/// What is wrong in a tree, and where, dead fragments first.
-fn findings(alloc: Global, root: &HtmlElement) -> Result<Vec<String>> {
-    let mut findings = Vec::new(alloc);
-    for link in &dead_fragments(alloc, root)? {
-        findings.push(dead_fragment(alloc, link)?)?;
-    }
-    for repeated in &repeated_ids(alloc, root)? {
-        findings.push(repeated_id(alloc, repeated)?)?;
-    }
-    Ok(findings)
-}
-
-/// What is told of a link that leads nowhere.
-fn dead_fragment(alloc: Global, link: &DeadFragment) -> Result<String> {
-    let (place, fragment) = (place(alloc, &link.path)?, &link.fragment);
-    Ok(format!(in alloc; r##"{place}: nothing has the id of "#{fragment}""##)?)
-}
-
-/// What is told of an id that stands in its page before.
-fn repeated_id(alloc: Global, repeated: &RepeatedId) -> Result<String> {
-    let (place, id) = (place(alloc, &repeated.path)?, &repeated.id);
-    Ok(format!(in alloc; "{place}: the id {id:?} stands before")?)
-}
-
-/// The text of a path.
-fn place(alloc: Global, path: &[usize]) -> Result<String> {
-    let Some((first, rest)) = path.split_first() else {
-        return Ok(String::from_str(alloc, "root")?);
-    };
-    let mut text = format!(in alloc; "{first}")?;
-    for index in rest {
-        write!(text, ".{index}")?;
-    }
-    Ok(text)
+    let site = read_site(rt, &inputs)?;
+    let findings = check_site(rt, &site)?;
+    write_report(rt, &site, &findings, is_json).context("standard output")?;
+    Ok(if !site.unread.is_empty() {
+        ExitCode::from(NOT_READ)
+    } else if findings.is_empty() {
+        ExitCode::SUCCESS
+    } else {
+        ExitCode::FAILURE
+    })
 }

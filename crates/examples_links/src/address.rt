@@ -1,0 +1,117 @@
+//! The addresses of links: what the URL Standard reads in them.
+
+use crate::paths::{Spot, Way};
+use percent_encoding::percent_decode;
+use std::alloc::{AllocError, Global};
+
+/// An address without what counts for nothing in it: controls and spaces around it, and tabs and line
+/// breaks.
+pub fn cleaned(alloc: Global, address: &str) -> Result<String, AllocError> {
+    let mut text = String::new(alloc);
+    for c in address.trim_matches(|c: char| c <= ' ').chars() {
+        if !matches!(c, '\t' | '\n' | '\r') {
+            text.push(c)?;
+        }
+    }
+    Ok(text)
+}
+
+/// Whether an address has a scheme or a host of its own.
+pub fn is_external(address: &str) -> bool {
+    scheme_of(address).is_some() || has_host(address)
+}
+
+/// The scheme of an address, if it has one.
+pub fn scheme_of(address: &str) -> Option<&str> {
+    let (scheme, _) = address.split_once(':')?;
+    if is_scheme(scheme) {
+        Some(scheme)
+    } else {
+        None
+    }
+}
+
+fn is_scheme(text: &str) -> bool {
+    let mut characters = text.chars();
+    match characters.next() {
+        Some(first) => first.is_ascii_alphabetic() && characters.all(is_in_scheme),
+        None => false,
+    }
+}
+
+fn is_in_scheme(c: char) -> bool {
+    c.is_ascii_alphanumeric() || matches!(c, '+' | '-' | '.')
+}
+
+fn has_host(address: &str) -> bool {
+    let mut characters = address.chars();
+    is_slash(characters.next()) && is_slash(characters.next())
+}
+
+fn is_slash(c: Option<char>) -> bool {
+    matches!(c, Some('/' | '\\'))
+}
+
+/// What stands behind the first `#`.
+pub fn fragment_of(address: &str) -> Option<&str> {
+    match address.split_once('#') {
+        Some((_, fragment)) => Some(fragment),
+        None => None,
+    }
+}
+
+/// What stands before a character, or all.
+fn front(text: &str, end: char) -> &str {
+    match text.split_once(end) {
+        Some((front, _)) => front,
+        None => text,
+    }
+}
+
+/// The path of a relative address, decoded.
+fn path_of(alloc: Global, address: &str) -> Result<String, AllocError> {
+    let path = front(front(address, '#'), '?');
+    let path = path.replace(alloc, '\\', "/")?;
+    let decoded = percent_decode(path.as_bytes()).decode_utf8_lossy(alloc)?;
+    decoded.into_owned(alloc)
+}
+
+/// Where a relative address leads from a spot, in a site whose folder is `root`.
+pub fn spot_of(alloc: Global, base: &Spot, root: &str, address: &str) -> Result<Spot, AllocError> {
+    let path = path_of(alloc, address)?;
+    let path = path.as_str();
+    if path.is_empty() {
+        return Ok(Spot {
+            path: base.path.clone()?,
+            is_folder: base.is_folder,
+        });
+    }
+    let start = if path.starts_with('/') {
+        root
+    } else {
+        base.folder()
+    };
+    Ok(Spot {
+        path: path_from(alloc, start, path)?,
+        is_folder: ends_with_folder(path),
+    })
+}
+
+/// The path to which another leads from a folder. No `..` leads back from there where that other begins
+/// with `/`.
+fn path_from<'a>(alloc: Global, folder: &'a str, path: &'a str) -> Result<String, AllocError> {
+    let mut way = Way::new(alloc, folder)?;
+    if path.starts_with('/') {
+        way.keep();
+    }
+    way.follow(path)?;
+    way.into_path(alloc)
+}
+
+fn ends_with_folder(path: &str) -> bool {
+    let last = match path.rsplit_once('/') {
+        Some((_, last)) => last,
+        None => path,
+    };
+    matches!(last, "" | "." | "..")
+}

@@ -1,0 +1,129 @@
+//! The links of a page.
+
+use crate::address::{cleaned, is_external, scheme_of};
+use std::alloc::{AllocError, Global};
+use typst_html::{HtmlElement, HtmlNode, Place, Places, attr};
+
+/// A link that leads to the site.
+#[derive(Drop)]
+pub struct Link {
+    /// Where its element begins.
+    pub place: Place,
+    /// Its address, without what counts for nothing.
+    pub address: String,
+    /// Whether users follow it, so that its fragment counts.
+    pub is_followed: bool,
+}
+
+/// The links of a page, in its order.
+#[derive(Drop)]
+pub struct Links<'a> {
+    alloc: Global,
+    places: Places<'a>,
+    /// The links that lead to the site.
+    pub found: Vec<Link>,
+    /// The address from which relative ones lead, where it is not that of the page.
+    pub base: Option<String>,
+}
+
+impl<'a> Links<'a> {
+    /// The links of a page of that text.
+    pub fn of(alloc: Global, root: &HtmlElement, text: &'a str) -> Result<Links<'a>, AllocError> {
+        let mut links = Links {
+            alloc,
+            places: Places::new(text),
+            found: Vec::new(alloc),
+            base: None,
+        };
+        add_element(root, false, &mut links)?;
+        Ok(links)
+    }
+
+    /// Adds the link that an element is.
+    fn add(&mut self, element: &HtmlElement) -> Result<(), AllocError> {
+        let Some(address) = address_of(element) else {
+            return Ok(());
+        };
+        let address = cleaned(self.alloc, address.as_str())?;
+        let name = element.tag.resolve();
+        if name == "base" {
+            self.set_base(address);
+        } else if !is_external(address.as_str()) {
+            self.found.push(Link {
+                place: self.places.at(element.span.0 as usize),
+                address,
+                is_followed: matches!(name, "a" | "area"),
+            })?;
+        }
+        Ok(())
+    }
+
+    /// The first base counts. Where nothing can lead from it, links lead from the page (HTML Standard
+    /// 4.2.3).
+    fn set_base(&mut self, address: String) {
+        if self.base.is_some() {
+            return;
+        }
+        let leads = match scheme_of(address.as_str()) {
+            Some(scheme) => {
+                !scheme.eq_ignore_ascii_case("data") && !scheme.eq_ignore_ascii_case("javascript")
+            }
+            None => true,
+        };
+        self.base = Some(if leads {
+            address
+        } else {
+            String::new(self.alloc)
+        });
+    }
+}
+
+/// The address in an element that is a link or a base.
+fn address_of(element: &HtmlElement) -> Option<&String> {
+    match element.tag.resolve() {
+        "a" | "area" | "base" | "link" => element.attrs.get(&attr::href),
+        "img" | "script" | "iframe" | "embed" | "source" | "track" | "audio" | "video" => {
+            element.attrs.get(&attr::src)
+        }
+        "object" => element.attrs.get(&attr::data),
+        _ => None,
+    }
+}
+
+/// Whether elements right in one of that name are such of SVG or MathML.
+fn holds_foreign(name: &str, is_foreign: bool) -> bool {
+    match name {
+        "svg" | "math" => true,
+        "foreignObject" | "desc" | "title" => false,
+        _ => is_foreign,
+    }
+}
+
+// Each node stands first among the parameters: its depth shows that the calls end.
+
+#[cycle(links)]
+fn add_element(
+    element: &HtmlElement,
+    is_foreign: bool,
+    links: &mut Links<'_>,
+) -> Result<(), AllocError> {
+    if !is_foreign {
+        links.add(element)?;
+    }
+    let is_foreign = holds_foreign(element.tag.resolve(), is_foreign);
+    add_nodes(&element.children, is_foreign, links)
+}
+
+#[cycle(links)]
+fn add_nodes(
+    nodes: &[HtmlNode],
+    is_foreign: bool,
+    links: &mut Links<'_>,
+) -> Result<(), AllocError> {
+    for node in nodes {
+        if let HtmlNode::Element(element) = node {
+            add_element(element, is_foreign, links)?;
+        }
+    }
+    Ok(())
+}

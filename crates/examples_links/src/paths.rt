@@ -1,0 +1,126 @@
+//! Paths of files, with `/` between their parts. The current folder has the empty path.
+
+use std::alloc::{AllocError, Global};
+
+/// Where a link leads.
+#[derive(Drop)]
+pub struct Spot {
+    /// The path, without a `/` at its end.
+    pub path: String,
+    /// Whether the link says that a folder is there.
+    pub is_folder: bool,
+}
+
+impl Spot {
+    /// The folder from which relative links lead that stand there.
+    pub fn folder(&self) -> &str {
+        if self.is_folder {
+            self.path.as_str()
+        } else {
+            folder_of(self.path.as_str())
+        }
+    }
+}
+
+/// The folder in which a file stands.
+pub fn folder_of(path: &str) -> &str {
+    match path.rsplit_once('/') {
+        Some(("", _)) => "/",
+        Some((folder, _)) => folder,
+        None => "",
+    }
+}
+
+/// The path of what has that name in a folder.
+pub fn path_in(alloc: Global, folder: &str, name: &str) -> Result<String, AllocError> {
+    match folder {
+        "" => String::from_str(alloc, name),
+        "/" => format!(in alloc; "/{name}"),
+        _ => format!(in alloc; "{folder}/{name}"),
+    }
+}
+
+/// The path as the system takes it.
+pub fn system_path(path: &str) -> &str {
+    if path.is_empty() { "." } else { path }
+}
+
+/// The parts of a path, without `.` and, where it can be, without `..`.
+#[derive(Drop)]
+pub struct Way<'a> {
+    parts: Vec<&'a str>,
+    is_absolute: bool,
+    /// How many parts stay, whatever `..` follow; none where the way may leave its beginning.
+    kept: Option<usize>,
+}
+
+impl<'a> Way<'a> {
+    /// The way to a path of the system.
+    pub fn new(alloc: Global, path: &'a str) -> Result<Way<'a>, AllocError> {
+        let mut way = Way {
+            parts: Vec::new(alloc),
+            is_absolute: path.starts_with('/'),
+            kept: None,
+        };
+        for part in path.split('/') {
+            if !part.is_empty() {
+                way.go(part)?;
+            }
+        }
+        Ok(way)
+    }
+
+    /// Lets no `..` lead back from where the way is now.
+    pub fn keep(&mut self) {
+        self.kept = Some(self.parts.len());
+    }
+
+    /// Goes on by the parts of an address. An empty part counts, for a `..` behind it.
+    pub fn follow(&mut self, path: &'a str) -> Result<(), AllocError> {
+        for part in path.strip_prefix('/').unwrap_or(path).split('/') {
+            self.go(part)?;
+        }
+        Ok(())
+    }
+
+    fn go(&mut self, part: &'a str) -> Result<(), AllocError> {
+        match part {
+            "." => {}
+            ".." => self.go_back()?,
+            _ => self.parts.push(part)?,
+        }
+        Ok(())
+    }
+
+    fn go_back(&mut self) -> Result<(), AllocError> {
+        let can_leave = !self.is_absolute && self.kept.is_none();
+        match self.parts.last() {
+            Some(&"..") | None if can_leave => self.parts.push("..")?,
+            Some(_) if self.parts.len() > self.kept.unwrap_or(0) => {
+                let _ = self.parts.pop();
+            }
+            _ => {}
+        }
+        Ok(())
+    }
+
+    /// The path, without empty parts.
+    pub fn into_path(self, alloc: Global) -> Result<String, AllocError> {
+        let mut path = String::new(alloc);
+        if self.is_absolute {
+            path.push('/')?;
+        }
+        let mut is_first = true;
+        for part in &self.parts {
+            if part.is_empty() {
+                continue;
+            }
+            if !is_first {
+                path.push('/')?;
+            }
+            path.push_str(part)?;
+            is_first = false;
+        }
+        Ok(path)
+    }
+}
