@@ -48,8 +48,9 @@ CHANGES = [
     ("raw", "    status: u8,\n    number: u8,", "    number: u8,\n    status: u8,", "reply"),
     ("library", "    _fields_", "    _pack_ = 1\n    _fields_", "reply"),
     ("library", '("status", ctypes.c_uint8)', '("state", ctypes.c_uint8)', "reply"),
-    ("library", "VERSION = 5", "VERSION = 6", "version"),
+    ("library", "VERSION = 6", "VERSION = 7", "version"),
     ("refusal", "tag name must not be empty", "tag name is empty", "words"),
+    ("package", "a token finds no place", "a token has no place", "words"),
     ("crate", "Apache-2.0", "MIT", "licence"),
     ("project", "Apache-2.0", "MIT", "licence"),
 ]  # fmt: skip

@@ -24,15 +24,16 @@ extern "C" {
 #endif
 
 /* The version of these calls: compare it with typst_html_version(). */
-#define TYPST_HTML_VERSION 5
+#define TYPST_HTML_VERSION 6
 
 /* How a call ended. In all but TYPST_HTML_DONE and TYPST_HTML_DEAD_LINKS `output` is as it was. */
 enum typst_html_status {
     TYPST_HTML_DONE = 0,          /* the first `length` bytes of `output` are the text, in UTF-8 */
-    TYPST_HTML_REFUSED = 1,       /* the input is refused: `number` says why, `span` where */
+    TYPST_HTML_REFUSED = 1,       /* the input is refused: `number` says why, `span` where, of a page
+                                     `line` and `column` too */
     TYPST_HTML_BAD_INPUT = 2,     /* the input is no JSON (`line` and `column` say where) or spells nothing
-                                     (`span` says where), the page is none that is read (all three say
-                                     from where on), or a number is none below */
+                                     (`span` says where), the page is no UTF-8 (all three say where), or
+                                     a number is none below */
     TYPST_HTML_OUT_OF_MEMORY = 3, /* an allocation failed */
     TYPST_HTML_TOO_SHORT = 4,     /* `output` is too short: the text takes `length` bytes */
     TYPST_HTML_DEAD_LINKS = 5,    /* as TYPST_HTML_DONE, and links in the text lead nowhere: `span` says
@@ -44,19 +45,20 @@ struct typst_html_reply {
     uint64_t span;  /* status 1: the number of the list of a node or item in the JSON, counted from 1 by
                        their opening brackets, where the refusal is; 0 where it has no place. Status 5:
                        the number of the list of the first `a` without a place to lead to. Of a
-                       page, statuses 1 and 2: how many bytes stand before the place from which on it is
-                       not read. Of JSON, status 2: how many of these lists are opened up to the first
-                       value that is not what the form wants */
+                       page, statuses 1 and 2: how many bytes of it stand before the place. Of JSON,
+                       status 2: how many of these lists are opened up to the first value that is not
+                       what the form wants */
     size_t line;    /* status 2, where the input is no JSON, and of a page, statuses 1 and 2: the line of
-                       that place, from 1 on; else 0 */
+                       the place, from 1 on; else 0. A line ends with a line feed, of a page with LF,
+                       CR LF or CR */
     size_t column;  /* the column there, from 1 on: of JSON in bytes, and where it ends too soon, how long
-                       its last line is; of a page in characters. A line ends with a line feed */
+                       its last line is; of a page in characters, of which a byte order mark is none */
     uint8_t status; /* enum typst_html_status */
     uint8_t number; /* status 1: which refusal, as below; else 0 */
 };
 
 /*
- * Refusals:
+ * Refusals. Those of a page that is checked are 8 and those from 26 on; 16 to 25 are none.
  *    1  tag name must not be empty
  *    2  a character is not valid in a tag name
  *    3  custom element name must start with a lowercase letter
@@ -72,6 +74,20 @@ struct typst_html_reply {
  *   13  a raw text element has a child that is no text
  *   14  a raw text would end its element
  *   15  a frame is refused
+ *   26  U+0000
+ *   27  a name that no element of this project has
+ *   28  a tag has too many attributes
+ *   29  a formatting element would be made again
+ *   30  an end tag would move nodes out of a formatting element
+ *   31  an open a would be removed
+ *   32  a text or an element would be moved out of a table
+ *   33  attributes would be added to those of html or body
+ *   34  the head would be opened again
+ *   35  a frameset, plaintext or template
+ *   36  a form, object, applet or marquee would be closed by another tag
+ *   37  an element of HTML would close svg or math
+ *   38  a table hangs on a document type that is not known
+ *   39  a token finds no place
  */
 
 /* What the input of typst_html_write spells. */
@@ -126,18 +142,20 @@ struct typst_html_reply typst_html_dead_links(uint32_t limit, const uint8_t *inp
 
 /*
  * What is wrong with the links of a page, as JSON: the links to fragments of the page itself that lead
- * nowhere, and the ids that stand in it before.
- *     {"dead_fragments":[{"fragment":t,"keeps":n,"path":[n,..]},..],
- *      "repeated_ids":[{"id":t,"keeps":n,"path":[n,..]},..]}
+ * nowhere, and the ids that stand in it before, each with its place.
+ *     {"dead_fragments":[{"fragment":t,"keeps":n,"path":[n,..],"offset":n,"line":n,"column":n},..],
+ *      "repeated_ids":[{"id":t,"keeps":n,"path":[n,..],"offset":n,"line":n,"column":n},..]}
  * The path of each is the index of each child on the way from the root, texts counted. It begins with the
  * first `keeps` indices of the path of the finding before it in its list, and goes on with those of
- * `path`; the first keeps none. So the text is no longer where findings stand deep. Pages are read that are
- * written as by these calls; one with another syntax is bad input, with the place of the first character
- * with which no such page goes on. So is one that a browser takes apart otherwise: with a capital in a
- * name that is none of SVG's, as `<A>`, a name that begins with no letter, a `plaintext`, a tag or
- * reference in an `iframe`, `noembed`, `noframes` or `xmp`, U+0000, or a reference such as `&#x80;`. Of
- * one that is no UTF-8 the place is that of the first byte that is none. Elements may stand `limit` deep,
- * from 1 to 1,000.
+ * `path`; the first keeps none. So the text is no longer where findings stand deep. The place is that of
+ * the `<` of the start tag: how many bytes of the page stand before, and the line and the column, as of a
+ * reply.
+ *
+ * Any page is read, as a browser reads it whose scripting is disabled: what may be left out is implied, and
+ * errors are gone over. But where a browser would move nodes or make them a second time, it is refused, with
+ * the place of the tag or the character; so it is where an element would stand deeper than `limit`, which is
+ * from 1 to 1,000: `html` stands at 1. A page that is no UTF-8 is bad input, with the place of the first
+ * byte that is none.
  */
 struct typst_html_reply typst_html_check(uint32_t limit, const uint8_t *page, size_t length,
                                          uint8_t *output, size_t room);

@@ -91,7 +91,10 @@ int main(int count, char **words) {
         fwrite(text.at, 1, reply.length, stdout);
         break;
     case TYPST_HTML_REFUSED:
-        fprintf(stderr, "refused: %u at %llu\n", reply.number, (unsigned long long)reply.span);
+        if (reply.line > 0)
+            fprintf(stderr, "refused: %u at line %zu column %zu\n", reply.number, reply.line, reply.column);
+        else
+            fprintf(stderr, "refused: %u at %llu\n", reply.number, (unsigned long long)reply.span);
         break;
     case TYPST_HTML_BAD_INPUT:
         if (reply.line > 0)

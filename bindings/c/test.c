@@ -154,47 +154,75 @@ static void dead_links_are_told(void) {
     expect("dead links of no JSON", reply.status == TYPST_HTML_BAD_INPUT && reply.line == 1);
 }
 
+static struct typst_html_reply checked(uint32_t limit, const char *page, uint8_t *output, size_t room) {
+    return typst_html_check(limit, (const uint8_t *)page, strlen(page), output, room);
+}
+
 static void pages_are_checked(void) {
     const char *page = "<!DOCTYPE html><p id=\"a\"><a href=\"#b\">x</a><b id=\"a\"></b></p>";
-    const char *found = "{\"dead_fragments\":[{\"fragment\":\"b\",\"keeps\":0,\"path\":[0]}],"
-                        "\"repeated_ids\":[{\"id\":\"a\",\"keeps\":0,\"path\":[1]}]}";
+    const char *found = "{\"dead_fragments\":[{\"fragment\":\"b\",\"keeps\":0,\"path\":[1,0,0],"
+                        "\"offset\":25,\"line\":1,\"column\":26}],"
+                        "\"repeated_ids\":[{\"id\":\"a\",\"keeps\":0,\"path\":[1,0,1],"
+                        "\"offset\":43,\"line\":1,\"column\":44}]}";
     uint8_t output[256];
     size_t length = strlen(page), room = strlen(found);
     memset(output, '.', sizeof output);
-    struct typst_html_reply reply = typst_html_check(50, (const uint8_t *)page, length, output, room - 1);
+    struct typst_html_reply reply = checked(50, page, output, room - 1);
     expect("findings in a short buffer", reply.status == TYPST_HTML_TOO_SHORT &&
                                              reply.length == room && output[0] == '.');
-    reply = typst_html_check(50, (const uint8_t *)page, length, output, room);
+    reply = checked(50, page, output, room);
     expect("findings", reply.status == TYPST_HTML_DONE && reply.length == room &&
                            !memcmp(output, found, room) && output[room] == '.');
-    reply = typst_html_check(1, (const uint8_t *)page, length, output, room);
-    expect("a page that is too deep",
-           reply.status == TYPST_HTML_REFUSED && reply.number == 8 && reply.span == 25 &&
-               reply.line == 1 && reply.column == 26);
-    reply = typst_html_check(0, (const uint8_t *)page, length, output, room);
-    expect("a page with limit 0", reply.status == TYPST_HTML_BAD_INPUT);
+    expect("a page with limit 0", checked(0, page, output, room).status == TYPST_HTML_BAD_INPUT);
+    expect("a page with limit 1001", checked(1001, page, output, room).status == TYPST_HTML_BAD_INPUT);
     for (size_t part = 0; part < length; part++) {
         reply = typst_html_check(50, (const uint8_t *)page, part, output, sizeof output);
-        expect("a beginning of a page", reply.status == TYPST_HTML_BAD_INPUT && reply.span == part &&
-                                            reply.line == 1 && reply.column == part + 1);
+        expect("a beginning of a page", reply.status == TYPST_HTML_DONE);
     }
-    const char *wrong = "<!DOCTYPE html>\n<p>\xc3\xa9 & x</p>";
-    reply = typst_html_check(50, (const uint8_t *)wrong, strlen(wrong), output, sizeof output);
-    expect("a page with a bare &", reply.status == TYPST_HTML_BAD_INPUT && reply.number == 0 &&
-                                       reply.span == 23 && reply.line == 2 && reply.column == 7);
-    wrong = "<!DOCTYPE html><A HREF=\"#gone\">x</A>";
-    reply = typst_html_check(50, (const uint8_t *)wrong, strlen(wrong), output, sizeof output);
-    expect("a page with capitals", reply.status == TYPST_HTML_BAD_INPUT && reply.number == 0 &&
-                                       reply.span == 17 && reply.line == 1 && reply.column == 18);
-    wrong = "<!DOCTYPE html>\n<p>\xc3\xa9\xe9</p>";
-    reply = typst_html_check(50, (const uint8_t *)wrong, strlen(wrong), output, sizeof output);
-    expect("a page in Latin-1", reply.status == TYPST_HTML_BAD_INPUT && reply.number == 0 &&
-                                    reply.span == 21 && reply.line == 2 && reply.column == 5);
+}
+
+/* A page as it stands in the wild, in which a multi-byte character stands before the link. */
+static void pages_are_read_as_browsers_read_them(void) {
+    const char *page = "<TITLE>Pie</TITLE>\r\n<UL><LI>Salt\r\n<LI>\xc3\xa4 & <A HREF=#gone>x</A>";
+    const char *found = "{\"dead_fragments\":[{\"fragment\":\"gone\",\"keeps\":0,\"path\":[1,0,1,1],"
+                        "\"offset\":43,\"line\":3,\"column\":9}],\"repeated_ids\":[]}";
+    uint8_t output[256];
+    struct typst_html_reply reply = checked(50, page, output, sizeof output);
+    expect("a page in the wild", reply.status == TYPST_HTML_DONE && reply.length == strlen(found) &&
+                                     !memcmp(output, found, reply.length));
+}
+
+/* Pages that are not read: why, and where. */
+static void pages_are_refused(void) {
+    static const struct {
+        uint32_t limit;
+        const char *page;
+        uint8_t status, number;
+        uint64_t span;
+        size_t line, column;
+    } pages[] = {
+        {3, "<!DOCTYPE html><p>\xc3\xa9\n<b></b></p>", TYPST_HTML_REFUSED, 8, 21, 2, 1},
+        {1, "", TYPST_HTML_REFUSED, 8, 0, 1, 1},
+        {50, "<p><b>a</p>b", TYPST_HTML_REFUSED, 29, 11, 1, 12},
+        {50, "<b><p>a</b>", TYPST_HTML_REFUSED, 30, 7, 1, 8},
+        {50, "<table>\r\n<p>a", TYPST_HTML_REFUSED, 32, 9, 2, 1},
+        {50, "<svg><p>", TYPST_HTML_REFUSED, 37, 5, 1, 6},
+        {50, "<!DOCTYPE html>\n<p>\xc3\xa9\xe9</p>", TYPST_HTML_BAD_INPUT, 0, 21, 2, 5},
+        {50, "\xef\xbb\xbf\xff", TYPST_HTML_BAD_INPUT, 0, 3, 1, 1},
+    };
+    uint8_t output[64];
+    memset(output, '.', sizeof output);
+    for (size_t i = 0; i < sizeof pages / sizeof *pages; i++) {
+        struct typst_html_reply reply = checked(pages[i].limit, pages[i].page, output, sizeof output);
+        expect(pages[i].page, reply.status == pages[i].status && reply.number == pages[i].number &&
+                                  reply.span == pages[i].span && reply.line == pages[i].line &&
+                                  reply.column == pages[i].column && output[0] == '.');
+    }
 }
 
 /* Links to nowhere 990 deep: the text is no longer than that of as many at the top. */
 static void deep_findings_are_short(void) {
-    enum { DEEP = 990, COUNT = 10000, ROOM = 1 << 19 };
+    enum { DEEP = 990, COUNT = 10000, ROOM = 1 << 20 };
     const char *link = "<a href=\"#x\"></a>";
     char *page = malloc(ROOM), *end = stpcpy(page, "<!DOCTYPE html>");
     uint8_t *output = malloc(ROOM);
@@ -206,7 +234,8 @@ static void deep_findings_are_short(void) {
         end = stpcpy(end, "</b>");
     struct typst_html_reply reply =
         typst_html_check(1000, (uint8_t *)page, (size_t)(end - page), output, ROOM);
-    const char *last = ",{\"fragment\":\"x\",\"keeps\":989,\"path\":[9999]}],\"repeated_ids\":[]}";
+    const char *last = ",{\"fragment\":\"x\",\"keeps\":991,\"path\":[9999],\"offset\":172968,"
+                       "\"line\":1,\"column\":172969}],\"repeated_ids\":[]}";
     expect("deep findings", reply.status == TYPST_HTML_DONE &&
                                 !memcmp(output + reply.length - strlen(last), last, strlen(last)));
     free(page);
@@ -220,26 +249,29 @@ static void *all_rows(void *bad) {
     return NULL;
 }
 
-/* A page of elements in one another, as deep as the limit allows: it is read. */
+/* A page of elements in one another, as deep as the limit allows: it is read. The links are the deepest, in
+   html, body and an element at each other level. */
 static void *deepest_page(void *limit) {
-    const uint32_t deep = *(uint32_t *)limit;
-    const char *doctype = "<!DOCTYPE html>", *start = "<a href=\"#b\" id=\"a\">";
-    char *page = malloc(strlen(doctype) + deep * (strlen(start) + 4) + 1), *end = stpcpy(page, doctype);
+    const uint32_t deep = *(uint32_t *)limit - 3;
+    const char *start = "<div id=\"a\"><a href=\"#b\"></a>";
+    char *page = malloc(deep * strlen(start) + 1), *end = page;
     uint8_t none;
+    *page = 0;
     for (uint32_t i = 0; i < deep; i++)
         end = stpcpy(end, start);
-    for (uint32_t i = 0; i < deep; i++)
-        end = stpcpy(end, "</a>");
-    struct typst_html_reply reply =
-        typst_html_check(deep, (const uint8_t *)page, (size_t)(end - page), &none, 0);
+    struct typst_html_reply reply = checked(deep + 3, page, &none, 0);
     expect("the deepest page", reply.status == TYPST_HTML_TOO_SHORT);
+    if (deep > 0) {
+        reply = checked(deep + 2, page, &none, 0);
+        expect("a deeper page", reply.status == TYPST_HTML_REFUSED && reply.number == 8);
+    }
     free(page);
     return NULL;
 }
 
 /* As much stack as the header says: a thread that lacks some ends the process. */
 static void the_stack_is_enough(void) {
-    static uint32_t limits[] = {1, 50, 500, 999, 1000};
+    static uint32_t limits[] = {3, 50, 500, 999, 1000};
     bool bad = false;
     pthread_attr_t with;
     pthread_t thread;
@@ -300,6 +332,8 @@ int main(int count, char **words) {
     wrong_numbers_are_bad_input();
     dead_links_are_told();
     pages_are_checked();
+    pages_are_read_as_browsers_read_them();
+    pages_are_refused();
     deep_findings_are_short();
     if (!is_short) {
         the_stack_is_enough();

@@ -3,6 +3,7 @@
 import ctypes
 import doctest
 import json
+import re
 import sys
 import threading
 import unittest
@@ -190,9 +191,18 @@ class Calls(unittest.TestCase):
     def test_findings(self):
         page = '<!DOCTYPE html><p id="a"><a href="#b%20c&quot;">x</a><b id="a"></b><b id="a">y</b></p>'
         found = html.check(page)
-        self.assertEqual(found.dead_fragments, (html.DeadFragment((0,), 'b%20c"'),))
-        self.assertEqual(found.repeated_ids, (html.RepeatedId((1,), "a"), html.RepeatedId((2,), "a")))
+        self.assertEqual(found.dead_fragments, (html.DeadFragment((1, 0, 0), 'b%20c"', html.Place(25, 1, 26)),))
+        repeated = [html.RepeatedId((1, 0, it), "a", html.Place(at, 1, at + 1)) for it, at in ((1, 53), (2, 67))]
+        self.assertEqual(list(found.repeated_ids), repeated)
         self.assertTrue(found)
+
+    def test_pages_are_read_as_browsers_read_them(self):
+        page = "\ufeff<TITLE>Pie</TITLE>\r\n<UL><LI>Salt\r\n<LI>ä & <A HREF=#gone>x</A>"
+        dead = html.DeadFragment((1, 0, 1, 1), "gone", html.Place(46, 3, 9))
+        self.assertEqual(html.check(page), html.Findings((dead,), ()))
+        for page in ("", "<", "<!DOCTYPE html>\n<p>é & x</b>", "<a href=#>"):
+            with self.subTest(page):
+                self.assertFalse(html.check(page))
 
     def test_links_that_are_given_lead(self):
         items = [html.start(1, 7), element("a", "b"), html.end(1), html.start(7), element("h2"), html.end(7)]
@@ -203,35 +213,45 @@ class Calls(unittest.TestCase):
     def test_pages_that_are_not_read(self):
         page = "<!DOCTYPE html><p>é\n<b></b></p>"
         with self.assertRaises(Refused) as caught:
-            html.check(page, limit=1)
+            html.check(page, limit=3)
         refused = caught.exception
         self.assertEqual((refused.number, refused.span, refused.place), (8, 21, html.Place(21, 2, 1)))
         self.assertEqual(str(refused), f"{html.WORDS[8]} (refusal 8 at 2:1)")
-        self.assertFalse(html.check(page, limit=2))
+        self.assertFalse(html.check(page, limit=4))
         for bad, limit in ((page, 0), (page, 1_001), (page, -1), ("\ud800", 50)):
             with self.subTest(bad, limit=limit), self.assertRaises(html.BadInput) as caught:
                 html.check(bad, limit=limit)
             self.assertIsNone(caught.exception.place)
+        for page, number, place in (
+            ("<p>\0", 26, (3, 1, 4)),
+            ("<p><b>a</p>b", 29, (11, 1, 12)),
+            ("<b><p>a</b>", 30, (7, 1, 8)),
+            ("<table>\r\n<p>é", 32, (9, 2, 1)),
+            ("<head></head>\r<title>", 34, (14, 2, 1)),
+            ("<svg><p>", 37, (5, 1, 6)),
+        ):
+            with self.subTest(page), self.assertRaises(Refused) as caught:
+                html.check(page)
+            refused = caught.exception
+            self.assertEqual((refused.number, refused.place), (number, html.Place(*place)))
+            self.assertIn(refused.words, html.WORDS.values())
         for bad, place in (
-            ("", (0, 1, 1)),
-            ("<p>", (1, 1, 2)),
-            ("<!DOCTYPE html>\n<p>é & x</p>", (23, 2, 7)),
-            ("<!DOCTYPE html><p>x</b>", (21, 1, 22)),
-            ('<!DOCTYPE html><A HREF="#gone">x</A>', (17, 1, 18)),
-            ("<!DOCTYPE html><iframe>&amp;</iframe>", (23, 1, 24)),
             (b"\xff", (0, 1, 1)),
             (b"<!DOCTYPE html>\n<p>\xc3\xa9\xe9</p>", (21, 2, 5)),
+            (b"\xef\xbb\xbf<table>a\xff", (11, 1, 9)),
         ):
             with self.subTest(bad), self.assertRaises(html.BadInput) as caught:
                 html.check(bad)
             self.assertEqual(caught.exception.place, html.Place(*place))
+            self.assertEqual(str(caught.exception), f"bad input: a byte that is no UTF-8 at {html.Place(*place)}")
 
     def test_the_deepest_page_on_a_small_stack(self):
         def checks():
-            for limit in (1, 50, 500, 999, 1000):
-                page = "<!DOCTYPE html>" + '<a href="#b" id="a">' * limit + "</a>" * limit
-                found = html.check(page, limit=limit)
-                told.append((len(found.dead_fragments), len(found.repeated_ids) + 1) == (limit, limit))
+            # html, body, and a div with a link at each other level but the last
+            for limit in (4, 50, 500, 999, 1000):
+                deep = limit - 3
+                found = html.check('<div id="a"><a href="#b"></a>' * deep, limit=limit)
+                told.append((len(found.dead_fragments), len(found.repeated_ids) + 1) == (deep, deep))
 
         told: list[bool] = []
         before = threading.stack_size(256 << 10)
@@ -245,12 +265,15 @@ class Calls(unittest.TestCase):
 
     def test_findings_deep_in_their_page_have_whole_paths(self):
         link = '<a href="#x" id="i"></a>'
-        page = "<!DOCTYPE html>" + f"<b>{link}" * 400 + link * 1000 + f"{link}</b>" * 400
-        paths = [(1,) * depth + (0,) for depth in range(400)]
-        paths += [(1,) * 399 + (last,) for last in range(1, 1002)]
-        paths += [(1,) * depth + (2,) for depth in reversed(range(399))]
+        page = f"<div>{link}" * 400 + link * 1000 + f"{link}</div>" * 400
+        # The path of a div is 1 for the body and 0 for the first, then 1 behind each link.
+        paths = [(1, 0) + (1,) * depth + (0,) for depth in range(400)]
+        paths += [(1, 0) + (1,) * 399 + (last,) for last in range(1, 1002)]
+        paths += [(1, 0) + (1,) * depth + (2,) for depth in reversed(range(399))]
         found = html.check(page, limit=1000)
         self.assertEqual([it.path for it in found.dead_fragments], paths)
+        offsets = [match.start() for match in re.finditer("<a", page)]
+        self.assertEqual([it.place.offset for it in found.dead_fragments], offsets)
         self.assertEqual([it.path for it in found.repeated_ids], paths[1:])
 
     def test_eight_threads_agree(self):

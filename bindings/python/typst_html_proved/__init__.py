@@ -30,8 +30,8 @@ is raised has the list of these links, and the text.
 ...     page = dead.text
 links lead nowhere (1, the first at 2) (DeadLink(span=2, destination=7),)
 
-A page that is written can be checked: `check` tells of links within it that lead nowhere, and of ids that come
-twice.
+A page, written here or elsewhere, can be checked: `check` tells of links within it that lead nowhere, and of ids
+that come twice.
 
 Calls may be made from any number of threads, and run at once.
 """
@@ -95,8 +95,22 @@ WORDS = {
     13: "a raw text element has a child that is no text",
     14: "a raw text would end its element",
     15: "a frame is refused",
+    26: "U+0000",
+    27: "a name that no element of this project has",
+    28: "a tag has too many attributes",
+    29: "a formatting element would be made again",
+    30: "an end tag would move nodes out of a formatting element",
+    31: "an open a would be removed",
+    32: "a text or an element would be moved out of a table",
+    33: "attributes would be added to those of html or body",
+    34: "the head would be opened again",
+    35: "a frameset, plaintext or template",
+    36: "a form, object, applet or marquee would be closed by another tag",
+    37: "an element of HTML would close svg or math",
+    38: "a table hangs on a document type that is not known",
+    39: "a token finds no place",
 }
-"""What is wrong, by the number of the refusal."""
+"""What is wrong, by the number of the refusal. Those of a page that is checked are 8 and those from 26 on."""
 
 
 @dataclass(frozen=True)
@@ -106,9 +120,9 @@ class Place:
     offset: int
     """How many bytes of the page, in UTF-8, stand before it."""
     line: int
-    """Its line, counted from 1. A line ends with a line feed, and with nothing else."""
+    """Its line, counted from 1. A line ends with a line feed, a carriage return or both, in that order."""
     column: int
-    """Its column, in characters, counted from 1."""
+    """Its column, in characters, counted from 1. A byte order mark at the beginning of the page is none."""
 
     def __str__(self) -> str:
         return f"{self.line}:{self.column}"
@@ -118,12 +132,13 @@ class Failure(Exception):
     """There is no text, or none without dead links."""
 
     place: Place | None = None
-    """Where, if a page that is checked is not read."""
+    """Where, if a page that is checked is the reason."""
 
 
 class Refused(Failure):
-    """What is to be written breaks a rule of HTML, or stands where it may not; or an element of a page that is
-    checked stands too deep."""
+    """What is to be written breaks a rule of HTML, or stands where it may not; or a page that is checked is not
+    read: a browser would move nodes of it or make them a second time, it holds what no element can have here, or its
+    elements stand deeper than the limit."""
 
     number: int
     """Which rule: a key of `WORDS`."""
@@ -131,7 +146,7 @@ class Refused(Failure):
     span: int
     """Where: the number of the list of an item, counted from 1 by their opening brackets as they stand in
     JSON, those of footnotes after those of items; 0 where it has no place. Of a page that is checked: how many
-    bytes stand before."""
+    bytes of it stand before."""
 
     def __init__(self, number: int, span: int, place: Place | None = None) -> None:
         super().__init__(number, span, place)
@@ -147,10 +162,8 @@ class Refused(Failure):
 
 
 class BadInput(Failure, ValueError):
-    """The input spells nothing that can be written, or nests more than 127 lists; or a page that is checked has
-    another syntax than those that are written, or is something else in a browser, from a place on: there stands the
-    first character with which no page that is read goes on, or the page ends. It says what is wrong where this
-    package sees it, and else where the library does, if it says so."""
+    """The input spells nothing that can be written, or nests more than 127 lists; or a page that is checked is no
+    UTF-8. It says what is wrong where this package sees it, and else where the library does, if it says so."""
 
     span: int
     """Where the form is left: how many lists of items are opened in the JSON up to the first value that is not
@@ -170,7 +183,7 @@ class BadInput(Failure, ValueError):
 
     def __str__(self) -> str:
         where = f" at line {self.line} column {self.column}" if self.line else f" at {self.span}" if self.span else ""
-        page = [] if self.place is None else [f"the page is not read from {self.place} on"]
+        page = [] if self.place is None else [f"a byte that is no UTF-8 at {self.place}"]
         return ": ".join(["bad input" + where, *map(str, self.args), *page])
 
 
@@ -255,6 +268,8 @@ class DeadFragment:
     """The index of each child on the way to the link, from the root on, texts counted."""
     fragment: str
     """What stands behind `#`, as it is written."""
+    place: Place
+    """Where the start tag of the link begins."""
 
 
 @dataclass(frozen=True)
@@ -265,6 +280,8 @@ class RepeatedId:
     """The index of each child on the way to the element, from the root on, texts counted."""
     id: str
     """The id."""
+    place: Place
+    """Where the start tag of the element begins."""
 
 
 @dataclass(frozen=True)
@@ -491,22 +508,26 @@ def _paths(found: list[dict[str, Any]]) -> Iterator[tuple[int, ...]]:
         yield tuple(path)
 
 
+def _place(found: dict[str, Any]) -> Place:
+    """Where a finding is told to stand."""
+    return Place(found["offset"], found["line"], found["column"])
+
+
 def check(page: bytes | str, *, limit: int = 50) -> Findings:
     """What is wrong with the links of a page: links to fragments of the page itself that lead nowhere, and ids
     that stand in it before.
 
-    A page is read that is written as by this package, with elements `limit` deep at most, from 1 to 1,000, and not
-    one that a browser takes apart otherwise: with a capital in a name that is none of SVG's, as `<A>`, a name that
-    begins with no letter, a `plaintext`, a tag or reference in an `iframe`, `noembed`, `noframes` or `xmp`, U+0000,
-    or a reference such as `&#x80;`. Of a page that is not read it is told where: in `place` of what is raised. One
-    that is no UTF-8 is not from its first byte on that is none.
+    Any page is read, as a browser reads it whose scripting is disabled: what may be left out is implied, and errors
+    are gone over. But where a browser would move nodes or make them a second time, the page is `Refused`; so is one
+    with an element that would stand deeper than `limit`, which is from 1 to 1,000: `html` stands at 1. One that is no
+    UTF-8 is `BadInput`. Of both it is told where: in `place` of what is raised.
 
-    >>> check(write([element("a", "b", attrs=[("href", "#b")])])).dead_fragments
-    (DeadFragment(path=(1, 0), fragment='b'),)
-    >>> check("<!DOCTYPE html>\\n<p>a & b</p>")
+    >>> check("<title>Pie</title>\\n<p>Salt & <a href=#pepper>pepper</a>").dead_fragments
+    (DeadFragment(path=(1, 0, 1), fragment='pepper', place=Place(offset=29, line=2, column=11)),)
+    >>> check("<table>\\n<p>1</p></table>")
     Traceback (most recent call last):
         ...
-    typst_html_proved.BadInput: bad input: the page is not read from 2:7 on
+    typst_html_proved.Refused: a text or an element would be moved out of a table (refusal 32 at 2:1)
 
     Raises `Refused`, `BadInput` or `OutOfMemory`.
     """
@@ -514,6 +535,6 @@ def check(page: bytes | str, *, limit: int = 50) -> Findings:
     found = json.loads(_text(called("typst_html_check", _bytes(page), limit=limit), of_page=True))
     dead, repeated = found["dead_fragments"], found["repeated_ids"]
     return Findings(
-        tuple(DeadFragment(path, it["fragment"]) for path, it in zip(_paths(dead), dead)),
-        tuple(RepeatedId(path, it["id"]) for path, it in zip(_paths(repeated), repeated)),
+        tuple(DeadFragment(path, it["fragment"], _place(it)) for path, it in zip(_paths(dead), dead)),
+        tuple(RepeatedId(path, it["id"], _place(it)) for path, it in zip(_paths(repeated), repeated)),
     )

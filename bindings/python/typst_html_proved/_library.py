@@ -9,7 +9,7 @@ from typing import Any
 
 NAME = "libtypst_html.so"
 
-VERSION = 5
+VERSION = 6
 """The version of the library's calls that this package was made for."""
 
 

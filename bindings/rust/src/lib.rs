@@ -38,7 +38,8 @@
 //! # Ok::<(), Refusal>(())
 //! ```
 //!
-//! A page that is written can be checked: links within it that lead nowhere, and ids that come twice.
+//! A page, written here or elsewhere, can be checked: links within it that lead nowhere, and ids that come
+//! twice.
 //!
 //! Calls share nothing, so any number of threads may make them. Each wants 256 KB of stack,
 //! whatever the input and the limit are. Where there is less, a deep input ends the process.
@@ -56,7 +57,7 @@ pub use findings::{DeadFragment, DeadLink, Findings, RepeatedId};
 pub use refusal::{DeadLinks, Place, Refusal};
 
 /// The version of the library's calls that this crate was made for.
-pub const VERSION: u32 = 5;
+pub const VERSION: u32 = 6;
 
 /// Why JSON of the library is what it is read as.
 const KNOWN_FORM: &str = "the library writes JSON of that form";
@@ -156,27 +157,25 @@ fn document_text(options: Options, json: &[u8]) -> Result<String, Refusal> {
 }
 
 /// What is wrong with the links of a page: links to fragments of the page itself that lead nowhere, and
-/// ids that stand in it before.
+/// ids that stand in it before, each with its place.
 ///
-/// A page is read that is written as by this crate, with elements `limit` deep at most, from 1 to
-/// 1,000. One with another syntax is [`Refusal::Unread`], and one with an element that stands deeper
-/// [`Refusal::TooDeep`], both with the place. Unread is also one that a browser takes apart otherwise:
-/// with a capital in a name that is none of SVG's, as `<A>`, a name that begins with no letter, a
-/// `plaintext`, a tag or reference in an `iframe`, `noembed`, `noframes` or `xmp`, U+0000, or a
-/// reference such as `&#x80;`.
+/// Any page is read, as a browser reads it whose scripting is disabled: what may be left out is implied,
+/// and errors are gone over. But where a browser would move nodes or make them a second time, the page is
+/// [`Refusal::PageRefused`]; so is one with an element that would stand deeper than `limit`, which is from
+/// 1 to 1,000: `html` stands at 1.
 ///
 /// ```
-/// use typst_html_proved::{check, write, Document, Element, Options, Refusal};
+/// use typst_html_proved::{check, Place, Refusal};
 ///
-/// let link = Element::new("a").attr("href", "#b").child("b");
-/// let page = write(&Document::new().item(Element::new("p").child(link)), Options::default())?;
-/// let findings = check(&page, 50)?;
-/// assert_eq!(findings.dead_fragments[0].fragment, "b");
-/// assert_eq!(findings.dead_fragments[0].path, [1, 0, 0]);
+/// let findings = check("<title>Pie</title>\n<p>Salt & <a href=#pepper>pepper</a>", 50)?;
+/// let dead = &findings.dead_fragments[0];
+/// assert_eq!((dead.fragment.as_str(), dead.path.as_slice()), ("pepper", &[1, 0, 1][..]));
+/// assert_eq!(dead.place, Place { offset: 29, line: 2, column: 11 });
 /// assert!(findings.repeated_ids.is_empty());
 ///
-/// let refusal = check("<!DOCTYPE html>\n<p>a & b</p>", 50).unwrap_err();
-/// assert_eq!(refusal.to_string(), "the page is not read from 2:7 on");
+/// let refusal = check("<table>\n<p>1</p></table>", 50).unwrap_err();
+/// let moved = "a text or an element would be moved out of a table (refusal 32 at 2:1)";
+/// assert_eq!(refusal.to_string(), moved);
 /// # Ok::<(), Refusal>(())
 /// ```
 pub fn check(page: &str, limit: u32) -> Result<Findings, Refusal> {

@@ -14,16 +14,6 @@ struct Reply {
 }
 
 impl Reply {
-    /// The place in a page, if one is the reason.
-    fn place(&self) -> Option<Place> {
-        let place = Place {
-            offset: self.span,
-            line: self.line,
-            column: self.column,
-        };
-        (self.line > 0).then_some(place)
-    }
-
     /// The refusal of a reply of status 1 or 2 to JSON.
     fn of_json(&self) -> Refusal {
         match self.status {
@@ -39,11 +29,18 @@ impl Reply {
         }
     }
 
-    /// The refusal of a reply of status 1 or 2 to a page.
+    /// The refusal of a reply of status 1 or 2 to a page. (A `str` is UTF-8, so of status 2 only the limit is
+    /// the reason.)
     fn of_page(&self) -> Refusal {
-        match (self.status, self.place()) {
-            (1, Some(place)) => Refusal::TooDeep(place),
-            (2, Some(place)) => Refusal::Unread(place),
+        match self.status {
+            1 => Refusal::PageRefused {
+                number: self.number,
+                place: Place {
+                    offset: self.span,
+                    line: self.line,
+                    column: self.column,
+                },
+            },
             _ => self.of_json(),
         }
     }

@@ -13,9 +13,9 @@ const OTHER_LIBRARY: &str = "the library that is linked is not of the version th
 pub struct Place {
     /// How many bytes of the page stand before it.
     pub offset: u64,
-    /// Its line, counted from 1. A line ends with a line feed, and with nothing else.
+    /// Its line, counted from 1. A line ends with a line feed, a carriage return or both, in that order.
     pub line: usize,
-    /// Its column, in characters, counted from 1.
+    /// Its column, in characters, counted from 1. A byte order mark at the beginning of the page is none.
     pub column: usize,
 }
 
@@ -56,20 +56,21 @@ pub enum Refusal {
     /// What is to be written breaks a rule of HTML, or stands where it may not.
     #[error("{} (refusal {number} at {span})", words(.number))]
     Refused {
-        /// Which rule: 1 to 15, as in [`Refusal::words`].
+        /// Which rule: 1 to 15, whose words [`Refusal::words`] tells.
         number: u8,
         /// Where: the number of the list of a node or item in the JSON, counted from 1 by their opening
         /// brackets, those of footnotes after those of items; 0 where it has no place.
         span: u64,
     },
-    /// An element of a page that is checked stands deeper than the limit. Its start tag begins there.
-    #[error("an element stands deeper than the limit at {0}")]
-    TooDeep(Place),
-    /// A page that is checked has another syntax than those that are written, or is something else in a
-    /// browser, from that place on: there stands the first character with which no page that is read
-    /// goes on, or the page ends.
-    #[error("the page is not read from {0} on")]
-    Unread(Place),
+    /// A page that is checked is not read: a browser would move nodes of it or make them a second time,
+    /// it holds what no element can have here, or its elements stand deeper than the limit.
+    #[error("{} (refusal {number} at {place})", words(.number))]
+    PageRefused {
+        /// Why: 8 or 26 to 39, whose words [`Refusal::words`] tells.
+        number: u8,
+        /// Where: the tag or the character begins there.
+        place: Place,
+    },
     /// The input spells nothing that can be written, or nests more than 127 levels of JSON; or the limit
     /// is wrong.
     #[error("bad input{}", place(.span, .line, .column))]
@@ -107,18 +108,17 @@ impl Refusal {
     /// The number of the refusal; 0 where there is none.
     pub fn number(&self) -> u8 {
         match self {
-            Refusal::Refused { number, .. } => *number,
-            Refusal::TooDeep(_) => 8,
+            Refusal::Refused { number, .. } | Refusal::PageRefused { number, .. } => *number,
             _ => 0,
         }
     }
 
-    /// Where the refusal is, the first dead link, or where the form is left: of a page, how many bytes
-    /// stand before; 0 where there is no such place.
+    /// Where the refusal is, the first dead link, or where the form is left: of a page, how many bytes of
+    /// it stand before; 0 where there is no such place.
     pub fn span(&self) -> u64 {
         match self {
             Refusal::Refused { span, .. } | Refusal::BadInput { span, .. } => *span,
-            Refusal::TooDeep(place) | Refusal::Unread(place) => place.offset,
+            Refusal::PageRefused { place, .. } => place.offset,
             Refusal::DeadLinks(dead) => dead.span(),
             _ => 0,
         }
@@ -127,9 +127,7 @@ impl Refusal {
     /// What is wrong.
     pub fn words(&self) -> &'static str {
         match self {
-            Refusal::Refused { number, .. } => words(number),
-            Refusal::TooDeep(_) => words(&8),
-            Refusal::Unread(_) => "the page is not read",
+            Refusal::Refused { number, .. } | Refusal::PageRefused { number, .. } => words(number),
             Refusal::BadInput { .. } => "bad input",
             Refusal::DeadLinks(_) => DEAD_LINKS,
             Refusal::OutOfMemory => "out of memory",
@@ -164,6 +162,20 @@ fn words(number: &u8) -> &'static str {
         13 => "a raw text element has a child that is no text",
         14 => "a raw text would end its element",
         15 => "a frame is refused",
+        26 => "U+0000",
+        27 => "a name that no element of this project has",
+        28 => "a tag has too many attributes",
+        29 => "a formatting element would be made again",
+        30 => "an end tag would move nodes out of a formatting element",
+        31 => "an open a would be removed",
+        32 => "a text or an element would be moved out of a table",
+        33 => "attributes would be added to those of html or body",
+        34 => "the head would be opened again",
+        35 => "a frameset, plaintext or template",
+        36 => "a form, object, applet or marquee would be closed by another tag",
+        37 => "an element of HTML would close svg or math",
+        38 => "a table hangs on a document type that is not known",
+        39 => "a token finds no place",
         _ => "refused",
     }
 }

@@ -263,21 +263,55 @@ fn a_tree_with_a_block_is_bad_input() {
     assert_eq!(write_tree(&tree, true).unwrap_err().span(), 2);
 }
 
+/// A place in the first line, before which only ASCII stands.
+fn first_line(offset: u64) -> Place {
+    Place {
+        offset,
+        line: 1,
+        column: offset as usize + 1,
+    }
+}
+
 #[test]
-fn findings_have_paths_and_names() {
+fn findings_have_paths_names_and_places() {
     let page = r##"<!DOCTYPE html><p id="a"><a href="#b%20c&quot;">x</a><b id="a"></b><b id="a">y</b></p>"##;
     let findings = check(page, 50).unwrap();
     let dead = DeadFragment {
-        path: vec![0],
+        path: vec![1, 0, 0],
         fragment: "b%20c\"".into(),
+        place: first_line(25),
     };
     assert_eq!(findings.dead_fragments, [dead]);
-    let repeated = |index| RepeatedId {
-        path: vec![index],
+    let repeated = |index, offset| RepeatedId {
+        path: vec![1, 0, index],
         id: "a".into(),
+        place: first_line(offset),
     };
-    assert_eq!(findings.repeated_ids, [repeated(1), repeated(2)]);
+    assert_eq!(findings.repeated_ids, [repeated(1, 53), repeated(2, 67)]);
     assert!(!findings.is_empty());
+}
+
+/// Tags are left out, lines end with CR LF, and a multi-byte character stands before the link.
+#[test]
+fn pages_are_read_as_browsers_read_them() {
+    let page = "\u{feff}<TITLE>Pie</TITLE>\r\n<UL><LI>Salt\r\n<LI>ä & <A HREF=#gone>x</A>";
+    let dead = DeadFragment {
+        path: vec![1, 0, 1, 1],
+        fragment: "gone".into(),
+        place: Place {
+            offset: 46,
+            line: 3,
+            column: 9,
+        },
+    };
+    let findings = Findings {
+        dead_fragments: vec![dead],
+        repeated_ids: vec![],
+    };
+    assert_eq!(check(page, 50), Ok(findings));
+    for page in ["", "<", "<!DOCTYPE html>\n<p>é & x</b>", "<a href=#>"] {
+        assert_eq!(check(page, 50), Ok(Findings::default()), "{page}");
+    }
 }
 
 #[test]
@@ -336,29 +370,39 @@ fn links_that_lead_nowhere_are_told_with_the_text() {
 
 #[test]
 fn pages_that_are_not_read_are_told() {
-    let place = |offset, line, column| Place {
-        offset,
-        line,
-        column,
+    let refused = |number, offset, line, column| Refusal::PageRefused {
+        number,
+        place: Place {
+            offset,
+            line,
+            column,
+        },
     };
     let page = "<!DOCTYPE html><p>é\n<b></b></p>";
-    let deep = Refusal::TooDeep(place(21, 2, 1));
-    assert_eq!(check(page, 1), Err(deep.clone()));
+    let deep = refused(8, 21, 2, 1);
+    assert_eq!(check(page, 3), Err(deep.clone()));
+    assert_eq!(check(page, 4), Ok(Findings::default()));
     assert_eq!((deep.number(), deep.span()), (8, 21));
-    let message = "an element stands deeper than the limit at 2:1";
-    assert_eq!(deep.to_string(), message);
+    assert_eq!(
+        deep.words(),
+        "a body, or an element of a page, stands deeper than the limit"
+    );
+    assert_eq!(
+        deep.to_string(),
+        format!("{} (refusal 8 at 2:1)", deep.words())
+    );
     for limit in [0, 1_001] {
         assert_eq!(check(page, limit), Err(Refusal::BAD_INPUT));
     }
-    for (page, at) in [
-        ("", place(0, 1, 1)),
-        ("<p>", place(1, 1, 2)),
-        ("<!DOCTYPE html>\n<p>é & x</p>", place(23, 2, 7)),
-        ("<!DOCTYPE html><p>x</b>", place(21, 1, 22)),
-        ("<!DOCTYPE html><A HREF=\"#gone\">x</A>", place(17, 1, 18)),
-        ("<!DOCTYPE html><iframe>&amp;</iframe>", place(23, 1, 24)),
+    for (page, refusal) in [
+        ("<p>\0", refused(26, 3, 1, 4)),
+        ("<p><b>a</p>b", refused(29, 11, 1, 12)),
+        ("<b><p>a</b>", refused(30, 7, 1, 8)),
+        ("<table>\r\n<p>é", refused(32, 9, 2, 1)),
+        ("<head></head>\r<title>", refused(34, 14, 2, 1)),
+        ("<svg><p>", refused(37, 5, 1, 6)),
     ] {
-        assert_eq!(check(page, 50), Err(Refusal::Unread(at)), "{page}");
+        assert_eq!(check(page, 50), Err(refusal), "{page}");
     }
 }
 
@@ -366,20 +410,26 @@ fn pages_that_are_not_read_are_told() {
 #[test]
 fn findings_deep_in_their_page_have_whole_paths() {
     let (deep, link) = (400, "<a href=\"#x\" id=\"i\"></a>");
-    let mut page = String::from("<!DOCTYPE html>");
-    page.push_str(&format!("<b>{link}").repeat(deep));
+    let mut page = format!("<div>{link}").repeat(deep);
     page.push_str(&link.repeat(1000));
-    page.push_str(&format!("{link}</b>").repeat(deep));
-    let at = |depth: usize, last: usize| [vec![1; depth], vec![last]].concat();
+    page.push_str(&format!("{link}</div>").repeat(deep));
+    // (the path of a div is 1 for the body and 0 for the first, then 1 behind each link)
+    let at = |depth: usize, last: usize| [vec![1, 0], vec![1; depth], vec![last]].concat();
     let down = (0..deep).map(|depth| at(depth, 0));
     let there = (1..=1000).map(|last| at(deep - 1, last));
-    let up = (0..deep).rev().map(|depth| at(depth, if depth == deep - 1 { 1001 } else { 2 }));
+    let up = (0..deep)
+        .rev()
+        .map(|depth| at(depth, if depth == deep - 1 { 1001 } else { 2 }));
     let paths: Vec<_> = down.chain(there).chain(up).collect();
+    let offsets: Vec<_> = page.match_indices("<a").map(|(at, _)| at as u64).collect();
     let findings = check(&page, 1000).unwrap();
-    let dead: Vec<_> = findings.dead_fragments.into_iter().map(|it| it.path).collect();
-    assert_eq!(dead, paths);
-    let repeated: Vec<_> = findings.repeated_ids.into_iter().map(|it| it.path).collect();
-    assert_eq!(repeated, paths[1..]);
+    let (dead, repeated) = (findings.dead_fragments, findings.repeated_ids);
+    let told: Vec<_> = dead.iter().map(|it| it.place.offset).collect();
+    assert_eq!(told, offsets);
+    let told: Vec<_> = dead.into_iter().map(|it| it.path).collect();
+    assert_eq!(told, paths);
+    let told: Vec<_> = repeated.into_iter().map(|it| it.path).collect();
+    assert_eq!(told, paths[1..]);
 }
 
 /// Pretty text of elements in one another is far longer than its JSON, so the first buffer is too short.
@@ -440,22 +490,18 @@ fn ten_megabytes_are_written() {
     );
 }
 
-/// The deepest page that may be checked, on a stack of 256 KB, at every limit that is tried.
+/// The deepest page that may be checked, on a stack of 256 KB, at every limit that is tried: html, body, and a
+/// div with a link at each other level but the last, at which the deepest link stands.
 #[test]
 fn the_deepest_page_on_a_small_stack() {
     let checks = || {
-        for limit in [1, 50, 500, 999, 1_000] {
-            let deep = limit as usize;
-            let page = format!(
-                "<!DOCTYPE html>{}{}",
-                "<a href=\"#b\" id=\"a\">".repeat(deep),
-                "</a>".repeat(deep)
-            );
+        for limit in [4, 50, 500, 999, 1_000] {
+            let deep = limit as usize - 3;
+            let page = "<div id=\"a\"><a href=\"#b\"></a>".repeat(deep);
             let findings = check(&page, limit).unwrap();
             assert_eq!(findings.dead_fragments.len(), deep);
             assert_eq!(findings.repeated_ids.len(), deep - 1);
-            let deeper = page.replacen("<a href", "<b><a href", 1) + "</b>";
-            assert_eq!(check(&deeper, limit).unwrap_err().number(), 8);
+            assert_eq!(check(&page, limit - 1).unwrap_err().number(), 8);
         }
     };
     let thread = std::thread::Builder::new().stack_size(256 << 10);

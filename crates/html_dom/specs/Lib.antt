@@ -31,6 +31,7 @@ pub use Rattle.html_dom_link.specs.NewNames
 pub use Rattle.html_dom_link.specs.Seen
 pub use Rattle.html_dom_link.specs.Undone
 pub use Rattle.html_dom_check.specs.CheckLaws
+pub use Rattle.html_dom_check.specs.ElementPaths
 pub use Rattle.html_dom_check.specs.Findings
 pub use Rattle.html_dom_check.specs.Fragments
 pub use Rattle.html_dom_check.specs.Hyperlinks

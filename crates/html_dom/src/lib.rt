@@ -21,7 +21,7 @@
 
 pub mod laws;
 
-pub use html_dom_check::{DeadFragment, RepeatedId, dead_fragments, repeated_ids};
+pub use html_dom_check::{DeadFragment, RepeatedId, dead_fragments, element_at, repeated_ids};
 pub use html_dom_document::{
     DocumentInfo, DomIndices, HtmlDocument, HtmlIntrospector, HtmlOutput, HtmlPosition,
     HtmlSliceExt, Locale,

@@ -1,4 +1,6 @@
 pub mod Walks
+pub mod ElementPaths
+pub mod FindingPlaces
 pub mod Finds
 pub mod Hyperlinks
 pub mod LinkedChecks

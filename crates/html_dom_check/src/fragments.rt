@@ -19,6 +19,7 @@ use std::collections::BTreeSet;
 #[derive(Debug, Drop, PartialEq, Eq, Hash)]
 pub struct DeadFragment {
     /// The index of each child on the way to the link, from the root on; the root's path is empty.
+    /// [`element_at`](crate::element_at) gives the link.
     pub path: Vec<usize>,
     /// What stands behind `#`, as [`fragment_in`](html_dom_link::fragment_in) takes it from the `href`.
     pub fragment: String,

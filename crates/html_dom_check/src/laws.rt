@@ -1,6 +1,6 @@
 //! Laws of dead fragments and repeated ids. Each function has laws as its contract, and does nothing.
 
-ghost use Rattle.html_dom_check.specs.CheckLaws.{DistinctAreNotRepeated, LinksAddNoDeadFragment, LinksRepeatNoId, LinksStaySound, NoHyperlinkNoDeadFragment, NormalFormsTell, PlacedIdsAreIds, ResolvedStaySound};
+ghost use Rattle.html_dom_check.specs.CheckLaws.{AllFindingsStand, DistinctAreNotRepeated, LinksAddNoDeadFragment, LinksRepeatNoId, LinksStaySound, NoHyperlinkNoDeadFragment, NormalFormsTell, PlacedIdsAreIds, ResolvedStaySound};
 ghost use Rattle.html_dom_document.specs.Views.{document_view};
 
 use html_dom_document::HtmlDocument;
@@ -11,6 +11,12 @@ use html_dom_document::HtmlDocument;
 pub fn repeated()
     ensures ids { PlacedIdsAreIds }
     ensures distinct { DistinctAreNotRepeated }
+{}
+
+/// [`element_at`](crate::element_at) gives of each dead fragment's path the `a` that has it, and of each
+/// repeated id's, in a tree without frames, an element that has it.
+pub fn paths_lead_to_findings()
+    ensures { AllFindingsStand }
 {}
 
 /// A tree in which no `a` has an `href` has no dead fragment.

@@ -19,7 +19,7 @@ use std::collections::BTreeSet;
 #[derive(Debug, Drop, PartialEq, Eq, Hash)]
 pub struct RepeatedId {
     /// The index of each child on the way to the node that has the id, from the root on; the root's
-    /// path is empty.
+    /// path is empty. Where the node is an element, [`element_at`](crate::element_at) gives it.
     pub path: Vec<usize>,
     /// The id.
     pub id: String,

@@ -1,5 +1,6 @@
-//! Tests of positions and links in a tree.
+//! Tests of positions and links in a tree, and of the elements that paths lead to.
 
+use html_dom_check::element_at;
 use html_dom_document::{HtmlIntrospector, HtmlPosition, HtmlSliceExt};
 use html_dom_tree::{Frame, FrameItem, HtmlElement, HtmlFrame, HtmlNode, Location, Point, Span};
 use html_names::tag;
@@ -114,4 +115,54 @@ fn large_trees_have_positions(rt: HostRuntime) -> TestResult {
     let root = HtmlNode::from(nested(rt.alloc(), inner, 4_999)?);
     let introspector = HtmlIntrospector::new(rt.alloc(), &[root])?;
     assert_number(position(&rt, &introspector, 1).path().len(), 5_001)
+}
+
+fn assert_element_at(rt: &impl Tester, root: &HtmlElement, path: &[usize], wanted: Option<u64>) {
+    let found = match element_at(root, path) {
+        Some(element) => Some(element.span.0),
+        None => None,
+    };
+    assert!(rt; found == wanted);
+}
+
+/// A tag and a `b`, which holds a text and an `a`.
+#[test]
+fn paths_lead_to_elements(rt: HostRuntime) -> TestResult {
+    let alloc = rt.alloc();
+    let link = HtmlElement::new(alloc, tag::a).spanned(Span(3));
+    let bold = HtmlElement::new(alloc, tag::b).spanned(Span(2));
+    let bold = bold
+        .with_child(text_of(alloc, "x", 9)?)?
+        .with_child(HtmlNode::from(link))?;
+    let nodes = vec![in alloc; HtmlNode::from(start(1, None)), HtmlNode::from(bold)]?;
+    let root = HtmlElement::new(alloc, tag::p)
+        .spanned(Span(1))
+        .with_children(nodes);
+    for (path, wanted) in &PATHS {
+        assert_element_at(&rt, &root, path, *wanted);
+    }
+    Ok(())
+}
+
+/// Paths, and the span of the element to which each leads.
+static PATHS: [(&[usize], Option<u64>); 9] = [
+    (&[], Some(1)),
+    (&[0], None),
+    (&[0, 0], None),
+    (&[1], Some(2)),
+    (&[1, 0], None),
+    (&[1, 1], Some(3)),
+    (&[1, 1, 0], None),
+    (&[2], None),
+    (&[1, 2], None),
+];
+
+#[test]
+fn long_paths_lead_to_elements(rt: HostRuntime) -> TestResult {
+    let alloc = rt.alloc();
+    let inner = HtmlElement::new(alloc, tag::a).spanned(Span(3));
+    let root = nested(alloc, inner, 4_999)?;
+    assert_element_at(&rt, &root, &Vec::from_elem(alloc, 0, 4_999)?, Some(3));
+    assert_element_at(&rt, &root, &Vec::from_elem(alloc, 0, 5_000)?, None);
+    Ok(())
 }

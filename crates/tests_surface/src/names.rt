@@ -6,9 +6,9 @@ mod trees {
         DeadFragment, DeadLink, DocumentInfo, DomIndices, FlatElement, FlatNode, FlatTree, Frame,
         FrameItem, HtmlAttrs, HtmlDocument, HtmlElement, HtmlFrame, HtmlIntrospector, HtmlNode,
         HtmlOutput, HtmlPosition, HtmlSliceExt, Locale, Location, Point, RepeatedId, Span, Tag,
-        create_link_anchors, dead_fragments, dead_links, fragment_in, fragment_leads, href_to,
-        ids_are_distinct, laws, place_names, repeated_ids, resolve_inline_styles, resolve_links,
-        with_resolved_links,
+        create_link_anchors, dead_fragments, dead_links, element_at, fragment_in, fragment_leads,
+        href_to, ids_are_distinct, laws, place_names, repeated_ids, resolve_inline_styles,
+        resolve_links, with_resolved_links,
     };
     use html_flow::{
         Arg, ArgValue, Args, Bareness, ConstructFault, ConversionLevel, ElementInfo, FlowFault,
@@ -67,10 +67,11 @@ mod all_types {
 mod all_calls {
     use typst_html::{
         attr, bare_spaces, charsets, civil, construct, convert_to_nodes, create_link_anchors,
-        dead_fragments, dead_links, export, export_linked, fragment_in, fragment_leads, href_to,
-        html, html_block_fragment, html_document, html_document_for_bundle, html_in_bundle,
-        html_inline_fragment, html_math_fragment, ids_are_distinct, is_depth_limit, laws, output,
-        page_text, place_names, property, push_located, read_html, read_page, read_page_bytes,
-        repeated_ids, resolve_inline_styles, resolve_links, tag, with_resolved_links,
+        dead_fragments, dead_links, element_at, export, export_linked, fragment_in, fragment_leads,
+        href_to, html, html_block_fragment, html_document, html_document_for_bundle,
+        html_in_bundle, html_inline_fragment, html_math_fragment, ids_are_distinct, is_depth_limit,
+        laws, output, page_text, place_names, property, push_located, read_html, read_page,
+        read_page_bytes, repeated_ids, resolve_inline_styles, resolve_links, tag,
+        with_resolved_links,
     };
 }

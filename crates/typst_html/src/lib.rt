@@ -49,6 +49,7 @@ pub use html_dom::Tag;
 pub use html_dom::create_link_anchors;
 pub use html_dom::dead_fragments;
 pub use html_dom::dead_links;
+pub use html_dom::element_at;
 pub use html_dom::fragment_in;
 pub use html_dom::fragment_leads;
 pub use html_dom::href_to;

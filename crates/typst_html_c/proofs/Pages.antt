@@ -1,5 +1,7 @@
 -- What is found in a page has a text, and what is answered where a page is read, and where it is not.
-use Rattle.std.proofs.Common.{◌≡◌, ◌∙◌, ℕ, List, [], ◌∷◌, ◌++◌, Bool, true, false, Ok, Err, String, string_bytes, refl, append_assoc}
+use Rattle.std.proofs.Common.{◌≡◌, ◌∙◌, sym, ap, ℕ, List, [], ◌∷◌, ◌++◌, Bool, true, false, Result, Ok, Err, String, string_bytes, chars, refl, append_assoc}
+use Rattle.std.specs.Result.{IsOk, MatchResult}
+use Rattle.std.specs.Str.{is_utf8}
 use Rattle.std.specs.declared.alloc.Global.{Global}
 use Rattle.std.proofs.lemmas.Str.{encodes-chars, IsUtf8-string_bytes}
 use lib.Utf8.{encodes}
@@ -8,15 +10,22 @@ use Rattle.serde_json.specs.View.{items_of}
 use Rattle.serde_json.specs.Written.{comma_if, compact_text, items_text, members_text}
 use Rattle.html_dom_tree.specs.Views.{element_view, text_view}
 use Rattle.html_dom_tree.specs.declared.node.HtmlElement.{HtmlElement}
-use Rattle.typst_html_read.specs.Endings.{Gives}
-use Rattle.typst_html_read.specs.PageReading.{page_text, page_element, page_too_deep, page_unread}
-use Rattle.typst_html_read.specs.declared.fault.ReadFault.{ReadFault}
-use Rattle.typst_html_read.specs.declared.fault.ReadFault.TheVariants.{OutOfMemory, TooDeep, Syntax}
+use Rattle.typst_html_parse.specs.PageAnswers.{GivesBytes}
+use Rattle.typst_html_parse.specs.declared.fault.PageFault.{PageFault}
+use Rattle.typst_html_parse.specs.declared.fault.PageFault.TheVariants.{OutOfMemory, NotText, Refused}
+use Rattle.typst_html_parse.specs.declared.fault.PageNotes.{PageNotes}
 use Rattle.typst_html_c.specs.declared.reply.Reply.{Reply}
-use Rattle.typst_html_c.specs.PageFindings.{tree_findings, text, Told, Tells, refused, unread, failed, IsTold, page_told, unread_reply}
+use Rattle.typst_html_c.specs.PageFindings.{Told, Tells, unread, failed, page_findings, page_told}
+use Rattle.typst_html_c.specs.PageSteps.{IsTold, unread_reply}
 
 pub text_written : (s : String Global) → encodes (text_view s) ≡ string_bytes s
 text_written s = encodes-chars (string_bytes s) (IsUtf8-string_bytes s)
+
+-- what is not refused is given
+pub given_unless : {A B : Type 0} (r : Result A B) (P : A → Type 0) (Q : B → Type 0) →
+    MatchResult r P Q → ((e : B) → Q e → ⊥) → IsOk r
+given_unless (Ok a) P Q found never = refl
+given_unless (Err e) P Q found never = absurd (never e found)
 
 -- the text of an object, one member after the other
 pub no_member_yet : (ms : Members) (old a : List ℕ) → a ≡ old ++ 123 ∷ [] →
@@ -38,22 +47,38 @@ one_more_item later d ds all a b c before p q = rw (q, p, append_assoc, append_a
 
 -- a page that is read, and one that is not
 module _ (limit : ℕ) (page : List ℕ) where
-  pub read_told : (root : HtmlElement) → Gives (Ok root) (page_text page) (page_element page)
-      (page_too_deep limit page) (page_unread page)
-      → page_told page limit ≡ text (compact_text (tree_findings (element_view root)))
-  unfolding page_told
-  read_told root g = rw (g.clean, ← g.made) refl
+  text_if_read : (b : Bool) → is_utf8 page ≡ b → (root : HtmlElement) (notes : PageNotes) →
+      GivesBytes (Ok (root, notes)) page limit → is_utf8 page ≡ true
+  text_if_read true is root notes g = is
+  text_if_read false is root notes g = absurd (g.fails is)
 
-  pub fault_told : (f : ReadFault) → Gives (Err f) (page_text page) (page_element page)
-      (page_too_deep limit page) (page_unread page) → IsTold (page_told page limit) f
+  -- what is read is a text
+  pub read_is_text : (root : HtmlElement) (notes : PageNotes) →
+      GivesBytes (Ok (root, notes)) page limit → is_utf8 page ≡ true
+  read_is_text = text_if_read (is_utf8 page) refl
+
+  pub read_told : (root : HtmlElement) (notes : PageNotes) → GivesBytes (Ok (root, notes)) page limit
+      → page_told page limit ≡ Ok (compact_text (page_findings (chars page) (element_view root)))
   unfolding page_told
-  fault_told OutOfMemory g = tt
-  fault_told (TooDeep place) g = rw (g.fault.2, g.fault.3) refl
-  fault_told (Syntax place) g = rw (g.fault.1, g.fault.0, g.fault.2) refl
+  read_told root notes g =
+      let is = read_is_text root notes g in rw (is, (g.text is).made.read) refl
+
+  fault_if : (b : Bool) → is_utf8 page ≡ b → (f : PageFault) → GivesBytes (Err f) page limit
+      → IsTold (page_told page limit) f
+  unfolding page_told
+  fault_if b is OutOfMemory g = tt
+  fault_if true is (NotText place) g = absurd (g.text is).fault
+  fault_if false is (NotText place) g = rw (is, g.no_text is) refl
+  fault_if true is (Refused refusal place) g =
+      let found = (g.text is).fault in rw (is, found.1, found.2) refl
+  fault_if false is (Refused refusal place) g = absurd (g.no_text is)
+
+  pub fault_told : (f : PageFault) → GivesBytes (Err f) page limit → IsTold (page_told page limit) f
+  fault_told = fault_if (is_utf8 page) refl
 
 -- the reply to a fault tells it
-pub fault_replied : (told : Told) (old : List ℕ) (reply : Reply) (new : List ℕ) (f : ReadFault)
+pub fault_replied : (told : Told) (old : List ℕ) (reply : Reply) (new : List ℕ) (f : PageFault)
     → IsTold told f → reply ≡ unread_reply f → new ≡ old → Tells told old reply new
 fault_replied told old reply new OutOfMemory is r kept = failed r kept
-fault_replied told old reply new (TooDeep place) is r kept = refused place is r kept
-fault_replied told old reply new (Syntax place) is r kept = unread place is r kept
+fault_replied told old reply new (NotText place) is r kept = unread (is ∙ ap Err (sym r)) kept
+fault_replied told old reply new (Refused refusal place) is r kept = unread (is ∙ ap Err (sym r)) kept

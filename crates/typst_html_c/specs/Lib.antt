@@ -1,3 +1,4 @@
 pub mod CallReplies
 pub mod DeadLinks
 pub mod PageFindings
+pub mod PageSteps

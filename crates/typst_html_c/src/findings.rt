@@ -1,33 +1,37 @@
 //! What is wrong with the links of a page, as JSON.
 
-ghost use Rattle.std.specs.Prelude.{◌≡◌, ◌≤◌, ℕ, List, [], ◌++◌, drop, length, codes, decimal, string_bytes, IfOk, OnOk};
-ghost use Rattle.serde_json.specs.Data.{string};
+ghost use Rattle.std.specs.Prelude.{◌≡◌, ◌≤◌, true, ℕ, List, [], ◌++◌, drop, length, codes, decimal, string_bytes, IfOk, OnOk};
+ghost use Rattle.serde_json.specs.Data.{number, string, unsigned};
 ghost use Rattle.serde_json.specs.Written.{comma_if, compact_text};
 ghost use Rattle.html_dom_check.specs.PlacedTexts.{Placed};
 ghost use Rattle.html_dom_tree.specs.Views.{element_view};
-ghost use Rattle.typst_html_c.specs.PageFindings.{Told, Tells, GivesTold, check_told, page_told};
-ghost use Rattle.typst_html_c.specs.PageFindings.{finding_data, findings, kept_count, path_data, text_with, tree_findings, unread_reply};
+ghost use Rattle.typst_html_parse.specs.PlaceViews.{text_of};
+ghost use Rattle.typst_html_c.specs.PageFindings.{Told, Tells, check_told, page_told};
+ghost use Rattle.typst_html_c.specs.PageFindings.{finding_data, findings, kept_count, page_findings, path_data};
+ghost use Rattle.typst_html_c.specs.PageSteps.{GivesTold, place_in, text_with, unread_reply};
 
 use crate::numbers::page_limit_of;
+use crate::page::Page;
 use crate::reply::{BAD_INPUT, OUT_OF_MEMORY, REFUSED, Reply, placed, put, without_text};
 use html_dom_check::{TextSink, tell_dead_fragments, tell_repeated_ids};
-use html_dom_tree::HtmlElement;
 use serde_json::Value;
 use std::alloc::{AllocError, Global};
-use typst_html_read::{ReadFault, read_page};
+use std::str;
+use typst_html_parse::{PageFault, Places, read_page_bytes};
+use typst_html_read::Place;
 
 pub(crate) fn reply_to_page(alloc: Global, limit: u32, page: &[u8], output: &mut [u8]) -> Reply
     ensures answered { Tells (check_told limit page.now) output.old result output.new }
     ensures kept { ¬ (result.status ≡ 0) → output.new ≡ output.old }
 {
     match page_limit_of(limit) {
-        Some(limit) => reply_with_findings(page_findings(alloc, page, limit), output),
+        Some(limit) => reply_with_findings(findings_of(alloc, page, limit), output),
         None => without_text(BAD_INPUT, 0, 0),
     }
 }
 
 /// The reply of a call that has these findings, or none.
-fn reply_with_findings(findings: Result<String, ReadFault>, output: &mut [u8]) -> Reply
+fn reply_with_findings(findings: Result<String, PageFault>, output: &mut [u8]) -> Reply
     ensures answered { (told : Told) → GivesTold findings told →
         Tells told output.old result output.new }
     ensures kept { ¬ (result.status ≡ 0) → output.new ≡ output.old }
@@ -38,47 +42,55 @@ fn reply_with_findings(findings: Result<String, ReadFault>, output: &mut [u8]) -
     }
 }
 
-fn unread_reply(fault: ReadFault) -> Reply
+fn unread_reply(fault: PageFault) -> Reply
     ensures { result ≡ unread_reply fault }
 {
     match fault {
-        ReadFault::OutOfMemory => without_text(OUT_OF_MEMORY, 0, 0),
-        ReadFault::TooDeep { place } => placed(REFUSED, 8, place),
-        ReadFault::Syntax { place } => placed(BAD_INPUT, 0, place),
+        PageFault::OutOfMemory => without_text(OUT_OF_MEMORY, 0, 0),
+        PageFault::NotText { place } => placed(BAD_INPUT, 0, place),
+        PageFault::Refused { refusal, place } => placed(REFUSED, refusal.number(), place),
     }
 }
 
-fn page_findings(alloc: Global, page: &[u8], limit: usize) -> Result<String, ReadFault>
+/// What is wrong with the links of a page of these bytes, as JSON.
+fn findings_of(alloc: Global, page: &[u8], limit: usize) -> Result<String, PageFault>
     requires some_limit { 1 ≤ limit }
     requires low_limit { limit ≤ 10000 }
     ensures { GivesTold result (page_told page.now limit) }
 {
-    match read_page(alloc, page, limit) {
-        Ok(root) => Ok(tree_findings(alloc, &root)?),
+    match read_page_bytes(alloc, page, limit) {
+        Ok((root, _)) => {
+            // A page that is read is a text.
+            let places = Places::new(str::from_utf8(page).unwrap());
+            let root = &root;
+            Ok(findings_text(alloc, Page { root, places })?)
+        }
         Err(fault) => Err(fault),
     }
 }
 
-/// What is wrong with the links of a tree, as JSON.
-fn tree_findings(alloc: Global, root: &HtmlElement) -> Result<String, AllocError>
-    ensures { IfOk result (λ text.
-        string_bytes text ≡ compact_text (tree_findings (element_view root.now))) }
+/// What is wrong with the links of a page, as JSON.
+fn findings_text(alloc: Global, page: Page) -> Result<String, AllocError>
+    ensures { let page = page.entry in IfOk result (λ text. string_bytes text
+        ≡ compact_text (page_findings (text_of page.places) (element_view page.root.now))) }
 {
     let mut text = String::new(alloc);
     text.push_str("{")?;
     push_key(alloc, &mut text, false, "dead_fragments")?;
-    let list = begun(alloc, text, "fragment")?;
-    let mut text = ended(tell_dead_fragments(alloc, root, list)?)?;
+    let list = begun(alloc, page, text, "fragment")?;
+    let mut text = ended(tell_dead_fragments(alloc, page.root, list)?)?;
     push_key(alloc, &mut text, true, "repeated_ids")?;
-    let list = begun(alloc, text, "id")?;
-    let mut text = ended(tell_repeated_ids(alloc, root, list)?)?;
+    let list = begun(alloc, page, text, "id")?;
+    let mut text = ended(tell_repeated_ids(alloc, page.root, list)?)?;
     text.push_str("}")?;
     Ok(text)
 }
 
 /// A list of findings that is being written.
 #[derive(Drop)]
-struct FindingList {
+struct FindingList<'a> {
+    /// The page in which they are found. They come in document order, so its places are told in one pass.
+    page: Page<'a>,
     /// The text up to the end of the list so far.
     text: String,
     /// Under which name a finding tells its text.
@@ -89,13 +101,19 @@ struct FindingList {
     later: bool,
 }
 
-fn begun(alloc: Global, text: String, name: &str) -> Result<FindingList, AllocError>
-    ensures { IfOk result (λ list. (ps : List Placed) →
-        text_with list ps ≡ string_bytes text ++ compact_text (findings name.now ps)) }
+fn begun<'a>(
+    alloc: Global,
+    page: Page<'a>,
+    text: String,
+    name: &str,
+) -> Result<FindingList<'a>, AllocError>
+    ensures { IfOk result (λ list. (ps : List Placed) → text_with list ps
+        ≡ string_bytes text ++ compact_text (findings (place_in page.entry) name.now ps)) }
 {
     let mut text = text;
     text.push_str("[")?;
     Ok(FindingList {
+        page,
         text,
         name: String::from_str(alloc, name)?,
         previous: Vec::new(alloc),
@@ -104,14 +122,14 @@ fn begun(alloc: Global, text: String, name: &str) -> Result<FindingList, AllocEr
 }
 
 fn ended(list: FindingList) -> Result<String, AllocError>
-    ensures { IfOk result (λ text. string_bytes text ≡ text_with list []) }
+    ensures { IfOk result (λ text. string_bytes text ≡ text_with list.entry []) }
 {
     let FindingList { mut text, .. } = list;
     text.push_str("]")?;
     Ok(text)
 }
 
-impl TextSink for FindingList {
+impl<'a> TextSink for FindingList<'a> {
     ghost Made = { List ℕ };
 
     ghost made_with = { text_with };
@@ -120,7 +138,8 @@ impl TextSink for FindingList {
         let keeps = kept_count(&self.previous, path);
         push_comma_if(&mut self.text, self.later)?;
         let rest = behind(path, keeps);
-        push_finding(alloc, &mut self.text, &self.name, &text, keeps, rest)?;
+        let place = self.page.place_of(path);
+        push_finding(alloc, &mut self.text, &self.name, &text, keeps, rest, place)?;
         self.previous = path.to_vec(alloc)?;
         self.later = true;
         Ok(())
@@ -146,8 +165,8 @@ fn behind(path: &[usize], kept: usize) -> &[usize]
     &path[kept..]
 }
 
-/// Adds a finding: what is told, under that name, and what its path keeps of the one before, and goes on
-/// with.
+/// Adds a finding: what is told, under that name, what its path keeps of the one before, and goes on
+/// with, and its place.
 fn push_finding(
     alloc: Global,
     text: &mut String,
@@ -155,18 +174,31 @@ fn push_finding(
     told: &str,
     keeps: usize,
     rest: &[usize],
+    place: Place,
 ) -> Result<(), AllocError>
     ensures { OnOk result (string_bytes text.new ≡ string_bytes text.old
-        ++ compact_text (finding_data name.now told.now keeps rest.now)) }
+        ++ compact_text (finding_data name.now told.now keeps rest.now place)) }
 {
     text.push_str("{")?;
     push_key(alloc, text, false, name)?;
     push_string(alloc, text, told)?;
-    push_key(alloc, text, true, "keeps")?;
-    push_number(text, keeps)?;
+    push_member(alloc, text, "keeps", keeps)?;
     push_key(alloc, text, true, "path")?;
     push_path(text, rest)?;
+    push_member(alloc, text, "offset", place.offset)?;
+    push_member(alloc, text, "line", place.line)?;
+    push_member(alloc, text, "column", place.column)?;
     text.push_str("}")?;
+    Ok(())
+}
+
+/// Adds a number under its name, behind other members.
+fn push_member(alloc: Global, text: &mut String, name: &str, n: usize) -> Result<(), AllocError>
+    ensures { OnOk result (string_bytes text.new ≡ (string_bytes text.old
+        ++ (comma_if true ++ (compact_text (string name.now) ++ codes ":"))) ++ decimal n) }
+{
+    push_key(alloc, text, true, name)?;
+    push_number(text, n)?;
     Ok(())
 }
 

@@ -16,6 +16,7 @@ ghost use Rattle.typst_html_c.specs.PageFindings.{Tells, check_told};
 mod dead_links;
 mod findings;
 mod numbers;
+mod page;
 mod reply;
 
 use dead_links::dead_links_text;
@@ -27,11 +28,11 @@ use reply::{reply_with, reply_with_document};
 use std::alloc::Global;
 
 /// The version of these calls. It grows by one where a call or a status changes its meaning.
-const VERSION: u32 = 5;
+const VERSION: u32 = 6;
 
 /// The version of these calls, to be compared with the one of the header that a caller was made by.
 pub fn typst_html_version() -> u32
-    ensures { result ≡ 5 }
+    ensures { result ≡ 6 }
 {
     VERSION
 }
@@ -139,22 +140,32 @@ pub fn typst_html_dead_links(alloc: Global, limit: u32, input: &[u8], output: &m
 }
 
 /// Reads a page, and tells in JSON which links to fragments of the page lead nowhere, and which ids
-/// stand in it before. The text is copied into the buffer, where it fits:
+/// stand in it before, each with its place. The text is copied into the buffer, where it fits:
 ///
 /// ```json
-/// {"dead_fragments":[{"fragment":"mint","keeps":0,"path":[1,3]},{"fragment":"sage","keeps":1,"path":[5]}],
-///  "repeated_ids":[{"id":"dill","keeps":0,"path":[1,4]}]}
+/// {"dead_fragments":[{"fragment":"mint","keeps":0,"path":[1,3],"offset":120,"line":5,"column":9},
+///                    {"fragment":"sage","keeps":1,"path":[5],"offset":165,"line":5,"column":54}],
+///  "repeated_ids":[{"id":"dill","keeps":0,"path":[1,4],"offset":144,"line":5,"column":33}]}
 /// ```
 ///
 /// (It stands in one line.) How many there are is how long each list is. The path of each is the index of
 /// each child on the way from the root, texts counted: it begins with the first indices of the path of the
 /// finding before it in its list, as many as it keeps, and goes on with those that follow. So the link to
-/// `sage` stands at 1, 5. The first of a list keeps none. The page is read as
-/// [`read_page`](typst_html_read::read_page) reads it, so not where a browser is known to take it apart
-/// otherwise: one that is not read is bad input, and the reply has the place from which on it is not: how
-/// many bytes stand before, its line and its column. Where an element would stand deeper than the
-/// limit, that is refused as number 8, with the place of its start tag. A limit that is not from 1 to
-/// 1,000 is bad input without a place. Buffers and replies are those of [`typst_html_write`].
+/// `sage` stands at 1, 5. The first of a list keeps none.
+///
+/// The offset of each is how many bytes of the page stand before the `<` of its start tag. Lines and
+/// columns are counted from 1, columns in characters. A line ends with a line feed, a carriage return or
+/// both, in that order, and a byte order mark is no character of the first.
+///
+/// Any page is read as a browser reads it (HTML Standard 13.2, with scripting disabled), by
+/// [`read_page_bytes`](typst_html_parse::read_page_bytes). It is refused, with the number of the refusal
+/// ([`PageRefusal`](typst_html_parse_open::PageRefusal)) and the place of the tag or character, where a
+/// browser would move nodes or make them a second time, where it holds what no element can have here, and
+/// where an element would stand deeper than the limit. A page that is no UTF-8 is bad input, with the
+/// place of the first byte that is none. A limit that is not from 1 to 1,000 is bad input without a place.
+/// Buffers and replies are those of [`typst_html_write`].
+///
+/// Cost: that of reading; each list takes one pass over the page more, and for each finding its depth.
 pub fn typst_html_check(alloc: Global, limit: u32, page: &[u8], output: &mut [u8]) -> Reply
     ensures answered { Tells (check_told limit page.now) output.old result output.new }
     ensures kept { ¬ (result.status ≡ 0) → output.new ≡ output.old }

@@ -23,7 +23,7 @@ pub struct Reply {
     pub length: usize,
     /// The span of what is refused, or of the first link that leads nowhere; 0 where nothing is and all
     /// lead, or where that has none. Of a bad input: where the form is left, as [`InputPlace::Form`] says. Of
-    /// a page that is not read: how many bytes stand before the place from which on it is not.
+    /// a page that is not read: how many bytes of it stand before the place that is the reason.
     pub span: u64,
     /// The line of a bad input that is no JSON, or of that place in a page, counted from 1; else 0.
     pub line: usize,

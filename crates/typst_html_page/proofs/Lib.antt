@@ -4,5 +4,5 @@ pub mod Held
 pub mod PageLaws
 pub mod Parts
 pub mod PlainTexts
-pub mod Unseen
+pub mod SeenNodes
 pub mod Walks

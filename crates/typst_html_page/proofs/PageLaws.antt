@@ -9,7 +9,7 @@ use Rattle.typst_html_spaces.proofs.SeenBody.{body_is_seen, plain_tree_seen}
 use Rattle.typst_html_page.specs.PageLaws.{ReadPagesAreSeen, UnseenPartsAreLeftOut}
 use Rattle.typst_html_page.specs.PageTexts.{page_pieces}
 use Rattle.typst_html_page.specs.Unseen.{seen_element, shows_all}
-use Rattle.typst_html_page.proofs.Unseen.{body_of_seen}
+use Rattle.typst_html_page.proofs.SeenNodes.{body_of_seen}
 use Rattle.typst_html_page.proofs.Walks.{body_in_normal}
 
 -- where all is seen, the body is that of the whole root

@@ -26,13 +26,14 @@ use std::alloc::{AllocError, Global};
 /// An element is hidden, with all that is in it, if HTML Standard 15.3.1 gives it `display: none`:
 ///
 /// - `area`, `base`, `basefont`, `datalist`, `head`, `link`, `meta`, `noembed`, `noframes`, `param`,
-///   `rp`, `script`, `style`, `template` and `title`, in SVG too, where they are elements of its own;
+///   `rp`, `script`, `style`, `template` and `title`;
 /// - one with the attribute `hidden`, unless its value is `until-found` in any ASCII case, or the
 ///   element is an `embed`;
 /// - an `input` whose `type` is `hidden` in any ASCII case.
 ///
-/// Of an attribute that comes more than once the first counts. It is as if these elements were not
-/// there. A `noscript` is shown, as it is where scripting is disabled.
+/// Of an attribute that comes more than once the first counts. Elements of SVG and MathML are judged
+/// as those of HTML are. It is as if what is hidden were not there. A `noscript` is shown, as it is
+/// where scripting is disabled.
 ///
 /// A tab, line feed, carriage return or space is shown as a space where it is supported by what
 /// stands before it and by what stands after it, further such blanks after it aside; else it is not

@@ -1,9 +1,11 @@
 -- The insertion mode by what is known at the current node, and elements that come and go.
-use Rattle.std.proofs.Common.{◌≡◌, ℕ, List, [], ◌∷◌, ◌++◌, map, reverse, Option, Some, None, refl, sym, ap, ◌∙◌}
+use Rattle.std.proofs.Math.Bridge.{no_suc-le-zero}
+use Rattle.std.proofs.Math.Dec.{eqb-suc-zero}
+use Rattle.std.proofs.Common.{◌≡◌, ◌≤◌, ℕ, get_or, List, [], ◌∷◌, ◌++◌, length, map, reverse, Option, Some, None, refl, sym, ap, ◌∙◌}
 use Rattle.std.specs.Prelude.{unwrap_or}
 use Rattle.std.proofs.lemmas.List.{map-append, reverse-append}
 use Rattle.typst_html_parse_open.specs.Contexts.{AreKnown, brought_mode, context, context_of, contexts, own_mode, root_mode, some_or}
-use Rattle.typst_html_parse_open.specs.OpenElements.{OpenElement, mode, with_text}
+use Rattle.typst_html_parse_open.specs.OpenElements.{OpenElement, html_mode, mode, with_text}
 use Rattle.typst_html_parse_open.specs.ElementViews.{element_of, list_of}
 use Rattle.typst_html_parse_open.specs.declared.context.Context.{Context}
 use Rattle.typst_html_parse_open.specs.declared.element.PageElement.{PageElement}
@@ -15,10 +17,15 @@ inner_mode : (own m : Option Mode) (n : Mode) →
 inner_mode None m n = refl
 inner_mode (Some own) m n = refl
 
+outer_mode : (o p : OpenElement) (ps : List OpenElement) →
+    mode (o ∷ p ∷ ps) ≡ unwrap_or (own_mode o (p ∷ ps)) (mode (p ∷ ps))
+outer_mode o p ps = rw (eqb-suc-zero (length ps)) refl
+
 pub mode_known : (os : List OpenElement) → mode os ≡ unwrap_or (brought_mode os) (root_mode os)
 mode_known [] = refl
 mode_known (o ∷ []) = inner_mode (own_mode o []) None (root_mode (o ∷ []))
-mode_known (o ∷ p ∷ ps) = ap (unwrap_or (own_mode o (p ∷ ps))) (mode_known (p ∷ ps))
+mode_known (o ∷ p ∷ ps) = outer_mode o p ps
+    ∙ ap (unwrap_or (own_mode o (p ∷ ps))) (mode_known (p ∷ ps))
     ∙ inner_mode (own_mode o (p ∷ ps)) (brought_mode (p ∷ ps)) (root_mode (p ∷ ps))
 
 -- the root stands last where the innermost stands first
@@ -27,6 +34,13 @@ pub root_last : (os : List OpenElement) (o : OpenElement) →
 root_last [] o = refl
 root_last (p ∷ []) o = refl
 root_last (p ∷ q ∷ qs) o = root_last (q ∷ qs) o
+
+pub first_root : (es : List PageElement) (e : PageElement) → 1 ≤ length es → e ≡ get_or es 0 e →
+    html_mode (element_of e).children ≡ root_mode (list_of es)
+first_root [] e some is = absurd (no_suc-le-zero some)
+first_root (f ∷ es) e some is = ap (λ x. html_mode (element_of x).children) is
+    ∙ sym (ap root_mode (reverse-append (element_of f ∷ []) (map element_of es))
+    ∙ root_last (reverse (map element_of es)) (element_of f))
 
 -- a text or a child of the current node changes nothing that is known
 pub text_keeps : (t : List ℕ) (o : OpenElement) (os : List OpenElement) →
@@ -52,11 +66,11 @@ both : (es : List PageElement) (e : PageElement) → AreKnown (es ++ e ∷ []) �
     ≡ context (element_of e ∷ list_of es) ∷ contexts (list_of es)
 both es e known = sym (contexts_last es e) ∙ (known ∙ ap contexts (last_first es e))
 
-head_of : Context → List Context → Context
+abbrev head_of : Context → List Context → Context
 head_of c [] = c
 head_of c (d ∷ ds) = d
 
-tail_of : List Context → List Context
+abbrev tail_of : List Context → List Context
 tail_of [] = []
 tail_of (d ∷ ds) = ds
 

@@ -92,8 +92,8 @@ pub(crate) fn own_mode(element: &PageElement, outer: &[PageElement]) -> Option<M
 pub(crate) fn root_mode(elements: &[PageElement]) -> Mode
     ensures { result ≡ root_mode (list_of elements.now) }
 {
-    match elements.first() {
-        None => Mode::BeforeHtml,
-        Some(root) => html_mode(root),
+    match elements {
+        [] => Mode::BeforeHtml,
+        [root, ..] => html_mode(root),
     }
 }

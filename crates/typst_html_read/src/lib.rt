@@ -18,6 +18,5 @@ pub mod text;
 
 pub use closing::{end_of, ends_in, is_tag_end};
 pub use fault::ReadFault;
-pub use open::OpenElement;
 pub use place::Place;
 pub use read::read_html;

@@ -10,7 +10,7 @@ use std::alloc::{AllocError, Global};
 
 /// An element that is open, with its children so far. It has nothing that a text does not spell.
 #[derive(Drop)]
-pub struct OpenElement {
+pub(crate) struct OpenElement {
     pub(crate) element: HtmlElement,
     ghost plain: { IsPlain (element_view element) } by { Prim.hlevel (props, element_is_set) },
 }
@@ -27,7 +27,7 @@ impl OpenElement {
 
     /// An element without children.
 
-    pub fn new(alloc: Global, tag: HtmlTag, attrs: HtmlAttrs) -> OpenElement
+    pub(crate) fn new(alloc: Global, tag: HtmlTag, attrs: HtmlAttrs) -> OpenElement
         ensures { open_of result
             ≡ record { name = tag; attrs = attrs_view attrs; children = no_plains } }
     {
@@ -38,7 +38,7 @@ impl OpenElement {
 
     /// The element with a text as its last child, unless the text is empty.
 
-    pub fn with_text(self, text: String) -> Result<OpenElement, AllocError>
+    pub(crate) fn with_text(self, text: String) -> Result<OpenElement, AllocError>
         ensures { IfOk result (λ grown. open_of grown
             ≡ record (open_of self) {
               children = with_text (text_view text) (open_of self).children;
@@ -53,27 +53,13 @@ impl OpenElement {
 
     /// The element with an element as its last child.
 
-    pub fn with_element(self, child: OpenElement) -> Result<OpenElement, AllocError>
+    pub(crate) fn with_element(self, child: OpenElement) -> Result<OpenElement, AllocError>
         ensures { IfOk result (λ grown. open_of grown ≡ record (open_of self) {
           children = (open_of self).children then plain (completed (open_of child)) no_plains;
         }) }
     {
         let element = self.element.with_child(HtmlNode::from(child.element))?;
         Ok(OpenElement { element })
-    }
-
-    /// Its tag.
-    pub fn tag(&self) -> &HtmlTag
-        ensures { result.now ≡ (open_of self.now).name }
-    {
-        &self.element.tag
-    }
-
-    /// Its attributes.
-    pub fn attrs(&self) -> &HtmlAttrs
-        ensures { attrs_view result.now ≡ (open_of self.now).attrs }
-    {
-        &self.element.attrs
     }
 
     #[tactic(auto, using(html_names::proofs::Lists::in_characters))]
@@ -102,7 +88,7 @@ impl OpenElement {
     }
 
     /// The element, with its children.
-    pub fn into_element(self) -> HtmlElement
+    pub(crate) fn into_element(self) -> HtmlElement
         ensures { let o = open_of self in
             element_view result ≡ plain_element o.name o.attrs o.children }
     {

@@ -12,7 +12,7 @@ use typst_html_c::Reply;
 /// As [`typst_html_c::typst_html_version`].
 #[unsafe(no_mangle)]
 pub extern "C" fn typst_html_version() -> u32
-    ensures { result ≡ 5 }
+    ensures { result ≡ 6 }
 {
     typst_html_c::typst_html_version()
 }

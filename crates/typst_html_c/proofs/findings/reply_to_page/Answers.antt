@@ -7,4 +7,4 @@ returns-in-Some-clause-answered c =
     subst (λ o. Tells (told_within c.args.page.now o) c.args.output.now
     c.reply_with_findings.result c.reply_with_findings.new.output)
     (sym c.in-Some.is ∙ c.page_limit_of.ensures)
-    (c.reply_with_findings.ensures.answered _ c.page_findings.ensures)
+    (c.reply_with_findings.ensures.answered _ c.findings_of.ensures)

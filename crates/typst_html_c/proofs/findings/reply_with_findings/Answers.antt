@@ -1,5 +1,6 @@
 use Rattle.std.proofs.Common.{refl, string_bytes, subst}
-use Rattle.typst_html_c.specs.PageFindings.{GivesTold, made}
+use Rattle.typst_html_c.specs.PageFindings.{made}
+use Rattle.typst_html_c.specs.PageSteps.{GivesTold}
 use Rattle.typst_html_c.proofs.Pages.{fault_replied}
 use Rattle.typst_html_c.proofs.findings.reply_with_findings.Goals as goal
 

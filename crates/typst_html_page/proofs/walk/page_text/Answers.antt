@@ -29,7 +29,7 @@ returns c =
           sym found ∙ ap (option_map (λ b. seen_nodes (element_view b.now).1)) w.in-Some.is in
           let added : seen_view w.add_nodes.new.seen ≡ past_nodes false s body =
           w.in_ok-add_nodes.ensures
-          ∙ ap (λ l. past_nodes false s (nodes_view l)) w.deref-in-Some.ensures.value in
+          ∙ ap (λ l. past_nodes false s (nodes_view l)) w.deref.ensures.value in
           let here : u ≡ past_nodes false s body = cc (added, w.seen-is) in
           body_seen ns body (seen_nodes body) s u is refl start here
       | in_default w ↦

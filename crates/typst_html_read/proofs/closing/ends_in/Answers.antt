@@ -1,4 +1,4 @@
-use Rattle.std.proofs.Common.{◌≡◌, ◌-◌, ◌<◌, ◌≤◌, false, leb, inl, inr, chars, drop, map, sym, ap, ◌∙◌, arith, length, refl}
+use Rattle.std.proofs.Common.{◌≡◌, ◌-◌, ◌≤◌, false, leb, inl, inr, chars, drop, map, sym, ap, ◌∙◌, arith, length, refl}
 use Rattle.std.specs.Char.{to_ascii_lowercase}
 use Rattle.std.proofs.lemmas.Bool.{cases_Bool}
 use Rattle.std.proofs.lemmas.Bool.Decides.{nat_tests}

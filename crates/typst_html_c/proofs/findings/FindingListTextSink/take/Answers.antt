@@ -3,13 +3,15 @@ use Rattle.serde_json.specs.View.{items_of}
 use Rattle.serde_json.specs.Written.{compact_text, items_text}
 use Rattle.html_dom_check.specs.PlacedTexts.{Placed}
 use Rattle.html_dom_tree.specs.Views.{text_view}
-use Rattle.typst_html_c.specs.PageFindings.{finding, finding_data, findings_behind, text_with}
+use Rattle.typst_html_c.specs.PageFindings.{finding, finding_data, findings_behind}
+use Rattle.typst_html_c.specs.PageSteps.{place_in, text_with}
 use Rattle.typst_html_c.proofs.Pages.{one_more_item, text_written}
 use Rattle.typst_html_c.proofs.findings.FindingListTextSink.take.Goals as goal
 
 pub returns : goal.returns
 returns c rest =
     let list = c.args.self.now in
+    let place_of = place_in list.page in
     let name = string_bytes list.name in
     let path = c.args.path.now in
     let here : Placed = (path, text_view c.args.text) in
@@ -17,17 +19,22 @@ returns c rest =
     let mid = string_bytes c.push_comma_if.new.text in
     let new = string_bytes c.push_finding.new.text in
     let told : finding_data c.deref-2.result.now c.deref-3.result.now keeps c.behind-rest.result.now
-    ≡ finding name list.previous.items here =
+    c.place_of-place.result ≡ finding place_of name list.previous.items here =
     rw (
       c.behind-rest.ensures,
       c.deref-2.ensures,
       c.deref-3.ensures,
       c.kept_count-keeps.ensures.count,
       c.deref.ensures.value,
+      c.place_of-place.ensures.told,
       text_written c.args.text,
     ) refl in
-    ap (λ previous. new ++ items_text true (items_of (findings_behind name previous rest)))
+    let after = place_in c.place_of-place.new.self in
+    ap (λ previous. new ++ items_text true (items_of (findings_behind after name previous rest)))
     (c.in_ok-self.ensures.items_if_clones_equal (λ x y is. is))
-    ∙ one_more_item list.later (finding name list.previous.items here) (findings_behind name path rest)
+    ∙ (ap (λ places. new ++ items_text true (items_of (findings_behind places name path rest)))
+    c.place_of-place.ensures.kept
+    ∙ one_more_item list.later (finding place_of name list.previous.items here)
+    (findings_behind place_of name path rest)
     (text_with list (here ∷ rest)) (string_bytes list.text) mid new refl c.in_ok-push_comma_if.ensures
-    (c.in_ok-push_finding.ensures ∙ ap (λ d. mid ++ compact_text d) told)
+    (c.in_ok-push_finding.ensures ∙ ap (λ d. mid ++ compact_text d) told))

@@ -9,19 +9,19 @@ use Rattle.typst_html_parse_open.specs.PageViews.{element_of}
 use Rattle.typst_html_parse_open.proofs.Children.{some_text, text_counts}
 use Rattle.typst_html_parse_open.proofs.element.PageElement.with_text.Goals as goal
 
-pub returns-then-is_empty : goal.returns-then-is_empty
-returns-then-is_empty c =
+pub returns-then-is_empty-clause-grown : goal.returns-then-is_empty-clause-grown
+returns-then-is_empty-clause-grown c =
     let long : eqb (length (string_bytes c.args.text)) 0 ≡ true =
     rw c.as_str.ensures.value at (sym c.is_empty.ensures ∙ c.if-is_empty.true) in
     let none : text_view c.args.text ≡ [] = chars_of_empty _ (eqb-true _ 0 long) in
     ap (λ t. with_text t (element_of c.args.self)) (sym none)
 
-pub returns : goal.returns
-returns c =
+pub returns-clause-grown : goal.returns-clause-grown
+returns-clause-grown c =
     let e = element_view c.args.self.element in
     let o = element_of c.args.self in
     let long : eqb (length (string_bytes c.args.text)) 0 ≡ false =
     rw c.as_str.ensures.value at (sym c.is_empty.ensures ∙ c.if-is_empty.false) in
     ap (λ v. record { head = v.0; space = c.args.self.space; children = v.1 })
-    (c.in_ok-element.ensures.ok ∙ ap (λ n. with_node n e) c.text.ensures)
+    (c.in_ok-element.ensures.ok ∙ ap (λ n. with_node n e) c.text-child.ensures)
     ∙ sym (some_text (string_bytes c.args.text) o (IsUtf8-string_bytes c.args.text) long)

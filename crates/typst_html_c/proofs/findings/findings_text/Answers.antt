@@ -4,14 +4,16 @@ use Rattle.html_dom_check.specs.Fragments.{dead_fragments}
 use Rattle.html_dom_check.specs.RepeatedIds.{repeated_ids}
 use Rattle.html_dom_tree.specs.Views.{element_view}
 use Rattle.typst_html_c.specs.PageFindings.{findings}
+use Rattle.typst_html_c.specs.PageSteps.{place_in}
 use Rattle.typst_html_c.proofs.Pages.{no_member_yet, one_more_member}
-use Rattle.typst_html_c.proofs.findings.tree_findings.Goals as goal
+use Rattle.typst_html_c.proofs.findings.findings_text.Goals as goal
 
 pub returns : goal.returns
 returns c =
-    let e = element_view c.args.root.now in
-    let dead = findings (codes "fragment") (dead_fragments e) in
-    let repeated = findings (codes "id") (repeated_ids e) in
+    let e = element_view c.args.page.root.now in
+    let place_of = place_in c.args.page in
+    let dead = findings place_of (codes "fragment") (dead_fragments e) in
+    let repeated = findings place_of (codes "id") (repeated_ids e) in
     let last = member (codes "repeated_ids") repeated no_members in
     let start : string_bytes c.push_str.new.self ≡ [] ++ 123 ∷ [] =
     c.in_ok-push_str.ensures.bytes ∙ ap (λ l. l ++ 123 ∷ []) c.new-text.ensures.bytes in

@@ -1,5 +1,5 @@
 -- Nodes without what is unseen, where each element is seen.
-use Rattle.std.proofs.Common.{◌≡◌, Bool, true, false, not, bytes_eq, codes, refl, sym, ap, ◌∙◌, inl, inr}
+use Rattle.std.proofs.Common.{◌≡◌, Bool, true, false, bytes_eq, codes, refl, sym, ap, ◌∙◌, inl, inr}
 use Rattle.std.specs.Prelude.{◌&&◌, if◌then◌else◌}
 use Rattle.std.proofs.lemmas.Bool.{and_parts, cases_Bool, not-true}
 use Rattle.html_dom_tree.specs.Tree.{Head, NodesView, tag_node, text_node, element_node, frame_node, none, node, ElementView}

@@ -1,0 +1,35 @@
+use Rattle.std.proofs.Common.{Ok, chars, sym, ap, ◌∙◌, subst}
+use Rattle.std.proofs.lemmas.Str.{IsUtf8-from_is_utf8}
+use Rattle.serde_json.specs.Written.{compact_text}
+use Rattle.html_dom_tree.specs.Views.{element_view}
+use Rattle.typst_html_parse.specs.PageAnswers.{GivesBytes}
+use Rattle.typst_html_c.specs.PageFindings.{page_findings}
+use Rattle.typst_html_c.proofs.Pages.{fault_told, given_unless, read_is_text, read_told}
+use Rattle.typst_html_c.proofs.findings.findings_of.Goals as goal
+
+pub unwrap-requires : goal.unwrap-requires
+unwrap-requires c =
+    let page = c.args.page.now in
+    let limit = c.args.limit in
+    let is = read_is_text limit page c.in-Ok.root c.in-Ok.field-0-1
+    (subst (λ r. GivesBytes r page limit) c.in-Ok.is c.read_page_bytes.ensures) in
+    given_unless c.from_utf8.result _ _ c.from_utf8.ensures.cases
+    (λ e found. found.0 (IsUtf8-from_is_utf8 page is))
+
+pub returns-in-Ok : goal.returns-in-Ok
+returns-in-Ok c =
+    let page = c.args.page.now in
+    let limit = c.args.limit in
+    let e = element_view c.in-Ok.root in
+    let text = rw c.unwrap.ensures at c.from_utf8.ensures.cases in
+    read_told limit page c.in-Ok.root c.in-Ok.field-0-1
+    (subst (λ r. GivesBytes r page limit) c.in-Ok.is c.read_page_bytes.ensures)
+    ∙ ap Ok (sym (c.in_ok-findings_text-in-Ok.ensures
+    ∙ ap (λ t. compact_text (page_findings t e)) (c.new-places.ensures ∙ ap chars text.0)))
+
+pub returns : goal.returns
+returns c =
+    let page = c.args.page.now in
+    let limit = c.args.limit in
+    fault_told limit page c.in-Err.fault
+    (subst (λ r. GivesBytes r page limit) c.in-Err.is c.read_page_bytes.ensures)

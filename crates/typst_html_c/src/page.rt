@@ -1,0 +1,41 @@
+//! A page that is read, and where its elements begin.
+
+ghost use Rattle.std.specs.Prelude.{◌≡◌};
+ghost use Rattle.html_dom_tree.specs.Views.{element_view};
+ghost use Rattle.typst_html_c.specs.PageFindings.{offset_at};
+ghost use Rattle.typst_html_c.specs.PageSteps.{place_in};
+
+use html_dom_check::element_at;
+use html_dom_tree::HtmlElement;
+use typst_html_parse::Places;
+use typst_html_read::Place;
+
+/// A page that is read.
+#[derive(Clone, Copy)]
+pub(crate) struct Page<'a> {
+    pub(crate) root: &'a HtmlElement,
+    pub(crate) places: Places<'a>,
+}
+
+impl Page<'_> {
+    /// The place of the element at a path: that of the `<` of its start tag.
+    ///
+    /// Cost: that of the path, and how much of the page lies between it and the place that was told
+    /// before.
+    pub(crate) fn place_of(&mut self, path: &[usize]) -> Place
+        ensures told { result ≡ place_in self.old path.now }
+        ensures kept { place_in self.new ≡ place_in self.old }
+    {
+        self.places.at(offset_at(self.root, path))
+    }
+}
+
+/// How many bytes of its page stand before the element at a path.
+fn offset_at(root: &HtmlElement, path: &[usize]) -> usize
+    ensures { result ≡ offset_at (element_view root.now) path.now }
+{
+    match element_at(root, path) {
+        Some(element) => element.span.0 as usize,
+        None => 0,
+    }
+}
