@@ -1,5 +1,5 @@
 -- Stretches of common characters are read as these characters one by one.
-use Rattle.std.proofs.Common.{◌≡◌, ℕ, ◌+◌, ◌-◌, true, false, not, ◌&&◌, ◌||◌, List, [], ◌∷◌, ◌++◌, length, eqb, ne_eqb, refl, sym, ap, ◌∙◌, arith, append_assoc, append_nil, Ok}
+use Rattle.std.proofs.Common.{◌≡◌, ℕ, ◌+◌, ◌-◌, true, false, not, ◌&&◌, ◌||◌, List, [], ◌∷◌, ◌++◌, length, eqb, ne_eqb, refl, sym, ap, ◌∙◌, arith, append_assoc, append-nil, Ok}
 use Rattle.std.proofs.lemmas.Bool.{and_parts, false≢true}
 use Rattle.html_names.specs.Characters.{all}
 use Rattle.std.proofs.lemmas.Str.{len_utf8_ascii}
@@ -80,7 +80,7 @@ pub quoted_run : (front cs : List ℕ) (tag : TagDraft) (attr value : List ℕ) 
     all is_common front ≡ true → run (in_quotes tag attr value r) (front ++ cs)
     ≡ run (in_quotes tag attr (value ++ front) (behind_quoted front r)) cs
 quoted_run [] cs tag attr value r h =
-    ap (λ v. run (in_quotes tag attr v r) cs) (sym (append_nil value))
+    ap (λ v. run (in_quotes tag attr v r) cs) (sym (append-nil value))
 quoted_run (c ∷ front) cs tag attr value r h =
     let both = and_parts (is_common c) (all is_common front) h in
     let q = record r { place = r.place + 1; after_return = false } in

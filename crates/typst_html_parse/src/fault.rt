@@ -3,6 +3,7 @@
 ghost use Rattle.std.specs.Prelude.{◌≡◌};
 ghost use Rattle.typst_html_parse.specs.PageFaults.{number_of};
 
+use html_names::Refused;
 use std::alloc::{AllocError, AllocFailed};
 use thiserror::Error;
 use typst_html_parse_open::{PageError, PageRefusal};
@@ -79,6 +80,16 @@ impl<T: Drop> From<AllocFailed<T>> for PageFault {
     ghost from_gives = { λ _ e. e ≡ OutOfMemory };
 
     fn from(_refused: AllocFailed<T>) -> PageFault {
+        PageFault::OutOfMemory
+    }
+}
+
+impl<T: Drop> From<Refused<T>> for PageFault {
+    ghost use Rattle.typst_html_parse.specs.declared.fault.PageFault.TheVariants.{OutOfMemory};
+
+    ghost from_gives = { λ _ e. e ≡ OutOfMemory };
+
+    fn from(_refused: Refused<T>) -> PageFault {
         PageFault::OutOfMemory
     }
 }

@@ -37,7 +37,7 @@ fn next_place(after_return: bool, place: Place, c: char) -> Place
 /// mark at the beginning is no character of the first.
 ///
 /// ```
-/// use typst_html_parse::{Places, read_page};
+/// use typst_html::{Places, read_page};
 ///
 /// let text = "<!DOCTYPE html>\r\n<body id=a>";
 /// let (root, _) = read_page(rt.alloc(), text, 50)?;
@@ -64,7 +64,8 @@ impl<'a> Places<'a> {
 
     /// The places of that page.
     pub fn new(text: &'a str) -> Places<'a>
-        ensures { text_of result ≡ chars text.now }
+        ensures text { text_of result ≡ chars text.now }
+        ensures start { result.place.offset ≡ 0 }
     {
         let place = Place {
             offset: 0,
@@ -88,13 +89,21 @@ impl<'a> Places<'a> {
         ensures told { result ≡ places.place_at (text_of self.old) offset }
         ensures text { text_of self.new ≡ text_of self.old }
     {
-        let begun = if offset < self.place.offset {
-            Places::new(self.text)
-        } else {
-            *self
-        };
+        let begun = self.begun_before(offset);
         *self = begun.moved_to(offset);
         self.place
+    }
+
+    /// From where the place of that offset is still to come.
+    fn begun_before(self, offset: usize) -> Places<'a>
+        ensures place { result.place.offset ≤ offset }
+        ensures text { text_of result ≡ text_of self.entry }
+    {
+        if offset < self.place.offset {
+            Places::new(self.text)
+        } else {
+            self
+        }
     }
 
     fn moved_to(self, offset: usize) -> Places<'a>
@@ -111,7 +120,12 @@ impl<'a> Places<'a> {
         while place.offset < offset {
             let mut left = rest.chars();
             let Some(c) = left.next() else {
-                break;
+                return Places {
+                    text,
+                    rest,
+                    place,
+                    after_return,
+                };
             };
             place = next_place(after_return, place, c);
             after_return = c == '\r';

@@ -40,7 +40,7 @@ const BYTE_ORDER_MARK: char = '\u{feff}';
 /// needs memory for the elements that are open, and for one text and one tag.
 ///
 /// ```
-/// use typst_html_parse::{PageFault, read_page};
+/// use typst_html::{PageFault, read_page};
 ///
 /// let alloc = rt.alloc();
 /// let (root, notes) = read_page(alloc, "<!DOCTYPE html><ul><li>a<li>b</b></ul>", 50)?;

@@ -6,15 +6,6 @@ use Rattle.typst_html_parse.specs.PagePlaces.{place_from}
 use Rattle.typst_html_parse.proofs.PlaceSteps.{next_reached, none_more, one_more}
 use Rattle.typst_html_parse.proofs.place.Places.moved_to.Goals as goal
 
-pub loop-place-init : goal.loop-place-init
-loop-place-init c =
-    let at = c.args.self.reached in
-    record {
-      is_text = c.args.self.utf8.rest;
-      reached = at;
-      same = at.same c.args.offset c.requires;
-    }
-
 pub loop-place-preserved : goal.loop-place-preserved
 loop-place-preserved c =
     let at = c.loop-place in
@@ -34,3 +25,18 @@ loop-place-preserved c =
           ∙ (ap (λ cs. place_from at.after_return at.place cs c.args.offset) (sym left)
           ∙ held.same));
     }
+
+pub returns-in_default-clause-told : goal.returns-in_default-clause-told
+returns-in_default-clause-told c =
+    let at = c.loop-place in
+    let empty = ap chars (sym c.chars-left.ensures.rest)
+    ∙ chars_of_empty _ c.in_default.ensures.steps.0.0 in
+    ap (λ cs. place_from at.after_return at.place cs c.args.offset) (sym empty)
+    ∙ at.invariant.same
+
+pub returns-clause-told : goal.returns-clause-told
+returns-clause-told c =
+    let at = c.loop-place in
+    sym (none_more at.after_return at.place (chars at.rest.now) c.args.offset
+    (omega (arith, c.loop-place-test.false)))
+    ∙ at.invariant.same
