@@ -2,7 +2,7 @@
 //! each link that leads nowhere.
 //!
 //! ```text
-//! cd crates/examples_links && rt try -- data/site
+//! cd crates/examples_links && rt try -- "$PWD/data/site"
 //! ```
 //!
 //! # What is checked

@@ -1,6 +1,6 @@
 pub mod CommonStretches
 pub mod Halts
-pub mod Places
+pub mod PlaceSteps
 pub mod References
 pub mod Spaces
 pub mod TagNames

@@ -99,8 +99,8 @@ impl<'a> Places<'a> {
 
     fn moved_to(self, offset: usize) -> Places<'a>
         requires { self.place.offset ≤ offset }
-        ensures told { result.place ≡ places.place_at (text_of self) offset }
-        ensures text { text_of result ≡ text_of self }
+        ensures told { result.place ≡ places.place_at (text_of self.entry) offset }
+        ensures text { text_of result ≡ text_of self.entry }
     {
         let Places {
             text,

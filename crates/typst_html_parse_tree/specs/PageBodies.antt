@@ -75,10 +75,14 @@ abbrev pub select_closed : Page → Reads Page
 select_closed p = if in_scope scope.General (of kind.Select) p.stack
     then closed_to (of kind.Select) (noted error.NestedElement p) else Ok p
 
+-- an `a` that is still open would be removed
+abbrev pub anchor_left : Page → Reads Page
+anchor_left p = if is_active (of kind.A) p.stack then refused refusal.OpenAnchorRemoved p
+    else Ok p
+
 abbrev pub anchor_closed : (name : List ℕ) → Page → Reads Page
 anchor_closed name p = if is_active (of kind.A) p.stack || is_lost name p.lost
-    then (adopted name (noted error.NestedElement p)) next (λ q.
-    if is_active (of kind.A) q.stack then refused refusal.OpenAnchorRemoved q else Ok q)
+    then (adopted name (noted error.NestedElement p)) next anchor_left
     else Ok p
 
 abbrev pub p_closed : Page → Reads Page

@@ -147,6 +147,16 @@ fn has_active_anchor(page: &Page) -> bool
         .reaches(Goal::Of(Target::Kind(Kind::A)), Bound::Marker)
 }
 
+/// An `a` that is still open would be removed.
+fn refuse_open_anchor(page: &Page) -> Result<(), Halt>
+    ensures { Steps result (bodies.anchor_left (page_of page.now)) (page_of page.now) }
+{
+    if has_active_anchor(page) {
+        return Err(page.refusal(PageRefusal::OpenAnchorRemoved));
+    }
+    Ok(())
+}
+
 fn close_anchor(page: &mut Page, name: &TagName) -> Result<(), Halt>
     ensures { Steps result (bodies.anchor_closed name.now.tag (page_of page.old))
         (page_of page.new) }
@@ -156,10 +166,7 @@ fn close_anchor(page: &mut Page, name: &TagName) -> Result<(), Halt>
     }
     page.note(PageError::NestedElement)?;
     adopt(page, name)?;
-    if has_active_anchor(page) {
-        return Err(page.refusal(PageRefusal::OpenAnchorRemoved));
-    }
-    Ok(())
+    refuse_open_anchor(page)
 }
 
 pub(crate) fn close_p(page: &mut Page) -> Result<(), Halt>

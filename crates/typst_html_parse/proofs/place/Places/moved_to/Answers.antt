@@ -3,7 +3,7 @@ use Rattle.std.proofs.StrCases.{chars_of_empty}
 use Rattle.std.proofs.lemmas.Str.{chars_past_char}
 use lib.Utf8.{encode}
 use Rattle.typst_html_parse.specs.PagePlaces.{place_from}
-use Rattle.typst_html_parse.proofs.Places.{next_reached, none_more, one_more}
+use Rattle.typst_html_parse.proofs.PlaceSteps.{next_reached, none_more, one_more}
 use Rattle.typst_html_parse.proofs.place.Places.moved_to.Goals as goal
 
 pub loop-place-init : goal.loop-place-init
