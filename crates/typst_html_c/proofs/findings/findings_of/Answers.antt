@@ -25,7 +25,7 @@ returns-in-Ok c =
     read_told limit page c.in-Ok.root c.in-Ok.field-0-1
     (subst (λ r. GivesBytes r page limit) c.in-Ok.is c.read_page_bytes.ensures)
     ∙ ap Ok (sym (c.in_ok-findings_text-in-Ok.ensures
-    ∙ ap (λ t. compact_text (page_findings t e)) (c.new-places.ensures ∙ ap chars text.0)))
+    ∙ ap (λ t. compact_text (page_findings t e)) (c.new-places.ensures.text ∙ ap chars text.0)))
 
 pub returns : goal.returns
 returns c =
