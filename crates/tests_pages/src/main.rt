@@ -32,21 +32,29 @@ fn main(rt: HostRuntime) -> Result<()> {
 /// The line of a page.
 fn page_line(alloc: Global, page: &[u8]) -> Result<String> {
     let mut line = String::new(alloc);
-    match read_page_bytes(alloc, page, DEEPEST) {
-        Ok((root, _)) => push_element(alloc, &mut line, &root)?,
-        Err(fault) => push_text(alloc, &mut line, &format!(in alloc; "{fault}")?)?,
-    }
+    let (root, _) = match read_page_bytes(alloc, page, DEEPEST) {
+        Ok(read) => read,
+        Err(fault) => {
+            let told = format!(in alloc; "{fault}")?;
+            push_text(alloc, &mut line, told.as_str())?;
+            return Ok(line);
+        }
+    };
+    push_element(&root, alloc, &mut line)?;
     Ok(line)
 }
 
+// Each node stands first among the parameters: its depth shows that the calls end.
+
 /// Adds an element.
-fn push_element(alloc: Global, line: &mut String, element: &HtmlElement) -> Result<()> {
+#[cycle(tree)]
+fn push_element(element: &HtmlElement, alloc: Global, line: &mut String) -> Result<()> {
     line.push('[')?;
     push_text(alloc, line, element.tag.resolve())?;
     line.push_str(",[")?;
     push_attrs(alloc, line, &element.attrs)?;
     line.push_str("],[")?;
-    push_children(alloc, line, &element.children)?;
+    push_children(&element.children, alloc, line)?;
     line.push_str("]]")?;
     Ok(())
 }
@@ -67,14 +75,15 @@ fn push_attrs(alloc: Global, line: &mut String, attrs: &HtmlAttrs) -> Result<()>
 }
 
 /// Adds texts and elements, with commas between them.
-fn push_children(alloc: Global, line: &mut String, children: &[HtmlNode]) -> Result<()> {
+#[cycle(tree)]
+fn push_children(children: &[HtmlNode], alloc: Global, line: &mut String) -> Result<()> {
     for (index, child) in children.iter().enumerate() {
         if index > 0 {
             line.push(',')?;
         }
         match child {
             HtmlNode::Text(text, _) => push_text(alloc, line, text)?,
-            HtmlNode::Element(element) => push_element(alloc, line, element)?,
+            HtmlNode::Element(element) => push_element(element, alloc, line)?,
             HtmlNode::Tag(_) | HtmlNode::Frame(_) => {}
         }
     }
