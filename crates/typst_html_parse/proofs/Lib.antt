@@ -1,7 +1,9 @@
-pub mod CommonStretches
+pub mod Fronts
 pub mod Halts
+pub mod PageStretches
 pub mod PlaceSteps
 pub mod References
 pub mod Spaces
+pub mod TagFronts
 pub mod TagNames
 pub mod Words

@@ -5,7 +5,7 @@ use Rattle.std.specs.Char.{len_utf8}
 use Rattle.std.proofs.lemmas.Bool.{cases_Bool, le-leb, lt-leb}
 use Rattle.std.proofs.lemmas.Str.{length-encode, len_utf8_bounds}
 use lib.Utf8.{encode}
-use Rattle.typst_html_parse.specs.PagePlaces.{next_place, place_at, place_from}
+use Rattle.typst_html_parse.specs.PagePlaces.{next_place, place_from}
 use Rattle.typst_html_parse.specs.ReachedPlaces.{IsReached}
 use Rattle.typst_html_read.specs.declared.place.Place.{Place}
 

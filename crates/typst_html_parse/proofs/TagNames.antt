@@ -1,8 +1,9 @@
 -- Names of tags, by their bytes and by their characters.
-use Rattle.std.proofs.Common.{◌≡◌, ℕ, Bool, true, false, not, List, [], ◌∷◌, chars, eqb, length, refl, sym, subst}
+use Rattle.std.proofs.Common.{◌≡◌, ℕ, Bool, true, false, not, List, [], ◌∷◌, chars, eqb, length, refl, sym, ap, subst, arith}
 use Rattle.std.specs.List.{list_all}
 use Rattle.std.specs.Str.{IsUtf8}
 use Rattle.std.proofs.lemmas.Bool.{and_from, and_parts}
+use Rattle.std.proofs.lemmas.Bool.Decides.{nat_tests}
 use Rattle.html_names.specs.Characters.{IsOf, all, is_tag_char}
 use Rattle.typst_html_read.proofs.Closings.{name_is}
 use Rattle.typst_html_parse.specs.PageTokens.{is_name}
@@ -29,3 +30,20 @@ tag_bytes t u h =
     let is : IsOf is_tag_char (chars t) =
     of_chars is_tag_char (chars t) (not_not _ both.0) both.1 in
     subst (IsOf is_tag_char) (sym (name_is t u is)) is
+
+some_all : (p : ℕ → Bool) (cs : List ℕ) → all p cs ≡ true → list_all p cs ≡ true
+some_all p [] h = refl
+some_all p (c ∷ cs) h =
+    let both = and_parts (p c) (all p cs) h in
+    and_from (p c) (list_all p cs) both.0 (some_all p cs both.1)
+
+pub name_from : (c : ℕ) (cs : List ℕ) → list_all is_tag_char (c ∷ cs) ≡ true →
+    is_name (c ∷ cs) ≡ true
+name_from c cs h =
+    let some : eqb (length (c ∷ cs)) 0 ≡ false = grind (arith, nat_tests) in
+    and_from (not (eqb (length (c ∷ cs)) 0)) (list_all is_tag_char (c ∷ cs)) (ap not some) h
+
+pub name_of_tag : (cs : List ℕ) → IsOf is_tag_char cs → is_name cs ≡ true
+name_of_tag [] h = absurd h
+name_of_tag (c ∷ cs) h = name_from c cs
+    (and_from (is_tag_char c) (list_all is_tag_char cs) h.0 (some_all is_tag_char cs h.1))

@@ -1,6 +1,6 @@
 -- What reading a page gives: the element and the errors of the definition, or its refusal; want of
 -- memory may come before.
-use Rattle.std.specs.Prelude.{◌≡◌, ℕ, true, false, List, map, chars, length, take, Some, Result, Ok, Err, IfOk, IfErr}
+use Rattle.std.specs.Prelude.{◌≡◌, ℕ, true, false, List, map, chars, take, Result, Ok, Err, IfOk, IfErr}
 use Rattle.std.specs.Str.{is_utf8}
 use Rattle.std.specs.Str.Lossy.{utf8_valid_len}
 use Rattle.html_dom_tree.specs.Tree.{ElementView}
@@ -17,7 +17,7 @@ use Rattle.typst_html_parse_open.specs.declared.notes.Notes.{Notes}
 use Rattle.typst_html_parse.specs.PagePlaces.{place_at}
 use Rattle.typst_html_parse.specs.PageReading.{page_read}
 use Rattle.typst_html_parse.specs.PageTokens.{PageReader}
-use Rattle.typst_html_parse.specs.ReaderViews.{reader_of}
+use Rattle.typst_html_parse.specs.PageReaderViews.{reader_of}
 use Rattle.typst_html_parse.specs.declared.fault.PageFault.{PageFault}
 use Rattle.typst_html_parse.specs.declared.fault.PageFault.TheVariants as fault
 use Rattle.typst_html_parse.specs.declared.fault.PageNote.{PageNote}

@@ -79,7 +79,7 @@ number_error n = if n == 0 then Some error.NullCharacterReference
     else (if nat_lt 0x10_ffff n then Some error.CharacterReferenceOutsideUnicodeRange
     else (if is_surrogate n then Some error.SurrogateCharacterReference
     else (if is_noncharacter n then Some error.NoncharacterCharacterReference
-    else (if is_control n && not (is_space n) then Some error.ControlCharacterReference
+    else (if n == 13 || (is_control n && not (is_space n)) then Some error.ControlCharacterReference
     else None))))
 
 abbrev pub missing_end : Option ℕ → Option PageError

@@ -3,7 +3,7 @@
 ghost use Rattle.std.specs.Prelude.{◌≡◌};
 ghost use Rattle.typst_html_parse.specs.Endings.{Moves};
 ghost use Rattle.typst_html_parse.specs.PageTokens as tokens;
-ghost use Rattle.typst_html_parse.specs.ReaderViews.{bracket_count, reader_of, reading_of};
+ghost use Rattle.typst_html_parse.specs.PageReaderViews.{bracket_count, reader_of, reading_of};
 
 use crate::reader::{Brackets, Reader, State};
 use typst_html_parse_open::Halt;

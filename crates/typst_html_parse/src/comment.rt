@@ -3,7 +3,7 @@
 ghost use Rattle.std.specs.Prelude.{◌≡◌};
 ghost use Rattle.typst_html_parse.specs.Endings.{Moves};
 ghost use Rattle.typst_html_parse.specs.PageTokens as tokens;
-ghost use Rattle.typst_html_parse.specs.ReaderViews.{reader_of, reading_of};
+ghost use Rattle.typst_html_parse.specs.PageReaderViews.{reader_of, reading_of};
 
 use crate::reader::{Reader, State};
 use typst_html_parse_open::{Halt, PageError};

@@ -1,21 +1,33 @@
 //! Reading stretches of the characters that most texts are made of.
 
-ghost use Rattle.std.specs.Prelude.{◌≡◌, ◌+◌, ◌++◌, ◌<◌, ◌^◌, true, IfErr, IfOk, OnOk, chars, length};
+ghost use Rattle.std.specs.Prelude.{◌≡◌, ◌+◌, ◌++◌, ◌<◌, ◌^◌, false, true, IfErr, IfOk, OnOk, chars, length};
 ghost use Rattle.html_dom_tree.specs.Views.{text_view};
 ghost use Rattle.html_names.specs.Characters.{all};
 ghost use Rattle.typst_html_encode.specs.PlainStretches.{is_common};
-ghost use Rattle.typst_html_parse.specs.CommonStretches.{behind_quoted, behind_stretch, in_quotes, IsInQuotes, ReadsFront, TakesCommon};
-ghost use Rattle.typst_html_parse.specs.ReaderViews.{draft_of, reader_of, reading_of};
+ghost use Rattle.typst_html_parse.specs.PageStretches.{behind_chars, behind_stretch, in_quotes, IsInQuotes, ReadsFront, TakesCommon};
+ghost use Rattle.typst_html_parse.specs.PageReaderViews.{draft_of, reader_of, reading_of};
 ghost use Rattle.typst_html_parse_open.specs.declared.fault.Halt.TheVariants.{OutOfMemory};
 
+use crate::front::cut_common;
 use crate::reader::{Reader, State};
 use crate::reading::Reading;
-use typst_html_encode::past_common;
 use typst_html_parse_open::Halt;
 use typst_html_parse_tree::takes_text;
 use typst_html_read::text;
 
 impl Reading {
+    /// Passes so many bytes, none of them a carriage return.
+    pub(crate) fn pass(&mut self, count: usize)
+        requires { self.old.place + count < 2 ^ 64 }
+        ensures { reading_of self.new ≡ record (reading_of self.old) {
+          place = self.old.place + count;
+          after_return = false;
+        } }
+    {
+        self.place += count;
+        self.after_return = false;
+    }
+
     /// Adds a stretch of common characters to the current node.
     fn add_stretch(&mut self, front: &str) -> Result<(), Halt>
         requires common { all is_common front.now ≡ true }
@@ -58,15 +70,14 @@ impl Reader {
         requires room { self.old.reading.place + length front.now < 2 ^ 64 }
         ensures added { OnOk result (reader_of self.new ≡ in_quotes (draft_of self.old.draft)
             (text_view self.old.draft.attr) (text_view self.old.draft.value ++ front.now)
-            (behind_quoted front.now (reading_of self.old.reading))) }
+            (behind_chars front.now (reading_of self.old.reading))) }
         ensures halted { IfErr result (λ e. e ≡ OutOfMemory) }
     {
         if front.is_empty() {
             return Ok(());
         }
         text::add_text(&mut self.draft.value, front)?;
-        self.reading.place += front.len();
-        self.reading.after_return = false;
+        self.reading.pass(front.len());
         Ok(())
     }
 
@@ -79,8 +90,8 @@ impl Reader {
             ReadsFront (reader_of self.old) (reader_of self.new) text.now rest.now) }
         ensures halted { IfErr result (λ e. e ≡ OutOfMemory) }
     {
-        let rest = past_common(text);
-        self.reading.add_stretch(&text[..text.len() - rest.len()])?;
+        let (front, rest) = cut_common(text);
+        self.reading.add_stretch(front)?;
         Ok(rest)
     }
 
@@ -93,8 +104,8 @@ impl Reader {
             ReadsFront (reader_of self.old) (reader_of self.new) text.now rest.now) }
         ensures halted { IfErr result (λ e. e ≡ OutOfMemory) }
     {
-        let rest = past_common(text);
-        self.add_value(&text[..text.len() - rest.len()])?;
+        let (front, rest) = cut_common(text);
+        self.add_value(front)?;
         Ok(rest)
     }
 

@@ -10,7 +10,7 @@ ghost use Rattle.html_names.specs.Names.{attr_fault};
 ghost use Rattle.typst_html_parse.specs.Endings.{Adds};
 ghost use Rattle.typst_html_parse.specs.PageTokens as tokens;
 ghost use Rattle.typst_html_parse.specs.PageTokens.{is_name};
-ghost use Rattle.typst_html_parse.specs.ReaderViews.{draft_of, reading_of};
+ghost use Rattle.typst_html_parse.specs.PageReaderViews.{draft_of, reading_of};
 
 use crate::reading::Reading;
 use html_dom_tree::HtmlAttrs;
@@ -99,6 +99,26 @@ impl Draft {
         Ok(())
     }
 
+    /// Begins a tag with its name.
+    pub(crate) fn begin_named(
+        &mut self,
+        alloc: Global,
+        is_end: bool,
+        name: &str,
+    ) -> Result<(), AllocError>
+        ensures { OnOk result (draft_of self.new ≡ record {
+          is_end = is_end;
+          name = chars name.now;
+          attrs = [];
+        }) }
+    {
+        self.is_end = is_end;
+        self.name.clear();
+        self.name.push_str(name)?;
+        self.attrs = HtmlAttrs::new(alloc);
+        Ok(())
+    }
+
     /// Begins an end tag whose name is known.
     pub(crate) fn begin_end(&mut self, alloc: Global, tag: &HtmlTag) -> Result<(), AllocError>
         ensures { OnOk result (draft_of self.new ≡ record {
@@ -107,11 +127,7 @@ impl Draft {
           attrs = [];
         }) }
     {
-        self.is_end = true;
-        self.name.clear();
-        self.name.push_str(tag.resolve())?;
-        self.attrs = HtmlAttrs::new(alloc);
-        Ok(())
+        self.begin_named(alloc, true, tag.resolve())
     }
 
     /// Begins an attribute with a character of its name.

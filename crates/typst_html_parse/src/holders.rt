@@ -4,7 +4,7 @@ ghost use Rattle.std.specs.Prelude.{◌≡◌, chars};
 ghost use Rattle.html_dom_tree.specs.Views.{text_view};
 ghost use Rattle.typst_html_parse.specs.Endings.{Emits, Moves};
 ghost use Rattle.typst_html_parse.specs.PageTokens as tokens;
-ghost use Rattle.typst_html_parse.specs.ReaderViews.{holder_at, reader_of, reading_of, resolved_of, state_at};
+ghost use Rattle.typst_html_parse.specs.PageReaderViews.{holder_at, reader_of, reading_of, resolved_of, state_at};
 
 use crate::reader::{Depth, Holder, Reader, State};
 use crate::reference::{Resolved, continues, resolve};

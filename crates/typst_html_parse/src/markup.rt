@@ -7,7 +7,7 @@ ghost use Rattle.html_names.specs.Names.{is_ascii};
 ghost use Rattle.typst_html_parse.specs.Endings.{Moves};
 ghost use Rattle.typst_html_parse.specs.PageTokens.{begins};
 ghost use Rattle.typst_html_parse.specs.PageTokens as tokens;
-ghost use Rattle.typst_html_parse.specs.ReaderViews.{reader_of, reading_of};
+ghost use Rattle.typst_html_parse.specs.PageReaderViews.{reader_of, reading_of};
 ghost use Rattle.typst_html_parse_names.specs.ForeignNames.{lowered};
 
 use crate::comment::CommentPart;

@@ -9,6 +9,8 @@ ghost use Rattle.typst_html_parse_tree.specs.PageBodies.{is_space};
 
 use typst_html_parse_open::PageError;
 
+const CARRIAGE_RETURN: u32 = 13;
+
 /// Above the numbers of all characters.
 const TOO_HIGH: u32 = 0x11_0000;
 
@@ -91,7 +93,7 @@ fn is_control(number: u32) -> bool
 fn is_space_number(number: u32) -> bool
     ensures { result ≡ is_space number }
 {
-    matches!(number, 9 | 10 | 12 | 32)
+    matches!(number, 9 | 10 | 12 | 13 | 32)
 }
 
 /// The error that a number is.
@@ -106,7 +108,7 @@ pub(crate) fn error_of(number: u32) -> Option<PageError>
         Some(PageError::SurrogateCharacterReference)
     } else if is_noncharacter(number) {
         Some(PageError::NoncharacterCharacterReference)
-    } else if is_control(number) && !is_space_number(number) {
+    } else if number == CARRIAGE_RETURN || is_control(number) && !is_space_number(number) {
         Some(PageError::ControlCharacterReference)
     } else {
         None

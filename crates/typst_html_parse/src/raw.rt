@@ -6,8 +6,8 @@ ghost use Rattle.html_names.specs.Characters.{IsOf, is_tag_char};
 ghost use Rattle.typst_html_encode.specs.ClosingTags.{closing};
 ghost use Rattle.typst_html_parse.specs.Endings.{Moves};
 ghost use Rattle.typst_html_parse.specs.PageTokens as tokens;
-ghost use Rattle.typst_html_parse.specs.RawEnds.{IsRawEnd};
-ghost use Rattle.typst_html_parse.specs.ReaderViews.{depth_of, reader_of, reading_of};
+ghost use Rattle.typst_html_parse.specs.PageRawEnds.{IsRawEnd};
+ghost use Rattle.typst_html_parse.specs.PageReaderViews.{depth_of, reader_of, reading_of};
 ghost use Rattle.typst_html_parse_open.specs.PageViews.{page_of, stack_of};
 
 use crate::reader::{Depth, Holder, Reader, State};

@@ -2,7 +2,7 @@ ghost use Rattle.std.specs.Prelude.{◌≡◌, ◌≤◌, ◌<◌, ◌+◌, ◌^
 ghost use Rattle.typst_html_parse.specs.Endings.{Moves};
 ghost use Rattle.typst_html_parse.specs.PageAnswers.{ArePlaced, Begins, Gives, GivesBytes, ReadsText, fault_of, placed};
 ghost use Rattle.typst_html_parse.specs.PageReading as pages;
-ghost use Rattle.typst_html_parse.specs.ReaderViews.{reader_of, reading_of};
+ghost use Rattle.typst_html_parse.specs.PageReaderViews.{reader_of, reading_of};
 ghost use Rattle.typst_html_parse_open.specs.PageViews.{notes_of};
 
 use crate::fault::{PageFault, PageNote, PageNotes};
@@ -146,7 +146,7 @@ fn run(reader: &mut Reader, text: &str) -> Result<(), Halt>
 {
     let mut rest = text;
     loop {
-        let past = reader.read_common(rest)?;
+        let past = reader.read_front(rest)?;
         let mut left = past.chars();
         let Some(c) = left.next() else {
             return Ok(());

@@ -5,10 +5,11 @@ ghost use Rattle.std.specs.Prelude.{◌≡◌, ◌+◌, ◌<◌, ◌^◌, OnOk};
 ghost use Rattle.typst_html_parse.specs.Endings.{Emits, Moves};
 ghost use Rattle.typst_html_parse.specs.PageReading.{first_reader};
 ghost use Rattle.typst_html_parse.specs.PageTokens as tokens;
-ghost use Rattle.typst_html_parse.specs.ReaderViews.{reader_of, reading_of, state_at};
+ghost use Rattle.typst_html_parse.specs.PageReaderViews.{reader_of, reading_of, state_at};
 
 use crate::comment::CommentPart;
 use crate::draft::Draft;
+use crate::names::Names;
 use crate::reading::Reading;
 use crate::since::Since;
 use std::alloc::Global;
@@ -93,6 +94,7 @@ pub(crate) struct Reader {
     pub(crate) reading: Reading,
     /// The tag that is being read.
     pub(crate) draft: Draft,
+    pub(crate) names: Names,
     /// What stands since `<!` or `<!DOCTYPE`.
     pub(crate) inner: String,
     /// What stands since `&`, and where.
@@ -121,6 +123,7 @@ impl Reader {
             state: State::Data,
             reading,
             draft: Draft::new(alloc),
+            names: Names::new(alloc),
             inner: String::new(alloc),
             since: Since::new(alloc),
             holder: Holder::Data,

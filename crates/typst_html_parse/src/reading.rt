@@ -3,7 +3,7 @@
 ghost use Rattle.std.specs.Prelude.{◌≡◌, OnOk, chars};
 ghost use Rattle.typst_html_parse.specs.Endings.{Emits};
 ghost use Rattle.typst_html_parse.specs.PageTokens as tokens;
-ghost use Rattle.typst_html_parse.specs.ReaderViews.{reading_of, bracket_count};
+ghost use Rattle.typst_html_parse.specs.PageReaderViews.{reading_of, bracket_count};
 ghost use Rattle.typst_html_parse_open.specs.PageViews.{token_of};
 
 use crate::reader::Brackets;

@@ -4,7 +4,7 @@ ghost use Rattle.std.specs.Prelude.{◌≡◌, ◌≤◌, ◌++◌, ◌∷◌, I
 ghost use Rattle.html_dom_tree.specs.Views.{text_view};
 ghost use Rattle.html_names.specs.Names.{is_ascii};
 ghost use Rattle.typst_html_parse.specs.PageReferences as references;
-ghost use Rattle.typst_html_parse.specs.ReaderViews.{resolved_of};
+ghost use Rattle.typst_html_parse.specs.PageReaderViews.{resolved_of};
 ghost use Rattle.typst_html_parse_tree.specs.PageBodies as bodies;
 
 use crate::legacy::longest_legacy;

@@ -4,12 +4,10 @@ ghost use Rattle.std.specs.Prelude.{◌≡◌};
 ghost use Rattle.html_dom_tree.specs.Views.{attrs_view, text_view};
 ghost use Rattle.typst_html_parse.specs.Endings.{Moves};
 ghost use Rattle.typst_html_parse.specs.PageTokens as tokens;
-ghost use Rattle.typst_html_parse.specs.ReaderViews.{draft_of, reader_of, reading_of};
+ghost use Rattle.typst_html_parse.specs.PageReaderViews.{draft_of, reader_of, reading_of};
 
-use crate::draft::tag_named;
 use crate::reader::{Depth, Reader, State};
 use html_dom_tree::HtmlAttrs;
-use html_names::HtmlTag;
 use std::mem;
 use typst_html_parse_names::Kind;
 use typst_html_parse_open::{Halt, PageError, PageRefusal, StartTag, TagName, Token};
@@ -33,14 +31,13 @@ impl Reader {
         }
     }
 
-    fn emit_start(&mut self, tag: HtmlTag, closed: bool) -> Result<(), Halt>
+    fn emit_start(&mut self, name: TagName, closed: bool) -> Result<(), Halt>
         ensures { Moves result (tokens.start_emitted (record {
-          name = tag;
+          name = name.tag;
           attrs = attrs_view self.old.draft.attrs;
           closed = closed;
         }) (reading_of self.old.reading)) (reader_of self.new) }
     {
-        let name = TagName::new(tag);
         let drops_feed = name.is(Kind::DropsFeed);
         let attrs = mem::replace(&mut self.draft.attrs, HtmlAttrs::new(self.alloc));
         self.reading.emit(Token::Start(StartTag {
@@ -52,15 +49,15 @@ impl Reader {
         Ok(())
     }
 
-    fn emit_end(&mut self, tag: HtmlTag, closed: bool) -> Result<(), Halt>
-        ensures { Moves result (tokens.end_emitted (record (draft_of self.old.draft) { name = tag })
+    fn emit_end(&mut self, name: TagName, closed: bool) -> Result<(), Halt>
+        ensures { Moves result (tokens.end_emitted (record (draft_of self.old.draft) { name = name.tag })
             closed (reading_of self.old.reading)) (reader_of self.new) }
     {
         let told = !self.draft.attrs.0.is_empty();
         self.reading.note_if(told, PageError::EndTagWithAttributes)?;
         self.reading
             .note_if(closed, PageError::EndTagWithTrailingSolidus)?;
-        self.reading.emit(Token::End(TagName::new(tag)))?;
+        self.reading.emit(Token::End(name))?;
         self.state = State::Data;
         Ok(())
     }
@@ -70,13 +67,13 @@ impl Reader {
         ensures { Moves result (tokens.tag_emitted closed (draft_of self.old.draft)
             (reading_of self.old.reading)) (reader_of self.new) }
     {
-        let Some(tag) = tag_named(self.alloc, self.draft.name.as_str())? else {
+        let Some(name) = self.names.named(self.alloc, self.draft.name.as_str())? else {
             return Err(self.reading.refusal(PageRefusal::UnknownName));
         };
         if self.draft.is_end {
-            self.emit_end(tag, closed)
+            self.emit_end(name, closed)
         } else {
-            self.emit_start(tag, closed)
+            self.emit_start(name, closed)
         }
     }
 

@@ -4,7 +4,7 @@ ghost use Rattle.std.specs.Prelude.{◌≡◌};
 ghost use Rattle.html_dom_tree.specs.Views.{text_view};
 ghost use Rattle.typst_html_parse.specs.Endings.{Moves};
 ghost use Rattle.typst_html_parse.specs.PageTokens as tokens;
-ghost use Rattle.typst_html_parse.specs.ReaderViews.{draft_of, reader_of, reading_of};
+ghost use Rattle.typst_html_parse.specs.PageReaderViews.{draft_of, reader_of, reading_of};
 
 use crate::reader::{Holder, Reader, State};
 use typst_html_parse_open::{Halt, PageError};

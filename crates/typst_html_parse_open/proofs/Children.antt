@@ -4,7 +4,7 @@ use Rattle.std.specs.Str.{IsUtf8}
 use Rattle.std.proofs.lemmas.Bool.{false≢true}
 use Rattle.std.proofs.lemmas.Str.{encodes-chars}
 use lib.Utf8.{encodes}
-use Rattle.html_dom_tree.specs.Tree.{Head, NodeView, tag_node, text_node, element_node, frame_node, NodesView, none, node, with_last}
+use Rattle.html_dom_tree.specs.Tree.{Head, tag_node, text_node, element_node, frame_node, NodesView, none, node, with_last}
 use Rattle.typst_html_parse_open.specs.OpenElements.{OpenElement, has_elements, with_text}
 
 pub text_counts : (ns : NodesView) (text : List ℕ) (span : ℕ) →

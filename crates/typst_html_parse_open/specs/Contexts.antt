@@ -1,5 +1,5 @@
 -- What is known at an open element of it and of those around it, from which the insertion mode follows.
-use Rattle.std.specs.Prelude.{◌≡◌, ℕ, ◌==◌, false, List, [], ◌∷◌, map, reverse, if◌then◌else◌, Option, Some, None, unwrap_or, refl}
+use Rattle.std.specs.Prelude.{◌≡◌, ℕ, ◌==◌, List, [], ◌∷◌, map, reverse, if◌then◌else◌, Option, Some, None, refl}
 use native.Mathlib.Decide.{ℕ_discrete}
 use mathlib.Core.HLevel.{hedberg, ×_discrete}
 use mathlib.Core.List.{List-discrete}

@@ -1,6 +1,6 @@
 -- How steps end: with the page or the turn that is expected, or as it is expected that reading stops;
 -- want of memory may come before.
-use Rattle.std.specs.Prelude.{◌≡◌, ℕ, Option, Some, None, option_map, Result, Ok, Err, OnOk, IfOk, IfErr}
+use Rattle.std.specs.Prelude.{◌≡◌, Option, Some, None, option_map, Result, Ok, Err, OnOk, IfOk, IfErr}
 use Rattle.html_dom_tree.specs.Views.{element_view}
 use Rattle.html_dom_tree.specs.declared.node.HtmlElement.{HtmlElement}
 use Rattle.typst_html_parse_open.specs.OpenElements.{root_of}

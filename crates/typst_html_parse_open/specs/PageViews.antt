@@ -1,5 +1,5 @@
 -- The program's page and its tokens as those of the definition, and what it looks for.
-use Rattle.std.specs.Prelude.{ℕ, Bool, false, not, ◌&&◌, List, map, reverse}
+use Rattle.std.specs.Prelude.{ℕ, Bool, false, not, ◌&&◌, List, reverse}
 use Rattle.html_dom_tree.specs.Views.{attrs_view, text_view}
 use Rattle.typst_html_parse_names.specs.PageNames.{is, of}
 pub use Rattle.typst_html_parse_open.specs.ElementViews.{element_of, list_of}

@@ -1,7 +1,8 @@
 //! An element of a page that is open.
 
-ghost use Rattle.std.specs.Prelude.{◌≡◌};
-ghost use Rattle.html_dom_tree.specs.Views.{element_view};
+ghost use Rattle.std.specs.Prelude.{◌≡◌, IfOk};
+ghost use Rattle.html_dom_tree.specs.Tree.{with_node};
+ghost use Rattle.html_dom_tree.specs.Views.{element_view, node_view};
 ghost use Rattle.typst_html_parse_names.specs.Kinds.{IsKindsOf};
 ghost use Rattle.typst_html_parse_open.specs.OpenCounts.{has_child_elements};
 
@@ -12,6 +13,27 @@ use html_dom_tree::{HtmlAttrs, HtmlElement, HtmlNode, Span};
 use html_names::HtmlTag;
 use std::alloc::{AllocError, Global};
 use typst_html_parse_names::{Kind, Kinds, is_same_lowered};
+
+/// So many nodes are a long list.
+const LONG_LIST: usize = 1024;
+
+/// The element with a node as its last child. There is room for one node first, as most elements have
+/// one, and a long list grows by a sixteenth, so that little memory is left over.
+#[inline(always)]
+#[tactic(auto, using(html_dom_tree::proofs::Nodes::with_last_view))]
+fn with_node(mut element: HtmlElement, node: HtmlNode) -> Result<HtmlElement, AllocError>
+    ensures { IfOk result (λ grown.
+        element_view grown ≡ with_node (node_view node) (element_view element)) }
+{
+    let count = element.children.len();
+    if count == 0 {
+        element.children.reserve_exact(1)?;
+    } else if LONG_LIST <= count && count == element.children.capacity() {
+        element.children.reserve_exact(count / 16)?;
+    }
+    element.children.push(node)?;
+    Ok(element)
+}
 
 /// An element of a page that is open, with its children so far.
 #[derive(Drop)]
@@ -30,7 +52,7 @@ pub struct PageElement {
 }
 
 impl PageElement {
-    ghost use Rattle.std.specs.Prelude.{IfOk, bytes_eq};
+    ghost use Rattle.std.specs.Prelude.{bytes_eq};
     ghost use Rattle.html_dom_tree.specs.Tree.{none};
     ghost use Rattle.html_dom_tree.specs.Views.{attrs_view, text_view};
     ghost use Rattle.typst_html_parse_names.specs.PageNames.{of};
@@ -130,7 +152,7 @@ impl PageElement {
             context,
         } = self;
         let child = HtmlNode::text(text, element.span);
-        let element = element.with_child(child)?;
+        let element = with_node(element, child)?;
         Ok(PageElement {
             element,
             space,
@@ -154,7 +176,7 @@ impl PageElement {
             context,
             ..
         } = self;
-        let element = element.with_child(HtmlNode::from(child.element))?;
+        let element = with_node(element, HtmlNode::from(child.element))?;
         Ok(PageElement {
             element,
             space,

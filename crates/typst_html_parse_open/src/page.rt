@@ -108,6 +108,9 @@ impl Page {
     pub(crate) fn settle(&mut self) -> Result<(), Halt>
         ensures { Changes result (pages.settled (page_of self.old)) (page_of self.new) }
     {
+        if self.text.as_str().is_empty() {
+            return Ok(());
+        }
         let text = text::take(self.alloc, &mut self.text);
         self.stack.add_text(text)?;
         Ok(())

@@ -27,8 +27,8 @@ impl Stack {
     ghost use Rattle.typst_html_parse_names.specs.PageNames.{of};
     ghost use Rattle.typst_html_parse_names.specs.declared.kind.Kind.TheVariants as kind;
     ghost use Rattle.typst_html_parse_open.specs.Contexts.{context};
-    ghost use Rattle.typst_html_parse_open.specs.OpenElements.{at, current_name, in_scope, is_at, is_in_foreign, mode, reaches, root_of, with_last_text, without_current};
-    ghost use Rattle.typst_html_parse_open.specs.OpenElements.{current_space};
+    ghost use Rattle.typst_html_parse_open.specs.OpenElements.{at, current_name, in_scope, is_at, is_in_foreign};
+    ghost use Rattle.typst_html_parse_open.specs.OpenElements.{current_space, mode, reaches, root_of, with_last_text, without_current};
     ghost use Rattle.typst_html_parse_open.specs.PageViews.{bound_test, element_of, goal_test, stack_of, target_test, while_test};
 
     /// No element.

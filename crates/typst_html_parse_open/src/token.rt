@@ -1,11 +1,12 @@
 //! The tokens that make a tree.
 
-ghost use Rattle.std.specs.Prelude.{◌≡◌};
+ghost use Rattle.std.specs.Prelude.{◌≡◌, IfOk};
 ghost use Rattle.typst_html_parse_names.specs.Kinds.{IsKindsOf};
 ghost use Rattle.typst_html_parse_names.specs.PageNames.{of};
 
 use html_dom_tree::HtmlAttrs;
 use html_names::HtmlTag;
+use std::alloc::AllocError;
 use typst_html_parse_names::{Kind, Kinds, kinds_of};
 
 /// The name of a tag, with the kinds of elements that it is of.
@@ -25,6 +26,16 @@ impl TagName {
     {
         let kinds = kinds_of(tag.resolve());
         TagName { tag, kinds }
+    }
+
+    /// A copy. It fails only where an allocation does.
+    pub fn try_clone(&self) -> Result<TagName, AllocError>
+        ensures { IfOk result (λ copy. copy.tag ≡ self.now.tag) }
+    {
+        Ok(TagName {
+            tag: self.tag.try_clone()?,
+            kinds: self.kinds,
+        })
     }
 
     /// Whether it is one of the kind.

@@ -1,2 +1,4 @@
+pub mod BodyStarts
+pub mod OwnEnds
 pub mod TakenTexts
 pub mod Turning

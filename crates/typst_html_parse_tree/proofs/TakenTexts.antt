@@ -1,14 +1,12 @@
 -- Where a page takes text, each character is added to the current node.
-use Rattle.std.proofs.Common.{◌≡◌, ℕ, Bool, true, false, not, ◌&&◌, ◌||◌, List, [], ◌∷◌, inl, inr, refl, sym, ap, ◌∙◌, Ok}
-use Rattle.std.proofs.lemmas.Bool.{and_parts, cases_Bool, false≢true}
-use Rattle.std.specs.Prelude.{if◌then◌else◌}
+use Rattle.std.proofs.Common.{◌≡◌, ℕ, Bool, true, false, not, ◌||◌, List, [], ◌∷◌, refl, sym, ◌∙◌, Ok}
+use Rattle.std.proofs.lemmas.Bool.{and_parts, false≢true}
 use Rattle.typst_html_parse_open.specs.OpenElements.{OpenElement, mode}
 use Rattle.typst_html_parse_tree.specs.PageTrees.{by_mode, is_foreign_token, is_unseen, processed, token_read, turn}
 use Rattle.typst_html_parse_open.specs.Pages.{Page, Char, Taken, loses_some, reconstructed, with_char}
 use Rattle.typst_html_parse_tree.specs.TakenTexts.{mode_takes_text, takes_text}
 use Rattle.typst_html_parse_open.specs.declared.modes.Mode.{Mode}
 use Rattle.typst_html_parse_open.specs.declared.modes.Mode.TheVariants.{BeforeHtml, BeforeHead, InHead, InHeadNoscript, AfterHead, InBody, InText, InTable, InCaption, InColumns, InSection, InRow, InCell}
-use Rattle.typst_html_parse_open.specs.declared.modes.TableRule.{TableRule}
 
 none_lost : (b : Bool) → not b ≡ true → b ≡ false
 none_lost true h = sym h

@@ -1,3 +1,5 @@
+pub mod BodyStarts
+pub mod OwnEnds
 pub mod PageBodies
 pub mod PageTrees
 pub mod TakenTexts

@@ -15,9 +15,9 @@ use Rattle.typst_html_parse_open.specs.declared.modes.Space.TheVariants.{Html, S
 use Rattle.typst_html_parse_open.specs.declared.modes.TableRule.{TableRule}
 use Rattle.typst_html_parse_open.specs.declared.modes.TableRule.TheVariants as rule
 
--- tab, LF, FF, space
+-- tab, LF, FF, CR, space; a CR comes by a reference alone
 abbrev pub is_space : ℕ → Bool
-is_space c = (c == 9) || (c == 10) || (c == 12) || (c == 32)
+is_space c = (c == 9) || (c == 10) || (c == 12) || (c == 13) || (c == 32)
 
 -- an element without content
 abbrev pub leaf : StartTag → Page → Reads Page

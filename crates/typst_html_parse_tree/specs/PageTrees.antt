@@ -1,6 +1,6 @@
 -- What a token does in a table (HTML Standard 13.2.6.4.9 to 13.2.6.4.15), in SVG and MathML
 -- (13.2.6.5), and in a page (13.2.6).
-use Rattle.std.specs.Prelude.{ℕ, zero, suc, Bool, true, false, not, ◌&&◌, ◌||◌, List, [], ◌∷◌, if◌then◌else◌, codes, bytes_eq, Ok}
+use Rattle.std.specs.Prelude.{ℕ, zero, suc, Bool, true, false, not, ◌&&◌, ◌||◌, List, [], ◌∷◌, if◌then◌else◌, codes, Ok}
 use Rattle.std.specs.List.{list_any}
 use Rattle.html_dom_tree.specs.Tree.{TextPair}
 use Rattle.typst_html_parse_names.specs.ForeignNames.{lowered, is_encoding, is_font_attr, is_html_encoding}

@@ -1,5 +1,5 @@
 -- Where a page takes any text as it is.
-use Rattle.std.specs.Prelude.{ℕ, Bool, true, false, not, ◌&&◌, ◌||◌, List, ◌++◌}
+use Rattle.std.specs.Prelude.{Bool, true, false, not, ◌&&◌, ◌||◌}
 use Rattle.typst_html_parse_open.specs.OpenElements.{mode}
 use Rattle.typst_html_parse_tree.specs.PageTrees.{is_foreign_token, is_unseen}
 use Rattle.typst_html_parse_open.specs.Pages.{Page, Char, loses_some}

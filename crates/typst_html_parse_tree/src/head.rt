@@ -11,11 +11,11 @@ use html_names::{HtmlTag, tag};
 use typst_html_parse_names::Kind;
 use typst_html_parse_open::{Halt, Page, PageError, PageRefusal, TagName, Token};
 
-/// Whether it is a tab, a line feed, a form feed or a space.
+/// Whether it is a tab, a line feed, a form feed, a carriage return or a space.
 pub fn is_space(c: char) -> bool
     ensures { result ≡ bodies.is_space c }
 {
-    matches!(c, '\t' | '\n' | '\u{c}' | ' ')
+    matches!(c, '\t' | '\n' | '\u{c}' | '\r' | ' ')
 }
 
 /// Whether the end tag begins a body, as start tags do (HTML Standard 13.2.6.4.6).

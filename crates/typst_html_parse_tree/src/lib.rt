@@ -6,8 +6,10 @@ mod body_end;
 mod body_start;
 mod foreign;
 mod head;
+mod own_end;
 mod table;
 mod turn;
 
 pub use head::is_space;
+pub use own_end::takes_own_end;
 pub use turn::{read_token, takes_text};

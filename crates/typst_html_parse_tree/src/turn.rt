@@ -3,20 +3,26 @@
 ghost use Rattle.std.specs.Prelude.{◌≡◌};
 ghost use Rattle.typst_html_parse_open.specs.Endings.{Changes, Steps, Turns};
 ghost use Rattle.typst_html_parse_open.specs.OpenElements.{mode};
-ghost use Rattle.typst_html_parse_open.specs.PageViews.{page_of, token_of};
+ghost use Rattle.typst_html_parse_open.specs.PageViews.{page_of, start_of, token_of};
+ghost use Rattle.typst_html_parse_open.specs.Pages as pages;
+ghost use Rattle.typst_html_parse_tree.specs.BodyStarts.{begins_in_body};
 ghost use Rattle.typst_html_parse_tree.specs.PageTrees as trees;
 ghost use Rattle.typst_html_parse_tree.specs.TakenTexts.{takes_text};
 
 use crate::body_end::in_body;
+use crate::body_start::in_body_start;
 use crate::foreign::{in_foreign, is_foreign};
 use crate::head::{
     after_head, before_head, before_html, in_head, in_head_noscript, in_text, is_space,
 };
 use crate::table::{in_caption, in_cell, in_columns, in_row, in_section, in_table};
-use typst_html_parse_open::{Halt, Mode, Page, PageError, PageRefusal, TableRule, Token};
+use typst_html_parse_names::Kind;
+use typst_html_parse_open::{
+    Halt, Mode, Page, PageError, PageRefusal, StartTag, TableRule, TagName, Token,
+};
 
 /// How often a token may be processed again.
-const MOST_TURNS: usize = 8;
+const MOST_TURNS: usize = 7;
 
 fn is_space_token(token: &Token) -> bool
     ensures { result ≡ trees.is_space_token (token_of token.now) }
@@ -49,7 +55,21 @@ pub(crate) fn by_mode(page: &mut Page, token: Token) -> Result<Option<Token>, Ha
     }
 }
 
-fn turn(page: &mut Page, token: Token) -> Result<Option<Token>, Halt>
+/// Whether the start tag is read by the rules of a body.
+fn begins_in_body(page: &Page, name: &TagName) -> bool
+    ensures { result ≡ begins_in_body name.now.tag (page_of page.now) }
+{
+    if page.stack.is_in_foreign() {
+        return false;
+    }
+    match page.stack.mode() {
+        Mode::InBody => true,
+        Mode::InCell => !name.is(Kind::TablePart),
+        _ => false,
+    }
+}
+
+fn other_turn(page: &mut Page, token: Token) -> Result<Option<Token>, Halt>
     ensures { Turns result (trees.turn (token_of token) (page_of page.old))
         (page_of page.new) }
 {
@@ -60,9 +80,30 @@ fn turn(page: &mut Page, token: Token) -> Result<Option<Token>, Halt>
     }
 }
 
+fn start_turn(page: &mut Page, start: StartTag) -> Result<Option<Token>, Halt>
+    ensures { Turns result (trees.turn (pages.Start (start_of start)) (page_of page.old))
+        (page_of page.new) }
+{
+    if begins_in_body(page, &start.name) {
+        in_body_start(page, start)
+    } else {
+        other_turn(page, Token::Start(start))
+    }
+}
+
+fn turn(page: &mut Page, token: Token) -> Result<Option<Token>, Halt>
+    ensures { Turns result (trees.turn (token_of token) (page_of page.old))
+        (page_of page.new) }
+{
+    match token {
+        Token::Start(start) => start_turn(page, start),
+        other => other_turn(page, other),
+    }
+}
+
 #[tactic(auto, using(crate::proofs::Turning::processed_once, crate::proofs::Turning::processed_out))]
-fn process(page: &mut Page, token: Token) -> Result<(), Halt>
-    ensures { Steps result (trees.processed 8 (token_of token) (page_of page.old))
+fn process_again(page: &mut Page, token: Token) -> Result<(), Halt>
+    ensures { Steps result (trees.processed 7 (token_of token) (page_of page.old))
         (page_of page.new) }
 {
     let mut token = token;
@@ -75,6 +116,17 @@ fn process(page: &mut Page, token: Token) -> Result<(), Halt>
     Err(page.refusal(PageRefusal::Unsettled))
 }
 
+#[tactic(auto, unfolding(crate::specs::PageTrees::processed))]
+fn process(page: &mut Page, token: Token) -> Result<(), Halt>
+    ensures { Steps result (trees.processed 8 (token_of token) (page_of page.old))
+        (page_of page.new) }
+{
+    match turn(page, token)? {
+        None => Ok(()),
+        Some(again) => process_again(page, again),
+    }
+}
+
 /// No document type comes before the token: a table keeps a `p` open.
 fn begin_untyped(page: &mut Page) -> Result<(), Halt>
     ensures { Changes result (trees.begun_untyped (page_of page.old)) (page_of page.new) }
@@ -84,7 +136,7 @@ fn begin_untyped(page: &mut Page) -> Result<(), Halt>
 }
 
 /// Whether no document type, tag or text was read.
-fn is_unseen(page: &Page) -> bool
+pub(crate) fn is_unseen(page: &Page) -> bool
     ensures { result ≡ trees.is_unseen (page_of page.now).tables }
 {
     matches!(page.tables, TableRule::Unseen)

@@ -8,12 +8,12 @@ use Rattle.typst_html_parse_open.specs.Endings.{IsHalt}
 use Rattle.typst_html_parse_open.specs.Pages.{◌next◌}
 use Rattle.typst_html_parse.specs.PageReading.{run}
 use Rattle.typst_html_parse.specs.PageTokens.{step}
-use Rattle.typst_html_parse.specs.ReaderViews.{reader_of}
+use Rattle.typst_html_parse.specs.PageReaderViews.{reader_of}
 use Rattle.typst_html_parse.proofs.Halts.{halt_next}
 use Rattle.typst_html_parse.proofs.read.run.Goals as goal
 
-pub read_common-requires : goal.read_common-requires
-read_common-requires c = omega (arith, c.loop-past.invariant.few, c.requires)
+pub read_front-requires : goal.read_front-requires
+read_front-requires c = omega (arith, c.loop-past.invariant.few, c.requires)
 
 pub step-requires : goal.step-requires
 step-requires c =
@@ -41,7 +41,7 @@ returns-in_err-step c =
     let got = c.in_ok-past.ensures.read in
     let past = c.in_ok-past.past.now in
     let d = c.in-Some.c in
-    let q = reader_of c.read_common.new.self in
+    let q = reader_of c.read_front.new.self in
     let e = c.in_err-step.field-0.0 in
     let later = chars_rest c.next.new.self in
     let left = chars_past_char past later d got.rest_utf8
@@ -79,7 +79,7 @@ loop-past-preserved c =
     let got = c.in_ok-past.ensures.read in
     let past = c.in_ok-past.past.now in
     let d = c.in-Some.c in
-    let q = reader_of c.read_common.new.self in
+    let q = reader_of c.read_front.new.self in
     let later = c.as_str-rest.result.now in
     let parts : past ≡ encode d ++ later =
     sym c.chars-left.ensures.rest ∙ (c.in-Some.ensures.steps.0
@@ -106,7 +106,7 @@ pub returns-in_default : goal.returns-in_default
 returns-in_default c =
     let held = c.loop-past.invariant in
     let got = c.in_ok-past.ensures.read in
-    let q = reader_of c.read_common.new.self in
+    let q = reader_of c.read_front.new.self in
     let empty = ap chars (sym c.chars-left.ensures.rest)
     ∙ chars_of_empty _ c.in_default.ensures.steps.0.0 in
     record {

@@ -2,7 +2,7 @@ use Rattle.std.proofs.Common.{◌≡◌, ◌+◌, ◌≤◌, chars, length}
 use denote.Text.{Utf8}
 use denote.Shadow.{shadow}
 use Rattle.typst_html_parse.specs.PageReading.{run}
-use Rattle.typst_html_parse.specs.ReaderViews.{reader_of}
+use Rattle.typst_html_parse.specs.PageReaderViews.{reader_of}
 use Rattle.typst_html_parse.proofs.read.run.Given as goal
 
 abbrev pub invariant-loop-past : goal.invariant-loop-past

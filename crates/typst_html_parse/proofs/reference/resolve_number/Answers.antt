@@ -1,7 +1,7 @@
 use Rattle.std.proofs.Common.{◌≡◌, chars, ap, ◌∙◌, subst}
 use Rattle.std.specs.Result.{IfOk}
 use Rattle.typst_html_parse.specs.PageReferences.{numbered}
-use Rattle.typst_html_parse.specs.ReaderViews.{resolved_of}
+use Rattle.typst_html_parse.specs.PageReaderViews.{resolved_of}
 use Rattle.typst_html_parse.proofs.References.{by_number}
 use Rattle.typst_html_parse.proofs.reference.resolve_number.Goals as goal
 

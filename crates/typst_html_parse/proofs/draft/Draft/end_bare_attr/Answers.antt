@@ -2,7 +2,7 @@ use Rattle.std.proofs.Common.{subst}
 use Rattle.html_dom_tree.specs.Views.{text_view}
 use Rattle.typst_html_parse.specs.Endings.{Adds}
 use Rattle.typst_html_parse.specs.PageTokens as tokens
-use Rattle.typst_html_parse.specs.ReaderViews.{draft_of, reading_of}
+use Rattle.typst_html_parse.specs.PageReaderViews.{draft_of, reading_of}
 use Rattle.typst_html_parse.proofs.draft.Draft.end_bare_attr.Goals as goal
 
 pub returns : goal.returns

@@ -1,10 +1,10 @@
-use Rattle.std.proofs.Common.{◌≡◌, ◌+◌, ◌++◌, [], false, true, eqb, length, sym, ap, ◌∙◌}
+use Rattle.std.proofs.Common.{◌≡◌, ◌++◌, false, eqb, length, sym, ap, ◌∙◌}
 use Rattle.std.proofs.lemmas.Str.{chars-IsAscii}
 use Rattle.html_dom_tree.specs.Views.{text_view}
 use Rattle.typst_html_encode.proofs.Stretches.{common_ascii}
-use Rattle.typst_html_parse.specs.CommonStretches.{in_quotes}
-use Rattle.typst_html_parse.specs.ReaderViews.{draft_of, reading_of}
-use Rattle.typst_html_parse.proofs.CommonStretches.{quoted_some}
+use Rattle.typst_html_parse.specs.PageStretches.{in_quotes}
+use Rattle.typst_html_parse.specs.PageReaderViews.{draft_of, reading_of}
+use Rattle.typst_html_parse.proofs.PageStretches.{chars_some}
 use Rattle.typst_html_parse.proofs.reader.Reader.add_value.Goals as goal
 
 pub returns-clause-added : goal.returns-clause-added
@@ -18,6 +18,6 @@ returns-clause-added c =
     c.in_ok-add_text.ensures ∙ ap (λ l. value ++ l) (chars-IsAscii front (common_ascii front c.requires.common)) in
     rw (c.requires.quoted.state, c.requires.quoted.quote)
     (ap (λ v. in_quotes (draft_of self.draft) (text_view self.draft.attr) v
-    (record r { place = r.place + length front; after_return = false })) text
+    (reading_of c.pass.new.self)) text
     ∙ ap (in_quotes (draft_of self.draft) (text_view self.draft.attr) (value ++ front))
-    (sym (quoted_some front r some)))
+    (c.pass.ensures ∙ sym (chars_some front r some)))

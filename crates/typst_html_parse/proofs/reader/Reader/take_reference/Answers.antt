@@ -4,7 +4,7 @@ use Rattle.html_dom_tree.specs.Views.{text_view}
 use Rattle.typst_html_parse_open.specs.Pages.{◌next◌}
 use Rattle.typst_html_parse.specs.Endings.{Moves}
 use Rattle.typst_html_parse.specs.PageTokens.{erring_some, reference_erring, reference_read, resolved_read, text_read}
-use Rattle.typst_html_parse.specs.ReaderViews.{holder_at, reader_of, reading_of, resolved_of}
+use Rattle.typst_html_parse.specs.PageReaderViews.{holder_at, reader_of, reading_of, resolved_of}
 use Rattle.typst_html_parse.proofs.reader.Reader.take_reference.Goals as goal
 
 pub returns : goal.returns

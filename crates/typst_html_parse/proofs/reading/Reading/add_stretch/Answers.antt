@@ -1,8 +1,8 @@
 use Rattle.std.proofs.Common.{◌≡◌, ◌+◌, ◌-◌, ◌++◌, false, eqb, length, sym, ap, ◌∙◌}
 use Rattle.std.proofs.lemmas.Str.{chars-IsAscii}
 use Rattle.typst_html_encode.proofs.Stretches.{common_ascii}
-use Rattle.typst_html_parse.specs.ReaderViews.{reading_of}
-use Rattle.typst_html_parse.proofs.CommonStretches.{grown, stretch_some}
+use Rattle.typst_html_parse.specs.PageReaderViews.{reading_of}
+use Rattle.typst_html_parse.proofs.PageStretches.{grown, stretch_some}
 use Rattle.typst_html_parse.proofs.reading.Reading.add_stretch.Goals as goal
 
 pub returns-clause-added : goal.returns-clause-added

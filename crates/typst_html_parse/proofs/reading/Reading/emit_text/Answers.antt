@@ -6,7 +6,7 @@ use Rattle.std.proofs.lemmas.Str.{IsUtf8-past_char, chars_past_char}
 use Rattle.typst_html_parse_open.specs.Endings.{IsHalt}
 use Rattle.typst_html_parse_open.specs.Pages.{◌next◌}
 use Rattle.typst_html_parse.specs.PageTokens.{char_emitted, chars_emitted}
-use Rattle.typst_html_parse.specs.ReaderViews.{reading_of}
+use Rattle.typst_html_parse.specs.PageReaderViews.{reading_of}
 use Rattle.typst_html_parse.proofs.Halts.{halt_next}
 use Rattle.typst_html_parse.proofs.reading.Reading.emit_text.Goals as goal
 

@@ -1,7 +1,7 @@
 use Rattle.std.proofs.Common.{◌≡◌, IsUtf8, chars}
 use Rattle.std.specs.Str.Iter.{chars_rest}
 use Rattle.typst_html_parse.specs.PageTokens.{chars_emitted}
-use Rattle.typst_html_parse.specs.ReaderViews.{reading_of}
+use Rattle.typst_html_parse.specs.PageReaderViews.{reading_of}
 use Rattle.typst_html_parse.proofs.reading.Reading.emit_text.Given as goal
 
 abbrev pub invariant-loop-c : goal.invariant-loop-c

@@ -6,7 +6,7 @@ use Rattle.html_dom_tree.specs.Tree.{with_node}
 use Rattle.html_dom_tree.specs.Views.{element_view, text_view}
 use Rattle.typst_html_parse_open.specs.OpenElements.{with_text}
 use Rattle.typst_html_parse_open.specs.PageViews.{element_of}
-use Rattle.typst_html_parse_open.proofs.Children.{some_text, text_counts}
+use Rattle.typst_html_parse_open.proofs.Children.{some_text}
 use Rattle.typst_html_parse_open.proofs.element.PageElement.with_text.Goals as goal
 
 pub returns-then-is_empty-clause-grown : goal.returns-then-is_empty-clause-grown
@@ -23,5 +23,5 @@ returns-clause-grown c =
     let long : eqb (length (string_bytes c.args.text)) 0 ≡ false =
     rw c.as_str.ensures.value at (sym c.is_empty.ensures ∙ c.if-is_empty.false) in
     ap (λ v. record { head = v.0; space = c.args.self.space; children = v.1 })
-    (c.in_ok-element.ensures.ok ∙ ap (λ n. with_node n e) c.text-child.ensures)
+    (c.in_ok-element.ensures ∙ ap (λ n. with_node n e) c.text-child.ensures)
     ∙ sym (some_text (string_bytes c.args.text) o (IsUtf8-string_bytes c.args.text) long)

@@ -38,11 +38,11 @@ pub record IsInQuotes (r : Reader) : Type 0 where
   pub state : r.state ≡ state.Value
   pub quote : r.draft.quote ≡ 34
 
--- behind characters of it
-abbrev pub behind_quoted : List ℕ → Reading → Reading
-behind_quoted [] r = r
-behind_quoted (c ∷ cs) r =
-    behind_quoted cs (record r { place = r.place + 1; after_return = false })
+-- behind characters of ASCII that change nothing else
+abbrev pub behind_chars : List ℕ → Reading → Reading
+behind_chars [] r = r
+behind_chars (c ∷ cs) r =
+    behind_chars cs (record r { place = r.place + 1; after_return = false })
 
 -- of the text, some characters are read, and the rest is left
 pub record ReadsFront (old new : PageReader) (text rest : List ℕ) : Type 0 where

@@ -1,14 +1,15 @@
 -- Stretches of common characters are read as these characters one by one.
-use Rattle.std.proofs.Common.{◌≡◌, ℕ, ◌+◌, ◌-◌, true, false, not, ◌&&◌, ◌||◌, List, [], ◌∷◌, ◌++◌, length, eqb, ne_eqb, refl, sym, ap, ◌∙◌, arith, append_assoc, append-nil, Ok}
+use Rattle.std.proofs.Common.{◌≡◌, ℕ, ◌+◌, ◌-◌, Bool, true, false, not, ◌&&◌, ◌||◌, List, [], ◌∷◌, ◌++◌, chars, length, eqb, ne_eqb, refl, sym, ap, ◌∙◌, arith, append_assoc, append-nil, Ok}
 use Rattle.std.proofs.lemmas.Bool.{and_parts, false≢true}
 use Rattle.html_names.specs.Characters.{all}
 use Rattle.std.proofs.lemmas.Str.{len_utf8_ascii}
 use Rattle.typst_html_encode.specs.PlainStretches.{is_common}
 use Rattle.typst_html_encode.proofs.Stretches.{common_small}
-use Rattle.typst_html_parse.specs.CommonStretches.{behind_char, behind_quoted, behind_stretch, in_data, in_quotes}
+use Rattle.typst_html_parse.specs.PageStretches.{behind_char, behind_chars, behind_stretch, in_data, in_quotes, ReadsFront, TakesCommon}
+use Rattle.typst_html_parse.specs.Fronts.{CutsAll}
 use Rattle.typst_html_parse.specs.PageReading.{run}
-use Rattle.typst_html_parse.specs.PageTokens.{TagDraft, Reading, step}
-use Rattle.typst_html_parse.specs.ReaderViews.{state_at}
+use Rattle.typst_html_parse.specs.PageTokens.{TagDraft, PageReader, Reading, step}
+use Rattle.typst_html_parse.specs.PageReaderViews.{state_at}
 use Rattle.typst_html_parse.specs.declared.reader.Reader.{Reader}
 use Rattle.typst_html_parse.specs.declared.reader.State.{State}
 use Rattle.typst_html_parse.specs.declared.reader.State.TheVariants as state
@@ -20,10 +21,11 @@ use Rattle.typst_html_parse_open.specs.declared.modes.Mode.{Mode}
 use Rattle.typst_html_parse_open.specs.declared.modes.Mode.TheVariants.{InText}
 use Rattle.typst_html_parse_tree.specs.TakenTexts.{mode_takes_text, takes_text}
 use Rattle.typst_html_parse_tree.proofs.TakenTexts.{text_taken}
+use Rattle.typst_html_parse.proofs.Fronts.{front_read}
 
--- a common character is none that is not common
-other : (c d : ℕ) → is_common c ≡ true → is_common d ≡ false → eqb c d ≡ false
-other c d h k = ne_eqb c d (λ e. false≢true (sym k ∙ (ap is_common (sym e) ∙ h)))
+-- a character of a kind is none that is not of it
+pub other : (is : ℕ → Bool) (c d : ℕ) → is c ≡ true → is d ≡ false → eqb c d ≡ false
+other is c d h k = ne_eqb c d (λ e. false≢true (sym k ∙ (ap is (sym e) ∙ h)))
 
 mode_kept : (m : Mode) (text : List ℕ) (s : ℕ) (p : Page) →
     mode_takes_text m (record p { text = text; start = s }) ≡ mode_takes_text m p
@@ -43,11 +45,11 @@ unfolding is_common
 char_step c r h f t =
     let taken = text_taken c (record r.page { start = r.place }) (taken_still r.page.text r.place r.page ∙ t) in
     rw (
-      other c 0 h refl,
-      other c 10 h refl,
-      other c 13 h refl,
-      other c 60 h refl,
-      other c 38 h refl,
+      other is_common c 0 h refl,
+      other is_common c 10 h refl,
+      other is_common c 13 h refl,
+      other is_common c 60 h refl,
+      other is_common c 38 h refl,
       len_utf8_ascii c (common_small c h),
       f,
       taken,
@@ -68,17 +70,17 @@ quoted_step : (c : ℕ) (tag : TagDraft) (attr value : List ℕ) (r : Reading) �
 unfolding is_common
 quoted_step c tag attr value r h =
     rw (
-      other c 0 h refl,
-      other c 10 h refl,
-      other c 13 h refl,
-      other c 34 h refl,
-      other c 38 h refl,
+      other is_common c 0 h refl,
+      other is_common c 10 h refl,
+      other is_common c 13 h refl,
+      other is_common c 34 h refl,
+      other is_common c 38 h refl,
       len_utf8_ascii c (common_small c h),
     ) refl
 
 pub quoted_run : (front cs : List ℕ) (tag : TagDraft) (attr value : List ℕ) (r : Reading) →
     all is_common front ≡ true → run (in_quotes tag attr value r) (front ++ cs)
-    ≡ run (in_quotes tag attr (value ++ front) (behind_quoted front r)) cs
+    ≡ run (in_quotes tag attr (value ++ front) (behind_chars front r)) cs
 quoted_run [] cs tag attr value r h =
     ap (λ v. run (in_quotes tag attr v r) cs) (sym (append-nil value))
 quoted_run (c ∷ front) cs tag attr value r h =
@@ -86,27 +88,27 @@ quoted_run (c ∷ front) cs tag attr value r h =
     let q = record r { place = r.place + 1; after_return = false } in
     ap (λ x. x next (λ q. run q (front ++ cs))) (quoted_step c tag attr value r both.0)
     ∙ (quoted_run front cs tag attr (value ++ c ∷ []) q both.1
-    ∙ ap (λ v. run (in_quotes tag attr v (behind_quoted front q)) cs)
+    ∙ ap (λ v. run (in_quotes tag attr v (behind_chars front q)) cs)
     (append_assoc value (c ∷ []) front))
 
-pub quoted_form : (c : ℕ) (cs : List ℕ) (r : Reading) → behind_quoted (c ∷ cs) r
+pub chars_form : (c : ℕ) (cs : List ℕ) (r : Reading) → behind_chars (c ∷ cs) r
     ≡ record r { place = r.place + length (c ∷ cs); after_return = false }
-quoted_form c [] r = refl
-quoted_form c (d ∷ ds) r =
-    quoted_form d ds (record r { place = r.place + 1; after_return = false })
+chars_form c [] r = refl
+chars_form c (d ∷ ds) r =
+    chars_form d ds (record r { place = r.place + 1; after_return = false })
     ∙ ap (λ n. record r { place = n; after_return = false })
     {x = r.place + 1 + length (d ∷ ds)} {y = r.place + length (c ∷ d ∷ ds)} (omega arith)
 
-pub quoted_some : (front : List ℕ) (r : Reading) → eqb (length front) 0 ≡ false →
-    behind_quoted front r
+pub chars_some : (front : List ℕ) (r : Reading) → eqb (length front) 0 ≡ false →
+    behind_chars front r
     ≡ record r { place = r.place + length front; after_return = false }
-quoted_some [] r h = absurd (false≢true (sym h))
-quoted_some (c ∷ cs) r h = quoted_form c cs r
+chars_some [] r h = absurd (false≢true (sym h))
+chars_some (c ∷ cs) r h = chars_form c cs r
 
-pub quoted_place : (front : List ℕ) (r : Reading) →
-    (behind_quoted front r).place ≡ r.place + length front
-quoted_place [] r = omega arith
-quoted_place (c ∷ cs) r = ap (λ r. r.place) (quoted_form c cs r)
+pub chars_place : (front : List ℕ) (r : Reading) →
+    (behind_chars front r).place ≡ r.place + length front
+chars_place [] r = omega arith
+chars_place (c ∷ cs) r = ap (λ r. r.place) (chars_form c cs r)
 
 abbrev pub grown : Reading → (text : List ℕ) (start place : ℕ) → Reading
 grown r text start place = record {
@@ -149,3 +151,25 @@ pub stretch_place : (front : List ℕ) (r : Reading) →
     (behind_stretch front r).place ≡ r.place + length front
 stretch_place [] r = omega arith
 stretch_place (c ∷ cs) r = ap (λ r. r.place) (stretch_form c cs r)
+
+pub stretch_read : (q new : PageReader) (text front rest : List ℕ) → TakesCommon q →
+    CutsAll is_common text front rest → new ≡ in_data (behind_stretch front q.reading) →
+    ReadsFront q new text rest
+stretch_read q new text front rest takes cut made =
+    let r = q.reading in
+    front_read q new text front rest cut.begins
+    (ap (λ p. run p (front ++ chars rest)) takes.state
+    ∙ (front_run front (chars rest) r cut.are takes.fresh takes.taken
+    ∙ ap (λ p. run p (chars rest)) (sym made)))
+    (ap (λ p. p.reading.place) made ∙ stretch_place front r)
+
+pub value_read : (q new : PageReader) (tag : TagDraft) (attr value : List ℕ) (r : Reading)
+    (text front rest : List ℕ) → q ≡ in_quotes tag attr value r → CutsAll is_common text front rest →
+    new ≡ in_quotes tag attr (value ++ front) (behind_chars front r) → ReadsFront q new text rest
+value_read q new tag attr value r text front rest before cut made =
+    front_read q new text front rest cut.begins
+    (ap (λ p. run p (front ++ chars rest)) before
+    ∙ (quoted_run front (chars rest) tag attr value r cut.are
+    ∙ ap (λ p. run p (chars rest)) (sym made)))
+    (ap (λ p. p.reading.place) made
+    ∙ (chars_place front r ∙ ap (λ p. p.reading.place + length front) (sym before)))

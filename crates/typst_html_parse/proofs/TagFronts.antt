@@ -1,0 +1,289 @@
+-- Names and end tags that are read at once are read as their characters one by one.
+use Rattle.std.proofs.Common.{◌≡◌, ℕ, ◌+◌, ◌-◌, Bool, true, false, not, ◌&&◌, ◌||◌, List, [], ◌∷◌, ◌++◌, chars, length, eqb, refl, sym, ap, ◌∙◌, arith, append_assoc, append-nil, length-append, Ok, Err, Some}
+use Rattle.std.specs.Char.{to_ascii_lowercase}
+use Rattle.std.specs.List.{list_all}
+use Rattle.std.specs.Result.{is_ok}
+use Rattle.std.proofs.lemmas.Bool.{agree_below, agree_below_at, and_from, and_parts, eqb-true, false≢true, not-true, or_left}
+use Rattle.std.proofs.lemmas.Str.{chars-IsAscii, len_utf8_ascii}
+use Rattle.html_names.specs.Characters.{all, is_capital, is_digit, is_hyphen, is_lower, is_tag_char}
+use Rattle.typst_html_parse.specs.Fronts.{BeginsWith, CutsAll, begins_small, is_name_char}
+use Rattle.typst_html_parse.specs.PageReading.{run}
+use Rattle.typst_html_parse.specs.PageReferences.{is_letter}
+use Rattle.typst_html_parse.specs.PageStretches.{behind_chars, in_data, in_quotes, ReadsFront}
+use Rattle.typst_html_parse.specs.PageTokens.{TagDraft, PageReader, Reading, TagName, BeforeAttr, AttrName, Data, goes, is_name, step, past_char}
+use Rattle.typst_html_parse.specs.TagFronts.{EndsOwn, behind_own_end, in_name, tag_open}
+use Rattle.typst_html_parse.proofs.Fronts.{begins_on, front_read, name_ascii, name_small}
+use Rattle.typst_html_parse.proofs.PageStretches.{chars_form, chars_place, other}
+use Rattle.typst_html_parse.proofs.TagNames.{name_from}
+use Rattle.typst_html_parse_open.specs.OpenElements.{current_name}
+use Rattle.typst_html_parse_open.specs.Pages.{Page, Reads, End, ◌next◌, closed}
+use Rattle.typst_html_parse_tree.specs.OwnEnds.{takes_own_end}
+use Rattle.typst_html_parse_tree.specs.PageBodies.{is_space}
+use Rattle.typst_html_parse_tree.specs.PageTrees.{token_read}
+use Rattle.typst_html_parse_tree.proofs.OwnEnds.{own_end_taken}
+
+by_table : (p : ℕ → Bool) (c : ℕ) →
+    agree_below (λ d. is_name_char d && p d) is_name_char 128 ≡ true →
+    is_name_char c ≡ true → p c ≡ true
+by_table p c table h = (and_parts (is_name_char c) (p c)
+    (agree_below_at (λ d. is_name_char d && p d) is_name_char 128 c table (name_small c h) ∙ h)).1
+
+lowered : (c : ℕ) → is_name_char c ≡ true → to_ascii_lowercase c ≡ c
+lowered c h = eqb-true _ c (by_table (λ d. eqb (to_ascii_lowercase d) d) c refl h)
+
+spaceless : (c : ℕ) → is_name_char c ≡ true → is_space c ≡ false
+spaceless c h = not-true _ (by_table (λ d. not (is_space d)) c refl h)
+
+none : (c d : ℕ) → is_name_char c ≡ true → is_name_char d ≡ false → eqb c d ≡ false
+none c d h k = other is_name_char c d h k
+
+names : (cs : List ℕ) → all is_name_char cs ≡ true → list_all is_tag_char cs ≡ true
+names [] h = refl
+names (c ∷ cs) h =
+    let both = and_parts (is_name_char c) (all is_name_char cs) h in
+    and_from (is_tag_char c) (list_all is_tag_char cs) (by_table is_tag_char c refl both.0)
+    (names cs both.1)
+
+name_step : (tag : TagDraft) (c : ℕ) (r : Reading) → is_name_char c ≡ true →
+    step (record { state = TagName tag; reading = r }) c
+    ≡ Ok (record {
+      state = TagName (record tag { name = tag.name ++ c ∷ [] });
+      reading = behind_chars (c ∷ []) r;
+    })
+name_step tag c r h = rw (
+  none c 0 h refl,
+  none c 10 h refl,
+  none c 13 h refl,
+  spaceless c h,
+  none c 47 h refl,
+  none c 62 h refl,
+  lowered c h,
+  len_utf8_ascii c (name_small c h),
+) refl
+
+name_run : (cs ds : List ℕ) (tag : TagDraft) (r : Reading) → all is_name_char cs ≡ true →
+    run (record { state = TagName tag; reading = r }) (cs ++ ds)
+    ≡ run (record {
+      state = TagName (record tag { name = tag.name ++ cs });
+      reading = behind_chars cs r;
+    }) ds
+name_run [] ds tag r h =
+    ap (λ n. run (record { state = TagName (record tag { name = n }); reading = r }) ds)
+    (sym (append-nil tag.name))
+name_run (c ∷ cs) ds tag r h =
+    let both = and_parts (is_name_char c) (all is_name_char cs) h in
+    ap (λ x. x next (λ q. run q (cs ++ ds))) (name_step tag c r both.0)
+    ∙ (name_run cs ds (record tag { name = tag.name ++ c ∷ [] }) (behind_chars (c ∷ []) r) both.1
+    ∙ ap (λ n. run (record {
+      state = TagName (record tag { name = n });
+      reading = behind_chars (c ∷ cs) r;
+    }) ds) (append_assoc tag.name (c ∷ []) cs))
+
+small_name : (c : ℕ) → is_lower c ≡ true → is_name_char c ≡ true
+small_name c h = or_left (is_lower c || is_digit c) (is_hyphen c) (or_left (is_lower c) (is_digit c) h)
+
+letter : (c : ℕ) → is_lower c ≡ true → is_letter c ≡ true
+letter c h = or_left (is_lower c) (is_capital c) h
+
+open_step : (is_end : Bool) (c : ℕ) (r : Reading) → is_lower c ≡ true →
+    step (record { state = tag_open is_end; reading = r }) c ≡ Ok (in_name is_end (c ∷ []) r)
+open_step true c r h =
+    let k = small_name c h in
+    rw (
+      none c 0 k refl,
+      none c 10 k refl,
+      none c 13 k refl,
+      letter c h,
+      lowered c k,
+      len_utf8_ascii c (name_small c k),
+    ) refl
+open_step false c r h =
+    let k = small_name c h in
+    rw (
+      none c 0 k refl,
+      none c 10 k refl,
+      none c 13 k refl,
+      letter c h,
+      lowered c k,
+      len_utf8_ascii c (name_small c k),
+    ) refl
+
+pub tag_run : (is_end : Bool) (name cs : List ℕ) (r : Reading) → begins_small name ≡ true →
+    all is_name_char name ≡ true → run (record { state = tag_open is_end; reading = r }) (name ++ cs)
+    ≡ run (in_name is_end name r) cs
+tag_run is_end [] cs r h k = absurd (false≢true h)
+tag_run is_end (c ∷ name) cs r h k =
+    ap (λ x. x next (λ q. run q (name ++ cs))) (open_step is_end c r h)
+    ∙ name_run name cs (record { is_end = is_end; name = c ∷ []; attrs = [] }) (behind_chars (c ∷ []) r)
+    (and_parts (is_name_char c) (all is_name_char name) k).1
+
+-- an end tag of the current node
+page_kept : (cs : List ℕ) (r : Reading) → (behind_chars cs r).page ≡ r.page
+page_kept [] r = refl
+page_kept (c ∷ cs) r = page_kept cs (record r { place = r.place + 1; after_return = false })
+
+named : (name : List ℕ) → begins_small name ≡ true → all is_name_char name ≡ true →
+    is_name name ≡ true
+named [] h k = absurd (false≢true h)
+named (c ∷ cs) h k = name_from c cs (names (c ∷ cs) k)
+
+behind_end : (x : Reads Page) (f : Page → Reading) (g : PageReader → PageReader) →
+    (((x next (λ p. Ok (f p))) next goes Data) next (λ q. Ok (g q)))
+    ≡ (x next (λ p. Ok (g (in_data (f p)))))
+behind_end (Ok p) f g = refl
+behind_end (Err e) f g = refl
+
+-- behind `>`
+ended : (name : List ℕ) (r : Reading) → token_read (End name) r.page ≡ closed true r.page →
+    is_name name ≡ true →
+    step (record { state = TagName (record { is_end = true; name = name; attrs = [] }); reading = r }) 62
+    ≡ behind_own_end 1 r
+ended name r h k = rw (k, h) (behind_end (closed true r.page) (λ p. record r { page = p; fresh = false })
+    (past_char 62 r.place))
+
+pub own_end_run : (name cs : List ℕ) (r : Reading) → current_name r.page.stack ≡ Some name →
+    takes_own_end r.page ≡ true → begins_small name ≡ true → all is_name_char name ≡ true →
+    run (record { state = tag_open true; reading = r }) ((name ++ 62 ∷ []) ++ cs)
+    ≡ ((behind_own_end (length (name ++ 62 ∷ [])) r) next (λ q. run q cs))
+own_end_run name cs r current taken small are =
+    let q = behind_chars name r in
+    let same = page_kept name r in
+    let token : token_read (End name) q.page ≡ closed true q.page =
+    ap (token_read (End name)) same ∙ (own_end_taken name r.page current taken ∙ ap (closed true) (sym same)) in
+    ap (run (record { state = tag_open true; reading = r })) (append_assoc name (62 ∷ []) cs)
+    ∙ (tag_run true name (62 ∷ cs) r small are
+    ∙ ap (λ x. x next (λ q. run q cs)) (ended name q token (named name small are)
+    ∙ (ap (λ p. (closed true p) next (λ p. Ok (in_data (record {
+      page = p;
+      place = q.place + 1;
+      fresh = false;
+      after_return = false;
+    })))) same
+    ∙ ap (λ n. (closed true r.page) next (λ p. Ok (in_data (record {
+      page = p;
+      place = n;
+      fresh = false;
+      after_return = false;
+    })))) {x = q.place + 1} {y = r.place + length (name ++ 62 ∷ [])}
+    (omega (arith, chars_place name r, length-append name (62 ∷ []))))))
+
+-- the name of an attribute, with `="` behind it
+attr_step : (tag : TagDraft) (attr : List ℕ) (c : ℕ) (r : Reading) → is_name_char c ≡ true →
+    step (record { state = AttrName tag attr; reading = r }) c
+    ≡ Ok (record { state = AttrName tag (attr ++ c ∷ []); reading = behind_chars (c ∷ []) r })
+attr_step tag attr c r h = rw (
+  none c 0 h refl,
+  none c 10 h refl,
+  none c 13 h refl,
+  spaceless c h,
+  none c 61 h refl,
+  none c 47 h refl,
+  none c 62 h refl,
+  lowered c h,
+  len_utf8_ascii c (name_small c h),
+) refl
+
+before_step : (tag : TagDraft) (c : ℕ) (r : Reading) → is_name_char c ≡ true →
+    step (record { state = BeforeAttr tag; reading = r }) c
+    ≡ Ok (record { state = AttrName tag (c ∷ []); reading = behind_chars (c ∷ []) r })
+before_step tag c r h = rw (
+  none c 0 h refl,
+  none c 10 h refl,
+  none c 13 h refl,
+  spaceless c h,
+  none c 47 h refl,
+  none c 62 h refl,
+  lowered c h,
+  len_utf8_ascii c (name_small c h),
+) refl
+
+attr_name_run : (cs ds : List ℕ) (tag : TagDraft) (attr : List ℕ) (r : Reading) →
+    all is_name_char cs ≡ true → run (record { state = AttrName tag attr; reading = r }) (cs ++ ds)
+    ≡ run (record { state = AttrName tag (attr ++ cs); reading = behind_chars cs r }) ds
+attr_name_run [] ds tag attr r h =
+    ap (λ a. run (record { state = AttrName tag a; reading = r }) ds) (sym (append-nil attr))
+attr_name_run (c ∷ cs) ds tag attr r h =
+    let both = and_parts (is_name_char c) (all is_name_char cs) h in
+    ap (λ x. x next (λ q. run q (cs ++ ds))) (attr_step tag attr c r both.0)
+    ∙ (attr_name_run cs ds tag (attr ++ c ∷ []) (behind_chars (c ∷ []) r) both.1
+    ∙ ap (λ a. run (record { state = AttrName tag a; reading = behind_chars (c ∷ cs) r }) ds)
+    (append_assoc attr (c ∷ []) cs))
+
+chars_on : (cs ds : List ℕ) (r : Reading) →
+    behind_chars ds (behind_chars cs r) ≡ behind_chars (cs ++ ds) r
+chars_on [] ds r = refl
+chars_on (c ∷ cs) ds r = chars_on cs ds (record r { place = r.place + 1; after_return = false })
+
+pub attr_run : (c : ℕ) (attr cs : List ℕ) (tag : TagDraft) (r : Reading) →
+    all is_name_char (c ∷ attr) ≡ true →
+    run (record { state = BeforeAttr tag; reading = r }) (((c ∷ attr) ++ 61 ∷ 34 ∷ []) ++ cs)
+    ≡ run (in_quotes tag (c ∷ attr) [] (behind_chars ((c ∷ attr) ++ 61 ∷ 34 ∷ []) r)) cs
+attr_run c attr cs tag r h =
+    let both = and_parts (is_name_char c) (all is_name_char attr) h in
+    ap (run (record { state = BeforeAttr tag; reading = r })) (append_assoc (c ∷ attr) (61 ∷ 34 ∷ []) cs)
+    ∙ (ap (λ x. x next (λ q. run q (attr ++ 61 ∷ 34 ∷ cs))) (before_step tag c r both.0)
+    ∙ (attr_name_run attr (61 ∷ 34 ∷ cs) tag (c ∷ []) (behind_chars (c ∷ []) r) both.1
+    ∙ ap (λ r. run (in_quotes tag (c ∷ attr) [] r) cs) (chars_on (c ∷ attr) (61 ∷ 34 ∷ []) r)))
+
+pub name_read : (is_end : Bool) (q new : PageReader) (text front rest : List ℕ) →
+    q.state ≡ tag_open is_end → CutsAll is_name_char text front rest → begins_small front ≡ true →
+    new ≡ in_name is_end front q.reading → ReadsFront q new text rest
+name_read is_end q new text front rest opened cut small made =
+    front_read q new text front rest cut.begins
+    (ap (λ s. run (record { state = s; reading = q.reading }) (front ++ chars rest)) opened
+    ∙ (tag_run is_end front (chars rest) q.reading small cut.are
+    ∙ ap (λ p. run p (chars rest)) (sym made)))
+    (ap (λ p. p.reading.place) made ∙ chars_place front q.reading)
+
+abbrev place_of : Reads PageReader → ℕ
+place_of (Ok q) = q.reading.place
+place_of (Err e) = 0
+
+place_behind : (x : Reads Page) (place : ℕ) (new : PageReader) →
+    (x next (λ p. Ok (in_data (record {
+      page = p;
+      place = place;
+      fresh = false;
+      after_return = false;
+    })))) ≡ Ok new → new.reading.place ≡ place
+place_behind (Ok p) place new h = sym (ap place_of h)
+place_behind (Err e) place new h = absurd (false≢true (ap is_ok h))
+
+pub own_end_read : (q new : PageReader) (text rest : List ℕ) → q.state ≡ tag_open true →
+    EndsOwn q.reading text rest →
+    behind_own_end (length text - length rest) q.reading ≡ Ok new → ReadsFront q new text rest
+own_end_read q new text rest opened ends made =
+    let front = ends.name ++ 62 ∷ [] in
+    let r = q.reading in
+    let long : length text - length rest ≡ length front = omega (arith, ends.begins.long) in
+    let made : behind_own_end (length front) r ≡ Ok new =
+    ap (λ k. behind_own_end k r) (sym long) ∙ made in
+    front_read q new text front rest ends.begins
+    (ap (λ s. run (record { state = s; reading = r }) (front ++ chars rest)) opened
+    ∙ (own_end_run ends.name (chars rest) r ends.current ends.taken ends.small ends.are
+    ∙ ap (λ x. x next (λ p. run p (chars rest))) made))
+    (place_behind (closed true r.page) (r.place + length front) new made)
+
+pub attr_read : (q new : PageReader) (tag : TagDraft) (text attr behind rest : List ℕ) →
+    q.state ≡ BeforeAttr tag → CutsAll is_name_char text attr behind →
+    eqb (length attr) 0 ≡ false → BeginsWith (61 ∷ 34 ∷ []) behind rest →
+    new ≡ in_quotes tag (chars attr) [] (record (q.reading) {
+      place = q.reading.place + (length attr + 2);
+      after_return = false;
+    }) → ReadsFront q new text rest
+attr_read q new tag text [] behind rest opened cut some equals made = absurd (false≢true (sym some))
+attr_read q new tag text (c ∷ cs) behind rest opened cut some equals made =
+    let attr = c ∷ cs in
+    let r = q.reading in
+    let front = attr ++ 61 ∷ 34 ∷ [] in
+    let long : length front ≡ length attr + 2 = length-append attr (61 ∷ 34 ∷ []) in
+    let same : chars attr ≡ attr = chars-IsAscii attr (name_ascii attr cut.are) in
+    let passed : new ≡ in_quotes tag attr [] (behind_chars front r) =
+    made
+    ∙ (ap (λ a. in_quotes tag a [] (record r { place = r.place + (length attr + 2); after_return = false })) same
+    ∙ (ap (λ k. in_quotes tag attr [] (record r { place = r.place + k; after_return = false })) (sym long)
+    ∙ ap (in_quotes tag attr []) (sym (chars_form c (cs ++ 61 ∷ 34 ∷ []) r)))) in
+    front_read q new text front rest (begins_on text attr behind (61 ∷ 34 ∷ []) rest cut.begins equals)
+    (ap (λ s. run (record { state = s; reading = r }) (front ++ chars rest)) opened
+    ∙ (attr_run c cs (chars rest) tag r cut.are ∙ ap (λ p. run p (chars rest)) (sym passed)))
+    (ap (λ p. p.reading.place) passed ∙ chars_place front r)

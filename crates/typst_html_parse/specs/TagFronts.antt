@@ -1,0 +1,39 @@
+-- Names of tags and of attributes, and end tags, that are read at once.
+use Rattle.std.specs.Prelude.{◌≡◌, ℕ, ◌+◌, Bool, true, false, List, [], ◌∷◌, ◌++◌, Ok, Some}
+use Rattle.html_names.specs.Characters.{all}
+use Rattle.typst_html_parse.specs.Fronts.{BeginsWith, begins_small, is_name_char}
+use Rattle.typst_html_parse.specs.PageStretches.{behind_chars, in_data}
+use Rattle.typst_html_parse.specs.PageTokens.{PageReader, Reading, TokenState, TagName, TagOpen, EndTagOpen}
+use Rattle.typst_html_parse_open.specs.OpenElements.{current_name}
+use Rattle.typst_html_parse_open.specs.Pages.{Reads, ◌next◌, closed}
+use Rattle.typst_html_parse_tree.specs.OwnEnds.{takes_own_end}
+
+-- after `<`, or `</`
+abbrev pub tag_open : (is_end : Bool) → TokenState
+tag_open true = EndTagOpen
+tag_open false = TagOpen
+
+-- behind the name of a tag
+abbrev pub in_name : (is_end : Bool) (name : List ℕ) → Reading → PageReader
+in_name is_end name r = record {
+  state = TagName (record { is_end = is_end; name = name; attrs = [] });
+  reading = behind_chars name r;
+}
+
+-- the text begins with the name and the `>` of the current node's end tag, which only closes the node
+pub record EndsOwn (r : Reading) (text rest : List ℕ) : Type 0 where
+  pub name : List ℕ
+  pub current : current_name r.page.stack ≡ Some name
+  pub taken : takes_own_end r.page ≡ true
+  pub small : begins_small name ≡ true
+  pub are : all is_name_char name ≡ true
+  pub begins : BeginsWith (name ++ 62 ∷ []) text rest
+
+-- behind so many characters more, which close the current node
+abbrev pub behind_own_end : (length : ℕ) → Reading → Reads PageReader
+behind_own_end length r = (closed true r.page) next (λ p. Ok (in_data (record {
+  page = p;
+  place = r.place + length;
+  fresh = false;
+  after_return = false;
+})))

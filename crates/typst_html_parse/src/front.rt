@@ -1,0 +1,53 @@
+//! The fronts of texts, cut off.
+
+ghost use Rattle.std.specs.Prelude.{◌≡◌, IfSome, IsTrue};
+ghost use Rattle.html_names.specs.Names.{is_ascii};
+ghost use Rattle.typst_html_encode.specs.PlainStretches.{is_common};
+ghost use Rattle.typst_html_parse.specs.Fronts.{BeginsWith, CutsAll, begins_small, is_name_char};
+
+use typst_html_encode::past_common;
+
+/// The common characters that a text begins with, and the rest.
+pub(crate) fn cut_common(text: &str) -> (&str, &str)
+    ensures { CutsAll is_common text.now result.0.now result.1.now }
+{
+    let rest = past_common(text);
+    text.split_at(text.len() - rest.len())
+}
+
+fn is_name_byte(byte: u8) -> bool
+    ensures { result ≡ is_name_char byte }
+{
+    byte.is_ascii_lowercase() || byte.is_ascii_digit() || byte == b'-'
+}
+
+/// The small letters, digits and `-` that a text begins with, and the rest.
+pub(crate) fn cut_name(text: &str) -> (&str, &str)
+    ensures { CutsAll is_name_char text.now result.0.now result.1.now }
+{
+    let bytes = text.as_bytes();
+    let mut at = 0;
+    while at < bytes.len() && is_name_byte(bytes[at]) {
+        at += 1;
+    }
+    text.split_at(at)
+}
+
+/// Whether a text begins with a small letter.
+pub(crate) fn begins_small(text: &str) -> bool
+    ensures { result ≡ begins_small text.now }
+{
+    match text.as_bytes() {
+        [first, ..] => first.is_ascii_lowercase(),
+        [] => false,
+    }
+}
+
+/// The rest of a text that begins with so much ASCII.
+pub(crate) fn strip<'a>(text: &'a str, front: &str) -> Option<&'a str>
+    requires { IsTrue (is_ascii front.now) }
+    ensures { IfSome result (λ rest. BeginsWith front.now text.now rest.now) }
+{
+    let rest = text.strip_prefix(front)?;
+    Some(rest)
+}
