@@ -1,7 +1,8 @@
 #!/usr/bin/env python3
 """The calls have the same arguments, by number, name and type, in the library's source, in the header, in
-Rust and in Python; the reply has the same fields, laid out as C does; the version, the words of refusals
-and the licence are the same. At the end it tries changed copies, of which each must differ.
+Rust and in Python; the reply has the same fields, laid out as C does; the version, the words of refusals,
+the statuses in C and Python, the licence, and the version of the crate and the package are the same. At the
+end it tries changed copies, of which each must differ.
 """
 
 import ast
@@ -48,9 +49,12 @@ CHANGES = [
     ("raw", "    status: u8,\n    number: u8,", "    number: u8,\n    status: u8,", "reply"),
     ("library", "    _fields_", "    _pack_ = 1\n    _fields_", "reply"),
     ("library", '("status", ctypes.c_uint8)', '("state", ctypes.c_uint8)', "reply"),
-    ("library", "VERSION = 6", "VERSION = 7", "version"),
+    ("library", "VERSION: Final = 6", "VERSION: Final = 7", "version"),
     ("refusal", "tag name must not be empty", "tag name is empty", "words"),
     ("package", "a token finds no place", "a token has no place", "words"),
+    ("library", "OUT_OF_MEMORY = 3", "OUT_OF_MEMORY = 4", "statuses"),
+    ("header", "TYPST_HTML_DEAD_LINKS = 5", "TYPST_HTML_LOST_LINKS = 5", "statuses"),
+    ("package", '__version__: Final = "0.1.0"', '__version__: Final = "0.1.1"', "package"),
     ("crate", "Apache-2.0", "MIT", "licence"),
     ("project", "Apache-2.0", "MIT", "licence"),
 ]  # fmt: skip
@@ -102,7 +106,10 @@ def struct_of_header(text):
 
 
 def plain(node):
-    """What is written there, a name without its module. (As values c_uint64 and c_size_t may be one.)"""
+    """What is written there, a name without its module, and of a call that freezes a value the value. (As values
+    c_uint64 and c_size_t may be one.)"""
+    if isinstance(node, ast.Call):
+        return plain(node.args[0])
     if isinstance(node, ast.Dict):
         return {plain(key): plain(value) for key, value in zip(node.keys, node.values)}
     if isinstance(node, (ast.List, ast.Tuple)):
@@ -126,8 +133,21 @@ def of_python(names):
     return {name: (given(takes), OF_PYTHON[gives]) for name, (gives, takes) in calls.items()}
 
 
+def class_of_python(tree, name):
+    return next(node for node in ast.walk(tree) if isinstance(node, ast.ClassDef) and node.name == name)
+
+
+def statuses_of_python(tree):
+    return {name: plain(value) for name, value in assigned(class_of_python(tree, "Status")).items()}
+
+
+def statuses_of_header(text):
+    body = re.search(r"^enum typst_html_status \{(.*?)\n\};$", without_comments(text), re.S | re.M)[1]
+    return {name: int(number) for name, number in re.findall(r"TYPST_HTML_(\w+) = (\d+),", body)}
+
+
 def struct_of_python(tree):
-    reply = next(node for node in ast.walk(tree) if isinstance(node, ast.ClassDef) and node.name == "Reply")
+    reply = class_of_python(tree, "Reply")
     names = assigned(reply)
     layout = "C" if [plain(base) for base in reply.bases] == ["Structure"] and list(names) == ["_fields_"] else "another"
     return [layout, *((name, OF_PYTHON[kind]) for name, kind in plain(names["_fields_"]))]
@@ -156,6 +176,8 @@ def compared(texts):
         "words": [
             words_of(header, r"^ \* +(\d+)  (.*)$"), words_of(texts["refusal"], r'^ +(\d+) => "(.*)",$'), plain(package["WORDS"]),
         ],
+        "statuses": [statuses_of_header(header), statuses_of_python(library)],
+        "package": [first(r'^version = "(.*)"$', "crate"), plain(package["__version__"])],
         "licence": [
             "-".join(re.match(r"\s*(\w+) License\s+Version ([\d.]+),", texts["licence"]).groups()),
             first(r'^license = "(.*)"$', "crate"), first(r'^license = \{ text = "(.*)" \}$', "project"),

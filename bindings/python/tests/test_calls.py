@@ -1,8 +1,11 @@
 """What a caller in Python sees of the library."""
 
+import contextlib
 import ctypes
 import doctest
+import io
 import json
+import pickle
 import re
 import sys
 import threading
@@ -90,6 +93,14 @@ class Calls(unittest.TestCase):
                     found = outcome(html.write_json, data, kind="document", pretty=bool(row.layout))
                     self.assertEqual(found, wanted(row))
 
+    def test_documents_in_json_have_links_and_a_limit(self):
+        for row in ROWS:
+            if row.kind == 2:
+                with self.subTest(row.input):
+                    settings = {"pretty": bool(row.layout), "links": bool(row.links), "limit": row.limit}
+                    found = outcome(html.write_json, row.input, kind="document", **settings)
+                    self.assertEqual(found, wanted(row))
+
     def test_a_short_buffer_stays(self):
         data = b'["el","p",[],[["text","a"]]]'
         output = ctypes.create_string_buffer(b"." * 22)
@@ -125,6 +136,9 @@ class Calls(unittest.TestCase):
         self.assertEqual(dead.links, (html.DeadLink(2, 7), html.DeadLink(5, (1 << 64) - 1)))
         self.assertEqual(dead.text, html.write(items, footnotes=footnotes))
         self.assertEqual((dead.span, str(dead)), (2, "links lead nowhere (2, the first at 2)"))
+        data = json.dumps({"items": items, "footnotes": footnotes})
+        self.assertEqual(outcome(html.write_json, data, kind="document", links=True), (dead.text, dead.links))
+        self.assertEqual(html.write_json(data, kind="document"), dead.text)
 
     def test_every_item(self):
         body = ["a", html.SPACE, html.BREAK, html.HOLE]
@@ -162,11 +176,65 @@ class Calls(unittest.TestCase):
             self.assertIs(outcome(html.write_tree, item), html.BadInput)
 
     def test_what_is_refused_for_its_type(self):
-        for words, call in refused.REFUSED:
-            with self.subTest(words):
+        for where, what, call in refused.REFUSED:
+            with self.subTest(where, what=what):
                 with self.assertRaises(html.BadInput) as caught:
                     call()
-                self.assertEqual(str(caught.exception), f"bad input: {words}")
+                bad = caught.exception
+                self.assertEqual((bad.where, bad.what), (where, what))
+                self.assertEqual(str(bad), f"bad input at {where}: {what}")
+
+    def test_where_a_part_has_no_json(self):
+        text, ring, deep = "\ud800", ["block", []], ["block", []]
+        ring[1].append(ring)
+        for _ in range(100_000):
+            deep = ["block", [deep]]
+        for where, call in (
+            ("Info(title)", lambda: html.write(["a"], info=Info(title=text))),
+            ("Info(keywords[1])", lambda: html.write(["a"], info=Info(keywords=["a", text]))),
+            ("write(items[2])", lambda: html.write(["a", "b", element("p", text)], footnotes=[text])),
+            ("write(footnotes[1])", lambda: html.write(["a", "b"], footnotes=["c", text])),
+            ("write(items[1])", lambda: html.write(["a", html.Node(["text", object()])])),
+            ("write(items[1])", lambda: html.write(["a", ring])),
+            ("write(items[1])", lambda: html.write(["a", deep])),
+            ("write_tree(root)", lambda: html.write_tree(text)),
+            ("write_json(data)", lambda: html.write_json(text)),
+            ("check(page)", lambda: html.check(text)),
+        ):
+            with self.subTest(where), self.assertRaises(html.BadInput) as caught:
+                call()
+            self.assertEqual(caught.exception.where, where)
+            self.assertTrue(caught.exception.what)
+
+    def test_where_the_library_tells(self):
+        for where, what, call in (
+            ("2", "a value is not what the form wants", lambda: html.write_json('[["space"],["text",1]]')),
+            ("line 2 column 2", "it is no JSON", lambda: html.write_json("[\n{}")),
+            ("2:3", "a byte that is no UTF-8", lambda: html.check(b"<p>\nab\xff")),
+        ):
+            with self.subTest(where), self.assertRaises(html.BadInput) as caught:
+                call()
+            self.assertEqual((caught.exception.where, caught.exception.what), (where, what))
+
+    def test_what_nothing_changes(self):
+        for error, change in refused.FIXED:
+            with self.subTest(error), self.assertRaises(error):
+                change()
+        self.assertEqual((html.WORDS[1], html.SPACE[0]), ("tag name must not be empty", "space"))
+
+    def test_failures_go_to_other_processes(self):
+        for failure in (
+            Refused(8, 21, html.Place(21, 2, 1)),
+            html.BadInput("an item is None", where="write(items[1])"),
+            html.BadInput(line=2, column=1),
+            html.BadInput("a byte that is no UTF-8", place=html.Place(0, 1, 1)),
+            html.DeadLinks("a", (html.DeadLink(2, 7),)),
+            html.OutOfMemory(),
+            html.OtherLibrary(),
+        ):
+            with self.subTest(failure):
+                found = pickle.loads(pickle.dumps(failure))
+                self.assertEqual((type(found), str(found), vars(found)), (type(failure), str(failure), vars(failure)))
 
     def test_attributes_and_items_of_each_type(self):
         texts = refused.taken()
@@ -290,6 +358,20 @@ class Calls(unittest.TestCase):
         failed, tried = doctest.testmod(html)
         self.assertGreater(tried, 4)
         self.assertEqual(failed, 0)
+        for name in html.__all__:
+            said = getattr(html, name)
+            if getattr(said, "__module__", "") == html.__name__:
+                with self.subTest(name):
+                    self.assertIn(">>> ", said.__doc__)
+
+    def test_examples_of_the_documents(self):
+        found = 0
+        for page in (BINDINGS / "README.md", BINDINGS.parent / "docs" / "GUIDE.md"):
+            for example in re.findall(r"^```python\n(.*?)^```$", page.read_text(), re.M | re.S):
+                with self.subTest(page.name), contextlib.redirect_stdout(io.StringIO()):
+                    exec(compile(example, str(page), "exec"), {})
+                found += 1
+        self.assertGreater(found, 1)
 
 
 if __name__ == "__main__":

@@ -11,12 +11,12 @@ a void element has a child (refusal 12 at 1) 12 1
 A document is a list of items. They are made by the functions `text`, `element`, `block`, `box`, `start` and
 `end` and the constants `SPACE`, `BREAK` and `HOLE`; a `str` where an item may stand is a text. Items are lists
 that JSON can hold, so others may make them, and `Node(["text", "a"])` is one for a checker of types. What is no item
-is refused where it is given:
+is refused where it is given, by `BadInput`, which has what is wrong and where:
 
->>> element("p", [element("b")])
+>>> element("p", "a", [element("b")])
 Traceback (most recent call last):
     ...
-typst_html_proved.BadInput: bad input: an item is a list of items: give each of them
+typst_html_proved.BadInput: bad input at element(body[1]): an item is a list of items: give each of them
 
 `mypy --strict` refuses what is refused for its type.
 
@@ -40,23 +40,41 @@ from __future__ import annotations
 
 import json
 from dataclasses import dataclass
-from typing import Any, Iterable, Iterator, Literal, Mapping, Sequence, Union, ValuesView
+from types import MappingProxyType
+from typing import Any, Final, Iterable, Iterator, Literal, Mapping, Sequence, Union, ValuesView, overload
 
-from ._library import VERSION, Reply, called
+from ._library import VERSION, Reply, Status, called
 
 __all__ = [
     "BREAK", "HOLE", "SPACE", "VERSION", "Attrs", "BadInput", "DeadFragment", "DeadLink", "DeadLinks", "Failure", "Findings",
-    "Info", "Item", "Items", "Kind", "Node", "OtherLibrary", "OutOfMemory", "Place", "Refused", "RepeatedId", "Texts",
-    "block", "box", "check", "element", "end", "start", "text", "write", "write_json", "write_tree",
+    "Info", "Item", "Items", "Kind", "Mark", "Node", "OtherLibrary", "OutOfMemory", "Place", "Refused", "RepeatedId", "Texts",
+    "WORDS", "block", "box", "check", "element", "end", "start", "text", "write", "write_json", "write_tree",
 ]  # fmt: skip
+
+__version__: Final = "0.1.0"
+"""The version of this package. `VERSION` is that of the library's calls."""
 
 
 class Node(list[object]):
-    """An item in a list, such as `["text", t]` or `["el", tag, [[name, value], ..], [item, ..]]`."""
+    """An item in a list, such as `["text", t]` or `["el", tag, [[name, value], ..], [item, ..]]`.
+
+    >>> write_tree(Node(["el", "p", [], [["text", "a"]]]))
+    '<!DOCTYPE html><p>a</p>'
+    """
 
 
-Item = Union[str, Node]
-"""An item: a text, or a list that spells one."""
+class Mark(tuple[object, ...]):
+    """An item without a body, which nothing changes: `SPACE`, `BREAK` or `HOLE`.
+
+    >>> element("p", "a", BREAK, "b")
+    ['el', 'p', [], [['text', 'a'], ('break',), ['text', 'b']]]
+    """
+
+    __slots__ = ()
+
+
+Item = Union[str, Node, Mark]
+"""An item: a text, or what spells one."""
 
 Items = Union[Sequence[Item], Iterator[Item], ValuesView[Item]]
 """Items in their order. A `str` is one text."""
@@ -70,16 +88,16 @@ Attrs = Union[Mapping[str, str], Iterable[tuple[str, str]]]
 Kind = Literal["tree", "items", "document"]
 """What JSON spells."""
 
-SPACE: Item = Node(["space"])
+SPACE: Final = Mark(["space"])
 """A space, as between two words."""
 
-BREAK: Item = Node(["break"])
+BREAK: Final = Mark(["break"])
 """A line break."""
 
-HOLE: Item = Node(["hole"])
+HOLE: Final = Mark(["hole"])
 """Something that has no place in HTML, and is left out."""
 
-WORDS = {
+WORDS: Final[Mapping[int, str]] = MappingProxyType({
     1: "tag name must not be empty",
     2: "a character is not valid in a tag name",
     3: "custom element name must start with a lowercase letter",
@@ -109,13 +127,17 @@ WORDS = {
     37: "an element of HTML would close svg or math",
     38: "a table hangs on a document type that is not known",
     39: "a token finds no place",
-}
+})
 """What is wrong, by the number of the refusal. Those of a page that is checked are 8 and those from 26 on."""
 
 
 @dataclass(frozen=True)
 class Place:
-    """A place in a page. As text it is `line:column`."""
+    """A place in a page. As text it is `line:column`.
+
+    >>> str(Place(offset=29, line=2, column=11))
+    '2:11'
+    """
 
     offset: int
     """How many bytes of the page, in UTF-8, stand before it."""
@@ -129,7 +151,14 @@ class Place:
 
 
 class Failure(Exception):
-    """There is no text, or none without dead links."""
+    """There is no text, or none without dead links. What the calls raise is one of these.
+
+    >>> try:
+    ...     write([element("p q")])
+    ... except Failure as failure:
+    ...     print(failure)
+    a character is not valid in a tag name (refusal 2 at 1)
+    """
 
     place: Place | None = None
     """Where, if a page that is checked is the reason."""
@@ -138,7 +167,19 @@ class Failure(Exception):
 class Refused(Failure):
     """What is to be written breaks a rule of HTML, or stands where it may not; or a page that is checked is not
     read: a browser would move nodes of it or make them a second time, it holds what no element can have here, or its
-    elements stand deeper than the limit."""
+    elements stand deeper than the limit.
+
+    >>> try:
+    ...     write(["a", element("br", "no")])
+    ... except Refused as refused:
+    ...     print(refused.number, refused.words, refused.span)
+    12 a void element has a child 2
+    >>> try:
+    ...     check("<table>\\n<p>1</p></table>")
+    ... except Refused as refused:
+    ...     print(refused.number, refused.words, refused.place)
+    32 a text or an element would be moved out of a table 2:1
+    """
 
     number: int
     """Which rule: a key of `WORDS`."""
@@ -162,8 +203,24 @@ class Refused(Failure):
 
 
 class BadInput(Failure, ValueError):
-    """The input spells nothing that can be written, or nests more than 127 lists; or a page that is checked is no
-    UTF-8. It says what is wrong where this package sees it, and else where the library does, if it says so."""
+    """An argument is wrong: it has another type or value than the call takes, or spells nothing that can be written,
+    or nests more than 127 lists; or a page that is checked is no UTF-8.
+
+    >>> try:
+    ...     write(["a", None])
+    ... except BadInput as bad:
+    ...     print(bad.where, "|", bad.what)
+    write(items[1]) | an item is None
+    >>> try:
+    ...     write_json('[["space"],["text",1]]')
+    ... except BadInput as bad:
+    ...     print(bad.where, "|", bad.what)
+    2 | a value is not what the form wants
+    """
+
+    where: str
+    """Where: the call and its argument, or a part of it, as `write(items[1])`. Where the library tells it, the line and
+    the column or the span in the JSON, or the place in the page; empty where it tells none."""
 
     span: int
     """Where the form is left: how many lists of items are opened in the JSON up to the first value that is not
@@ -176,20 +233,36 @@ class BadInput(Failure, ValueError):
     """The column there, in bytes from 1 on; where the JSON ends too soon, how long its last line is."""
 
     def __init__(
-        self, *words: object, span: int = 0, line: int = 0, column: int = 0, place: Place | None = None
+        self, *words: object, where: str = "", span: int = 0, line: int = 0, column: int = 0, place: Place | None = None
     ) -> None:
         super().__init__(*words)
         self.span, self.line, self.column, self.place = span, line, column, place
+        in_json = f"line {line} column {column}" if line else f"{span}" if span else ""
+        self.where = where or (str(place) if place else in_json)
+
+    @property
+    def what(self) -> str:
+        """What is wrong."""
+        told = "it is no JSON" if self.line else "a value is not what the form wants"
+        return ": ".join(map(str, self.args)) or told
 
     def __str__(self) -> str:
-        where = f" at line {self.line} column {self.column}" if self.line else f" at {self.span}" if self.span else ""
-        page = [] if self.place is None else [f"a byte that is no UTF-8 at {self.place}"]
-        return ": ".join(["bad input" + where, *map(str, self.args), *page])
+        if self.place:
+            return f"bad input: {self.what} at {self.where}"
+        at = f" at {self.where}" if self.where else ""
+        return f"bad input{at}: {self.what}" if self.args else f"bad input{at}"
 
 
 @dataclass(frozen=True)
 class DeadLink:
-    """A link that was to get the `href` of its destination, and leads nowhere."""
+    """A link that was to get the `href` of its destination, and leads nowhere.
+
+    >>> try:
+    ...     page = write([start(1, 7), element("a", "there"), end(1)], links=True)
+    ... except DeadLinks as dead:
+    ...     print(*dead.links)
+    DeadLink(span=2, destination=7)
+    """
 
     span: int
     """The number of its list in the JSON, counted as that of a refusal."""
@@ -199,7 +272,15 @@ class DeadLink:
 
 class DeadLinks(Failure):
     """Links were to get the `href` of their destination, and for some no place of the document is one. The text
-    is there all the same."""
+    is there all the same.
+
+    >>> try:
+    ...     page = write([start(1, 7), element("a", "there")], links=True)
+    ... except DeadLinks as dead:
+    ...     page = dead.text
+    >>> page.split("<body>")[1]
+    '<a>there</a></body></html>'
+    """
 
     text: str
     """The text, in which these links stand without an `href`."""
@@ -221,14 +302,22 @@ class DeadLinks(Failure):
 
 
 class OutOfMemory(Failure, MemoryError):
-    """An allocation failed."""
+    """An allocation failed. It is Python's `MemoryError` too.
+
+    >>> issubclass(OutOfMemory, MemoryError)
+    True
+    """
 
     def __str__(self) -> str:
         return "out of memory"
 
 
 class OtherLibrary(Failure):
-    """The library replies as none of this version does. (One that tells another version is not imported.)"""
+    """The library replies as none of this version does. (One that tells another version is not imported.)
+
+    >>> str(OtherLibrary())
+    'the library replies as none of version 6 does'
+    """
 
     def __str__(self) -> str:
         return f"the library replies as none of version {VERSION} does"
@@ -236,7 +325,12 @@ class OtherLibrary(Failure):
 
 @dataclass(frozen=True)
 class Info:
-    """What is known of a document, for its head."""
+    """What is known of a document, for its head.
+
+    >>> info = Info(title="Tides", authors=["Reed"], lang="de", region="AT")
+    >>> "<title>Tides</title>" in write([], info=info)
+    True
+    """
 
     title: str | None = None
     description: str | None = None
@@ -250,19 +344,23 @@ class Info:
     def members(self) -> dict[str, Any]:
         """What is known as the library reads it."""
         given = {
-            "title": _known("a title", self.title),
-            "description": _known("a description", self.description),
+            "title": _known("a title", self.title, "Info(title)"),
+            "description": _known("a description", self.description, "Info(description)"),
             "authors": _texts("authors", self.authors),
             "keywords": _texts("keywords", self.keywords),
-            "lang": _known("a language", self.lang),
-            "region": _known("a region", self.region) if self.lang is not None else None,
+            "lang": _known("a language", self.lang, "Info(lang)"),
+            "region": _known("a region", self.region, "Info(region)") if self.lang is not None else None,
         }
         return {name: value for name, value in given.items() if value is not None}
 
 
 @dataclass(frozen=True)
 class DeadFragment:
-    """A link to a fragment of its own page that leads nowhere."""
+    """A link to a fragment of its own page that leads nowhere.
+
+    >>> check("<a href=#salt>salt</a>").dead_fragments[0].fragment
+    'salt'
+    """
 
     path: tuple[int, ...]
     """The index of each child on the way to the link, from the root on, texts counted."""
@@ -274,7 +372,11 @@ class DeadFragment:
 
 @dataclass(frozen=True)
 class RepeatedId:
-    """An id that stands before in its page."""
+    """An id that stands before in its page.
+
+    >>> check("<p id=a></p>\\n<p id=a></p>").repeated_ids[0]
+    RepeatedId(path=(1, 2), id='a', place=Place(offset=13, line=2, column=1))
+    """
 
     path: tuple[int, ...]
     """The index of each child on the way to the element, from the root on, texts counted."""
@@ -286,7 +388,11 @@ class RepeatedId:
 
 @dataclass(frozen=True)
 class Findings:
-    """What is wrong with the links of a page, in order. It is false where nothing is."""
+    """What is wrong with the links of a page, in order. It is false where nothing is.
+
+    >>> bool(check("<p id=a><a href=#a>up</a>")), bool(check("<a href=#b>up</a>"))
+    (False, True)
+    """
 
     dead_fragments: Sequence[DeadFragment] = ()
     repeated_ids: Sequence[RepeatedId] = ()
@@ -295,7 +401,10 @@ class Findings:
         return bool(self.dead_fragments or self.repeated_ids)
 
 
-KINDS = ("text", "space", "break", "hole", "el", "block", "box", "start", "end")
+KINDS: Final = ("text", "space", "break", "hole", "el", "block", "box", "start", "end")
+
+
+# Checks of arguments. `where` is a place as `BadInput` tells it, in which `at` stands for `{}`.
 
 
 def _told(value: object) -> str:
@@ -303,73 +412,92 @@ def _told(value: object) -> str:
     return "None" if value is None else f"of type {type(value).__name__}"
 
 
-def _str(what: str, value: object) -> str:
+def _str(what: str, value: object, where: str, at: int = 0) -> str:
     if not isinstance(value, str):
-        raise BadInput(f"{what} is {_told(value)}, not a str")
+        raise BadInput(f"{what} is {_told(value)}, not a str", where=where.format(at))
     return value
 
 
-def _known(what: str, value: str | None) -> str | None:
-    return None if value is None else _str(what, value)
+def _known(what: str, value: str | None, where: str) -> str | None:
+    return None if value is None else _str(what, value, where)
 
 
-def _number(what: str, value: object, least: int, most: int) -> int:
+def _number(what: str, value: object, least: int, most: int, where: str) -> int:
     if not isinstance(value, int) or isinstance(value, bool):
-        raise BadInput(f"{what} is {_told(value)}, not an int")
+        raise BadInput(f"{what} is {_told(value)}, not an int", where=where)
     if not least <= value <= most:
-        raise BadInput(f"{what} is {value}, not from {least} to {most}")
+        raise BadInput(f"{what} is {value}, not from {least} to {most}", where=where)
     return value
 
 
-def _iterated(what: str, value: Any) -> Iterator[Any]:
+def _location(value: object, where: str) -> int:
+    return _number("a location", value, 0, (1 << 64) - 1, where)
+
+
+def _iterated(what: str, value: Any, where: str) -> Iterator[Any]:
     try:
         return iter(value)
     except TypeError:
-        raise BadInput(f"{what} are {_told(value)}") from None
+        raise BadInput(f"{what} are {_told(value)}", where=where) from None
 
 
 def _texts(what: str, texts: Texts) -> list[str]:
-    """A list of texts; one text alone is none, though its characters are texts."""
+    """A list of texts of an `Info`; one text alone is none, though its characters are texts."""
+    where = f"Info({what})"
     if isinstance(texts, str):
-        raise BadInput(f"{what} are one str, not a list of them")
-    return [_str(f"one of the {what}", one) for one in _iterated(what, texts)]
+        raise BadInput(f"{what} are one str, not a list of them", where=where)
+    each = enumerate(_iterated(what, texts, where))
+    return [_str(f"one of the {what}", one, f"Info({what}[{{}}])", at) for at, one in each]
 
 
-def _item(item: object) -> list[object]:
-    """The item as a list."""
+def _item(item: object, where: str, at: int = 0) -> Sequence[object]:
+    """The item as JSON can hold it."""
     if isinstance(item, str):
         return text(item)
-    if isinstance(item, Node):
+    if isinstance(item, (Node, Mark)):
         return item
     if not isinstance(item, (list, tuple)):
-        raise BadInput(f"an item is {_told(item)}")
+        raise BadInput(f"an item is {_told(item)}", where=where.format(at))
     if not item or not isinstance(item[0], str):
-        raise BadInput("an item is a list of items: give each of them")
+        raise BadInput("an item is a list of items: give each of them", where=where.format(at))
     if item[0] not in KINDS:
-        raise BadInput(f"an item is a list that begins with {item[0]!r}, which is no kind of item")
+        words = f"an item is a list that begins with {item[0]!r}, which is no kind of item"
+        raise BadInput(words, where=where.format(at))
     return list(item)
 
 
-def _listed(what: str, items: Items) -> list[list[object]]:
+def _items(items: Iterable[object], where: str) -> list[Sequence[object]]:
+    return [_item(item, where, at) for at, item in enumerate(items)]
+
+
+def _listed(what: str, items: Items) -> list[Sequence[object]]:
+    """The items or the footnotes of a document."""
+    where = f"write({what})"
     if isinstance(items, str):
         return [text(items)]
-    if isinstance(items, Node):
-        raise BadInput(f"{what} are one item, not a list of them")
+    if isinstance(items, (Node, Mark)):
+        raise BadInput(f"{what} are one item, not a list of them", where=where)
     if isinstance(items, Mapping):
-        raise BadInput(f"{what} are {_told(items)}")
-    return [_item(item) for item in _iterated(what, items)]
+        raise BadInput(f"{what} are {_told(items)}", where=where)
+    return _items(_iterated(what, items, where), f"write({what}[{{}}])")
 
 
-def _pair(pair: object) -> list[str]:
+def _pair(pair: object, at: int) -> list[str]:
+    """An attribute of an element."""
+    where = f"element(attrs[{at}])"
     if not isinstance(pair, (list, tuple)) or len(pair) != 2:
-        raise BadInput(f"an attribute is {_told(pair)}, not a pair of a name and a value")
+        raise BadInput(f"an attribute is {_told(pair)}, not a pair of a name and a value", where=where)
     name, value = pair
-    return [_str("the name of an attribute", name), _str(f"the value of the attribute {name!r}", value)]
+    return [_str("the name of an attribute", name, where), _str(f"the value of the attribute {name!r}", value, where)]
 
 
 def text(of: str) -> Node:
-    """A text, whatever is in it."""
-    return Node(["text", _str("a text", of)])
+    """A text, whatever is in it.
+
+    >>> write_tree(element("p", text("a < b")))
+    '<!DOCTYPE html><p>a &lt; b</p>'
+    """
+    return Node(["text", _str("a text", of, "text(of)")])
 
 
 def element(tag: str, *body: Item, attrs: Attrs = ()) -> Node:
@@ -380,62 +508,103 @@ def element(tag: str, *body: Item, attrs: Attrs = ()) -> Node:
     >>> element("p", attrs=["id"])
     Traceback (most recent call last):
         ...
-    typst_html_proved.BadInput: bad input: an attribute is of type str, not a pair of a name and a value
+    typst_html_proved.BadInput: bad input at element(attrs[0]): an attribute is of type str, not a pair of a name and a value
     """
-    pairs = attrs.items() if isinstance(attrs, Mapping) else _iterated("attributes", attrs)
-    return Node(["el", _str("a tag", tag), [_pair(pair) for pair in pairs], [_item(item) for item in body]])
+    pairs = attrs.items() if isinstance(attrs, Mapping) else _iterated("attributes", attrs, "element(attrs)")
+    listed = [_pair(pair, at) for at, pair in enumerate(pairs)]
+    return Node(["el", _str("a tag", tag, "element(tag)"), listed, _items(body, "element(body[{}])")])
 
 
 def block(*body: Item) -> Node:
-    """What stands in a block of its own."""
-    return Node(["block", [_item(item) for item in body]])
+    """What stands in a block of its own.
+
+    >>> write([block("a"), block("b")]).split("<body>")[1]
+    '<div>a</div><div>b</div></body></html>'
+    """
+    return Node(["block", _items(body, "block(body[{}])")])
 
 
 def box(*body: Item) -> Node:
-    """What stands in a box within a line."""
-    return Node(["box", [_item(item) for item in body]])
+    """What stands in a box within a line.
+
+    >>> write(["a", box("b")]).split("<body>")[1]
+    'a<span style="display: inline-block">b</span></body></html>'
+    """
+    return Node(["box", _items(body, "box(body[{}])")])
 
 
 def start(location: int, destination: int | None = None) -> Node:
-    """A location begins, and perhaps leads to another: links get its `href` where `write` resolves them."""
-    given = (location,) if destination is None else (location, destination)
-    return Node(["start", *(_number("a location", one, 0, (1 << 64) - 1) for one in given)])
+    """A location begins, and perhaps leads to another: links get its `href` where `write` resolves them.
+
+    >>> link = [start(1, 7), element("a", "there"), end(1)]
+    >>> write([*link, start(7), element("h2", "Here"), end(7)], links=True).split("<body>")[1]
+    '<a href="#loc-1">there</a><h2 id="loc-1">Here</h2></body></html>'
+    """
+    given = [_location(location, "start(location)")]
+    if destination is not None:
+        given.append(_location(destination, "start(destination)"))
+    return Node(["start", *given])
 
 
 def end(location: int) -> Node:
-    """The location ends."""
-    return Node(["end", _number("a location", location, 0, (1 << 64) - 1)])
+    """The location ends.
+
+    >>> end(7)
+    ['end', 7]
+    """
+    return Node(["end", _location(location, "end(location)")])
 
 
-def _spelled(value: Any) -> bytes:
-    """The value in JSON. A text with half of a surrogate pair has no UTF-8, so it is bad input."""
+def _spelled(value: Any, where: str, parts: Iterable[tuple[str, Any]] = ()) -> bytes:
+    """The value in JSON. A text with half of a surrogate pair has no UTF-8, so it is bad input, as what JSON cannot
+    hold is. Of parts, which have their places, the first that is none is told."""
     try:
         return json.dumps(value, ensure_ascii=False, separators=(",", ":")).encode()
-    except (TypeError, UnicodeEncodeError, RecursionError) as error:
-        raise BadInput(error) from error
+    except (TypeError, ValueError, RecursionError) as error:
+        for place, part in parts:
+            _spelled(part, place)
+        raise BadInput(error, where=where) from error
 
 
-def _bytes(data: bytes | str) -> bytes:
+def _parts(document: Mapping[str, Any]) -> Iterator[tuple[str, Any]]:
+    """The parts of a document, each with its place."""
+    for name, value in document.items():
+        where = f"write({name}" if name in ("items", "footnotes") else f"Info({name}"
+        if isinstance(value, list):
+            yield from ((f"{where}[{at}])", one) for at, one in enumerate(value))
+        else:
+            yield f"{where})", value
+
+
+def _bytes(data: bytes | str, where: str) -> bytes:
     try:
         return data.encode() if isinstance(data, str) else memoryview(data).tobytes()
     except (UnicodeEncodeError, TypeError) as error:
-        raise BadInput(error) from error
-
-
-DEAD_LINKS = 5
-"""The status of a text in which links lead nowhere."""
+        raise BadInput(error, where=where) from error
 
 
 def _text(made: tuple[Reply, bytes], of_page: bool = False) -> str:
     reply, output = made
-    if reply.status == 0:
+    if reply.status == Status.DONE:
         return output.decode()
     place = Place(reply.span, reply.line, reply.column) if of_page and reply.line else None
-    if reply.status == 1:
+    if reply.status == Status.REFUSED:
         raise Refused(reply.number, reply.span, place)
-    if reply.status == 2:
-        raise BadInput(place=place) if place else BadInput(span=reply.span, line=reply.line, column=reply.column)
-    raise OutOfMemory if reply.status == 3 else OtherLibrary
+    if reply.status == Status.BAD_INPUT and place:
+        raise BadInput("a byte that is no UTF-8", place=place)
+    if reply.status == Status.BAD_INPUT:
+        raise BadInput(span=reply.span, line=reply.line, column=reply.column)
+    raise OutOfMemory if reply.status == Status.OUT_OF_MEMORY else OtherLibrary
+
+
+def _document(data: bytes, pretty: bool, links: bool, limit: int) -> str:
+    """The text of the document that JSON spells, if its links lead."""
+    layout, resolved = int(bool(pretty)), int(bool(links))
+    made = called("typst_html_document", data, layout=layout, links=resolved, limit=limit)
+    if made[0].status != Status.DEAD_LINKS:
+        return _text(made)
+    listed = json.loads(_text(called("typst_html_dead_links", data, limit=limit)))["dead_links"]
+    raise DeadLinks(made[1].decode(), tuple(DeadLink(it["span"], it["destination"]) for it in listed))
 
 
 def write(
@@ -459,14 +628,11 @@ def write(
 
     Raises `Refused`, `BadInput`, `OutOfMemory` or `DeadLinks`.
     """
-    numbers = {"layout": int(bool(pretty)), "links": int(bool(links)), "limit": _number("the limit", limit, 1, 10_000)}
+    _number("the limit", limit, 1, 10_000, "write(limit)")
+    if not isinstance(info, Info):
+        raise BadInput(f"info is {_told(info)}, not an Info", where="write(info)")
     document = {**info.members(), "items": _listed("items", items), "footnotes": _listed("footnotes", footnotes)}
-    data = _spelled(document)
-    made = called("typst_html_document", data, **numbers)
-    if made[0].status != DEAD_LINKS:
-        return _text(made)
-    listed = json.loads(_text(called("typst_html_dead_links", data, limit=limit)))["dead_links"]
-    raise DeadLinks(made[1].decode(), tuple(DeadLink(it["span"], it["destination"]) for it in listed))
+    return _document(_spelled(document, "write(items)", _parts(document)), pretty, links, limit)
 
 
 def write_tree(root: Item, *, pretty: bool = False) -> str:
@@ -477,27 +643,52 @@ def write_tree(root: Item, *, pretty: bool = False) -> str:
 
     Raises `Refused`, `BadInput` or `OutOfMemory`.
     """
-    return write_json(_spelled(_item(root)), kind="tree", pretty=pretty)
+    return write_json(_spelled(_item(root, "write_tree(root)"), "write_tree(root)"), kind="tree", pretty=pretty)
 
 
-def write_json(data: bytes | str, *, kind: Kind = "items", pretty: bool = False) -> str:
+@overload
+def write_json(
+    data: bytes | str, *, kind: Literal["document"], pretty: bool = ..., links: bool = ..., limit: int = ...
+) -> str: ...
+
+
+@overload
+def write_json(data: bytes | str, *, kind: Kind = ..., pretty: bool = ...) -> str: ...
+
+
+def write_json(
+    data: bytes | str, *, kind: Kind = "items", pretty: bool = False, links: bool = False, limit: int = 50
+) -> str:
     """The text of what JSON spells: a `tree`, the `items` of a document, or a `document`, which is an object
     with the members `title`, `description`, `authors`, `keywords`, `lang`, `region`, `items` and `footnotes`, of
     which each may be left out, but for the `lang` of a `region`.
 
+    `links` and `limit` are for a `document`, and mean what they do for `write`. The bodies of `items` may stand 50 deep.
+
     >>> write_json('["el","br",[],[]]', kind="tree")
     '<!DOCTYPE html><br>'
+    >>> write_json('{"items":[["block",[["block",[]]]]]}', kind="document", limit=1)
+    Traceback (most recent call last):
+        ...
+    typst_html_proved.Refused: a body, or an element of a page, stands deeper than the limit (refusal 8 at 2)
 
-    Raises `Refused`, `BadInput` or `OutOfMemory`.
+    >>> try:
+    ...     write_json('{"items":[["start",1,7],["el","a",[],[]]]}', kind="document", links=True)
+    ... except DeadLinks as dead:
+    ...     print(dead)
+    links lead nowhere (1, the first at 2)
+
+    Raises `Refused`, `BadInput`, `OutOfMemory` or, with `links`, `DeadLinks`.
     """
-    data = _bytes(data)
-    layout = int(bool(pretty))
+    data = _bytes(data, "write_json(data)")
     if kind == "document":
-        return _text(called("typst_html_document", data, layout=layout, links=0, limit=50))
-    kinds = {"tree": 0, "items": 1}
-    if kind not in kinds:
-        raise BadInput(f"{kind!r} is no kind: tree, items or document")
-    return _text(called("typst_html_write", data, kind=kinds[kind], layout=layout))
+        return _document(data, pretty, links, _number("the limit", limit, 1, 10_000, "write_json(limit)"))
+    if kind not in ("tree", "items"):
+        raise BadInput(f"{kind!r} is no kind: tree, items or document", where="write_json(kind)")
+    if links or limit != 50:
+        given, are = ("links", "are") if links else ("limit", "is")
+        raise BadInput(f"the {given} of a document {are} given for kind {kind!r}", where=f"write_json({given})")
+    return _text(called("typst_html_write", data, kind=int(kind == "items"), layout=int(bool(pretty))))
 
 
 def _paths(found: list[dict[str, Any]]) -> Iterator[tuple[int, ...]]:
@@ -531,8 +722,8 @@ def check(page: bytes | str, *, limit: int = 50) -> Findings:
 
     Raises `Refused`, `BadInput` or `OutOfMemory`.
     """
-    limit = _number("the limit", limit, 1, 1_000)
-    found = json.loads(_text(called("typst_html_check", _bytes(page), limit=limit), of_page=True))
+    _number("the limit", limit, 1, 1_000, "check(limit)")
+    found = json.loads(_text(called("typst_html_check", _bytes(page, "check(page)"), limit=limit), of_page=True))
     dead, repeated = found["dead_fragments"], found["repeated_ids"]
     return Findings(
         tuple(DeadFragment(path, it["fragment"], _place(it)) for path, it in zip(_paths(dead), dead)),

@@ -4,17 +4,30 @@ from __future__ import annotations
 
 import ctypes
 import os
+from enum import IntEnum
 from pathlib import Path
-from typing import Any
+from types import MappingProxyType
+from typing import Any, Final, Mapping
 
-NAME = "libtypst_html.so"
+NAME: Final = "libtypst_html.so"
 
-VERSION = 6
+VERSION: Final = 6
 """The version of the library's calls that this package was made for."""
 
 
-class Reply(ctypes.Structure):
+class Status(IntEnum):
     """How a call ended."""
+
+    DONE = 0
+    REFUSED = 1
+    BAD_INPUT = 2
+    OUT_OF_MEMORY = 3
+    TOO_SHORT = 4
+    DEAD_LINKS = 5
+
+
+class Reply(ctypes.Structure):
+    """What a call tells: its status, which may be none of `Status` where the library is another, and where."""
 
     _fields_ = [
         ("length", ctypes.c_size_t),
@@ -26,7 +39,7 @@ class Reply(ctypes.Structure):
     ]
 
 
-DECLARED: dict[str, tuple[Any, dict[str, Any]]] = {
+DECLARED: Final[Mapping[str, tuple[Any, dict[str, Any]]]] = MappingProxyType({
     "typst_html_version": (ctypes.c_uint32, {}),
     "typst_html_write": (Reply, {
         "kind": ctypes.c_uint8, "layout": ctypes.c_uint8, "input": ctypes.c_char_p, "length": ctypes.c_size_t,
@@ -44,11 +57,11 @@ DECLARED: dict[str, tuple[Any, dict[str, Any]]] = {
         "limit": ctypes.c_uint32, "page": ctypes.c_char_p, "length": ctypes.c_size_t,
         "output": ctypes.c_void_p, "room": ctypes.c_size_t,
     }),
-}  # fmt: skip
+})  # fmt: skip
 """What each call gives, and what it takes, by name and in order."""
 
 
-def _path() -> Path:
+def library_path() -> Path:
     """The library in the folder that TYPST_HTML_LIB names, else beside this file, else as it is built."""
     here = Path(__file__).resolve().parent
     if "TYPST_HTML_LIB" in os.environ:
@@ -58,16 +71,21 @@ def _path() -> Path:
 
 
 def _loaded() -> ctypes.CDLL:
-    library = ctypes.CDLL(str(_path()))
+    """The library, with its calls declared. Where it is missing or another, this package is not imported."""
+    path = library_path()
+    try:
+        library = ctypes.CDLL(str(path))
+    except OSError as error:
+        raise ImportError(f"{error} (bindings/build makes the library, and each wheel has it)") from error
+    if (version := library.typst_html_version()) != VERSION:
+        raise ImportError(f"{path} has version {version}, not {VERSION}")
     for name, (gives, takes) in DECLARED.items():
         call = getattr(library, name)
         call.restype, call.argtypes = gives, list(takes.values())
-    if library.typst_html_version() != VERSION:
-        raise ImportError(f"{_path()} has version {library.typst_html_version()}, not {VERSION}")
     return library
 
 
-LIBRARY = _loaded()
+LIBRARY: Final = _loaded()
 
 
 def called(name: str, data: bytes, **numbers: int) -> tuple[Reply, bytes]:
@@ -78,6 +96,6 @@ def called(name: str, data: bytes, **numbers: int) -> tuple[Reply, bytes]:
         output = ctypes.create_string_buffer(room)
         given = {**numbers, "input": data, "page": data, "length": len(data), "output": output, "room": room}
         reply = call(*(given[one] for one in takes))
-        if reply.status != 4 or reply.length <= room:
+        if reply.status != Status.TOO_SHORT or reply.length <= room:
             return reply, output.raw[: reply.length] if reply.length < room else output.raw
         room = reply.length
