@@ -1,4 +1,4 @@
-"""What a caller in Python sees of the library."""
+"""What a caller in Python sees of the library. The package that is installed is tested, or that in PYTHONPATH."""
 
 import contextlib
 import ctypes
@@ -15,7 +15,7 @@ from concurrent.futures import ThreadPoolExecutor
 from pathlib import Path
 
 BINDINGS = Path(__file__).resolve().parents[2]
-sys.path[:0] = [str(BINDINGS), str(BINDINGS / "python"), str(BINDINGS / "python" / "tests")]
+sys.path.append(str(BINDINGS))
 
 import refused  # noqa: E402
 import rows  # noqa: E402
