@@ -1,7 +1,8 @@
 //! What is found in a site.
 
+use examples_links_files::NotGiven;
 use std::alloc::{AllocError, Global};
-use std::{fmt, io};
+use std::fmt;
 use typst_html::{PageFault, Place};
 
 /// A page that is not read, or a folder that the system does not give.
@@ -17,17 +18,19 @@ pub struct Unread {
     pub reason: String,
 }
 
-impl Unread {
-    /// What the system does not give.
-    pub fn by_system(alloc: Global, path: &str, error: &io::Error) -> Result<Unread, AllocError> {
-        Ok(Unread {
-            file: String::from_str(alloc, path)?,
+/// What the system does not give.
+impl From<NotGiven> for Unread {
+    fn from(NotGiven { path, reason }: NotGiven) -> Unread {
+        Unread {
+            file: path,
             place: None,
             number: None,
-            reason: format!(in alloc; "{error}")?,
-        })
+            reason,
+        }
     }
+}
 
+impl Unread {
     /// A page that is not read as a browser reads it.
     pub fn by_fault(alloc: Global, path: &str, fault: &PageFault) -> Result<Unread, AllocError> {
         let (place, reason) = match fault {

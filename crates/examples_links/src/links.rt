@@ -1,6 +1,6 @@
 //! The links of a page.
 
-use crate::address::{cleaned, is_external, scheme_of};
+use examples_links_files::{cleaned, is_external, scheme_of};
 use std::alloc::{AllocError, Global};
 use typst_html::{HtmlElement, HtmlNode, Place, Places, attr};
 

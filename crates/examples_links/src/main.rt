@@ -59,23 +59,20 @@
 //! that exists, and 3 where a page or a folder is not read, or the report cannot be written.
 #![tactic(auto)]
 
-mod address;
-mod files;
 mod finding;
 mod links;
 mod page;
-mod paths;
+mod pages;
 mod report;
 mod site;
 mod words;
 
 use anyhow::{Context, Result};
+use examples_links_files::inputs_of;
 use report::write_report;
 use site::{check_site, read_site};
-use std::env;
-use std::io::ErrorKind;
 use std::process::ExitCode;
-use words::{command, inputs_of};
+use words::{command, given_words};
 
 /// The status where the words are wrong or name nothing that exists.
 const WRONG_WORDS: u8 = 2;
@@ -95,13 +92,8 @@ fn main(rt: HostRuntime) -> ExitCode {
 
 /// Reads the words, and checks the site. Words that are no UTF-8 are wrong. The answer is the status.
 fn run(rt: &HostRuntime) -> Result<ExitCode> {
-    let words: Vec<String> = match env::args(rt) {
-        Ok(words) => words.collect(rt.alloc())?,
-        Err(error) if error.kind() == ErrorKind::InvalidData => {
-            eprintln!(rt; "a word is no UTF-8")?;
-            return Ok(ExitCode::from(WRONG_WORDS));
-        }
-        Err(error) => return Err(error.into()),
+    let Some(words) = given_words(rt)? else {
+        return Ok(ExitCode::from(WRONG_WORDS));
     };
     match command(rt.alloc())?.try_get_matches_from(&words) {
         Ok(matches) => {
@@ -123,8 +115,8 @@ fn check(rt: &HostRuntime, paths: &[&str], root: Option<&str>, is_json: bool) ->
     };
     let site = read_site(rt, &inputs)?;
     let findings = check_site(rt, &site)?;
-    write_report(rt, &site, &findings, is_json).context("standard output")?;
-    Ok(if !site.unread.is_empty() {
+    write_report(rt, &site.pages, &findings, is_json).context("standard output")?;
+    Ok(if !site.pages.unread.is_empty() {
         ExitCode::from(NOT_READ)
     } else if findings.is_empty() {
         ExitCode::SUCCESS

@@ -1,7 +1,7 @@
 //! What the program writes.
 
 use crate::finding::{Finding, Unread};
-use crate::site::Site;
+use crate::pages::Pages;
 use anyhow::Result;
 use serde_json::{Value, json};
 use std::alloc::{AllocError, Global};
@@ -11,16 +11,16 @@ use std::io::{BufWriter, Write};
 /// Writes what was found in a site to standard output: as one JSON object, or as lines for people.
 pub fn write_report(
     rt: &HostRuntime,
-    site: &Site<'_>,
+    pages: &Pages,
     findings: &[Finding<'_>],
     is_json: bool,
 ) -> Result<()> {
     let mut output = BufWriter::new(rt.alloc(), io::writer(rt))?;
     if is_json {
-        let object = object(rt.alloc(), site, findings)?.to_string(rt.alloc())?;
+        let object = object(rt.alloc(), pages, findings)?.to_string(rt.alloc())?;
         writeln!(output, "{object}")?;
     } else {
-        write_lines(&mut output, site, findings)?;
+        write_lines(&mut output, pages, findings)?;
     }
     output.flush()?;
     Ok(())
@@ -29,19 +29,27 @@ pub fn write_report(
 /// Writes a line for each page that is not read, each finding, and the whole.
 fn write_lines<W: Write>(
     output: &mut W,
-    site: &Site<'_>,
+    pages: &Pages,
     findings: &[Finding<'_>],
 ) -> io::Result<()> {
-    for unread in &site.unread {
+    for unread in &pages.unread {
         writeln!(output, "{unread}")?;
     }
     for finding in findings {
         writeln!(output, "{finding}")?;
     }
-    let (pages, found) = (site.count, findings.len());
+    write_counts(output, pages.count, pages.unread.len(), findings.len())
+}
+
+/// Writes how many pages there are, how many of them are not read, and how much is found.
+fn write_counts<W: Write>(
+    output: &mut W,
+    pages: usize,
+    unread: usize,
+    found: usize,
+) -> io::Result<()> {
     let pages_word = if pages == 1 { "page" } else { "pages" };
     let found_word = if found == 1 { "finding" } else { "findings" };
-    let unread = site.unread.len();
     if unread > 0 {
         writeln!(
             output,
@@ -53,20 +61,30 @@ fn write_lines<W: Write>(
 }
 
 /// The JSON object of a report.
-fn object(alloc: Global, site: &Site<'_>, findings: &[Finding<'_>]) -> Result<Value, AllocError> {
-    let mut all_unread = Vec::new(alloc);
-    for unread in &site.unread {
-        all_unread.push(unread_object(alloc, unread)?)?;
-    }
-    let mut all_found = Vec::new(alloc);
-    for finding in findings {
-        all_found.push(finding_object(alloc, finding)?)?;
-    }
+fn object(alloc: Global, pages: &Pages, findings: &[Finding<'_>]) -> Result<Value, AllocError> {
+    let unread = unread_objects(alloc, &pages.unread)?;
+    let findings = finding_objects(alloc, findings)?;
     json!(in alloc; {
-        "pages": site.count,
-        "unread": all_unread,
-        "findings": all_found
+        "pages": pages.count,
+        "unread": unread,
+        "findings": findings
     })
+}
+
+fn unread_objects(alloc: Global, all_unread: &[Unread]) -> Result<Vec<Value>, AllocError> {
+    let mut objects = Vec::new(alloc);
+    for unread in all_unread {
+        objects.push(unread_object(alloc, unread)?)?;
+    }
+    Ok(objects)
+}
+
+fn finding_objects(alloc: Global, findings: &[Finding<'_>]) -> Result<Vec<Value>, AllocError> {
+    let mut objects = Vec::new(alloc);
+    for finding in findings {
+        objects.push(finding_object(alloc, finding)?)?;
+    }
+    Ok(objects)
 }
 
 fn unread_object(alloc: Global, unread: &Unread) -> Result<Value, AllocError> {

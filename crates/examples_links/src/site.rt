@@ -1,91 +1,55 @@
-//! A site: its files, and its pages as they were read.
+//! A site, and what is wrong in it.
 
-use crate::address::{fragment_of, is_external, spot_of};
-use crate::files::{Entry, Files, Found};
-use crate::finding::{Finding, Kind, Unread};
+use crate::finding::{Finding, Kind};
 use crate::links::Link;
 use crate::page::Page;
-use crate::paths::{Spot, system_path};
-use crate::words::Input;
+use crate::pages::Pages;
 use anyhow::Result;
+use examples_links_files::{
+    Entry, Files, Found, Input, Listing, Spot, fragment_of, is_external, spot_of,
+};
 use std::alloc::{AllocError, Global};
-use std::collections::BTreeMap;
-use std::{fs, mem};
 use typst_html::fragment_leads;
-
-/// After how many pages it is told how many are read.
-const MANY: usize = 500;
 
 /// A site whose pages were read.
 #[derive(Drop)]
 pub struct Site<'a> {
     alloc: Global,
     files: Files<'a>,
-    /// The pages that were read, by path.
-    pages: BTreeMap<String, Page>,
-    /// The pages and folders that were not.
-    pub unread: Vec<Unread>,
-    /// How many pages there are.
-    pub count: usize,
+    /// Its pages.
+    pub pages: Pages,
 }
 
 /// Reads the pages that are named, and those of the folders that are. At each 500th it tells how many
 /// are read.
 pub fn read_site<'a>(rt: &HostRuntime, inputs: &'a [Input]) -> Result<Site<'a>> {
     let alloc = rt.alloc();
-    let mut files = Files::new(alloc);
-    for input in inputs {
-        files.add(rt, input)?;
-    }
-    let mut unread = mem::replace(&mut files.unread, Vec::new(alloc));
-    let mut pages = BTreeMap::new(alloc);
-    let mut count = 0usize;
+    let Listing {
+        files,
+        not_given,
+        ..
+    } = Listing::of(rt, inputs)?;
+    let mut pages = Pages::new(alloc, not_given)?;
     for (path, entry) in files.entries() {
-        if !matches!(entry, Entry::Page { .. }) {
-            continue;
-        }
-        match read_page(rt, path.as_str())? {
-            Ok(page) => {
-                pages.insert(path.clone()?, page)?;
-            }
-            Err(fault) => unread.push(fault)?,
-        }
-        count = count.saturating_add(1);
-        if count % MANY == 0 {
-            eprintln!(rt; "{count} pages read")?;
+        if matches!(entry, Entry::Page { .. }) {
+            pages.add(rt, path.as_str())?;
         }
     }
     Ok(Site {
         alloc,
         files,
         pages,
-        unread,
-        count,
     })
 }
 
-/// A page, or why it is not read.
-fn read_page(rt: &HostRuntime, path: &str) -> Result<Result<Page, Unread>, AllocError> {
-    let alloc = rt.alloc();
-    let bytes = match fs::read(rt, system_path(path)) {
-        Ok(bytes) => bytes,
-        Err(error) => return Ok(Err(Unread::by_system(alloc, path, &error)?)),
-    };
-    match Page::read(alloc, &bytes) {
-        Ok(page) => Ok(Ok(page)),
-        Err(fault) => Ok(Err(Unread::by_fault(alloc, path, &fault)?)),
-    }
-}
-
 /// What is wrong in a site, by file and place.
-pub fn check_site<'a>(rt: &HostRuntime, site: &'a Site<'_>) -> Result<Vec<Finding<'a>>> {
+pub fn check_site<'a>(
+    rt: &HostRuntime,
+    site: &'a Site<'_>,
+) -> Result<Vec<Finding<'a>>, AllocError> {
     let mut findings = Vec::new(site.alloc);
-    for (path, page) in &site.pages {
-        let mut own = Vec::new(site.alloc);
-        site.add_repeated(path.as_str(), page, &mut own)?;
-        site.add_links(rt, path.as_str(), page, &mut own)?;
-        own.sort_by_key(|finding: &Finding<'_>| finding.place.offset)?;
-        for finding in own {
+    for (path, page) in &site.pages.read {
+        for finding in site.findings_in(rt, path.as_str(), page)? {
             findings.push(finding)?;
         }
     }
@@ -93,6 +57,20 @@ pub fn check_site<'a>(rt: &HostRuntime, site: &'a Site<'_>) -> Result<Vec<Findin
 }
 
 impl Site<'_> {
+    /// What is wrong in a page, by place.
+    fn findings_in<'a>(
+        &'a self,
+        rt: &HostRuntime,
+        file: &'a str,
+        page: &'a Page,
+    ) -> Result<Vec<Finding<'a>>, AllocError> {
+        let mut findings = Vec::new(self.alloc);
+        self.add_repeated(file, page, &mut findings)?;
+        self.add_links(rt, file, page, &mut findings)?;
+        findings.sort_by_key(|finding: &Finding<'_>| finding.place.offset)?;
+        Ok(findings)
+    }
+
     /// Adds the ids of a page that stand before.
     fn add_repeated<'a>(
         &'a self,
@@ -183,7 +161,7 @@ impl Site<'_> {
         mut path: String,
         address: &str,
     ) -> Result<Option<(Kind, String)>, AllocError> {
-        let Some(page) = self.pages.get(path.as_str()) else {
+        let Some(page) = self.pages.read.get(path.as_str()) else {
             return Ok(None);
         };
         let Some(fragment) = fragment_of(address) else {

@@ -1,92 +1,51 @@
 //! The words of the command line.
 
-use crate::paths::{Way, folder_of};
 use anyhow::Result;
 use clap::{Arg, ArgAction, Command};
-use std::alloc::{AllocError, Global};
-use std::fs;
+use std::alloc::Global;
+use std::env;
+use std::io::ErrorKind;
+
+/// The words that are given, or nothing where one is no UTF-8, which is told.
+pub fn given_words(rt: &HostRuntime) -> Result<Option<Vec<String>>> {
+    match env::args(rt) {
+        Ok(words) => Ok(Some(words.collect(rt.alloc())?)),
+        Err(error) if error.kind() == ErrorKind::InvalidData => {
+            eprintln!(rt; "a word is no UTF-8")?;
+            Ok(None)
+        }
+        Err(error) => Err(error.into()),
+    }
+}
 
 /// The words that the program takes.
 pub fn command<'a>(alloc: Global) -> Result<Command<'a>> {
-    let paths = Arg::new(alloc, "PATH")
-        .required(true)
-        .num_args(1..)
-        .action(ArgAction::Append)
-        .help("A page, or a folder of pages");
-    let root = Arg::new(alloc, "root")
-        .long("root")
-        .value_name("FOLDER")
-        .help("The folder from which links lead that begin with /");
-    let json = Arg::new(alloc, "json")
-        .long("json")
-        .action(ArgAction::SetTrue)
-        .help("Writes one JSON object in place of lines for people");
     let command = Command::new(alloc, "examples_links")
         .about("Tells of links in written pages that lead nowhere, and of ids that come twice")
-        .arg(paths)?
-        .arg(root)?
-        .arg(json)?;
+        .arg(paths(alloc))?
+        .arg(root(alloc))?
+        .arg(json(alloc))?;
     Ok(command)
 }
 
-/// A page or a folder that is named.
-#[derive(Drop)]
-pub struct Input {
-    /// Its path.
-    pub path: String,
-    /// Whether it is a folder.
-    pub is_folder: bool,
-    /// The folder from which links lead that begin with `/`.
-    pub root: String,
+fn paths<'a>(alloc: Global) -> Arg<'a> {
+    Arg::new(alloc, "PATH")
+        .required(true)
+        .num_args(1..)
+        .action(ArgAction::Append)
+        .help("A page, or a folder of pages")
 }
 
-/// What is named, or nothing where some of it does not exist, which is told. `root` is the folder from
-/// which links lead that begin with `/`, where one is named.
-pub fn inputs_of(
-    rt: &HostRuntime,
-    words: &[&str],
-    root: Option<&str>,
-) -> Result<Option<Vec<Input>>> {
-    let mut inputs = Vec::new(rt.alloc());
-    let mut all_exist = match root {
-        Some(root) => kind_of(rt, root)?.is_some(),
-        None => true,
-    };
-    for word in words {
-        match kind_of(rt, word)? {
-            Some(is_folder) => inputs.push(made_input(rt.alloc(), word, is_folder, root)?)?,
-            None => all_exist = false,
-        }
-    }
-    Ok(if all_exist { Some(inputs) } else { None })
+fn root<'a>(alloc: Global) -> Arg<'a> {
+    Arg::new(alloc, "root")
+        .long("root")
+        .value_name("FOLDER")
+        .help("The folder from which links lead that begin with /")
 }
 
-/// Whether a folder is at a path; nothing where it does not exist, which is told.
-fn kind_of(rt: &HostRuntime, word: &str) -> Result<Option<bool>> {
-    match fs::metadata(rt, word) {
-        Ok(metadata) => Ok(Some(metadata.is_dir())),
-        Err(error) => {
-            eprintln!(rt; "{word}: {error}")?;
-            Ok(None)
-        }
-    }
-}
-
-fn made_input(
-    alloc: Global,
-    word: &str,
-    is_folder: bool,
-    root: Option<&str>,
-) -> Result<Input, AllocError> {
-    let path = Way::new(alloc, word)?.into_path(alloc)?;
-    let root = match root {
-        Some(root) => Way::new(alloc, root)?.into_path(alloc)?,
-        None if is_folder => path.clone()?,
-        None => String::from_str(alloc, folder_of(path.as_str()))?,
-    };
-    Ok(Input {
-        path,
-        is_folder,
-        root,
-    })
+fn json<'a>(alloc: Global) -> Arg<'a> {
+    Arg::new(alloc, "json")
+        .long("json")
+        .action(ArgAction::SetTrue)
+        .help("Writes one JSON object in place of lines for people")
 }

@@ -1,0 +1,141 @@
+//! The files of a site.
+
+use crate::paths::{Spot, path_in, system_path};
+use std::alloc::{AllocError, Global};
+use std::collections::BTreeMap;
+use std::io::ErrorKind;
+use std::{fs, io};
+
+/// What is at a path.
+#[derive(Clone, Copy)]
+pub enum Entry<'a> {
+    /// A page, and the folder from which its links lead that begin with `/`.
+    Page {
+        /// That folder.
+        root: &'a str,
+    },
+    /// Another file.
+    File,
+    /// A folder.
+    Folder,
+}
+
+/// What is found where a link leads.
+#[derive(Drop)]
+pub enum Found {
+    /// The page at that path.
+    Page(String),
+    /// A file that is no page.
+    File,
+    /// Nothing, but something at that path, which differs in case alone.
+    OtherCase(String),
+    /// Nothing, and this path is missing.
+    Nothing(String),
+}
+
+/// The files of a site.
+#[derive(Drop)]
+pub struct Files<'a> {
+    alloc: Global,
+    entries: BTreeMap<String, Entry<'a>>,
+    /// For each path in small letters, the first that is there.
+    by_small: BTreeMap<String, String>,
+}
+
+impl<'a> Files<'a> {
+    /// No files.
+    pub(crate) fn new(alloc: Global) -> Files<'a> {
+        Files {
+            alloc,
+            entries: BTreeMap::new(alloc),
+            by_small: BTreeMap::new(alloc),
+        }
+    }
+
+    /// All files, by path.
+    pub fn entries(&self) -> &BTreeMap<String, Entry<'a>> {
+        &self.entries
+    }
+
+    /// Adds what is at a path. A page stays one.
+    pub(crate) fn put(&mut self, path: String, entry: Entry<'a>) -> Result<(), AllocError> {
+        if matches!(self.entries.get(path.as_str()), Some(Entry::Page { .. })) {
+            return Ok(());
+        }
+        self.put_small(path.as_str())?;
+        self.entries.insert(path, entry)?;
+        Ok(())
+    }
+
+    /// Adds a path by its small letters, where no other that has them comes before it.
+    fn put_small(&mut self, path: &str) -> Result<(), AllocError> {
+        let small = path.to_lowercase(self.alloc)?;
+        let is_first = match self.by_small.get(small.as_str()) {
+            Some(other) => path < other.as_str(),
+            None => true,
+        };
+        if is_first {
+            self.by_small
+                .insert(small, String::from_str(self.alloc, path)?)?;
+        }
+        Ok(())
+    }
+
+    /// What is found where a link leads.
+    pub fn find(&self, rt: &HostRuntime, spot: Spot) -> Result<Found, AllocError> {
+        let Spot { path, is_folder } = spot;
+        match self.entry(rt, path.as_str())? {
+            Some(Entry::Folder) => self.find_index(rt, path.as_str()),
+            Some(_) if is_folder => Ok(Found::Nothing(format!(in self.alloc; "{path}/")?)),
+            Some(Entry::Page { .. }) => Ok(Found::Page(path)),
+            Some(Entry::File) => Ok(Found::File),
+            None => self.in_other_case(path),
+        }
+    }
+
+    /// The page that stands for a folder.
+    fn find_index(&self, rt: &HostRuntime, folder: &str) -> Result<Found, AllocError> {
+        for name in ["index.html", "index.htm"] {
+            let path = path_in(self.alloc, folder, name)?;
+            match self.entry(rt, path.as_str())? {
+                Some(Entry::Page { .. }) => return Ok(Found::Page(path)),
+                Some(Entry::File) => return Ok(Found::File),
+                Some(Entry::Folder) | None => {}
+            }
+        }
+        self.in_other_case(path_in(self.alloc, folder, "index.html")?)
+    }
+
+    /// What is at a path, in the folders that are named or elsewhere.
+    fn entry(&self, rt: &HostRuntime, path: &str) -> Result<Option<Entry<'a>>, AllocError> {
+        if let Some(entry) = self.entries.get(path) {
+            return Ok(Some(*entry));
+        }
+        if self.other_case(path)?.is_some() {
+            return Ok(None); // where the system does not tell cases apart, it would say that it is there
+        }
+        Ok(entry_elsewhere(fs::metadata(rt, system_path(path))))
+    }
+
+    fn other_case(&self, path: &str) -> Result<Option<&String>, AllocError> {
+        let small = path.to_lowercase(self.alloc)?;
+        Ok(self.by_small.get(small.as_str()))
+    }
+
+    fn in_other_case(&self, path: String) -> Result<Found, AllocError> {
+        match self.other_case(path.as_str())? {
+            Some(there) => Ok(Found::OtherCase(there.clone()?)),
+            None => Ok(Found::Nothing(path)),
+        }
+    }
+}
+
+/// What is at a path by its metadata. Where the system refuses them, a file may be there.
+fn entry_elsewhere<'a>(metadata: io::Result<fs::Metadata>) -> Option<Entry<'a>> {
+    match metadata {
+        Ok(metadata) if metadata.is_dir() => Some(Entry::Folder),
+        Ok(_) => Some(Entry::File),
+        Err(error) if error.kind() == ErrorKind::PermissionDenied => Some(Entry::File),
+        Err(_) => None,
+    }
+}

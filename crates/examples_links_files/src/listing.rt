@@ -1,0 +1,174 @@
+//! How the files of a site are listed.
+
+use crate::files::{Entry, Files};
+use crate::inputs::Input;
+use crate::paths::{folder_of, path_in, system_path};
+use std::alloc::{AllocError, Global};
+use std::collections::BTreeSet;
+use std::fs::{DirEntry, ReadDir};
+use std::{fs, io};
+
+/// What the system does not give.
+#[derive(Drop)]
+pub struct NotGiven {
+    /// Its path.
+    pub path: String,
+    /// Why.
+    pub reason: String,
+}
+
+impl NotGiven {
+    /// What is at a path, by the system's error.
+    pub fn new(alloc: Global, path: &str, error: &io::Error) -> Result<NotGiven, AllocError> {
+        Ok(NotGiven {
+            path: String::from_str(alloc, path)?,
+            reason: format!(in alloc; "{error}")?,
+        })
+    }
+}
+
+/// What the folders hold that are named, or in which pages are that are named.
+#[derive(Drop)]
+pub struct Listing<'a> {
+    alloc: Global,
+    /// The files.
+    pub files: Files<'a>,
+    /// The folders that the system does not give, of those whose pages are wanted.
+    pub not_given: Vec<NotGiven>,
+    /// The folders of pages that are named, which are listed.
+    listed: BTreeSet<&'a str>,
+    /// The folders that are still to be listed.
+    left: Vec<String>,
+}
+
+impl<'a> Listing<'a> {
+    /// What is named: a page, with the files beside it, or all that is in a folder.
+    pub fn of(rt: &HostRuntime, inputs: &'a [Input]) -> Result<Listing<'a>, AllocError> {
+        let alloc = rt.alloc();
+        let mut listing = Listing {
+            alloc,
+            files: Files::new(alloc),
+            not_given: Vec::new(alloc),
+            listed: BTreeSet::new(alloc),
+            left: Vec::new(alloc),
+        };
+        for input in inputs {
+            listing.add(rt, input)?;
+        }
+        Ok(listing)
+    }
+
+    fn add(&mut self, rt: &HostRuntime, input: &'a Input) -> Result<(), AllocError> {
+        let root = input.root.as_str();
+        if input.is_folder {
+            self.left.push(input.path.clone()?)?;
+            self.add_left(rt, root)
+        } else {
+            self.files.put(input.path.clone()?, Entry::Page { root })?;
+            self.add_beside(rt, folder_of(input.path.as_str()))
+        }
+    }
+
+    /// Adds the files beside a page, in a folder that may be listed.
+    fn add_beside(&mut self, rt: &HostRuntime, folder: &'a str) -> Result<(), AllocError> {
+        if self.listed.insert(folder)? {
+            self.add_folder(rt, folder, None)?;
+        }
+        Ok(())
+    }
+
+    /// Adds the folders that are left, and all that is in them, at any depth.
+    fn add_left(&mut self, rt: &HostRuntime, root: &'a str) -> Result<(), AllocError> {
+        for _ in 0..u64::MAX {
+            let Some(folder) = self.left.pop() else {
+                break;
+            };
+            self.add_folder(rt, folder.as_str(), Some(root))?;
+            self.files.put(folder, Entry::Folder)?;
+        }
+        Ok(())
+    }
+
+    /// Adds what is right in a folder. Where a root is given, files are pages by their names, and folders
+    /// are to be listed.
+    fn add_folder(
+        &mut self,
+        rt: &HostRuntime,
+        folder: &str,
+        root: Option<&'a str>,
+    ) -> Result<(), AllocError> {
+        match fs::read_dir(rt, system_path(folder)) {
+            Ok(entries) => self.add_entries(rt, folder, entries, root),
+            Err(error) => self.keep_error(folder, root, &error),
+        }
+    }
+
+    fn add_entries(
+        &mut self,
+        rt: &HostRuntime,
+        folder: &str,
+        entries: ReadDir,
+        root: Option<&'a str>,
+    ) -> Result<(), AllocError> {
+        for entry in entries {
+            match entry {
+                Ok(entry) => self.add_entry(rt, folder, &entry, root)?,
+                Err(error) => self.keep_error(folder, root, &error)?,
+            }
+        }
+        Ok(())
+    }
+
+    /// Keeps that the system does not give a folder, or a name in it, where its pages are wanted.
+    fn keep_error(
+        &mut self,
+        folder: &str,
+        root: Option<&str>,
+        error: &io::Error,
+    ) -> Result<(), AllocError> {
+        if root.is_some() {
+            self.not_given
+                .push(NotGiven::new(self.alloc, folder, error)?)?;
+        }
+        Ok(())
+    }
+
+    /// Adds what an entry of a folder is. What is behind a symbolic link is no folder to be listed.
+    fn add_entry(
+        &mut self,
+        rt: &HostRuntime,
+        folder: &str,
+        entry: &DirEntry,
+        root: Option<&'a str>,
+    ) -> Result<(), AllocError> {
+        let path = path_in(self.alloc, folder, entry.file_name())?;
+        let Ok(own) = entry.metadata() else {
+            return Ok(());
+        };
+        let Ok(behind) = fs::metadata(rt, &path) else {
+            return Ok(());
+        };
+        if own.is_dir() && root.is_some() {
+            self.left.push(path.clone()?)?;
+        }
+        self.files
+            .put(path, entry_of(entry.file_name(), &behind, root))
+    }
+}
+
+/// What an entry of a folder is, by its name and what is behind it.
+fn entry_of<'a>(name: &str, behind: &fs::Metadata, root: Option<&'a str>) -> Entry<'a> {
+    match root {
+        _ if behind.is_dir() => Entry::Folder,
+        Some(root) if behind.is_file() && is_page_name(name) => Entry::Page { root },
+        _ => Entry::File,
+    }
+}
+
+/// Whether a file of that name is a page.
+fn is_page_name(name: &str) -> bool {
+    match name.rsplit_once('.') {
+        Some((_, end)) => end.eq_ignore_ascii_case("html") || end.eq_ignore_ascii_case("htm"),
+        None => false,
+    }
+}
