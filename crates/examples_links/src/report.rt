@@ -98,10 +98,7 @@ fn unread_object(alloc: Global, unread: &Unread) -> Result<Value, AllocError> {
 }
 
 fn finding_object(alloc: Global, finding: &Finding<'_>) -> Result<Value, AllocError> {
-    let link = match finding.link {
-        Some(link) => Value::try_from_str(alloc, link)?,
-        None => Value::Null,
-    };
+    let link = optional_text(alloc, finding.link)?;
     json!(in alloc; {
         "file": finding.file,
         "line": finding.place.line,
@@ -110,4 +107,12 @@ fn finding_object(alloc: Global, finding: &Finding<'_>) -> Result<Value, AllocEr
         "link": link,
         "target": &finding.target
     })
+}
+
+/// A text, or null.
+fn optional_text(alloc: Global, text: Option<&str>) -> Result<Value, AllocError> {
+    match text {
+        Some(text) => Value::try_from_str(alloc, text),
+        None => Ok(Value::Null),
+    }
 }

@@ -1,16 +1,13 @@
-//! A site maker: of each page `NAME.txt` of a folder, in the text form that `page.rt` tells, it makes
-//! a page `NAME.html`. Where a link leads nowhere, it says where, and writes none.
+//! A site maker: of each page `NAME.txt` of a folder, in the text form that `examples_site_pages` tells in
+//! `page.rt`, it makes a page `NAME.html`. Where a link leads nowhere, it says where, and writes none.
 #![tactic(auto)]
 
-mod page;
-mod site;
-
-use crate::page::Page;
-use crate::site::{Hrefs, Site};
 use anyhow::{Context, Result, ensure};
 use clap::{Arg, ArgMatches, Command, arg};
-use std::alloc::Global;
+use examples_site_pages::{Hrefs, Page, Site};
+use std::alloc::{AllocError, Global};
 use std::collections::BTreeMap;
+use std::fs::DirEntry;
 use std::process::ExitCode;
 use std::{env, fs};
 use typst_html::{HtmlDocument, HtmlOptions};
@@ -39,11 +36,16 @@ fn run(rt: &HostRuntime) -> Result<ExitCode> {
 
 /// What the program is asked for.
 fn command<'a>(alloc: Global) -> Result<Command<'a>> {
-    let command = Command::new(alloc, "examples_site")
-        .arg(arg!(in alloc; --pretty "Lay the text of pages out with indents"))?
-        .arg(arg!(in alloc; --title <TITLE> "The title of the site"))?
+    let command = with_options(alloc, Command::new(alloc, "examples_site"))?
         .arg(folder(alloc, "PAGES", "The folder with the pages, NAME.txt"))?
         .arg(folder(alloc, "OUTPUT", "The folder for the pages, NAME.html"))?;
+    Ok(command)
+}
+
+fn with_options<'a>(alloc: Global, command: Command<'a>) -> Result<Command<'a>> {
+    let command = command
+        .arg(arg!(in alloc; --pretty "Lay the text of pages out with indents"))?
+        .arg(arg!(in alloc; --title <TITLE> "The title of the site"))?;
     Ok(command)
 }
 
@@ -55,12 +57,7 @@ fn folder<'a>(alloc: Global, name: &'a str, help: &'a str) -> Arg<'a> {
 fn make_site(rt: &HostRuntime, matches: &ArgMatches<'_>) -> Result<ExitCode> {
     let folder = matches.get_str("PAGES").context("no PAGES")?;
     let output = matches.get_str("OUTPUT").context("no OUTPUT")?;
-    let mut site = Site {
-        alloc: rt.alloc(),
-        title: matches.get_str("title"),
-        pages: Vec::new(rt.alloc()),
-        places: BTreeMap::new(rt.alloc()),
-    };
+    let mut site = Site::new(rt.alloc(), matches.get_str("title"));
     read_pages(rt, &mut site, folder)?;
     let pretty = matches.get_flag("pretty");
     let texts = texts(rt, &site, &HtmlOptions { pretty })?;
@@ -71,24 +68,39 @@ fn make_site(rt: &HostRuntime, matches: &ArgMatches<'_>) -> Result<ExitCode> {
 /// Adds the pages of a folder, in the order of their names.
 fn read_pages(rt: &HostRuntime, site: &mut Site<'_>, folder: &str) -> Result<()> {
     for name in page_names(rt, folder)? {
-        let path = format!(in rt.alloc(); "{folder}/{name}.txt")?;
-        let text = fs::read_to_string(rt, &path).context(&path)?;
-        site.add_page(name, path, &text)?;
+        read_page(rt, site, folder, name)?;
     }
     Ok(())
 }
 
+fn read_page(rt: &HostRuntime, site: &mut Site<'_>, folder: &str, name: String) -> Result<()> {
+    let path = format!(in rt.alloc(); "{folder}/{name}.txt")?;
+    let text = fs::read_to_string(rt, &path).context(&path)?;
+    site.add_page(name, path, &text)
+}
+
 /// The names of the pages of a folder, in order.
 fn page_names(rt: &HostRuntime, folder: &str) -> Result<Vec<String>> {
-    let mut names = Vec::new(rt.alloc());
-    for entry in fs::read_dir(rt, folder).context(folder)? {
-        if let Some(name) = entry?.file_name().strip_suffix(".txt") {
-            names.push(name.to_string(rt.alloc())?)?;
-        }
-    }
+    let mut names = names_in(rt, folder)?;
     ensure!(!names.is_empty(), "{folder}: no page NAME.txt");
     names.sort()?;
     Ok(names)
+}
+
+fn names_in(rt: &HostRuntime, folder: &str) -> Result<Vec<String>> {
+    let mut names = Vec::new(rt.alloc());
+    for entry in fs::read_dir(rt, folder).context(folder)? {
+        add_name(rt.alloc(), &entry?, &mut names)?;
+    }
+    Ok(names)
+}
+
+/// Adds the name of the page that a file is, if it is one.
+fn add_name(alloc: Global, entry: &DirEntry, names: &mut Vec<String>) -> Result<(), AllocError> {
+    if let Some(name) = entry.file_name().strip_suffix(".txt") {
+        names.push(name.to_string(alloc)?)?;
+    }
+    Ok(())
 }
 
 /// The HTML text of each page.
@@ -119,13 +131,17 @@ fn documents(rt: &HostRuntime, site: &Site<'_>, hrefs: &mut Hrefs) -> Result<Vec
 fn write_pages(rt: &HostRuntime, pages: &[Page], texts: &[String], folder: &str) -> Result<()> {
     fs::create_dir_all(rt, folder).context(folder)?;
     for (page, text) in pages.iter().zip(texts) {
-        let path = format!(in rt.alloc(); "{folder}/{}.html", page.name)?;
-        fs::write(rt, &path, text).context(&path)?;
+        write_page(rt, page, text, folder)?;
     }
     let count = texts.len();
     let pages = if count == 1 { "page" } else { "pages" };
     println!(rt; "{count} {pages} written to {folder}")?;
     Ok(())
+}
+
+fn write_page(rt: &HostRuntime, page: &Page, text: &str, folder: &str) -> Result<()> {
+    let path = format!(in rt.alloc(); "{folder}/{}.html", page.name)?;
+    fs::write(rt, &path, text).context(&path)
 }
 
 /// Says at each hundredth page how many are done.

@@ -7,9 +7,9 @@ use std::alloc::Global;
 use std::collections::BTreeMap;
 use std::mem;
 use typst_html::{
-    DocumentInfo, HtmlDocument, HtmlElem, HtmlElement, HtmlNode, HtmlOptions, Item, Location, Pair,
-    Span, Tag, attr, create_link_anchors, dead_links, href_to, html, html_document_for_bundle,
-    push_located, resolve_links, tag,
+    DocumentInfo, HtmlAttrs, HtmlDocument, HtmlElem, HtmlElement, HtmlNode, HtmlOptions, Item,
+    Location, Pair, Span, Tag, attr, create_link_anchors, dead_links, href_to, html,
+    html_document_for_bundle, push_located, resolve_links, tag,
 };
 
 /// The location of links, to which none leads.
@@ -43,14 +43,30 @@ pub struct Site<'a> {
     pub places: BTreeMap<String, Location>,
 }
 
+impl<'a> Site<'a> {
+    /// A site of that title, without pages.
+    pub fn new(alloc: Global, title: Option<&'a str>) -> Site<'a> {
+        Site {
+            alloc,
+            title,
+            pages: Vec::new(alloc),
+            places: BTreeMap::new(alloc),
+        }
+    }
+}
+
 impl Site<'_> {
     /// The document of a page, whose headings have anchors.
     pub fn document(&self, page: &Page) -> Result<HtmlDocument> {
-        let (items, info) = (self.items(page)?, self.info(page)?);
-        let mut document = html_document_for_bundle(self.alloc, &items, &info, &[], DEEPEST)?;
+        let mut document = self.document_without_anchors(page)?;
         let anchors = create_link_anchors(self.alloc, &mut document, &page.headings)?;
         document.introspector_mut().set_anchors(anchors);
         Ok(document)
+    }
+
+    fn document_without_anchors(&self, page: &Page) -> Result<HtmlDocument> {
+        let (items, info) = (self.items(page)?, self.info(page)?);
+        Ok(html_document_for_bundle(self.alloc, &items, &info, &[], DEEPEST)?)
     }
 
     /// All that is seen of a page.
@@ -90,13 +106,26 @@ impl Site<'_> {
         let name = utf8_percent_encode(&page.name, RESERVED);
         let file = format!(in self.alloc; "{name}.html")?;
         for heading in &page.headings {
-            if let Some(anchor) = document.introspector().anchor(*heading) {
-                let fragment = href_to(self.alloc, anchor)?;
-                let _ = hrefs.insert(*heading, format!(in self.alloc; "{file}{fragment}")?)?;
+            if let Some(href) = self.heading_href(&file, document, *heading)? {
+                let _ = hrefs.insert(*heading, href)?;
             }
         }
         let _ = hrefs.insert(page.location, file)?;
         Ok(())
+    }
+
+    /// Where a heading is, if it has an anchor in the document of that file.
+    fn heading_href(
+        &self,
+        file: &str,
+        document: &HtmlDocument,
+        heading: Location,
+    ) -> Result<Option<String>> {
+        let Some(anchor) = document.introspector().anchor(heading) else {
+            return Ok(None);
+        };
+        let fragment = href_to(self.alloc, anchor)?;
+        Ok(Some(format!(in self.alloc; "{file}{fragment}")?))
     }
 
     /// The HTML text of the document of a page, all of whose links lead.
@@ -108,9 +137,7 @@ impl Site<'_> {
         options: &HtmlOptions,
     ) -> Result<String> {
         resolve_links(self.alloc, &mut document)?;
-        let root = document.root_mut();
-        let children = mem::replace(&mut root.children, Vec::new(self.alloc));
-        root.children = nodes_with_hrefs(self.alloc, children, hrefs)?;
+        set_hrefs(self.alloc, document.root_mut(), hrefs)?;
         self.ensure_links_lead(page, &document)?;
         let made = html(self.alloc, &document, options, &());
         let span = made.as_ref().err().map_or(Span(0), |fault| fault.span());
@@ -140,6 +167,13 @@ fn entry(alloc: Global, page: &Page, is_current: bool) -> Result<HtmlElem> {
     Ok(HtmlElem::new(alloc, tag::li).with_body(items))
 }
 
+/// Gives each link below a root that has no `href` that of its destination.
+fn set_hrefs(alloc: Global, root: &mut HtmlElement, hrefs: &Hrefs) -> Result<()> {
+    let children = mem::replace(&mut root.children, Vec::new(alloc));
+    root.children = nodes_with_hrefs(alloc, children, hrefs)?;
+    Ok(())
+}
+
 /// The nodes, in which each link that has no `href` gets that of its destination.
 #[cycle(hrefs)]
 fn nodes_with_hrefs(alloc: Global, nodes: Vec<HtmlNode>, hrefs: &Hrefs) -> Result<Vec<HtmlNode>> {
@@ -162,21 +196,27 @@ fn node_with_href(
     hrefs: &Hrefs,
 ) -> Result<HtmlNode> {
     match node {
-        HtmlNode::Element(element) => {
-            let mut attrs = element.attrs;
-            if let Some(href) = dest.and_then(|to| hrefs.get(&to))
-                && attrs.get(&attr::href).is_none()
-            {
-                attrs.push_front(attr::href, href.clone()?)?;
-            }
-            Ok(HtmlNode::Element(HtmlElement {
-                attrs,
-                children: nodes_with_hrefs(alloc, element.children, hrefs)?,
-                ..element
-            }))
-        }
+        HtmlNode::Element(element) => Ok(HtmlNode::Element(HtmlElement {
+            attrs: attrs_with_href(element.attrs, dest, hrefs)?,
+            children: nodes_with_hrefs(alloc, element.children, hrefs)?,
+            ..element
+        })),
         HtmlNode::Tag(_) | HtmlNode::Text(_, _) | HtmlNode::Frame(_) => Ok(node),
     }
+}
+
+/// The attributes of an element behind such a tag, the first of which is an `href` where there was none.
+fn attrs_with_href(
+    mut attrs: HtmlAttrs,
+    dest: Option<Location>,
+    hrefs: &Hrefs,
+) -> Result<HtmlAttrs> {
+    if let Some(href) = dest.and_then(|to| hrefs.get(&to))
+        && attrs.get(&attr::href).is_none()
+    {
+        attrs.push_front(attr::href, href.clone()?)?;
+    }
+    Ok(attrs)
 }
 
 /// The destination of the nearest start tag before what follows this node, with tags alone between.

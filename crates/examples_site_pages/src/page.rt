@@ -49,14 +49,7 @@ impl Site<'_> {
             !name.as_str().contains('#'),
             "{path}: a `#` in the name of a page"
         );
-        let mut page = Page {
-            location: self.location(name.clone()?)?,
-            name,
-            path,
-            title: String::new(self.alloc),
-            headings: BTreeSet::new(self.alloc),
-            items: Vec::new(self.alloc),
-        };
+        let mut page = self.empty_page(name, path)?;
         for (index, line) in text.lines().enumerate() {
             let span = Span((index as u64).saturating_add(1));
             self.read_line(&mut page, line, span)
@@ -65,6 +58,17 @@ impl Site<'_> {
         ensure!(!page.title.is_empty(), "{}:1: no `title text`", page.path);
         self.pages.push(page)?;
         Ok(())
+    }
+
+    fn empty_page(&mut self, name: String, path: String) -> Result<Page> {
+        Ok(Page {
+            location: self.location(name.clone()?)?,
+            name,
+            path,
+            title: String::new(self.alloc),
+            headings: BTreeSet::new(self.alloc),
+            items: Vec::new(self.alloc),
+        })
     }
 
     /// Adds what a line says to a page.
@@ -125,18 +129,29 @@ impl Site<'_> {
         let first = parts.next().unwrap_or_default().to_string(self.alloc)?;
         items.push(Pair::from(Item::Text(first, span)))?;
         for part in parts {
-            let text = match link_in(part) {
-                Some((words, target, behind)) => {
-                    let link = Item::from(self.element(tag::a, words, span)?);
-                    let dest = Some(self.destination(page, target)?);
-                    push_located(&mut items, LINK, None, dest, link)?;
-                    behind.to_string(self.alloc)?
-                }
-                None => format!(in self.alloc; "[{part}")?,
-            };
-            items.push(Pair::from(Item::Text(text, span)))?;
+            self.push_part(&mut items, page, part, span)?;
         }
         Ok(items)
+    }
+
+    /// Adds what stands behind a `[`, up to the next one.
+    fn push_part(
+        &mut self,
+        items: &mut Vec<Pair>,
+        page: &str,
+        part: &str,
+        span: Span,
+    ) -> Result<()> {
+        let text = match link_in(part) {
+            Some((words, target, behind)) => {
+                let link = Item::from(self.element(tag::a, words, span)?);
+                let dest = Some(self.destination(page, target)?);
+                push_located(items, LINK, None, dest, link)?;
+                behind.to_string(self.alloc)?
+            }
+            None => format!(in self.alloc; "[{part}")?,
+        };
+        Ok(items.push(Pair::from(Item::Text(text, span)))?)
     }
 
     /// The location to which a target leads from the page of that name.
