@@ -1,4 +1,5 @@
-//! For `examples_links`: the files of a site, and where the addresses of links lead among them.
+//! For `examples_links`: the files of a site, and where the addresses of links lead among them. Calls fail
+//! where an allocation does, and [`inputs_of`] also where it can't tell what does not exist.
 #![tactic(auto)]
 
 mod address;
