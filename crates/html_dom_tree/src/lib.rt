@@ -25,7 +25,7 @@ pub mod laws;
 mod node;
 mod resolve;
 mod span;
-mod text;
+pub mod text;
 
 pub use attrs::HtmlAttrs;
 pub use frame::{Frame, FrameItem, HtmlFrame, Point};

@@ -3,7 +3,7 @@ use Rattle.std.proofs.Common.{◌≡◌, ◌<◌, ◌∙◌, ◌++◌, ℕ, List
 use Rattle.std.proofs.lemmas.List.{append-nil}
 use Rattle.html_dom_tree.specs.declared.span.Span.{Span}
 use Rattle.html_values_css.specs.declared.cast_fault.CastFault.{CastFault}
-use Rattle.html_flow_convert.specs.ConstructFaults.{cast_faults, faults_view}
+use Rattle.html_flow_faults.specs.ConstructFaults.{cast_faults, faults_view}
 use Rattle.html_flow.specs.Construct.{joined_faults}
 
 pub joined-found : (found : List (CastFault × Span)) (left all : List (CastFault × ℕ))

@@ -1,7 +1,7 @@
 -- What the pieces of `construct` answer, beside what is constructed itself.
 use Rattle.std.specs.Prelude.{ℕ, suc, List, [], ◌∷◌, if◌then◌else◌, Option, None, Some, option_map, is_some, get_or}
 use Rattle.html_values.specs.Values.{none_value}
-use Rattle.html_flow_convert.specs.ConstructFaults.{ConstructFaultView, body_kind}
+use Rattle.html_flow_faults.specs.ConstructFaults.{ConstructFaultView, body_kind}
 use Rattle.html_flow_convert.specs.Items.{ItemsView, BodyView}
 use Rattle.html_flow.specs.Construct.{ArgValueView, plain, items, ArgView}
 

@@ -10,7 +10,7 @@ use Rattle.html_values.specs.Values.{ValueView, none_value, str_value, value_vie
 use Rattle.html_values.specs.declared.attr_type.AttrType.{AttrType}
 use Rattle.html_values_css.specs.declared.cast_fault.CastFault.{CastFault}
 use Rattle.html_values_css.specs.declared.cast_fault.CastFault.TheVariants.{WrongKind}
-use Rattle.html_flow_convert.specs.ConstructFaults.{ConstructFaultView, cast_faults, body_kind}
+use Rattle.html_flow_faults.specs.ConstructFaults.{ConstructFaultView, cast_faults, body_kind}
 use Rattle.html_flow_convert.specs.Items.{ElemView, ItemsView, no_items, item, text_item, inherits, BodyView, absent, present, new_head}
 use Rattle.html_flow_convert.specs.Views.{items_view}
 use Rattle.html_flow.specs.declared.args.ArgValue.{ArgValue}

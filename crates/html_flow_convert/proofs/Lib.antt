@@ -1,7 +1,6 @@
 pub mod Beginnings
 pub mod Blanks
 pub mod Bodies
-pub mod ConstructFaults
 pub mod Items
 pub mod Lines
 pub mod LoneNodes

@@ -3,14 +3,14 @@ use Rattle.std.proofs.Common.{◌≡◌, ℕ, ◌-◌, ◌<◌, Bool, true, fals
 use Rattle.std.proofs.lemmas.Bool.{agree_below_at, false≢true, true≢false, and_parts, and_from}
 use Rattle.std.proofs.lemmas.Bool.Decides.{nat_tests}
 use Rattle.std.proofs.lemmas.List.{map-append, nil_from_length}
-use Rattle.std.proofs.lemmas.Str.{IsUtf8-nil, IsUtf8-append, IsUtf8-encode, chars-append, chars-nil, chars_past_char, scalars-chars, encodes-chars}
+use Rattle.std.proofs.lemmas.Str.{IsUtf8-nil, IsUtf8-append, IsUtf8-encode, chars-append, chars-nil, chars_past_char, encodes-chars}
 use Rattle.std.specs.Str.{IsUtf8}
 use Rattle.html_names.specs.Characters.{is_ignorable}
-use Rattle.html_names.proofs.Basics.{chars-encode, front_taken}
+use Rattle.html_names.proofs.Basics.{chars-encode, first_scalar, front_taken}
 use Rattle.html_dom_tree.specs.Tree.{NodeView}
 use Rattle.html_flow_convert.specs.Pieces.{PieceView, stretch, alone, line_break, first_char, is_normal, is_normal_there, is_in_stretch, in_stretch, is_carriage_return, outside_stretch, pieces_after, pieces, piece_node, text_nodes}
 use Rattle.html_flow_convert.specs.TextStretches.{with_stretch}
-use lib.Utf8.{scalar, scalars, encode, encodes}
+use lib.Utf8.{encode, encodes}
 
 pub ascii_shown : (c : ℕ) → c < 128 → is_ignorable c ≡ false
 unfolding is_ignorable
@@ -145,11 +145,6 @@ return_apart : (before : Option ℕ) (c : ℕ) (after : List ℕ) →
 return_apart before c after h e =
     let is : c ≡ 13 = grind (arith, nat_tests) in
     false≢true (rw is at h)
-
-pub first_scalar : (bs rest : List ℕ) (c : ℕ) → IsUtf8 bs → bs ≡ encode c ++ rest → scalar c ≡ true
-first_scalar bs rest c u e =
-    (and_parts (scalar c) (scalars (chars rest))
-    (ap scalars (sym (chars_past_char bs rest c u e)) ∙ scalars-chars bs u)).0
 
 -- the nodes that are made, and a text of which a stretch stands before the rest
 pub record Stretching (span : ℕ) (before : Option ℕ) (text rest : List ℕ)

@@ -3,8 +3,8 @@
 use Rattle.std.specs.Prelude.{ℕ, List, Result}
 use Rattle.html_names.specs.Endings.{GivesBy, AddsBy}
 use Rattle.html_dom_tree.specs.Tree.{NodeView}
-use Rattle.html_flow_convert.specs.FlowFaults.{IsFirst}
-use Rattle.html_flow_convert.specs.declared.fault.FlowFault.{FlowFault}
+use Rattle.html_flow_faults.specs.FlowFaults.{IsFirst}
+use Rattle.html_flow_faults.specs.declared.fault.FlowFault.{FlowFault}
 
 -- a value is answered
 abbrev pub Gives : {A B : Type 0} (view : A → B) → Result A FlowFault → (value : B)

@@ -1,11 +1,9 @@
 pub mod AnswerLists
 pub mod BareSpaces
 pub mod Beginnings
-pub mod ConstructFaults
 pub mod Converted
 pub mod Depth
 pub mod Endings
-pub mod FlowFaults
 pub mod Items
 pub mod Lines
 pub mod LoneNode

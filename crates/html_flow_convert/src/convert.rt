@@ -14,12 +14,12 @@ ghost use Rattle.html_flow_convert.specs.declared.convert.Whitespace.TheVariants
 ghost use Rattle.html_flow_convert.specs.Views.{body_view, elem_view, frame_elem_view, item_view, items_view};
 
 use crate::depth::items_too_deep;
-use crate::fault::FlowFault;
 use crate::item::{FrameElem, HtmlElem, Item, Pair, copied_pairs};
 use crate::lone::{push_block, push_box};
 use crate::setting::{Setting, body_level, passes_role};
 use crate::{break_element, keep_runs, protect_spaces, push_text_nodes};
 use html_dom_tree::{HtmlAttrs, HtmlElement, HtmlFrame, HtmlNode, Span, Tag};
+use html_flow_faults::FlowFault;
 use html_names::{HtmlTag, attr};
 use html_values_css::Properties;
 use std::alloc::{AllocError, Global};

@@ -9,9 +9,9 @@ ghost use Rattle.html_flow_convert.specs.Views.{items_view};
 ghost use Rattle.html_flow_convert.specs.declared.convert.ConversionLevel.TheVariants.{Block, Inline};
 
 use crate::convert::{ConversionLevel, Whitespace, convert_to_nodes};
-use crate::fault::FlowFault;
 use crate::item::Pair;
 use html_dom_tree::{HtmlNode, Span};
+use html_flow_faults::FlowFault;
 use std::alloc::Global;
 
 /// The nodes of items on lines of their own, in something of that span. It fails with this span if

@@ -423,6 +423,43 @@ impl HtmlElem {
         }
     }
 
+    /// The element with a pair added as its last attribute, as by [`with_attr`](HtmlElem::with_attr),
+    /// of a copy of that value. Where an allocation fails, element and name come back.
+    ///
+    /// ```
+    /// use html_flow::HtmlElem;
+    /// use html_names::{attr, tag};
+    ///
+    /// let alloc = rt.alloc();
+    /// let image = HtmlElem::new(alloc, tag::img)
+    ///     .with_attr_text(attr::src, "tides.png")?
+    ///     .with_attr_text(attr::alt, "The tides of a day")?;
+    /// assert_eq!(rt; image.attrs.0.len(), 2);
+    /// ```
+    pub fn with_attr_text(
+        self,
+        attr: HtmlAttr,
+        value: &str,
+    ) -> Result<HtmlElem, Refused<(HtmlElem, HtmlAttr)>>
+        ensures ok { IfOk result
+            (λ element. elem_view element ≡ with_pair (attr, chars value.now) (elem_view self)) }
+        ensures back { IfErr result (λ refused. (elem_view refused.back.0 ≡ elem_view self)
+            × (refused.back.1 ≡ attr)) }
+    {
+        let Ok(value) = String::from_str(*self.attrs.0.allocator(), value) else {
+            return Err(Refused { back: (self, attr) });
+        };
+        match self.with_attr(attr, value) {
+            Ok(element) => Ok(element),
+            Err(refused) => {
+                let (element, attr, _) = refused.back;
+                Err(Refused {
+                    back: (element, attr),
+                })
+            }
+        }
+    }
+
     /// Gives the first attribute of that name this value, or adds a last attribute where there is
     /// none. Further ones of the name stay. Where an allocation fails, the element stays, and name and
     /// value come back.

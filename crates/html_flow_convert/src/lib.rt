@@ -15,10 +15,8 @@
 
 mod answers;
 mod bareness;
-mod construct_fault;
 mod convert;
 mod depth;
-mod fault;
 mod fragment;
 mod item;
 pub mod laws;
@@ -33,10 +31,9 @@ mod runs;
 mod setting;
 
 pub use bareness::{Bareness, bare_spaces};
-pub use construct_fault::ConstructFault;
 pub use convert::{ConversionLevel, Whitespace, convert_items, convert_to_nodes, is_depth_limit};
-pub use fault::FlowFault;
 pub use fragment::{html_block_fragment, html_inline_fragment, html_math_fragment};
+pub use html_flow_faults::{ConstructFault, FlowFault};
 pub use item::{FrameElem, HtmlElem, Item, Pair, Role, push_located};
 pub use look::makes_block;
 pub use made::break_element;

@@ -1,14 +1,14 @@
 -- General facts about tests, lists, texts and values that may be there.
 use Rattle.std.proofs.Common.{◌≡◌, ℕ, ◌<◌, Bool, true, false, ◌||◌, List, [], ◌∷◌, refl, sym, ap, ◌∙◌, bytes_eq, chars, ltb-true, ◌+◌, ◌-◌, ◌++◌, not, length, take, drop, get_or, arith, Option, Some, None}
 use Rattle.std.specs.Bool.{one_answer}
-use Rattle.std.specs.Str.{IsAscii}
+use Rattle.std.specs.Str.{IsAscii, IsUtf8}
 use Rattle.std.proofs.lemmas.Bool.{and_from, and_parts, false≢true}
 use Rattle.std.proofs.lemmas.List.{append-nil, take_at, drop_at, drop_more, length-append}
 use Rattle.std.proofs.lemmas.Slice.Eq.{bytes_eq-Decides}
-use Rattle.std.proofs.lemmas.Str.{chars-encodes}
+use Rattle.std.proofs.lemmas.Str.{chars-encodes, chars_past_char, scalars-chars}
 use Rattle.std.proofs.lemmas.Str.Ascii.{IsAscii-nil, IsAscii-cons}
 use Rattle.std.specs.Prelude.{is_some, is_none}
-use lib.Utf8.{scalar, encode}
+use lib.Utf8.{scalar, scalars, encode}
 use Rattle.html_names.specs.Names.{is_ascii}
 use Rattle.html_names.specs.Characters.{all}
 
@@ -28,6 +28,11 @@ is_ascii_is (c ∷ cs) h = IsAscii-cons c cs (ltb-true c 128 (and_parts _ _ h).0
 pub chars-encode : (c : ℕ) → scalar c ≡ true → chars (encode c) ≡ c ∷ []
 chars-encode c h = ap chars (sym (append-nil (encode c)))
     ∙ chars-encodes (c ∷ []) (and_from (scalar c) true h refl)
+
+pub first_scalar : (bs rest : List ℕ) (c : ℕ) → IsUtf8 bs → bs ≡ encode c ++ rest → scalar c ≡ true
+first_scalar bs rest c u e =
+    (and_parts (scalar c) (scalars (chars rest))
+    (ap scalars (sym (chars_past_char bs rest c u e)) ∙ scalars-chars bs u)).0
 
 -- the last of a list, taken off and alone
 pub last_taken : {A : Type 0} (front back : List A) (n : ℕ) → length back ≡ n →

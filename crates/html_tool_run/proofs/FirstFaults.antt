@@ -3,10 +3,10 @@ use Rattle.std.proofs.Common.{◌≡◌, ◌==◌, ℕ, List, [], ◌∷◌, map
 use Rattle.html_names.specs.NameFaults as name
 use Rattle.html_values_css.specs.CastFaults as cast
 use Rattle.html_values_css.specs.declared.cast_fault.CastFault.{CastFault}
-use Rattle.html_flow_convert.specs.ConstructFaults as construct
-use Rattle.html_flow_convert.specs.ConstructFaults.{construct_fault_view, faults_view, cast_faults}
-use Rattle.html_flow_convert.specs.declared.construct_fault.ConstructFault.{ConstructFault}
-use Rattle.html_flow_convert.specs.declared.construct_fault.ConstructFault.TheVariants as kind
+use Rattle.html_flow_faults.specs.ConstructFaults as construct
+use Rattle.html_flow_faults.specs.ConstructFaults.{construct_fault_view, faults_view, cast_faults}
+use Rattle.html_flow_faults.specs.declared.construct_fault.ConstructFault.{ConstructFault}
+use Rattle.html_flow_faults.specs.declared.construct_fault.ConstructFault.TheVariants as kind
 use Rattle.html_dom_tree.specs.declared.span.Span.{Span}
 use Rattle.typst_html_encode.specs.ExportFaults as export
 use Rattle.typst_html_encode.specs.FaultViews.{ExportFaultView, export_fault_view, spans_view, IsFirstView}

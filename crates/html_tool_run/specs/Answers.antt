@@ -6,8 +6,8 @@ use lib.Utf8.{encodes}
 use Rattle.serde_json.specs.Data.{Data}
 use Rattle.html_names.specs.NameFaults as name
 use Rattle.html_values_css.specs.CastFaults as cast
-use Rattle.html_flow_convert.specs.ConstructFaults as construct
-use Rattle.html_flow_convert.specs.ConstructFaults.{ConstructFaultView}
+use Rattle.html_flow_faults.specs.ConstructFaults as construct
+use Rattle.html_flow_faults.specs.ConstructFaults.{ConstructFaultView}
 use Rattle.html_dom_tree.specs.Tree.{ElementView}
 use Rattle.html_dom_document.specs.Documents.{no_info}
 use Rattle.typst_html_encode.specs.FaultViews.{ExportFaultView, out_of_memory, too_deep, not_alone, footnotes, unencodable, void_children, raw_child, raw_closing, frame_refused, name_fault, cast_fault, construct_fault, other_syntax}

@@ -7,14 +7,13 @@ use Rattle.std.proofs.lemmas.Str.{IsCharBoundary-after_ascii, IsUtf8-nil, IsUtf8
 use Rattle.std.proofs.lemmas.Str.Ascii.{IsAscii-nil, IsAscii-cons}
 use Rattle.std.specs.Str.{IsUtf8, IsAscii, IsCharBoundary}
 use Rattle.html_names.specs.Characters.{all}
-use Rattle.html_names.proofs.Basics.{all_append, chars-encode}
+use Rattle.html_names.proofs.Basics.{all_append, chars-encode, first_scalar}
 use Rattle.typst_html_encode.specs.ExportFaults.{is_bad, is_reference, text_faults}
 use Rattle.typst_html_encode.specs.PlainStretches.{begins_common, is_common, is_plain, PassesCommon, PassesPlain}
 use Rattle.typst_html_encode.specs.Text.{stands_as_is, escaped_text}
 use Rattle.typst_html_encode.specs.declared.escape.Escaping.{Escaping}
 use Rattle.typst_html_encode.specs.declared.escape.Escaping.TheVariants as escaping
 use lib.Utf8.{encode}
-use Rattle.html_flow_convert.proofs.Stretching.{first_scalar}
 
 pub common_small : (c : ℕ) → is_common c ≡ true → c < 128
 unfolding is_common

@@ -4,10 +4,10 @@ use Rattle.html_names.specs.declared.fault.NameFault.{NameFault}
 use Rattle.html_names.specs.declared.fault.NameFault.TheVariants as name
 use Rattle.html_values_css.specs.declared.cast_fault.CastFault.{CastFault}
 use Rattle.html_values_css.specs.declared.cast_fault.CastFault.TheVariants as cast
-use Rattle.html_flow_convert.specs.declared.construct_fault.ConstructFault.{ConstructFault}
-use Rattle.html_flow_convert.specs.declared.construct_fault.ConstructFault.TheVariants as construct
-use Rattle.html_flow_convert.specs.declared.fault.FlowFault.{FlowFault}
-use Rattle.html_flow_convert.specs.declared.fault.FlowFault.TheVariants as flow
+use Rattle.html_flow_faults.specs.declared.construct_fault.ConstructFault.{ConstructFault}
+use Rattle.html_flow_faults.specs.declared.construct_fault.ConstructFault.TheVariants as construct
+use Rattle.html_flow_faults.specs.declared.fault.FlowFault.{FlowFault}
+use Rattle.html_flow_faults.specs.declared.fault.FlowFault.TheVariants as flow
 use Rattle.typst_html_encode.specs.declared.frame.FrameFault.{FrameFault}
 use Rattle.typst_html_encode.specs.declared.frame.FrameFault.TheVariants as frame
 use Rattle.typst_html_encode.specs.declared.fault.ExportFault.{ExportFault}

@@ -5,7 +5,7 @@ use Rattle.std.specs.Prelude.{◌≡◌, ℕ, Bool, true, false, not, ◌||◌, 
 use Rattle.html_names.specs.Characters.{is_text_char}
 use Rattle.html_names.specs.NameFaults as names
 use Rattle.html_values_css.specs.CastFaults as casts
-use Rattle.html_flow_convert.specs.ConstructFaults as constructs
+use Rattle.html_flow_faults.specs.ConstructFaults as constructs
 use Rattle.html_dom_tree.specs.declared.span.Span.{Span}
 use Rattle.html_dom_tree.specs.Tree.{TextPair, Head, NodeView, tag_node, text_node, element_node, frame_node, NodesView, none, node, ElementView}
 use Rattle.typst_html_encode.specs.ClosingTags.{holds_closing}

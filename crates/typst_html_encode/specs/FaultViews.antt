@@ -6,7 +6,7 @@ use Rattle.html_names.specs.NameFaults.{name_fault_discrete}
 use Rattle.html_names.specs.declared.fault.NameFault.{NameFault}
 use Rattle.html_values_css.specs.CastFaults.{cast_fault_discrete}
 use Rattle.html_values_css.specs.declared.cast_fault.CastFault.{CastFault}
-use Rattle.html_flow_convert.specs.ConstructFaults.{ConstructFaultView, construct_fault_view, construct_fault_discrete}
+use Rattle.html_flow_faults.specs.ConstructFaults.{ConstructFaultView, construct_fault_view, construct_fault_discrete}
 use Rattle.html_dom_tree.specs.declared.span.Span.{Span}
 use Rattle.typst_html_encode.specs.declared.fault.ExportFault.{ExportFault}
 use Rattle.typst_html_encode.specs.declared.fault.ExportFault.TheVariants as fault

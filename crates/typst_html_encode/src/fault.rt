@@ -4,8 +4,8 @@ ghost use Rattle.typst_html_encode.specs.FaultViews.{export_fault_view, spans_vi
 
 use crate::frame::FrameFault;
 use html_dom_tree::Span;
-use html_flow_convert::laws::equal_construct_faults;
-use html_flow_convert::{ConstructFault, FlowFault};
+use html_flow_faults::laws::equal_construct_faults;
+use html_flow_faults::{ConstructFault, FlowFault};
 use html_names::{HtmlTag, NameFault, Refused};
 use html_values_css::CastFault;
 use std::alloc::{AllocError, AllocFailed};

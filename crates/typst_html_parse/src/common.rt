@@ -11,9 +11,9 @@ ghost use Rattle.typst_html_parse_open.specs.declared.fault.Halt.TheVariants.{Ou
 use crate::front::cut_common;
 use crate::reader::{Reader, State};
 use crate::reading::Reading;
+use html_dom_tree::text;
 use typst_html_parse_open::Halt;
 use typst_html_parse_tree::takes_text;
-use typst_html_read::text;
 
 impl Reading {
     /// Passes so many bytes, none of them a carriage return.

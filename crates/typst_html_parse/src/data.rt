@@ -7,8 +7,8 @@ ghost use Rattle.typst_html_parse.specs.PageReaderViews.{holder_at, reader_of, r
 
 use crate::reader::{Holder, Reader, State};
 use crate::reference::is_letter;
+use html_dom_tree::text;
 use typst_html_parse_open::{Halt, PageError};
-use typst_html_read::text;
 
 impl Reader {
     /// A reference begins.

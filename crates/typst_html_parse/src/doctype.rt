@@ -5,11 +5,11 @@ ghost use Rattle.std.specs.Prelude.{◌≡◌, ◌++◌, ◌∷◌, [], IfOk, On
 ghost use Rattle.html_dom_tree.specs.Views.{text_view};
 ghost use Rattle.typst_html_parse.specs.DocumentTypes as types;
 
+use html_dom_tree::text;
 use std::alloc::{AllocError, Global};
 use typst_html_parse_names::is_one_of;
 use typst_html_parse_open::TableRule;
 use typst_html_parse_tree::is_space;
-use typst_html_read::text;
 
 /// Document types that are known not to bring quirks mode.
 #[rattlefmt::skip]

@@ -13,12 +13,11 @@ ghost use Rattle.typst_html_parse.specs.PageTokens.{is_name};
 ghost use Rattle.typst_html_parse.specs.PageReaderViews.{draft_of, reading_of};
 
 use crate::reading::Reading;
-use html_dom_tree::HtmlAttrs;
+use html_dom_tree::{HtmlAttrs, text};
 use html_names::charsets::is_valid_in_tag_name;
 use html_names::{HtmlAttr, HtmlTag, NameFault};
 use std::alloc::{AllocError, Global};
 use typst_html_parse_open::{Halt, PageError, PageRefusal};
-use typst_html_read::text;
 
 /// Most tags have fewer attributes.
 const MOST_ATTRS: usize = 256;

@@ -8,8 +8,8 @@ ghost use Rattle.typst_html_parse.specs.PageReaderViews.{holder_at, reader_of, r
 
 use crate::reader::{Depth, Holder, Reader, State};
 use crate::reference::{Resolved, continues, resolve};
+use html_dom_tree::text::add_text;
 use typst_html_parse_open::{Halt, PageError};
-use typst_html_read::text::add_text;
 
 impl Reader {
     /// The characters of a reference are added where it stands.

@@ -13,9 +13,9 @@ ghost use Rattle.typst_html_parse_names.specs.ForeignNames.{lowered};
 use crate::comment::CommentPart;
 use crate::doctype::table_rule;
 use crate::reader::{Brackets, Reader, State};
+use html_dom_tree::text;
 use std::alloc::AllocError;
 use typst_html_parse_open::{Halt, PageError, TableRule};
-use typst_html_read::text;
 
 /// Whether the text is a word of ASCII.
 fn is(word: &str, text: &str) -> bool

@@ -10,10 +10,10 @@ ghost use Rattle.typst_html_parse_tree.specs.PageBodies as bodies;
 use crate::legacy::longest_legacy;
 use crate::number::{error_of, number_of, numbered_char};
 use crate::split::split_first;
+use html_dom_tree::text::{add, add_text};
 use std::alloc::{AllocError, Global};
 use typst_html_parse_names::named_reference;
 use typst_html_parse_open::PageError;
-use typst_html_read::text::{add, add_text};
 
 /// Whether it is an ASCII letter.
 pub(crate) fn is_letter(c: char) -> bool

@@ -11,10 +11,10 @@ ghost use Rattle.typst_html_parse_open.specs.declared.fault.Halt.TheVariants.{Ou
 
 use crate::front::{begins_small, cut_name, strip};
 use crate::reader::{Reader, State};
+use html_dom_tree::text;
 use std::alloc::AllocError;
 use typst_html_parse_open::Halt;
 use typst_html_parse_tree::takes_own_end;
-use typst_html_read::text;
 
 impl Reader {
     /// Begins a tag with its name.

@@ -7,12 +7,11 @@ ghost use Rattle.typst_html_parse.specs.PageTokens as tokens;
 ghost use Rattle.typst_html_parse.specs.PageReaderViews.{draft_of, reader_of, reading_of};
 
 use crate::reader::{Depth, Reader, State};
-use html_dom_tree::HtmlAttrs;
+use html_dom_tree::{HtmlAttrs, text};
 use std::mem;
 use typst_html_parse_names::Kind;
 use typst_html_parse_open::{Halt, PageError, PageRefusal, StartTag, TagName, Token};
 use typst_html_parse_tree::is_space;
-use typst_html_read::text;
 
 impl Reader {
     /// Behind a start tag: within an element of text alone, or not.

@@ -7,9 +7,9 @@ ghost use Rattle.typst_html_parse.specs.PageTokens as tokens;
 ghost use Rattle.typst_html_parse.specs.PageReaderViews.{draft_of, reader_of, reading_of};
 
 use crate::reader::{Holder, Reader, State};
+use html_dom_tree::text;
 use typst_html_parse_open::{Halt, PageError};
 use typst_html_parse_tree::is_space;
-use typst_html_read::text;
 
 /// Whether with the character a value without quotes looks as if quotes were missing.
 fn looks_quoted(c: char) -> bool

@@ -18,11 +18,10 @@ use crate::modes::{Scope, Space, TableRule};
 use crate::notes::Notes;
 use crate::search::{Bound, Goal, Target, While};
 use crate::stack::Stack;
-use html_dom_tree::{HtmlAttrs, HtmlElement};
+use html_dom_tree::{HtmlAttrs, HtmlElement, text};
 use html_names::HtmlTag;
 use std::alloc::{AllocError, Global};
 use typst_html_parse_names::{Kind, Kinds};
-use typst_html_read::text;
 
 /// A page that is being read.
 #[derive(Drop)]

@@ -11,7 +11,7 @@ ghost use Rattle.typst_html_read.specs.declared.reader.Mode.TheVariants as mode;
 use crate::open::OpenElement;
 use crate::reader::{Mode, Reader};
 use crate::reference::{extend, reference};
-use crate::text::{add, empty, take};
+use html_dom_tree::text::{add, empty, take};
 use html_names::charsets::is_valid_in_tag_name;
 use std::alloc::AllocError;
 

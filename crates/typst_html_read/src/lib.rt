@@ -14,7 +14,6 @@ mod reader;
 mod reference;
 mod stack;
 mod tags;
-pub mod text;
 
 pub use closing::{end_of, ends_in, is_tag_end};
 pub use fault::ReadFault;

@@ -7,7 +7,7 @@ ghost use Rattle.typst_html_read.specs.declared.reader.Mode.TheVariants as mode;
 
 use crate::closing::end_of;
 use crate::reader::{Mode, Reader};
-use crate::text::{add, take};
+use html_dom_tree::text::{add, take};
 use std::alloc::AllocError;
 
 impl Reader {

@@ -8,7 +8,7 @@ ghost use Rattle.html_names.specs.Names.{is_ascii};
 ghost use Rattle.typst_html_encode.specs.References as definition;
 ghost use Rattle.typst_html_read.specs.BegunReferences as begun;
 
-use crate::text::add;
+use html_dom_tree::text::add;
 use std::alloc::{AllocError, Global};
 
 /// The character whose one spelling in small hexadecimal digits that is, if it is none of U+0000.

@@ -1,6 +1,6 @@
 use Rattle.std.proofs.Common.{◌≡◌, ◌++◌, drop}
 use Rattle.html_dom_tree.specs.Views.{attrs_view}
-use Rattle.html_flow_convert.specs.ConstructFaults.{faults_view}
+use Rattle.html_flow_faults.specs.ConstructFaults.{faults_view}
 use Rattle.html_flow.specs.Construct.{args_view, attrs, entries_view, faults}
 use Rattle.html_flow.proofs.construction.cast_args.Given as goal
 

@@ -2,7 +2,7 @@ use Rattle.std.proofs.Common.{◌∙◌, ◌≡◌, ap, sym, subst, false, Some}
 use Rattle.html_names.specs.Kinds.{is_void}
 use Rattle.html_flow.specs.Construct.{args_view, choice_faults, takes}
 use Rattle.html_flow.specs.ArgumentPieces.{unnamed_at}
-use Rattle.html_flow_convert.specs.ConstructFaults.{IsFirst}
+use Rattle.html_flow_faults.specs.ConstructFaults.{IsFirst}
 use Rattle.html_flow_convert.specs.Items.{present}
 use Rattle.html_flow_convert.specs.Views.{items_view}
 use Rattle.html_flow.proofs.Unnamed.{no_body, a_body, same_faults, removed_view}

@@ -1,6 +1,6 @@
 use Rattle.std.proofs.Common.{sym, ◌∙◌}
-use Rattle.html_flow_convert.proofs.ConstructFaults.{refusal_decides}
-use Rattle.html_flow_convert.proofs.laws.equal_construct_faults.Goals as goal
+use Rattle.html_flow_faults.proofs.ConstructFaults.{refusal_decides}
+use Rattle.html_flow_faults.proofs.laws.equal_construct_faults.Goals as goal
 
 pub returns : goal.returns
 returns c =

@@ -1,7 +1,7 @@
 use Rattle.std.proofs.Common.{string_bytes}
 use Rattle.std.proofs.lemmas.Str.{IsUtf8-string_bytes}
 use Rattle.html_names.proofs.Texts.{chars_add}
-use Rattle.typst_html_read.proofs.text.add_text.Goals as goal
+use Rattle.html_dom_tree.proofs.text.add_text.Goals as goal
 
 pub returns : goal.returns
 returns c =

@@ -8,10 +8,10 @@ use Rattle.html_dom_tree.specs.declared.span.Span.{Span}
 use Rattle.html_values_css.specs.declared.cast_fault.CastFault.{CastFault}
 use Rattle.html_values_css.specs.contracts.cast_fault.CastFault.{the_type}
 use Rattle.html_values_css.specs.contracts.cast_fault.CastFaultPartialEq.TheImpl as casts
-use Rattle.html_flow_convert.specs.ConstructFaults.{ConstructFaultView, cast_faults, body_kind, construct_fault_view}
-use Rattle.html_flow_convert.specs.declared.construct_fault.ConstructFault.{ConstructFault}
-use Rattle.html_flow_convert.specs.declared.construct_fault.ConstructFault.TheVariants as kinds
-use Rattle.html_flow_convert.specs.contracts.construct_fault.ConstructFaultPartialEq.TheImpl as block
+use Rattle.html_flow_faults.specs.ConstructFaults.{ConstructFaultView, cast_faults, body_kind, construct_fault_view}
+use Rattle.html_flow_faults.specs.declared.construct_fault.ConstructFault.{ConstructFault}
+use Rattle.html_flow_faults.specs.declared.construct_fault.ConstructFault.TheVariants as kinds
+use Rattle.html_flow_faults.specs.contracts.construct_fault.ConstructFaultPartialEq.TheImpl as block
 
 apart : {P : Type 0} → (P → ⊥) → Decides false P
 apart differ = (λ h. absurd (true≢false (sym h)), λ e. absurd (differ e))

@@ -8,8 +8,8 @@ use Rattle.html_dom_tree.specs.declared.span.Span.{Span}
 use Rattle.html_values_css.specs.CastFaults as casts
 use Rattle.html_values_css.specs.CastFaults.{cast_fault_discrete}
 use Rattle.html_values_css.specs.declared.cast_fault.CastFault.{CastFault}
-use Rattle.html_flow_convert.specs.declared.construct_fault.ConstructFault.{ConstructFault}
-use Rattle.html_flow_convert.specs.declared.construct_fault.ConstructFault.TheVariants.{OutOfMemory, Casts, BodyKind}
+use Rattle.html_flow_faults.specs.declared.construct_fault.ConstructFault.{ConstructFault}
+use Rattle.html_flow_faults.specs.declared.construct_fault.ConstructFault.TheVariants.{OutOfMemory, Casts, BodyKind}
 
 abbrev pub first_fault_number : List (CastFault × Span) → ℕ
 first_fault_number [] = 0

@@ -1,6 +1,6 @@
 use Rattle.std.proofs.lemmas.Str.{IsUtf8-string_bytes}
 use Rattle.html_names.proofs.Texts.{chars_push}
-use Rattle.typst_html_read.proofs.text.add.Goals as goal
+use Rattle.html_dom_tree.proofs.text.add.Goals as goal
 
 pub returns : goal.returns
 returns c =

@@ -1,5 +1,5 @@
 ghost use Rattle.std.specs.Prelude.{◌≡◌};
-ghost use Rattle.html_flow_convert.specs.FlowFaults.{number_of};
+ghost use Rattle.html_flow_faults.specs.FlowFaults.{number_of};
 
 use html_dom_tree::Span;
 use html_names::Refused;
@@ -33,7 +33,7 @@ impl FlowFault {
 }
 
 impl From<AllocError> for FlowFault {
-    ghost use Rattle.html_flow_convert.specs.declared.fault.FlowFault.TheVariants.{OutOfMemory};
+    ghost use Rattle.html_flow_faults.specs.declared.fault.FlowFault.TheVariants.{OutOfMemory};
 
     ghost from_gives = { λ _ e. e ≡ OutOfMemory };
 
@@ -43,7 +43,7 @@ impl From<AllocError> for FlowFault {
 }
 
 impl<T: Drop> From<AllocFailed<T>> for FlowFault {
-    ghost use Rattle.html_flow_convert.specs.declared.fault.FlowFault.TheVariants.{OutOfMemory};
+    ghost use Rattle.html_flow_faults.specs.declared.fault.FlowFault.TheVariants.{OutOfMemory};
 
     ghost from_gives = { λ _ e. e ≡ OutOfMemory };
 
@@ -53,7 +53,7 @@ impl<T: Drop> From<AllocFailed<T>> for FlowFault {
 }
 
 impl<T: Drop> From<Refused<T>> for FlowFault {
-    ghost use Rattle.html_flow_convert.specs.declared.fault.FlowFault.TheVariants.{OutOfMemory};
+    ghost use Rattle.html_flow_faults.specs.declared.fault.FlowFault.TheVariants.{OutOfMemory};
 
     ghost from_gives = { λ _ e. e ≡ OutOfMemory };
 

@@ -1,5 +1,5 @@
 ghost use Rattle.std.specs.Prelude.{◌≡◌};
-ghost use Rattle.html_flow_convert.specs.ConstructFaults.{number_of, span_of};
+ghost use Rattle.html_flow_faults.specs.ConstructFaults.{number_of, span_of};
 
 use html_dom_tree::Span;
 use html_names::Refused;
@@ -57,7 +57,7 @@ impl ConstructFault {
 }
 
 impl From<AllocError> for ConstructFault {
-    ghost use Rattle.html_flow_convert.specs.declared.construct_fault.ConstructFault.TheVariants.{OutOfMemory};
+    ghost use Rattle.html_flow_faults.specs.declared.construct_fault.ConstructFault.TheVariants.{OutOfMemory};
 
     ghost from_gives = { λ _ e. e ≡ OutOfMemory };
 
@@ -67,7 +67,7 @@ impl From<AllocError> for ConstructFault {
 }
 
 impl<T: Drop> From<AllocFailed<T>> for ConstructFault {
-    ghost use Rattle.html_flow_convert.specs.declared.construct_fault.ConstructFault.TheVariants.{OutOfMemory};
+    ghost use Rattle.html_flow_faults.specs.declared.construct_fault.ConstructFault.TheVariants.{OutOfMemory};
 
     ghost from_gives = { λ _ e. e ≡ OutOfMemory };
 
@@ -77,7 +77,7 @@ impl<T: Drop> From<AllocFailed<T>> for ConstructFault {
 }
 
 impl<T: Drop> From<Refused<T>> for ConstructFault {
-    ghost use Rattle.html_flow_convert.specs.declared.construct_fault.ConstructFault.TheVariants.{OutOfMemory};
+    ghost use Rattle.html_flow_faults.specs.declared.construct_fault.ConstructFault.TheVariants.{OutOfMemory};
 
     ghost from_gives = { λ _ e. e ≡ OutOfMemory };
 

@@ -1,0 +1,2 @@
+pub mod ConstructFaults
+pub mod FlowFaults
