@@ -16,7 +16,7 @@ DATA = Path(__file__).resolve().parent.parent / "crates" / "tests_rows" / "data"
 
 # The first words of rows that call the library. Any other row is a run of the program.
 CALLS = frozenset(
-    "kinds nodes block-fragment inline-fragment math-fragment spans bare document links anchors positions dead-links "
+    "kinds attribute address nodes block-fragment inline-fragment math-fragment spans bare document links anchors positions dead-links "
     "distinct-ids read as-browsers page-places page-text items-text dead-fragments repeated-ids c-write c-document "
     "c-dead-links c-check c-version".split()
 )

@@ -28,6 +28,7 @@ pub use Rattle.html_dom_link.specs.LinkLaws
 pub use Rattle.html_dom_link.specs.Links
 pub use Rattle.html_dom_link.specs.Namings
 pub use Rattle.html_dom_link.specs.NewNames
+pub use Rattle.html_dom_link.specs.Scripts
 pub use Rattle.html_dom_link.specs.Seen
 pub use Rattle.html_dom_link.specs.Undone
 pub use Rattle.html_dom_check.specs.CheckLaws

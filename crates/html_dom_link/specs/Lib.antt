@@ -16,6 +16,7 @@ pub mod LinkTargets
 pub mod LocationMaps
 pub mod Namings
 pub mod NewNames
+pub mod Scripts
 pub mod Seen
 pub mod Serving
 pub mod Spellings

@@ -65,14 +65,14 @@ pub fn fragment_leads(
 }
 
 /// A control or a space.
-fn is_blank(c: char) -> bool
+pub(crate) fn is_blank(c: char) -> bool
     ensures { result ≡ is_blank c }
 {
     c <= ' '
 }
 
 /// What counts for nothing in a URL.
-fn is_dropped(c: char) -> bool
+pub(crate) fn is_dropped(c: char) -> bool
     ensures { result ≡ is_dropped c }
 {
     matches!(c, '\t' | '\n' | '\r')

@@ -1,6 +1,7 @@
-//! Texts that grow while something is read, and copies and equality of texts and of optional texts.
+//! Texts that are read and texts that grow meanwhile; copies and equality of texts and of optional
+//! texts.
 
-ghost use Rattle.std.specs.Prelude.{◌≡◌, ◌↔◌, ◌++◌, ◌∷◌, [], IsTrue, IfOk, OnOk, chars};
+ghost use Rattle.std.specs.Prelude.{◌≡◌, ◌↔◌, ◌++◌, ◌∷◌, [], IsTrue, IfOk, MatchOption, OnOk, chars};
 ghost use Rattle.html_dom_tree.specs.Views.{text_view, optional_text_view};
 
 use std::alloc::{AllocError, Global};
@@ -45,6 +46,18 @@ pub fn take(alloc: Global, text: &mut String) -> String
     ensures left { text_view text.new ≡ [] }
 {
     mem::replace(text, String::new(alloc))
+}
+
+/// The first character of a text, and the rest.
+pub fn split_first(text: &str) -> Option<(char, &str)>
+    ensures { MatchOption result (chars text.now ≡ [])
+        (λ x. chars text.now ≡ x.0 ∷ chars x.1.now) }
+{
+    let mut left = text.chars();
+    match left.next() {
+        None => None,
+        Some(first) => Some((first, left.as_str())),
+    }
 }
 
 pub(crate) fn copy_optional_text(text: &Option<String>) -> Result<Option<String>, AllocError>

@@ -4,9 +4,12 @@ use Rattle.std.specs.List.{list_any}
 use Rattle.std.proofs.lemmas.Bool.{and_parts, eqb-true, not-true}
 use Rattle.html_names.specs.Characters.{all, IsOf, is_tag_char, is_attr_char, is_hyphen}
 use Rattle.html_names.specs.Names.{IsPlace, tag_fault, attr_fault}
-use Rattle.html_names.specs.Tables.{known_tags, known_attrs}
-use Rattle.html_names.specs.declared.name.Name.TheVariants.{Known}
+use Rattle.html_names.specs.Held.{held_text, IsHeld}
+use Rattle.html_names.specs.Tables.{known_tags, known_attrs, attr_count, is_known_attr}
+use Rattle.html_names.specs.declared.name.Name.{Name}
+use Rattle.html_names.specs.declared.name.Name.TheVariants.{Known, Own}
 use Rattle.html_names.specs.declared.table.TheConstants.{RESERVED_TAG}
+use Rattle.html_names.proofs.Ascending.{stands}
 use Rattle.html_names.proofs.Held.{tag_long, attr_long, tag_valid, attr_valid}
 
 -- no character of a valid name is bad
@@ -65,3 +68,9 @@ pub attr_faultless : (text : List ℕ) (n : ℕ) → IsPlace known_attrs text n 
 attr_faultless text n at =
     rw (sym at.1) (faultless_attr (get_or known_attrs n [])
     (attr_valid (Known n) (omega (arith, attr_long, at.0))))
+
+-- an attribute is known where it is held by its place
+pub attr_is_known : (name : Name) (n : ℕ) → IsHeld attr_count known_attrs is_attr_char name →
+    name ≡ Known n → is_known_attr (held_text known_attrs name) ≡ true
+attr_is_known (Known m) n held is = stands known_attrs m (omega (arith, attr_long, held))
+attr_is_known (Own s) n held is = cc

@@ -1,4 +1,5 @@
 pub mod Ascending
+pub mod AttrKinds
 pub mod Basics
 pub mod ByTable
 pub mod Digits

@@ -1,3 +1,4 @@
+pub mod AttrKinds
 pub mod ByNumber
 pub mod Characters
 pub mod Displays

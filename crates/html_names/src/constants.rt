@@ -176,6 +176,8 @@ pub mod attr {
     use crate::html_attr::HtmlAttr;
     use crate::name::Name::Known;
 
+    pub use crate::attr_kind::{is_event_handler, is_known};
+
     pub const abbr: HtmlAttr = HtmlAttr { name: Known(0) };
     pub const accept: HtmlAttr = HtmlAttr { name: Known(3) };
     pub const accept_charset: HtmlAttr = HtmlAttr { name: Known(4) };

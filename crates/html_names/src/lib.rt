@@ -14,6 +14,7 @@
 //! ```
 #![tactic(auto)]
 
+mod attr_kind;
 pub mod charsets;
 mod constants;
 mod fault;

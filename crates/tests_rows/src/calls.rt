@@ -4,6 +4,14 @@
 //!
 //! - `kinds`: its default display, and the kinds that it is of
 //!
+//! Of the name of an attribute:
+//!
+//! - `attribute`: `known`, `handler`, both or `-`
+//!
+//! Of an address:
+//!
+//! - `address`: `script` or `-`
+//!
 //! Of items, of which `tests_rows_items` says how they are spelled:
 //!
 //! - `nodes LEVEL SPACE [depth=N] [limit=N] [role=TEXT]`, where the level is `block` or `inline` and white
@@ -67,6 +75,8 @@ impl Caller for Library {
                 alloc, row, call,
             ),
             "kinds" => kinds::of_name(alloc, row),
+            "attribute" => kinds::of_attribute(alloc, row),
+            "address" => checks::is_script(alloc, row),
             "spans" => nodes::spans(alloc, row),
             "bare" => nodes::bare(alloc, row),
             "document" => documents::text(alloc, row, false),

@@ -5,7 +5,7 @@ use crate::pages::root_of;
 use anyhow::{Result, ensure};
 use html_dom_check::{dead_fragments, repeated_ids};
 use html_dom_document::HtmlDocument;
-use html_dom_link::{DeadLink, dead_links, ids_are_distinct};
+use html_dom_link::{DeadLink, dead_links, href_is_script, ids_are_distinct};
 use std::alloc::Global;
 use tests_rows_run::Row;
 
@@ -56,4 +56,14 @@ pub(crate) fn repeated_id_list(alloc: Global, row: &Row<'_>) -> Result<String> {
         write!(text, "{:?} {};", place.path, place.id)?;
     }
     Ok(text)
+}
+
+/// Whether an address is a script.
+pub(crate) fn is_script(alloc: Global, row: &Row<'_>) -> Result<String> {
+    let answer = if href_is_script(row.text()?) {
+        "script"
+    } else {
+        "-"
+    };
+    Ok(answer.to_string(alloc)?)
 }

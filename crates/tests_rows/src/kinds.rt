@@ -1,9 +1,9 @@
-//! Kinds and default displays of elements, by their names.
+//! Kinds and default displays of elements, and what attributes are, by their names.
 
 use anyhow::Result;
 use html_names::property::Display;
 use html_names::tag::mathml::{annotation_xml, is_mathml, is_token};
-use html_names::{HtmlTag, NameFault, tag};
+use html_names::{HtmlAttr, HtmlTag, NameFault, attr, tag};
 use std::alloc::Global;
 use tests_rows_run::Row;
 
@@ -50,4 +50,15 @@ pub(crate) fn of_name(alloc: Global, row: &Row<'_>) -> Result<String> {
         }
     }
     Ok(text)
+}
+
+pub(crate) fn of_attribute(alloc: Global, row: &Row<'_>) -> Result<String> {
+    let name = HtmlAttr::intern(alloc, row.text()?)?;
+    let answer = match (attr::is_known(&name), attr::is_event_handler(&name)) {
+        (true, true) => "known handler",
+        (true, false) => "known",
+        (false, true) => "handler",
+        (false, false) => "-",
+    };
+    Ok(answer.to_string(alloc)?)
 }

@@ -52,6 +52,7 @@ pub use html_dom::dead_links;
 pub use html_dom::element_at;
 pub use html_dom::fragment_in;
 pub use html_dom::fragment_leads;
+pub use html_dom::href_is_script;
 pub use html_dom::href_to;
 pub use html_dom::ids_are_distinct;
 pub use html_dom::place_names;

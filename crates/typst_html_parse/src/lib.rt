@@ -22,7 +22,6 @@ mod reader;
 mod reading;
 mod reference;
 mod since;
-mod split;
 mod tag_front;
 mod tags;
 mod values;

@@ -9,8 +9,7 @@ ghost use Rattle.typst_html_parse_tree.specs.PageBodies as bodies;
 
 use crate::legacy::longest_legacy;
 use crate::number::{error_of, number_of, numbered_char};
-use crate::split::split_first;
-use html_dom_tree::text::{add, add_text};
+use html_dom_tree::text::{add, add_text, split_first};
 use std::alloc::{AllocError, Global};
 use typst_html_parse_names::named_reference;
 use typst_html_parse_open::PageError;

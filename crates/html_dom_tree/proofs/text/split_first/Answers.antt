@@ -1,7 +1,7 @@
 use Rattle.std.proofs.Common.{◌++◌, sym, ap, ◌∙◌}
 use Rattle.std.proofs.lemmas.Str.{chars_past_char}
 use lib.Utf8.{encode}
-use Rattle.typst_html_parse.proofs.split.split_first.Goals as goal
+use Rattle.html_dom_tree.proofs.text.split_first.Goals as goal
 
 pub returns-in-Some : goal.returns-in-Some
 returns-in-Some c =

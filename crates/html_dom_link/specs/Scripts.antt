@@ -1,0 +1,29 @@
+-- Addresses that a browser runs, in place of going there.
+use Rattle.std.specs.Char.{to_ascii_lowercase}
+use Rattle.std.specs.List.{filter}
+use Rattle.std.specs.Prelude.{ℕ, Bool, true, false, ◌&&◌, ◌||◌, ◌==◌, List, [], ◌∷◌, codes, if◌then◌else◌}
+use Rattle.html_dom_link.specs.Indicated.{is_blank, is_kept}
+
+-- what stands behind the blanks at the beginning
+abbrev pub past_blanks : List ℕ → List ℕ
+past_blanks [] = []
+past_blanks (c ∷ cs) = if is_blank c then past_blanks cs else c ∷ cs
+
+-- the beginning of a URL as it is taken (URL Standard 4.4): controls and spaces before it count for
+-- nothing, nor do tabs, line feeds and carriage returns in it
+abbrev pub url_begin : (href : List ℕ) → List ℕ
+url_begin href = filter is_kept (past_blanks href)
+
+-- a text begins with this, in any ASCII case
+unfoldable pub begins : (small text : List ℕ) → Bool
+begins [] text = true
+begins (x ∷ xs) [] = false
+begins (x ∷ xs) (c ∷ cs) = (to_ascii_lowercase c == x) && begins xs cs
+
+-- `javascript:` and `vbscript:` are run, and a page in `data:` runs its own scripts
+abbrev pub is_script_url : (url : List ℕ) → Bool
+is_script_url url =
+    begins (codes "javascript:") url || begins (codes "data:") url || begins (codes "vbscript:") url
+
+abbrev pub href_is_script : (href : List ℕ) → Bool
+href_is_script href = is_script_url (url_begin href)

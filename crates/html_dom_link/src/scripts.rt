@@ -1,0 +1,73 @@
+//! Addresses that a browser runs, in place of going there.
+
+ghost use Rattle.std.specs.Prelude.{◌≡◌, ◌∷◌, [], MatchOption, chars};
+ghost use Rattle.std.specs.List.{filter};
+ghost use Rattle.html_dom_link.specs.Indicated.{is_kept};
+ghost use Rattle.html_dom_link.specs.Scripts.{begins, href_is_script, past_blanks};
+
+use crate::indicated::{is_blank, is_dropped};
+use html_dom_tree::text::split_first;
+
+/// Whether an `href` is a script to a browser: its scheme, in any ASCII case, is `javascript:`,
+/// `vbscript:` or `data:`, whose pages run scripts of their own. As the URL Standard (4.4) takes it,
+/// controls and spaces before it count for nothing, nor do tabs, line feeds and carriage returns in it.
+/// Who makes a page of what strangers write drops such a link. Other attributes that hold URLs (`src`,
+/// `action`, ..) are taken the same way.
+///
+/// ```
+/// use html_dom::href_is_script;
+///
+/// assert!(rt; href_is_script(" java\nScript:alert(1)"));
+/// assert!(rt; !href_is_script("/javascript:"));
+/// ```
+pub fn href_is_script(href: &str) -> bool
+    ensures { result ≡ href_is_script (chars href.now) }
+{
+    let url = past_blanks(href);
+    begins("javascript:", url) || begins("data:", url) || begins("vbscript:", url)
+}
+
+fn past_blanks(text: &str) -> &str
+    ensures { chars result.now ≡ past_blanks (chars text.now) }
+{
+    let mut left = text;
+    while let Some((c, rest)) = split_first(left) {
+        if !is_blank(c) {
+            return left;
+        }
+        left = rest;
+    }
+    left
+}
+
+/// The first character that counts in a URL, and what stands behind it.
+fn first_kept(text: &str) -> Option<(char, &str)>
+    ensures { MatchOption result (filter is_kept (chars text.now) ≡ [])
+        (λ x. filter is_kept (chars text.now) ≡ x.0 ∷ filter is_kept (chars x.1.now)) }
+{
+    let mut left = text;
+    while let Some((c, rest)) = split_first(left) {
+        if !is_dropped(c) {
+            return Some((c, rest));
+        }
+        left = rest;
+    }
+    None
+}
+
+/// Whether a text, without what counts for nothing in a URL, begins so, in any ASCII case.
+fn begins(small: &str, url: &str) -> bool
+    ensures { result ≡ begins (chars small.now) (filter is_kept (chars url.now)) }
+{
+    let mut left = url;
+    for expected in small.chars() {
+        let Some((c, rest)) = first_kept(left) else {
+            return false;
+        };
+        if c.to_ascii_lowercase() != expected {
+            return false;
+        }
+        left = rest;
+    }
+    true
+}

@@ -1,0 +1,50 @@
+//! Which attributes are known, and which run what is written in them.
+
+ghost use Rattle.std.specs.Prelude.{◌≡◌};
+ghost use Rattle.html_names.specs.AttrKinds.{is_event_handler};
+ghost use Rattle.html_names.specs.Tables.{is_known_attr};
+
+use crate::html_attr::HtmlAttr;
+use crate::name::Name;
+
+/// Whether the attribute is one of the constants of this module, that is, of HTML or MathML.
+///
+/// ```
+/// use html_names::{HtmlAttr, attr};
+///
+/// assert!(rt; attr::is_known(&attr::href));
+/// assert!(rt; !attr::is_known(&HtmlAttr::intern(rt.alloc(), "data-x")?));
+/// ```
+#[tactic(auto, using(crate::proofs::Known::attr_is_known))]
+pub fn is_known(attr: &HtmlAttr) -> bool
+    ensures { result ≡ is_known_attr attr.now }
+{
+    match &attr.name {
+        Name::Known(_) => true,
+        Name::Own(_) => false,
+    }
+}
+
+/// Whether the attribute is an event handler, whose value a browser runs: its name begins with `on`,
+/// in any ASCII case (HTML Standard 8.1.8.1). So it is of each handler, those of later standards too.
+///
+/// ```
+/// use html_names::{HtmlAttr, attr};
+///
+/// let alloc = rt.alloc();
+/// assert!(rt; attr::is_event_handler(&HtmlAttr::intern(alloc, "onclick")?));
+/// assert!(rt; attr::is_event_handler(&HtmlAttr::intern(alloc, "OnLoad")?));
+/// assert!(rt; !attr::is_event_handler(&attr::open));
+/// ```
+pub fn is_event_handler(attr: &HtmlAttr) -> bool
+    ensures { result ≡ is_event_handler attr.now }
+{
+    let mut letters = attr.resolve().chars();
+    let Some(first) = letters.next() else {
+        return false;
+    };
+    let Some(second) = letters.next() else {
+        return false;
+    };
+    first.eq_ignore_ascii_case(&'o') && second.eq_ignore_ascii_case(&'n')
+}
