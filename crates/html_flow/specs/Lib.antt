@@ -14,3 +14,8 @@ pub use Rattle.html_flow_faults.specs.FlowFaults
 pub use Rattle.html_flow_convert.specs.Items
 pub use Rattle.html_flow_convert.specs.LoneNode
 pub use Rattle.html_flow_convert.specs.Views
+pub use Rattle.html_flow_lists.specs.ItemLists
+pub use Rattle.html_flow_lists.specs.ListViews
+pub use Rattle.html_flow_lists.specs.NoteLaws
+pub use Rattle.html_flow_lists.specs.Notes
+pub use Rattle.html_flow_places.specs.NamedLocations

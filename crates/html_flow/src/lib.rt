@@ -24,3 +24,5 @@ pub use html_flow_convert::{
     Whitespace, bare_spaces, convert_to_nodes, html_block_fragment, html_inline_fragment,
     html_math_fragment, is_depth_limit, push_located,
 };
+pub use html_flow_lists::{ItemList, Notes};
+pub use html_flow_places::NamedPlaces;

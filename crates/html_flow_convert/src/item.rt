@@ -175,6 +175,23 @@ pub fn push_located(
             back: (label, item),
         });
     }
+    push_located_reserved(items, location, label, dest, item);
+    Ok(())
+}
+
+/// Adds what [`push_located`] adds, to a list that has room for it.
+pub fn push_located_reserved(
+    items: &mut Vec<Pair>,
+    location: Location,
+    label: Option<String>,
+    dest: Option<Location>,
+    item: Item,
+)
+    requires { vec_len items.old + 3 ≤ vec_capacity items.old }
+    ensures { pairs_view items.new.items ≡ pairs_view items.old.items
+        ++ located_item location.0 (optional_text_view label) (option_map (λ l. l.0) dest)
+        (item_view item) }
+{
     let start = Tag::Start {
         location,
         label,
@@ -183,7 +200,6 @@ pub fn push_located(
     push_reserved(items, Item::Tag(start));
     push_reserved(items, item);
     push_reserved(items, Item::Tag(Tag::End { location }));
-    Ok(())
 }
 
 fn push_reserved(items: &mut Vec<Pair>, item: Item)
@@ -524,8 +540,9 @@ fn copy_body(body: &Option<Vec<Pair>>) -> Result<Option<Vec<Pair>>, AllocError>
     Ok(Some(copied_pairs(*pairs.allocator(), pairs)?))
 }
 
+/// Copies of items with their roles, and all inside.
 #[cycle(copy)]
-pub(crate) fn copied_pairs(alloc: Global, pairs: &[Pair]) -> Result<Vec<Pair>, AllocError>
+pub fn copied_pairs(alloc: Global, pairs: &[Pair]) -> Result<Vec<Pair>, AllocError>
     ensures { IfOk result (λ copies. pairs_view copies.items ≡ pairs_view pairs.now) }
 {
     let mut copies = Vec::with_capacity(alloc, pairs.len())?;

@@ -34,7 +34,9 @@ pub use bareness::{Bareness, bare_spaces};
 pub use convert::{ConversionLevel, Whitespace, convert_items, convert_to_nodes, is_depth_limit};
 pub use fragment::{html_block_fragment, html_inline_fragment, html_math_fragment};
 pub use html_flow_faults::{ConstructFault, FlowFault};
-pub use item::{FrameElem, HtmlElem, Item, Pair, Role, push_located};
+pub use item::{
+    FrameElem, HtmlElem, Item, Pair, Role, copied_pairs, push_located, push_located_reserved,
+};
 pub use look::makes_block;
 pub use made::break_element;
 pub use pieces::push_text_nodes;

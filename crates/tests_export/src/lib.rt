@@ -9,3 +9,5 @@ mod documents;
 mod frames;
 #[cfg(test)]
 mod growths;
+#[cfg(test)]
+mod heads;

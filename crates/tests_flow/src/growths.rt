@@ -2,4 +2,5 @@
 //! and so on until a run succeeds.
 
 mod items;
+mod lists;
 mod spaces;

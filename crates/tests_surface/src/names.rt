@@ -7,14 +7,14 @@ mod trees {
         FrameItem, HtmlAttrs, HtmlDocument, HtmlElement, HtmlFrame, HtmlIntrospector, HtmlNode,
         HtmlOutput, HtmlPosition, HtmlSliceExt, Locale, Location, Point, RepeatedId, Span, Tag,
         create_link_anchors, dead_fragments, dead_links, element_at, fragment_in, fragment_leads,
-        href_to, ids_are_distinct, laws, place_names, repeated_ids, resolve_inline_styles,
-        resolve_links, with_resolved_links,
+        href_is_script, href_to, ids_are_distinct, laws, place_names, repeated_ids,
+        resolve_inline_styles, resolve_links, with_resolved_links,
     };
     use html_flow::{
         Arg, ArgValue, Args, Bareness, ConstructFault, ConversionLevel, ElementInfo, FlowFault,
-        FrameElem, HtmlElem, Item, Pair, Role, Whitespace, bare_spaces, construct,
-        convert_to_nodes, html_block_fragment, html_inline_fragment, html_math_fragment,
-        is_depth_limit, laws as laws_of_items, push_located,
+        FrameElem, HtmlElem, Item, ItemList, NamedPlaces, Notes, Pair, Role, Whitespace,
+        bare_spaces, construct, convert_to_nodes, html_block_fragment, html_inline_fragment,
+        html_math_fragment, is_depth_limit, laws as laws_of_items, push_located,
     };
 }
 
@@ -45,21 +45,28 @@ mod program {
     };
 }
 
-/// Types and traits of all layers, in typst_html.
+/// Types and traits of trees, items and documents, in typst_html.
 mod all_types {
     use typst_html::{
-        Abs, Angle, Arg, ArgValue, Args, AttrType, AutoValue, Bareness, Calc, CalcPart, Call,
-        CastFault, ConstructFault, ConversionLevel, CssWriter, Datetime, DeadFragment, DeadLink,
-        Dir, DocumentInfo, DomIndices, Duration, ElementInfo, Em, ExportFault, FlatElement,
-        FlatNode, FlatTree, FlowFault, Frame, FrameElem, FrameFault, FrameItem, FrameWriter,
-        HorizontalDir, HtmlAttr, HtmlAttrs, HtmlDocument, HtmlElem, HtmlElement, HtmlFrame,
-        HtmlIntrospector, HtmlNode, HtmlOptions, HtmlOutput, HtmlPosition, HtmlSliceExt, HtmlTag,
-        IconSize, ImageCandidate, Inline, IntoAttr, Item, Length, ListType, Locale, Location,
-        Moment, NameFault, NameTable, NativeType, NoneEmpty, NoneUndefined, NoneValue, OnOffBool,
-        PageError, PageFault, PageNote, PageNotes, PageRefusal, PageText, Paint, Pair, Place,
-        Places, Point, Properties, PropertiesBuilder, Property, Ratio, ReadFault, Refused, Rel,
-        RepeatedId, Rgba, Role, Separator, Shown, Span, Str, Tag, ToCss, TrueFalseBool, Value,
-        Warning, WarningSink, Whitespace, YesNoBool,
+        Arg, ArgValue, Args, Bareness, ConstructFault, ConversionLevel, DeadFragment, DeadLink,
+        DocumentInfo, DomIndices, ElementInfo, ExportFault, FlatElement, FlatNode, FlatTree,
+        FlowFault, Frame, FrameElem, FrameFault, FrameItem, FrameWriter, HtmlAttr, HtmlAttrs,
+        HtmlDocument, HtmlElem, HtmlElement, HtmlFrame, HtmlIntrospector, HtmlNode, HtmlOptions,
+        HtmlOutput, HtmlPosition, HtmlSliceExt, HtmlTag, Item, ItemList, Locale, Location,
+        NameFault, NameTable, NamedPlaces, Notes, PageError, PageFault, PageNote, PageNotes,
+        PageRefusal, PageText, Pair, Place, Places, Point, ReadFault, Refused, RepeatedId, Role,
+        Shown, Span, Tag, Whitespace,
+    };
+}
+
+/// Types and traits of values, in typst_html.
+mod all_values {
+    use typst_html::{
+        Abs, Angle, AttrType, AutoValue, Calc, CalcPart, Call, CastFault, CssWriter, Datetime, Dir,
+        Duration, Em, HorizontalDir, IconSize, ImageCandidate, Inline, IntoAttr, Length, ListType,
+        Moment, NativeType, NoneEmpty, NoneUndefined, NoneValue, OnOffBool, Paint, Properties,
+        PropertiesBuilder, Property, Ratio, Rel, Rgba, Separator, Str, ToCss, TrueFalseBool, Value,
+        Warning, WarningSink, YesNoBool,
     };
 }
 
@@ -67,8 +74,9 @@ mod all_types {
 mod all_calls {
     use typst_html::{
         attr, bare_spaces, charsets, civil, construct, convert_to_nodes, create_link_anchors,
-        dead_fragments, dead_links, element_at, export, export_linked, fragment_in, fragment_leads,
-        href_to, html, html_block_fragment, html_document, html_document_for_bundle,
+        dead_fragments, dead_links, element_at, export, export_linked, export_with_head,
+        fragment_in, fragment_leads, has_own_root, href_is_script, href_to, html,
+        html_block_fragment, html_document, html_document_for_bundle, html_document_with_head,
         html_in_bundle, html_inline_fragment, html_math_fragment, ids_are_distinct, is_depth_limit,
         laws, output, page_text, place_names, property, push_located, read_html, read_page,
         read_page_bytes, repeated_ids, resolve_inline_styles, resolve_links, tag,

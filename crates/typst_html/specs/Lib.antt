@@ -48,6 +48,7 @@ pub use Rattle.typst_html_export.specs.CleanInfo
 pub use Rattle.typst_html_export.specs.DocumentHead
 pub use Rattle.typst_html_export.specs.Exported
 pub use Rattle.typst_html_export.specs.Linked
+pub use Rattle.typst_html_export.specs.OwnHead
 pub use Rattle.typst_html_export.specs.SpacesInDocuments
 pub use Rattle.typst_html_check.specs.ItemHyperlinks
 pub use Rattle.typst_html_check.specs.SoundLinks
@@ -68,6 +69,10 @@ pub use Rattle.html_dom_document.specs.Documents
 pub use Rattle.html_dom_document.specs.Views as DocumentViews
 pub use Rattle.html_flow_convert.specs.Items
 pub use Rattle.html_flow_convert.specs.Views as ItemViews
+pub use Rattle.html_flow_lists.specs.ItemLists
+pub use Rattle.html_flow_lists.specs.ListViews
+pub use Rattle.html_flow_lists.specs.Notes
+pub use Rattle.html_flow_places.specs.NamedLocations
 pub use Rattle.typst_html_encode.specs.declared.fault.ExportFault
 pub use Rattle.typst_html_encode.specs.declared.frame.FrameFault
 pub use Rattle.typst_html_read.specs.declared.fault.ReadFault

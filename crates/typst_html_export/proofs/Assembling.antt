@@ -1,11 +1,12 @@
 -- The parts of an assembled document are those of the whole.
-use Rattle.std.proofs.Common.{◌≡◌, ℕ, [], refl, ap, ◌∙◌}
+use Rattle.std.proofs.Common.{◌≡◌, ℕ, List, [], refl, ap, ◌∙◌, append-nil}
 use Rattle.html_dom_tree.specs.Styled.{styled_nodes}
-use Rattle.html_dom_tree.specs.Tree.{NodesView}
+use Rattle.html_dom_tree.specs.Tree.{NodeView, NodesView}
 use Rattle.html_dom_document.specs.Documents.{InfoView}
 use Rattle.html_flow_convert.specs.Depth.{items_too_deep}
 use Rattle.html_flow_convert.specs.Items.{ItemsView, no_items, item}
-use Rattle.typst_html_export.specs.Assembled.{Outline, own_html, own_body, nothing_own, own_among_others, document_outline, first_own, shown_count, output_by, assembled_output, styled_output, item_spans, note_faults, outline_faults, depth_faults, assembly_faults}
+use Rattle.typst_html_export.specs.Assembled.{Outline, own_html, own_body, nothing_own, own_among_others, document_outline, first_own, shown_count, styled_output, item_spans, note_faults, outline_faults, depth_faults, assembly_faults}
+use Rattle.typst_html_export.specs.OwnHead.{assembled_output_with_head, output_with_head}
 use Rattle.typst_html_export.specs.Roots.{styled_root}
 use Rattle.typst_html_export.proofs.Firsts.{none_after_none}
 use Rattle.typst_html_export.proofs.Outlines.{own_found, own_stands}
@@ -23,19 +24,27 @@ module _ (limit : ℕ) (content : NodesView) (notes : ItemsView) where
       → note_faults (item_spans notes) ≡ [] → assembly_faults limit content notes ≡ []
   no_notes_clean own clean = none_after_none _ _ (own ∙ clean) (no_notes limit notes clean)
 
-styled_by : (o : Outline) (info : InfoView) (content notes : NodesView)
+-- without footnotes the faults are those of what the document has of its own
+pub alone_faults : (limit : ℕ) (content : NodesView)
+    → assembly_faults limit content no_items ≡ outline_faults (document_outline content) no_items
+unfolding items_too_deep
+alone_faults limit content = append-nil (outline_faults (document_outline content) no_items)
+
+styled_by : (o : Outline) (info : InfoView) (head : List NodeView) (content notes : NodesView)
     → o ≡ document_outline content
-    → styled_root (output_by o info content notes) ≡ styled_output (output_by o info content notes)
+    → styled_root (output_with_head o info head content notes)
+    ≡ styled_output (output_with_head o info head content notes)
 unfolding styled_nodes
-styled_by (own_html place) info content notes e =
+styled_by (own_html place) info head content notes e =
     let found = own_found (shown_count content) (first_own content) place e in
     ap (λ ns. record { nodes = ns; root = place })
     (lone_styled content place found.1.1 (own_stands content place e))
-styled_by own_body info content notes e = refl
-styled_by nothing_own info content notes e = refl
-styled_by (own_among_others name span) info content notes e = refl
+styled_by own_body info head content notes e = refl
+styled_by nothing_own info head content notes e = refl
+styled_by (own_among_others name span) info head content notes e = refl
 
-pub assembled_styled : (info : InfoView) (content notes : NodesView)
-    → styled_root (assembled_output info content notes)
-    ≡ styled_output (assembled_output info content notes)
-assembled_styled info content notes = styled_by (document_outline content) info content notes refl
+pub assembled_styled : (info : InfoView) (head : List NodeView) (content notes : NodesView)
+    → styled_root (assembled_output_with_head info head content notes)
+    ≡ styled_output (assembled_output_with_head info head content notes)
+assembled_styled info head content notes =
+    styled_by (document_outline content) info head content notes refl

@@ -2,7 +2,7 @@
 use Rattle.std.proofs.Common.{◌≡◌, ℕ, List, [], ◌∷◌, ◌++◌, map, ap, subst, Result, Ok, Err, String, Global}
 use Rattle.html_dom_tree.specs.Views.{text_view}
 use Rattle.html_dom_tree.specs.Tree.{NodesView}
-use Rattle.html_dom_document.specs.Documents.{DocumentView, InfoView, document_root}
+use Rattle.html_dom_document.specs.Documents.{DocumentView, document_root}
 use Rattle.html_dom_document.specs.Views.{document_view}
 use Rattle.html_dom_document.specs.declared.document.HtmlDocument.{HtmlDocument}
 use Rattle.typst_html_encode.specs.ExportFaults.{BeginsWith, IsFirst}
@@ -16,7 +16,7 @@ use Rattle.typst_html_encode.specs.declared.fault.ExportFault.{ExportFault}
 use Rattle.typst_html_encode.specs.declared.fault.ExportFault.TheVariants as fault
 use Rattle.html_flow_convert.specs.Depth.{items_too_deep}
 use Rattle.html_flow_convert.specs.Items.{ItemsView}
-use Rattle.typst_html_export.specs.Assembled.{assembled_document, assembly_faults, depth_faults, document_around, items_document_faults, document_nodes}
+use Rattle.typst_html_export.specs.Assembled.{assembly_faults, depth_faults, items_document_faults, document_nodes}
 use Rattle.typst_html_export.specs.Assembles.{GivesDocument}
 use Rattle.typst_html_export.specs.Exported.{root_faults}
 use Rattle.typst_html_export.proofs.Firsts.{first_after_none, none_after_none}
@@ -59,24 +59,31 @@ exported frames options limit items notes d expected r is none m =
     (writing.document_faults frames options (document_root d)) none m)
 
 -- what is answered for the nodes of items, none of which stands too deep
-around_nodes : (r : Result HtmlDocument ExportFault) (d : DocumentView)
-    (deep fs : List ExportFaultView) → deep ≡ [] → GivesDocument document_view r d fs →
-    GivesDocument document_view r d (deep ++ fs)
-around_nodes (Ok made) d deep fs none m =
-    record { made = m.made; clean = none_after_none deep fs none m.clean; fault = tt }
-around_nodes (Err e) d deep fs none m =
-    record { made = tt; clean = tt; fault = first_after_none e deep fs none m.fault }
+module _ {A B : Type 0} (view : A → B) where
+  around_nodes : (r : Result A ExportFault) (value : B) (deep fs : List ExportFaultView) →
+      deep ≡ [] → GivesDocument view r value fs → GivesDocument view r value (deep ++ fs)
+  around_nodes (Ok made) value deep fs none m =
+      record { made = m.made; clean = none_after_none deep fs none m.clean; fault = tt }
+  around_nodes (Err e) value deep fs none m =
+      record { made = tt; clean = tt; fault = first_after_none e deep fs none m.fault }
 
-pub around_items : (limit : ℕ) (info : InfoView) (items notes : ItemsView) (content : NodesView)
-    (r : Result HtmlDocument ExportFault) → content ≡ document_nodes items →
+  pub around_items : (limit : ℕ) (around : NodesView → B) (faults : NodesView → List ExportFaultView)
+      (items : ItemsView) (content : NodesView) (r : Result A ExportFault) →
+      content ≡ document_nodes items → depth_faults (items_too_deep 0 limit items) ≡ [] →
+      GivesDocument view r (around content) (faults content) →
+      GivesDocument view r (around (document_nodes items))
+      (depth_faults (items_too_deep 0 limit items) ++ faults (document_nodes items))
+  around_items limit around faults items content r is none m =
+      around_nodes r (around (document_nodes items)) (depth_faults (items_too_deep 0 limit items))
+      (faults (document_nodes items)) none
+      (subst (λ ns. GivesDocument view r (around ns) (faults ns)) is m)
+
+-- around nodes of items and of footnotes a document is made
+pub around_both : (limit : ℕ) (around : NodesView → DocumentView) (items notes : ItemsView)
+    (content : NodesView) (r : Result HtmlDocument ExportFault) → content ≡ document_nodes items →
     depth_faults (items_too_deep 0 limit items) ≡ [] →
-    GivesDocument document_view r (document_around info content notes)
-    (assembly_faults limit content notes) →
-    GivesDocument document_view r (assembled_document info items notes)
+    GivesDocument document_view r (around content) (assembly_faults limit content notes) →
+    GivesDocument document_view r (around (document_nodes items))
     (items_document_faults limit items notes)
-around_items limit info items notes content r is none m =
-    around_nodes r (assembled_document info items notes)
-    (depth_faults (items_too_deep 0 limit items))
-    (assembly_faults limit (document_nodes items) notes) none
-    (subst (λ ns. GivesDocument document_view r (document_around info ns notes)
-    (assembly_faults limit ns notes)) is m)
+around_both limit around items notes =
+    around_items document_view limit around (λ ns. assembly_faults limit ns notes) items

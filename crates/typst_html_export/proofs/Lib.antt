@@ -11,9 +11,11 @@ pub mod LinkedRoots
 pub mod Nodes
 pub mod Notes
 pub mod Outlines
+pub mod OwnHead
 pub mod PlainRoots
 pub mod ReadLinks
 pub mod SpacesInDocuments
 pub mod SpacesInTexts
+pub mod SpacesWithHead
 pub mod StyledRoots
 pub mod Untargeted

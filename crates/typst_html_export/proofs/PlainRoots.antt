@@ -48,13 +48,15 @@ module _ (items : ItemsView) (e : is_plain_flow items ≡ true) where
   made_plain : are_plain_nodes (document_nodes items) ≡ true
   made_plain = (makes_plain_nodes None items e).0
 
-  outline : document_outline (document_nodes items) ≡ nothing_own
-  outline = ap (outline_by (shown_count (document_nodes items))) (no_own (document_nodes items) made_plain)
+  pub plain_outline : document_outline (document_nodes items) ≡ nothing_own
+  plain_outline =
+      let ns = document_nodes items in
+      ap (outline_by (shown_count ns)) (no_own ns made_plain)
 
 pub plain_documents_are_made : PlainDocumentsAreMade
 unfolding item_too_deep
 plain_documents_are_made limit items notes are =
-    rw (are.alone, are.within, outline items are.plain) refl
+    rw (are.alone, are.within, plain_outline items are.plain) refl
 
 -- without footnotes the body is the nodes
 
@@ -63,7 +65,7 @@ unfolding node_list
 nodes_of_list none = refl
 nodes_of_list (node n ns) = ap (node n) (nodes_of_list ns)
 
-no_notes : (ns : NodesView) → both_nodes ns (document_nodes no_items) ≡ ns
+pub no_notes : (ns : NodesView) → both_nodes ns (document_nodes no_items) ≡ ns
 unfolding node_list item_nodes blank_front after_front nodes_by_answers
 no_notes ns = ap nodes_of (append-nil (node_list ns)) ∙ nodes_of_list ns
 
@@ -81,7 +83,7 @@ output_is : (info : InfoView) (items : ItemsView) → is_plain_flow items ≡ tr
     document_output info items no_items
     ≡ record { nodes = node (node_of (root_over info (document_nodes items))) none; root = 0 }
 unfolding styled_node
-output_is info items e = rw (outline items e, no_notes (document_nodes items)) refl
+output_is info items e = rw (plain_outline items e, no_notes (document_nodes items)) refl
 
 pub body_is : (info : InfoView) (ns : NodesView) →
     body_children (root_over info ns).1 ≡ Some (styled_nodes ns)
@@ -95,7 +97,7 @@ pub made_not_raw : (is_raw (codes "html") ≡ false) × (is_raw (codes "head") �
 unfolding is_raw stands_in
 made_not_raw = (refl, refl, refl, refl)
 
-both_readable : (ns more : List NodeView) → AreReadable (nodes_of ns) →
+pub both_readable : (ns more : List NodeView) → AreReadable (nodes_of ns) →
     AreReadable (nodes_of more) → AreReadable (nodes_of (ns ++ more))
 both_readable [] more r s = s
 both_readable (n ∷ ns) more r s = (r.0, both_readable ns more r.1 s)
@@ -112,7 +114,7 @@ list_readable : (name : List ℕ) (ts : List (List ℕ)) → AreReadable (nodes_
 list_readable name [] = tt
 list_readable name (t ∷ ts) = ((made_not_raw.3, tt), tt)
 
-entries_readable : (info : InfoView) → AreReadable (nodes_of (entry_nodes info))
+pub entries_readable : (info : InfoView) → AreReadable (nodes_of (entry_nodes info))
 entries_readable info =
     both_readable (title_nodes info.title) _ (title_readable info.title)
     (both_readable (description_nodes info.description) _ (description_readable info.description)
@@ -135,6 +137,12 @@ assembled_root_is info items e = ap (λ o. given_root (root_of o)) (output_is in
 
 -- the root with anchors
 
+pub with_new_root : (o : OutputView) (root : ElementView) →
+    o ≡ record { nodes = node (node_of root) none; root = 0 } →
+    (change : ElementView → ElementView) →
+    given_root (root_of (with_root o (change (given_root (root_of o))))) ≡ change root
+with_new_root o root is change = rw is refl
+
 pub linked_root_is : (info : InfoView) (items : ItemsView) → is_plain_flow items ≡ true →
     (x : Targets) × (document_root (linked_document info items no_items)
     ≡ element_with_anchors x (root_over info (document_nodes items)))
@@ -145,9 +153,3 @@ linked_root_is info items e =
       with_new_root (document_output info items no_items) (root_over info (document_nodes items))
           (output_is info items e) (λ root. element_with_anchors x root),
     )
-  where
-    with_new_root : (o : OutputView) (root : ElementView) →
-        o ≡ record { nodes = node (node_of root) none; root = 0 } →
-        (change : ElementView → ElementView) →
-        given_root (root_of (with_root o (change (given_root (root_of o))))) ≡ change root
-    with_new_root o root is change = rw is refl

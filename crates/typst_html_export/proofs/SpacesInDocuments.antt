@@ -37,15 +37,15 @@ use Rattle.typst_html_export.proofs.PlainRoots.{assembled_root_is, root_over, bo
 
 -- a root without a raw element and without a frame, in whose body exactly that text of items is
 -- seen, and what has indents is a border
-record ShowsItems (root : ElementView) (items : ItemsView) : Type 0 where
-  not_raw : is_raw root.0.name ≡ false
-  readable : AreReadable root.1
-  body : NodesView
-  body_is : body_children root.1 ≡ Some body
-  edged : NodesAreEdged body
-  seen : seen_plains (nodes_normal body) ≡ items_text items
+pub record ShowsItems (root : ElementView) (items : ItemsView) : Type 0 where
+  pub not_raw : is_raw root.0.name ≡ false
+  pub readable : AreReadable root.1
+  pub body : NodesView
+  pub body_is : body_children root.1 ≡ Some body
+  pub edged : NodesAreEdged body
+  pub seen : seen_plains (nodes_normal body) ≡ items_text items
 
-shown_read : (root : ElementView) (items : ItemsView) → ShowsItems root items → IsReadAs root items
+pub shown_read : (root : ElementView) (items : ItemsView) → ShowsItems root items → IsReadAs root items
 unfolding NodeEndsWell
 shown_read root items shows = record {
   frame_free = readable_frame_free root.1 shows.readable;
@@ -59,7 +59,7 @@ shown_read root items shows = record {
 }
 
 -- so is a root with anchors, or with the `href` of its links
-still_shown : (h : Head) (ns ms : NodesView) (items : ItemsView) → Anchored IsAny ns ms →
+pub still_shown : (h : Head) (ns ms : NodesView) (items : ItemsView) → Anchored IsAny ns ms →
     ShowsItems (h, ns) items → ShowsItems (h, ms) items
 still_shown h ns ms items a shows =
     let new = anchored_body IsAny shows.body a shows.body_is in

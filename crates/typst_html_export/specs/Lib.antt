@@ -6,6 +6,7 @@ pub mod Exported
 pub mod Linked
 pub mod LinkedRoots
 pub mod Outlines
+pub mod OwnHead
 pub mod ReadLinks
 pub mod Roots
 pub mod SpacesInDocuments

@@ -1,6 +1,6 @@
 //! Documents made of items.
 
-ghost use Rattle.std.specs.Prelude.{◌≡◌, ◌≤◌, IfOk, option_map};
+ghost use Rattle.std.specs.Prelude.{◌≡◌, ◌≤◌, IfOk, map, option_map};
 ghost use Rattle.html_dom_link.specs.Distinct.{IdsAreDistinct};
 ghost use Rattle.html_dom_link.specs.GivenLinks.{KnownAnchorsAreShown};
 ghost use Rattle.html_dom_link.specs.Serving.{KnownAnchorsServe};
@@ -15,14 +15,17 @@ ghost use Rattle.html_flow_convert.specs.Depth.{items_too_deep};
 ghost use Rattle.html_flow_convert.specs.Items.{no_items};
 ghost use Rattle.html_flow_convert.specs.Views.{items_view};
 ghost use Rattle.html_dom_document.specs.Places.{is_html};
-ghost use Rattle.typst_html_export.specs.Assembled.{assembled_document, assembled_output, document_around, document_nodes};
+ghost use Rattle.typst_html_spaces.specs.ReadableNodes.{AreReadable};
+ghost use Rattle.typst_html_export.specs.Assembled.{assembled_document, document_nodes};
 ghost use Rattle.typst_html_export.specs.Assembled.{first_own, is_own, own_head, document_outline, shown_count};
-ghost use Rattle.typst_html_export.specs.Assembled.{body_node, both_nodes, html_output};
+ghost use Rattle.typst_html_export.specs.Assembled.{body_node, both_nodes};
 ghost use Rattle.typst_html_export.specs.Assembled.{assembly_faults, depth_faults, items_document_faults, item_spans, note_faults, outline_faults};
 ghost use Rattle.typst_html_export.specs.Assembles.{GivesDocument, FailsByMemoryAlone, Passes};
 ghost use Rattle.typst_html_export.specs.Linked.{document_with_anchors, linked_document, AnchorsAreFirstIds};
 ghost use Rattle.typst_html_export.specs.LinkedRoots.{HaveSameAtoms};
 ghost use Rattle.typst_html_export.specs.Outlines.{outline_view, own_view};
+ghost use Rattle.typst_html_export.specs.OwnHead.{assembled_document_with_head, assembled_output_with_head, document_around_with_head};
+ghost use Rattle.typst_html_export.specs.OwnHead.{have_own_root, html_output_with_head, is_root, linked_document_with_head};
 ghost use Rattle.typst_html_export.specs.Roots.{styled_root};
 ghost use Rattle.typst_html_export.specs.SpacesInDocuments.{ArePlainItems, SpacesAreLeft};
 
@@ -94,6 +97,69 @@ pub fn html_document(
     Ok(with_anchors(alloc, document)?)
 }
 
+/// The document of items as [`html_document`] makes it, with nodes of one's own in its head: a
+/// stylesheet, an icon, `meta`.
+///
+/// They are copied to the end of the head that is made, behind what is made of the information. There
+/// they are nodes of the document like all others: their css becomes `style`, positions lead to them,
+/// targets among them get anchors, and no other anchor gets one of their ids.
+///
+/// Where the items have a root of their own ([`has_own_root`]), its head is theirs too: the document
+/// is that of `html_document`, in whose tree neither the information nor these nodes are. Without such
+/// nodes it is always that (`laws::own_heads`). It fails as `html_document` does, whatever the nodes
+/// are.
+///
+/// ```
+/// use typst_html::{DocumentInfo, HtmlElement, HtmlNode, HtmlOptions, attr, tag};
+/// use typst_html::{html, html_document_with_head};
+///
+/// let alloc = rt.alloc();
+/// let style = HtmlElement::new(alloc, tag::link)
+///     .with_attr(attr::rel, String::from_str(alloc, "stylesheet")?)?
+///     .with_attr(attr::href, String::from_str(alloc, "site.css")?)?;
+/// let own = vec![in alloc; HtmlNode::Element(style)]?;
+/// let info = DocumentInfo::new(alloc);
+/// let document = html_document_with_head(alloc, &[], &info, &own, &[], 50)?;
+/// let text = html(alloc, &document, &HtmlOptions::default(), &())?;
+/// let end = r#"<link rel="stylesheet" href="site.css"></head><body></body></html>"#;
+/// assert!(rt; text.as_str().ends_with(end));
+/// ```
+pub fn html_document_with_head(
+    alloc: Global,
+    items: &[Pair],
+    info: &DocumentInfo,
+    head: &[HtmlNode],
+    footnotes: &[Pair],
+    limit: usize,
+) -> Result<HtmlDocument, ExportFault>
+    requires some_limit { 1 ≤ limit }
+    requires low_limit { limit ≤ 10000 }
+    ensures made { GivesDocument document_view result
+        (linked_document_with_head (info_view info.now) (map node_view head.now)
+        (items_view items.now) (items_view footnotes.now))
+        (items_document_faults limit (items_view items.now) (items_view footnotes.now)) }
+    ensures anchors { IfOk result (λ document. AnchorsAreFirstIds (document_view document)) }
+    ensures shown { IfOk result (λ document. KnownAnchorsAreShown (document_view document)) }
+    ensures serves { IfOk result (λ document. KnownAnchorsServe (document_view document)) }
+    ensures unseen { let assembled = assembled_document_with_head (info_view info.now)
+        (map node_view head.now) (items_view items.now) (items_view footnotes.now) in
+        IfOk result (λ document.
+        HaveSameAtoms (document_root (document_view document)) (document_root assembled)) }
+    ensures distinct { IdsAreDistinct (assembled_document_with_head (info_view info.now)
+        (map node_view head.now) (items_view items.now) (items_view footnotes.now)) →
+        IfOk result (λ document. IdsAreDistinct (document_view document)) }
+    // Items in plain flow, without footnotes and none too deep, become a document, out of memory
+    // aside, and where no node of the head is raw or a frame, in its text exactly theirs is seen.
+    ensures plain { ArePlainItems limit (items_view items.now) (items_view footnotes.now) →
+        FailsByMemoryAlone result }
+    ensures spaces { AreReadable (nodes_view head.now) →
+        IfOk result (λ document. SpacesAreLeft (document_view document)
+        (items_view items.now) (items_view footnotes.now)) }
+{
+    let document = document_without_anchors(alloc, items, info, head, footnotes, limit)?;
+    Ok(with_anchors(alloc, document)?)
+}
+
 /// Where no link leads to a location, the tree is not looked at.
 fn with_anchors(alloc: Global, mut document: HtmlDocument) -> Result<HtmlDocument, AllocError>
     ensures made { IfOk result (λ made.
@@ -157,8 +223,64 @@ pub fn html_document_for_bundle(
     ensures spaces { IfOk result (λ document. SpacesAreLeft (document_view document)
         (items_view items.now) (items_view footnotes.now)) }
 {
+    document_without_anchors(alloc, items, info, &[], footnotes, limit)
+}
+
+/// The document of items, with nodes of its head, without anchors.
+fn document_without_anchors(
+    alloc: Global,
+    items: &[Pair],
+    info: &DocumentInfo,
+    head: &[HtmlNode],
+    footnotes: &[Pair],
+    limit: usize,
+) -> Result<HtmlDocument, ExportFault>
+    requires some_limit { 1 ≤ limit }
+    requires low_limit { limit ≤ 10000 }
+    ensures made { GivesDocument document_view result
+        (assembled_document_with_head (info_view info.now) (map node_view head.now)
+        (items_view items.now) (items_view footnotes.now))
+        (items_document_faults limit (items_view items.now) (items_view footnotes.now)) }
+    ensures leads { IfOk result (λ document. PositionsLead (document_view document)) }
+{
     let content = converted(alloc, items, 0, limit)?;
-    document_around(alloc, content, info, footnotes, limit)
+    document_around(alloc, content, info, head, footnotes, limit)
+}
+
+/// Whether the items have a root of their own: an `html` alone among their nodes, tags aside.
+///
+/// Their documents then have that root as it is, so that neither the information nor nodes for the
+/// head are in the tree; no call refuses that. Here it can be asked, at the price of the items' nodes,
+/// which are made and dropped. It fails where an allocation does, and else by the first fault of
+/// making the document without footnotes.
+///
+/// ```
+/// use typst_html::{HtmlElem, Item, Pair, has_own_root, tag};
+///
+/// let alloc = rt.alloc();
+/// let own = Item::Element(HtmlElem::new(alloc, tag::html));
+/// let items = vec![in alloc; Pair::from(own)]?;
+/// assert!(rt; has_own_root(alloc, &items, 50)?);
+/// assert!(rt; !has_own_root(alloc, &[], 50)?);
+/// ```
+pub fn has_own_root(alloc: Global, items: &[Pair], limit: usize) -> Result<bool, ExportFault>
+    requires some_limit { 1 ≤ limit }
+    requires low_limit { limit ≤ 10000 }
+    ensures { GivesDocument (λ own. own) result (have_own_root (items_view items.now))
+        (items_document_faults limit (items_view items.now) no_items) }
+{
+    let nodes = converted(alloc, items, 0, limit)?;
+    have_root(&nodes)
+}
+
+fn have_root(nodes: &[HtmlNode]) -> Result<bool, ExportFault>
+    ensures { GivesDocument (λ own. own) result (is_root (document_outline (nodes_view nodes.now)))
+        (outline_faults (document_outline (nodes_view nodes.now)) no_items) }
+{
+    match document_outline(nodes)? {
+        Outline::OwnHtml(_) => Ok(true),
+        Outline::OwnBody | Outline::NothingOwn => Ok(false),
+    }
 }
 
 /// As [`html_document`] makes it, but the items' texts, attributes and css are moved.
@@ -176,26 +298,28 @@ pub(crate) fn document_of_items(
         (items_document_faults limit (items_view items.items) (items_view footnotes.now)) }
 {
     let content = moved(alloc, items, limit)?;
-    let document = document_around(alloc, content, info, footnotes, limit)?;
+    let document = document_around(alloc, content, info, &[], footnotes, limit)?;
     Ok(with_anchors(alloc, document)?)
 }
 
-/// The document around the nodes of its items, without anchors.
+/// The document around the nodes of its items, with nodes of its head, without anchors.
 fn document_around(
     alloc: Global,
     content: Vec<HtmlNode>,
     info: &DocumentInfo,
+    head: &[HtmlNode],
     footnotes: &[Pair],
     limit: usize,
 ) -> Result<HtmlDocument, ExportFault>
     requires some_limit { 1 ≤ limit }
     requires low_limit { limit ≤ 10000 }
     ensures made { GivesDocument document_view result
-        (document_around (info_view info.now) (nodes_view content.items) (items_view footnotes.now))
+        (document_around_with_head (info_view info.now) (map node_view head.now)
+        (nodes_view content.items) (items_view footnotes.now))
         (assembly_faults limit (nodes_view content.items) (items_view footnotes.now)) }
     ensures leads { IfOk result (λ document. PositionsLead (document_view document)) }
 {
-    let output = assembled(alloc, content, info, footnotes, limit)?;
+    let output = assembled(alloc, content, info, head, footnotes, limit)?;
     let output = styled(alloc, output)?;
     Ok(HtmlDocument::new(alloc, output, info.try_clone()?)?)
 }
@@ -235,14 +359,15 @@ fn assembled(
     alloc: Global,
     content: Vec<HtmlNode>,
     info: &DocumentInfo,
+    head: &[HtmlNode],
     footnotes: &[Pair],
     limit: usize,
 ) -> Result<HtmlOutput, ExportFault>
     requires some_limit { 1 ≤ limit }
     requires low_limit { limit ≤ 10000 }
     ensures { GivesDocument output_view result
-        (assembled_output (info_view info.now) (nodes_view content.items)
-        (document_nodes (items_view footnotes.now)))
+        (assembled_output_with_head (info_view info.now) (map node_view head.now)
+        (nodes_view content.items) (document_nodes (items_view footnotes.now)))
         (assembly_faults limit (nodes_view content.items) (items_view footnotes.now)) }
 {
     match document_outline(&content)? {
@@ -252,12 +377,12 @@ fn assembled(
         }
         Outline::OwnBody => {
             refuse_footnotes(alloc, footnotes)?;
-            Ok(html_output(alloc, info, content)?)
+            Ok(html_output(alloc, info, head, content)?)
         }
         Outline::NothingOwn => {
             let notes = converted(alloc, footnotes, 1, limit)?;
             let body = body_nodes(alloc, both_nodes(content, notes)?)?;
-            Ok(html_output(alloc, info, body)?)
+            Ok(html_output(alloc, info, head, body)?)
         }
     }
 }
@@ -395,12 +520,13 @@ fn body_nodes(alloc: Global, content: Vec<HtmlNode>) -> Result<Vec<HtmlNode>, Al
 fn html_output(
     alloc: Global,
     info: &DocumentInfo,
+    head: &[HtmlNode],
     mut content: Vec<HtmlNode>,
 ) -> Result<HtmlOutput, AllocError>
-    ensures { IfOk result (λ output.
-        output_view output ≡ html_output (info_view info.now) (nodes_view content.items)) }
+    ensures { IfOk result (λ output. output_view output ≡ html_output_with_head
+        (info_view info.now) (map node_view head.now) (nodes_view content.items)) }
 {
-    let mut children = vec![in alloc; head_node(alloc, info)?]?;
+    let mut children = vec![in alloc; head_node(alloc, info, head)?]?;
     children.append(&mut content)?;
     let html = HtmlElement::new(alloc, tag::html)
         .with_attr(attr::lang, lang_text(alloc, &info.locale)?)?

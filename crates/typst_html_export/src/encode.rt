@@ -1,8 +1,8 @@
 //! Writing documents.
 
-ghost use Rattle.std.specs.Prelude.{◌≡◌, ◌≤◌, true, false, Some, IfErr, IfOk, OnOk};
+ghost use Rattle.std.specs.Prelude.{◌≡◌, ◌≤◌, true, false, Some, IfErr, IfOk, OnOk, map};
 ghost use Rattle.html_dom_tree.specs.PlainTree.{element_normal};
-ghost use Rattle.html_dom_tree.specs.Views.{text_view, element_view};
+ghost use Rattle.html_dom_tree.specs.Views.{text_view, element_view, node_view, nodes_view};
 ghost use Rattle.html_dom_document.specs.Views.{document_view, info_view};
 ghost use Rattle.typst_html_encode.specs.FaultViews.{IsFirstView};
 ghost use Rattle.typst_html_encode.specs.ExportFaults.{document_faults};
@@ -18,19 +18,21 @@ ghost use Rattle.html_dom_link.specs.GivenLinks.{AnchorsAreTexts, GivenLinksLead
 ghost use Rattle.html_dom_link.specs.Links.{document_dead_links};
 ghost use Rattle.html_flow_convert.specs.Views.{items_view};
 ghost use Rattle.typst_html_spaces.specs.CleanItems.{are_clean_items};
+ghost use Rattle.typst_html_spaces.specs.ReadableNodes.{AreReadable};
 ghost use Rattle.typst_html_export.specs.Assembled.{assembled_document};
 ghost use Rattle.typst_html_export.specs.Assembles.{GivesDocument, FailsByMemoryAlone};
 ghost use Rattle.typst_html_export.specs.CleanInfo.{is_clean_info};
 ghost use Rattle.typst_html_export.specs.Exported.{export_faults, export_linked_faults, export_linked_text, export_text};
 ghost use Rattle.typst_html_export.specs.Exported.{linked_root, resolved_document, resolved_root, root_faults};
 ghost use Rattle.typst_html_export.specs.Linked.{linked_document};
+ghost use Rattle.typst_html_export.specs.OwnHead.{export_faults_with_head, export_text_with_head, linked_root_with_head};
 ghost use Rattle.typst_html_export.specs.ReadLinks.{GivenLinksLeadWhenRead, DocumentIsReadable};
 ghost use Rattle.typst_html_export.specs.SpacesInDocuments.{ArePlainItems, SpacesAreSeen};
 
-use crate::document::{document_of_items, html_document};
+use crate::document::{document_of_items, html_document, html_document_with_head};
 use html_dom_document::{DocumentInfo, HtmlDocument};
 use html_dom_link::document_with_links;
-use html_dom_tree::HtmlElement;
+use html_dom_tree::{HtmlElement, HtmlNode};
 use html_flow_convert::Pair;
 use html_names::tag;
 use std::alloc::Global;
@@ -131,6 +133,69 @@ pub fn export<F: FrameWriter>(
         (items_view items.now) (items_view footnotes.now)) }
 {
     let document = html_document(alloc, items, info, footnotes, limit)?;
+    html_of_made(alloc, document, options, frames)
+}
+
+/// The HTML text of items, as [`export`] writes it, with nodes of one's own in its head: a stylesheet,
+/// an icon, `meta`.
+///
+/// The document is made by [`html_document_with_head`] and written by [`html`]. It fails as `export`
+/// does, where faults of writing may be in these nodes too.
+///
+/// ```
+/// use typst_html::{DocumentInfo, HtmlElement, HtmlNode, HtmlOptions};
+/// use typst_html::{attr, export_with_head, tag};
+///
+/// let alloc = rt.alloc();
+/// let style = HtmlElement::new(alloc, tag::link)
+///     .with_attr(attr::rel, String::from_str(alloc, "stylesheet")?)?
+///     .with_attr(attr::href, String::from_str(alloc, "site.css")?)?;
+/// let own = vec![in alloc; HtmlNode::Element(style)]?;
+/// let (info, options) = (DocumentInfo::new(alloc), HtmlOptions::default());
+/// let html = export_with_head(alloc, &[], &info, &own, &[], 50, &options, &())?;
+/// let end = r#"<link rel="stylesheet" href="site.css"></head><body></body></html>"#;
+/// assert!(rt; html.as_str().ends_with(end));
+/// ```
+pub fn export_with_head<F: FrameWriter>(
+    alloc: Global,
+    items: &[Pair],
+    info: &DocumentInfo,
+    head: &[HtmlNode],
+    footnotes: &[Pair],
+    limit: usize,
+    options: &HtmlOptions,
+    frames: &F,
+) -> Result<String, ExportFault>
+    requires some_limit { 1 ≤ limit }
+    requires low_limit { limit ≤ 10000 }
+    ensures makes { GivesDocument text_view result
+        (export_text_with_head (F.drawing frames.now) options.now (info_view info.now)
+        (map node_view head.now) (items_view items.now) (items_view footnotes.now))
+        (export_faults_with_head limit (F.drawing frames.now) options.now (info_view info.now)
+        (map node_view head.now) (items_view items.now) (items_view footnotes.now)) }
+
+    // Items in plain flow are refused by faults of their document's tree alone, out of memory aside.
+    // Where no node of the head is raw or a frame, exactly their text is seen once white space has
+    // collapsed.
+    ensures plain { ArePlainItems limit (items_view items.now) (items_view footnotes.now) →
+        IfErr result (λ e. IsFirstView e (root_faults (F.drawing frames.now) options.now
+        (linked_root_with_head (info_view info.now) (map node_view head.now)
+        (items_view items.now) (items_view footnotes.now)))) }
+    ensures spaces { AreReadable (nodes_view head.now) →
+        IfOk result (λ text. SpacesAreSeen (text_view text)
+        (items_view items.now) (items_view footnotes.now)) }
+
+    // What the text of a root without frames reads as.
+    ensures reads_back { let root = linked_root_with_head (info_view info.now)
+        (map node_view head.now) (items_view items.now) (items_view footnotes.now) in
+        options.now.pretty ≡ false → ElementIsFrameFree root →
+        IfOk result (λ text. read (text_view text) ≡ Some (element_normal root)) }
+    ensures reads_indented { let root = linked_root_with_head (info_view info.now)
+        (map node_view head.now) (items_view items.now) (items_view footnotes.now) in
+        options.now.pretty ≡ true → ElementIsFrameFree root → ElementEndsWell true root →
+        IfOk result (λ text. read (text_view text) ≡ Some (element_normal (element_layout root))) }
+{
+    let document = html_document_with_head(alloc, items, info, head, footnotes, limit)?;
     html_of_made(alloc, document, options, frames)
 }
 

@@ -7,8 +7,9 @@ ghost use Rattle.html_names.specs.Names.{is_ascii};
 ghost use Rattle.html_dom_tree.specs.Views.{element_view, node_view, optional_text_view, text_view};
 ghost use Rattle.html_names.specs.Texts.{texts_view};
 ghost use Rattle.html_dom_document.specs.Views.{info_view, locale_view};
-ghost use Rattle.typst_html_export.specs.DocumentHead.{charset_node, description_nodes, entry_node, entry_nodes, head_node};
+ghost use Rattle.typst_html_export.specs.DocumentHead.{charset_node, description_nodes, entry_node, entry_nodes};
 ghost use Rattle.typst_html_export.specs.DocumentHead.{joined_text, lang_text, list_meta_nodes, region_text, title_node, title_nodes, viewport_node};
+ghost use Rattle.typst_html_export.specs.OwnHead.{head_node_with};
 
 use html_dom_document::{DocumentInfo, Locale};
 use html_dom_tree::{HtmlElement, HtmlNode, Span};
@@ -16,14 +17,21 @@ use html_names::output::Output;
 use html_names::{attr, tag};
 use std::alloc::{AllocError, Global};
 
-/// The head of a document: how it is encoded, how it is shown, and what is known of it.
-pub(crate) fn head_node(alloc: Global, info: &DocumentInfo) -> Result<HtmlNode, AllocError>
-    ensures { IfOk result (λ made. node_view made ≡ head_node (info_view info.now)) }
+/// The head of a document: how it is encoded, how it is shown, what is known of it, and then nodes
+/// of its own.
+pub(crate) fn head_node(
+    alloc: Global,
+    info: &DocumentInfo,
+    own: &[HtmlNode],
+) -> Result<HtmlNode, AllocError>
+    ensures { IfOk result (λ made.
+        node_view made ≡ head_node_with (info_view info.now) (map node_view own.now)) }
 {
     let mut children = Vec::new(alloc);
     children.push(charset_node(alloc)?)?;
     children.push(viewport_node(alloc)?)?;
     push_entries(alloc, &mut children, info)?;
+    push_copies(&mut children, own)?;
     let head = HtmlElement::new(alloc, tag::head).with_children(children);
     Ok(HtmlNode::Element(head))
 }
@@ -40,6 +48,16 @@ fn push_entries(
     push_description(alloc, nodes, &info.description)?;
     push_list(alloc, nodes, "authors", &info.author)?;
     push_list(alloc, nodes, "keywords", &info.keywords)
+}
+
+fn push_copies(nodes: &mut Vec<HtmlNode>, others: &[HtmlNode]) -> Result<(), AllocError>
+    ensures { OnOk result (map node_view nodes.new.items
+        ≡ map node_view nodes.old.items ++ map node_view others.now) }
+{
+    for node in others {
+        nodes.push(node.try_clone()?)?;
+    }
+    Ok(())
 }
 
 fn push_title(

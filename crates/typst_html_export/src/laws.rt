@@ -3,6 +3,7 @@
 
 ghost use Rattle.typst_html_export.specs.CleanInfo.{CleanDocumentsAreWritten, CleanLinkedDocumentsAreWritten};
 ghost use Rattle.typst_html_export.specs.LinkedRoots.{AnchorsKeepAtoms, LinksKeepAtoms, LinksKeepFrames, LinksKeepNames};
+ghost use Rattle.typst_html_export.specs.OwnHead.{NoNodesChangeNothing, OwnRootsHaveNoInfo, OwnRootsHaveNoNodes};
 ghost use Rattle.typst_html_export.specs.SpacesInDocuments.{PlainDocumentsAreMade, PlainDocumentsAreSeen, PlainLinkedDocumentsAreRead, PlainLinkedDocumentsAreSeen};
 
 /// Items in plain flow, without footnotes and none too deep, become a document, and what is seen of
@@ -31,4 +32,12 @@ pub fn links_are_unseen()
     ensures links { LinksKeepAtoms }
     ensures frame_free { LinksKeepFrames }
     ensures named { LinksKeepNames }
+{}
+
+/// Nodes of one's own in the head change nothing of a document where there are none, or where its
+/// items have a root of their own. Then what is known of the document is not in its tree either.
+pub fn own_heads()
+    ensures none { NoNodesChangeNothing }
+    ensures own { OwnRootsHaveNoNodes }
+    ensures unknown { OwnRootsHaveNoInfo }
 {}

@@ -6,5 +6,7 @@ mod encode;
 mod head;
 pub mod laws;
 
-pub use document::{html_document, html_document_for_bundle};
-pub use encode::{export, export_items, export_linked, html};
+pub use document::{
+    has_own_root, html_document, html_document_for_bundle, html_document_with_head,
+};
+pub use encode::{export, export_items, export_linked, export_with_head, html};

@@ -1,16 +1,20 @@
 //! Documents of items, and texts of documents, plain and pretty.
 
 use html_dom_document::{DocumentInfo, HtmlDocument};
+use html_dom_tree::HtmlNode;
 use html_flow_convert::Pair;
 use std::alloc::{AllocError, Global};
 use std::fmt::Debug;
 use tests_asserts::TestResult;
 use tests_frames::OneText;
-use tests_given::{document_of, info_of};
+use tests_given::{document_of, element_of, info_of};
 use tests_growth::refuses_lent;
 use tests_items::{content_of, line_of};
 use typst_html_encode::{ExportFault, HtmlOptions};
-use typst_html_export::{export, export_linked, html, html_document, html_document_for_bundle};
+use typst_html_export::{
+    export, export_linked, export_with_head, has_own_root, html, html_document,
+    html_document_for_bundle,
+};
 
 /// What a document with a footnote is made of.
 #[derive(Debug, Drop)]
@@ -18,6 +22,7 @@ struct Content {
     items: Vec<Pair>,
     footnotes: Vec<Pair>,
     info: DocumentInfo,
+    head: Vec<HtmlNode>,
 }
 
 fn sources_of(alloc: Global) -> Result<Content, AllocError> {
@@ -25,6 +30,7 @@ fn sources_of(alloc: Global) -> Result<Content, AllocError> {
         items: content_of(alloc)?,
         footnotes: line_of(alloc)?,
         info: info_of(alloc)?,
+        head: vec![in alloc; HtmlNode::from(element_of(alloc)?)]?,
     })
 }
 
@@ -58,6 +64,10 @@ fn assert_exported(alloc: Global, options: &HtmlOptions, frames: &OneText) -> Te
     assert_text(alloc, sources_of(alloc)?, |of: &mut Content| {
         let (items, info, notes) = (&of.items, &of.info, &of.footnotes);
         export_linked(alloc, items, info, notes, 9, options, frames)
+    })?;
+    assert_text(alloc, sources_of(alloc)?, |of: &mut Content| {
+        let (items, info, notes) = (&of.items, &of.info, &of.footnotes);
+        export_with_head(alloc, items, info, &of.head, notes, 9, options, frames)
     })
 }
 
@@ -84,5 +94,8 @@ fn made_documents(rt: HostRuntime) -> TestResult {
     })?;
     refuses_lent(alloc, sources_of(alloc)?, |of: &mut Content| {
         html_document(alloc, &of.items, &of.info, &of.footnotes, 9).map(is_alone)
+    })?;
+    refuses_lent(alloc, sources_of(alloc)?, |of: &mut Content| {
+        has_own_root(alloc, &of.items, 9).map(|own| !own)
     })
 }

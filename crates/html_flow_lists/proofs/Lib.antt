@@ -1,0 +1,4 @@
+pub mod LastItems
+pub mod Lines
+pub mod NoteParts
+pub mod Spaces

@@ -1,0 +1,4 @@
+pub mod ItemLists
+pub mod ListViews
+pub mod NoteLaws
+pub mod Notes

@@ -1,0 +1,17 @@
+-- The lists and the notes that the program's values stand for.
+use Rattle.std.specs.Prelude.{List, map}
+use Rattle.html_flow_convert.specs.Views.{pairs_view}
+use Rattle.html_flow_lists.specs.ItemLists.{ListView}
+use Rattle.html_flow_lists.specs.Notes.{NoteView}
+use Rattle.html_flow_lists.specs.declared.item_list.ItemList.{ItemList}
+use Rattle.html_flow_lists.specs.declared.notes.Note.{Note}
+use Rattle.html_flow_lists.specs.declared.notes.Notes.{Notes}
+
+abbrev pub list_view : ItemList → ListView
+list_view l = record { items = pairs_view l.items.items; span = l.span.0 }
+
+abbrev pub note_view : Note → NoteView
+note_view n = record { content = pairs_view n.content.items; span = n.span.0 }
+
+abbrev pub notes_view : Notes → List NoteView
+notes_view n = map note_view n.notes.items

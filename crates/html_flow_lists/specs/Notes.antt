@@ -1,0 +1,118 @@
+-- Footnotes (this project's rule): marks with links to notes, and one section of the notes, each
+-- with a link back to its mark. The classes are those that Pandoc writes, the roles those of
+-- DPUB-ARIA 1.0.
+use Rattle.std.specs.Prelude.{ℕ, suc, ◌+◌, ◌-◌, ◌*◌, ◌^◌, Bool, false, if◌then◌else◌, List, [], ◌∷◌, ◌++◌, Some, None, codes, bytes_eq, decimal}
+use Rattle.html_names.specs.Texts.{TextPair}
+use Rattle.html_flow_convert.specs.Items.{RoleView, ItemView, element_item, text_item, ItemsView, no_items, item, absent, present, ElemView, element_as_item, new_head, inheriting, located_item}
+use Rattle.html_flow_convert.specs.Views.{items_of}
+use Rattle.html_flow_lists.specs.ItemLists.{Pairs, last_passes, with_changed_last}
+
+-- a note: its content, and the span that its mark and its elements get
+pub record NoteView : Type 0 where
+  pub content : Pairs
+  pub span : ℕ
+
+-- two locations for each note, counted from 1, from the greatest location downwards: that of the
+-- note, and that of its mark
+abbrev pub note_location : (number : ℕ) → ℕ
+note_location number = 2 ^ 64 - 1 - 2 * number
+
+abbrev pub mark_location : (number : ℕ) → ℕ
+mark_location number = note_location number + 1
+
+-- the names that are wished for as anchors
+abbrev pub note_label : (number : ℕ) → List ℕ
+note_label number = codes "fn" ++ decimal number
+
+abbrev pub mark_label : (number : ℕ) → List ℕ
+mark_label number = codes "fnref" ++ decimal number
+
+-- an element without css and parent
+abbrev pub plain_item : (name : List ℕ) → List TextPair → Pairs → (span : ℕ) → ItemView
+plain_item name attrs body span =
+    element_item (record { name = name; attrs = attrs; css = []; parent = None; span = span })
+    (present (items_of body))
+
+abbrev pub role_pair : (role : List ℕ) → TextPair
+role_pair role = (codes "role", role)
+
+-- an element of that name with attributes, and with nothing else
+abbrev pub element_with : (name : List ℕ) → List TextPair → ElemView
+element_with name attrs = (record (new_head name) { attrs = attrs }, absent)
+
+abbrev pub class_and_role : (class role : List ℕ) → List TextPair
+class_and_role class role = (codes "class", class) ∷ role_pair role ∷ []
+
+-- a link of that class and role, with that text
+abbrev pub note_link : (class role text : List ℕ) (span : ℕ) → ItemView
+note_link class role text span =
+    plain_item (codes "a") (class_and_role class role) (inheriting (text_item text span) ∷ []) span
+
+-- the mark of a note: a link to the note, and a place itself
+abbrev pub mark_item : (number span : ℕ) → ItemView
+mark_item number span =
+    plain_item (codes "sup") [] (located_item (mark_location number) (Some (mark_label number))
+    (Some (note_location number))
+    (note_link (codes "footnote-ref") (codes "doc-noteref") (decimal number) span)) span
+
+-- the link back to the mark: an arrow to the left, as a text and not as a picture
+abbrev pub back_items : (number span : ℕ) → Pairs
+back_items number span =
+    located_item 0 None (Some (mark_location number))
+    (note_link (codes "footnote-back") (codes "doc-backlink") (0x21a9 ∷ 0xfe0e ∷ []) span)
+
+-- items with more behind them
+abbrev pub with_items_behind : ItemsView → Pairs → ItemsView
+with_items_behind no_items more = items_of more
+with_items_behind (item i role is) more = item i role (with_items_behind is more)
+
+-- whether an element is a paragraph with a body
+abbrev pub is_line : ElemView → Bool
+is_line (h, absent) = false
+is_line (h, present items) = bytes_eq h.name (codes "p")
+
+-- an element with more at the end of its body, where it has one
+abbrev pub with_longer_body : (more : Pairs) → ElemView → ElemView
+with_longer_body more (h, absent) = (h, absent)
+with_longer_body more (h, present items) = (h, present (with_items_behind items more))
+
+-- the same of an item
+abbrev pub is_line_item : ItemView × RoleView → Bool
+is_line_item (element_item h body, role) = is_line (h, body)
+is_line_item x = false
+
+abbrev pub with_longer_line : (more : Pairs) → ItemView × RoleView → ItemView × RoleView
+with_longer_line more (element_item h body, role) =
+    (element_as_item (with_longer_body more (h, body)), role)
+with_longer_line more x = x
+
+-- more behind items: within the last one where that is a paragraph with a body
+abbrev pub in_last_line : (more : Pairs) → Pairs → Pairs
+in_last_line more items =
+    if last_passes is_line_item items then with_changed_last (with_longer_line more) items
+    else items ++ more
+
+-- a note as an entry of the section
+abbrev pub note_item : (number : ℕ) → NoteView → ItemView
+note_item number note =
+    plain_item (codes "li") (role_pair (codes "doc-endnote") ∷ [])
+    (in_last_line (back_items number note.span) note.content) note.span
+
+abbrev pub located_note : (number : ℕ) → NoteView → Pairs
+located_note number note =
+    located_item (note_location number) (Some (note_label number)) None (note_item number note)
+
+-- notes from that number on
+abbrev pub note_items : (number : ℕ) → List NoteView → Pairs
+note_items number [] = []
+note_items number (n ∷ ns) = located_note number n ++ note_items (suc number) ns
+
+-- the section of notes, which is none where there is no note
+abbrev pub section_item : List NoteView → ItemView
+section_item notes =
+    plain_item (codes "section") (class_and_role (codes "footnotes") (codes "doc-endnotes"))
+    (inheriting (plain_item (codes "ol") [] (note_items 1 notes) 0) ∷ []) 0
+
+abbrev pub section_items : List NoteView → Pairs
+section_items [] = []
+section_items (n ∷ ns) = inheriting (section_item (n ∷ ns)) ∷ []

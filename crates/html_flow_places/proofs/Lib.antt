@@ -1,0 +1,2 @@
+pub mod HeldLocations
+pub mod NamedLocations

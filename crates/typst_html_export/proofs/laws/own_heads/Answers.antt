@@ -1,0 +1,11 @@
+use Rattle.typst_html_export.proofs.OwnHead.{no_nodes_change_nothing, own_roots_have_no_info, own_roots_have_no_nodes}
+use Rattle.typst_html_export.proofs.laws.own_heads.Goals as goal
+
+pub returns-clause-none : goal.returns-clause-none
+returns-clause-none c = no_nodes_change_nothing
+
+pub returns-clause-own : goal.returns-clause-own
+returns-clause-own c = own_roots_have_no_nodes
+
+pub returns-clause-unknown : goal.returns-clause-unknown
+returns-clause-unknown c = own_roots_have_no_info
