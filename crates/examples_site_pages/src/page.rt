@@ -10,12 +10,12 @@
 //!
 //! A target is `#label` for a heading of this page, `page#label` for one of another, or `page`.
 
-use crate::site::{LINK, Site};
+use crate::site::Site;
 use anyhow::{Context, Result, ensure};
 use std::alloc::{AllocError, Global};
 use std::collections::BTreeSet;
 use typst_html::{
-    HtmlElem, HtmlTag, Item, Location, Pair, Span, attr, charsets, push_located, tag,
+    HtmlElem, HtmlTag, Item, ItemList, Location, Pair, Span, attr, charsets, push_located, tag,
 };
 
 /// A page. What stands in a line has its number as its span.
@@ -62,7 +62,7 @@ impl Site<'_> {
 
     fn empty_page(&mut self, name: String, path: String) -> Result<Page> {
         Ok(Page {
-            location: self.location(name.clone()?)?,
+            location: self.places.location(&name)?,
             name,
             path,
             title: String::new(self.alloc),
@@ -101,7 +101,8 @@ impl Site<'_> {
 
     fn read_heading(&mut self, page: &mut Page, rest: &str, span: Span) -> Result<()> {
         let (label, text) = word_and_text(rest).context("no text behind `# label`")?;
-        let here = self.location(format!(in self.alloc; "{}#{label}", page.name)?)?;
+        let name = format!(in self.alloc; "{}#{label}", page.name)?;
+        let here = self.places.location(&name)?;
         ensure!(page.headings.insert(here)?, "a second heading {label:?}");
         let heading = Item::from(self.element(tag::h2, text, span)?);
         let label = Some(label.to_string(self.alloc)?);
@@ -111,8 +112,8 @@ impl Site<'_> {
     fn read_image(&self, page: &mut Page, rest: &str, span: Span) -> Result<()> {
         let (file, text) = word_and_text(rest).context("no text behind `! file`")?;
         let image = HtmlElem::new(self.alloc, tag::img)
-            .with_attr(attr::src, file.to_string(self.alloc)?)?
-            .with_attr(attr::alt, text.to_string(self.alloc)?)?;
+            .with_attr_text(attr::src, file)?
+            .with_attr_text(attr::alt, text)?;
         Ok(page.items.push(Pair::from(image.spanned(span)))?)
     }
 
@@ -124,46 +125,26 @@ impl Site<'_> {
 
     /// A text of the page of that name, in which `[words](target)` is a link.
     fn text_with_links(&mut self, page: &str, text: &str, span: Span) -> Result<Vec<Pair>> {
-        let mut items = Vec::new(self.alloc);
+        let mut list = ItemList::new(self.alloc).spanned(span);
         let mut parts = text.split('[');
-        let first = parts.next().unwrap_or_default().to_string(self.alloc)?;
-        items.push(Pair::from(Item::Text(first, span)))?;
+        list.text(parts.next().unwrap_or_default())?;
         for part in parts {
-            self.push_part(&mut items, page, part, span)?;
+            self.push_part(&mut list, page, part)?;
         }
-        Ok(items)
+        Ok(list.into_items())
     }
 
     /// Adds what stands behind a `[`, up to the next one.
-    fn push_part(
-        &mut self,
-        items: &mut Vec<Pair>,
-        page: &str,
-        part: &str,
-        span: Span,
-    ) -> Result<()> {
-        let text = match link_in(part) {
-            Some((words, target, behind)) => {
-                let link = Item::from(self.element(tag::a, words, span)?);
-                let dest = Some(self.destination(page, target)?);
-                push_located(items, LINK, None, dest, link)?;
-                behind.to_string(self.alloc)?
-            }
-            None => format!(in self.alloc; "[{part}")?,
+    fn push_part(&mut self, list: &mut ItemList, page: &str, part: &str) -> Result<()> {
+        let Some((words, target, behind)) = link_in(part) else {
+            list.text("[")?;
+            return Ok(list.text(part)?);
         };
-        Ok(items.push(Pair::from(Item::Text(text, span)))?)
-    }
-
-    /// The location to which a target leads from the page of that name.
-    fn destination(&mut self, page: &str, target: &str) -> Result<Location> {
         let page = if target.starts_with('#') { page } else { "" };
-        self.location(format!(in self.alloc; "{page}{target}")?)
-    }
-
-    /// The location of a target, a new one if nothing has named that target before.
-    fn location(&mut self, target: String) -> Result<Location> {
-        let new = Location((self.places.len() as u64).saturating_add(1));
-        Ok(*self.places.entry(target)?.or_insert(new))
+        let name = format!(in self.alloc; "{page}{target}")?;
+        let link = list.new_element(tag::a).with_text(self.alloc, words)?;
+        list.link(&mut self.places, &name, link)?;
+        Ok(list.text(behind)?)
     }
 }
 

@@ -8,12 +8,9 @@ use std::collections::BTreeMap;
 use std::mem;
 use typst_html::{
     DocumentInfo, HtmlAttrs, HtmlDocument, HtmlElem, HtmlElement, HtmlNode, HtmlOptions, Item,
-    Location, Pair, Span, Tag, attr, create_link_anchors, dead_links, href_to, html,
+    Location, NamedPlaces, Pair, Span, Tag, attr, create_link_anchors, dead_links, href_to, html,
     html_document_for_bundle, push_located, resolve_links, tag,
 };
-
-/// The location of links, to which none leads.
-pub const LINK: Location = Location(0);
 
 /// How deep elements may stand in one another.
 const DEEPEST: usize = 50;
@@ -40,7 +37,7 @@ pub struct Site<'a> {
     /// Its pages, by their names in order.
     pub pages: Vec<Page>,
     /// The locations of what links name, `page#label` or `page`.
-    pub places: BTreeMap<String, Location>,
+    pub places: NamedPlaces,
 }
 
 impl<'a> Site<'a> {
@@ -50,7 +47,7 @@ impl<'a> Site<'a> {
             alloc,
             title,
             pages: Vec::new(alloc),
-            places: BTreeMap::new(alloc),
+            places: NamedPlaces::new(alloc),
         }
     }
 }
@@ -147,8 +144,7 @@ impl Site<'_> {
     /// Refuses a document with a link that leads nowhere.
     fn ensure_links_lead(&self, page: &Page, document: &HtmlDocument) -> Result<()> {
         if let Some(link) = dead_links(self.alloc, document)?.first() {
-            let target = self.places.iter().find(|place| *place.1 == link.dest);
-            let target = target.map_or("", |place| place.0.as_str());
+            let target = self.places.name(link.dest).unwrap_or_default();
             let error = anyhow!("no heading or page is named {target:?}");
             return Err(error.context(page.place(self.alloc, link.span)?));
         }
@@ -160,10 +156,10 @@ impl Site<'_> {
 fn entry(alloc: Global, page: &Page, is_current: bool) -> Result<HtmlElem> {
     let mut link = HtmlElem::new(alloc, tag::a).with_text(alloc, &page.title)?;
     if is_current {
-        link = link.with_attr(attr::aria_current, "page".to_string(alloc)?)?;
+        link = link.with_attr_text(attr::aria_current, "page")?;
     }
     let (mut items, dest) = (Vec::new(alloc), Some(page.location));
-    push_located(&mut items, LINK, None, dest, Item::from(link))?;
+    push_located(&mut items, Location(0), None, dest, Item::from(link))?;
     Ok(HtmlElem::new(alloc, tag::li).with_body(items))
 }
 
