@@ -1,4 +1,4 @@
-//! Laws of this layer's types, each the contract of a function: what `==` tests.
+//! Laws of this layer, each the contract of a function.
 
 pub use html_flow_convert::laws::{
     equal_construct_faults, equal_conversion_levels, equal_flow_faults, equal_whitespaces,
