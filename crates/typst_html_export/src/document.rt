@@ -93,8 +93,7 @@ pub fn html_document(
     ensures spaces { IfOk result (λ document. SpacesAreLeft (document_view document)
         (items_view items.now) (items_view footnotes.now)) }
 {
-    let document = html_document_for_bundle(alloc, items, info, footnotes, limit)?;
-    Ok(with_anchors(alloc, document)?)
+    html_document_with_head(alloc, items, info, &[], footnotes, limit)
 }
 
 /// The document of items as [`html_document`] makes it, with nodes of one's own in its head: a

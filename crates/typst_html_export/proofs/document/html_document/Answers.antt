@@ -1,56 +1,33 @@
-use Rattle.std.proofs.Common.{◌∙◌, ap, sym, subst}
-use Rattle.std.proofs.lemmas.Result.{err_from_is_err_and}
+use Rattle.std.proofs.Common.{IfOk, subst, sym}
 use Rattle.html_dom_document.specs.Documents.{document_root}
 use Rattle.html_dom_document.specs.Views.{document_view, info_view}
 use Rattle.html_dom_link.specs.Distinct.{IdsAreDistinct}
-use Rattle.html_dom_link.specs.GivenLinks.{KnownAnchorsAreShown}
-use Rattle.html_dom_link.specs.Serving.{KnownAnchorsServe}
 use Rattle.html_flow_convert.specs.Views.{items_view}
-use Rattle.typst_html_export.specs.Assembled.{items_document_faults}
-use Rattle.typst_html_export.specs.Linked.{AnchorsAreFirstIds, document_with_anchors}
+use Rattle.typst_html_export.specs.Assembled.{document_nodes, items_document_faults}
+use Rattle.typst_html_export.specs.Assembles.{GivesDocument}
 use Rattle.typst_html_export.specs.LinkedRoots.{HaveSameAtoms}
-use Rattle.typst_html_export.proofs.Anchors.{anchors_are_first_ids, anchors_are_not_seen, known_anchors_are_shown, known_anchors_serve}
-use Rattle.typst_html_export.proofs.Firsts.{memory_alone}
-use Rattle.typst_html_export.proofs.PlainRoots.{plain_documents_are_made}
-use Rattle.typst_html_export.proofs.SpacesInDocuments.{spaces_are_left}
+use Rattle.typst_html_export.proofs.OwnHead.{no_nodes_around, no_nodes_change_nothing}
 use Rattle.typst_html_export.proofs.document.html_document.Goals as goal
 
-pub returns-clause-anchors : goal.returns-clause-anchors
-returns-clause-anchors c =
-    subst (λ d. AnchorsAreFirstIds d) (sym c.in_ok-with_anchors.ensures.made)
-    (anchors_are_first_ids (document_view c.in_ok-document.document))
-
-pub returns-clause-shown : goal.returns-clause-shown
-returns-clause-shown c =
-    subst KnownAnchorsAreShown (sym c.in_ok-with_anchors.ensures.made)
-    (known_anchors_are_shown (document_view c.in_ok-document.document))
-
-pub returns-clause-serves : goal.returns-clause-serves
-returns-clause-serves c =
-    subst KnownAnchorsServe (sym c.in_ok-with_anchors.ensures.made)
-    (known_anchors_serve (document_view c.in_ok-document.document))
-
-pub returns-clause-unseen : goal.returns-clause-unseen
-returns-clause-unseen c =
-    subst (λ d. HaveSameAtoms (document_root (document_view c.in_ok-with_anchors.field-0))
-    (document_root d)) c.in_ok-document.ensures.made.made
-    (anchors_are_not_seen (document_view c.in_ok-document.document) _
-    c.in_ok-with_anchors.ensures.made)
-
-pub returns-clause-distinct : goal.returns-clause-distinct
-returns-clause-distinct c = λ distinct. c.in_ok-with_anchors.ensures.distinct
-    (subst IdsAreDistinct (sym c.in_ok-document.ensures.made.made) distinct)
-
-pub returns-in_err-document-clause-plain : goal.returns-in_err-document-clause-plain
-returns-in_err-document-clause-plain c = λ are.
+pub returns : goal.returns
+returns c =
+    let given = c.html_document_with_head.ensures in
+    let made = c.html_document_with_head.result in
+    let info = info_view c.args.info.now in
     let items = items_view c.args.items.now in
     let notes = items_view c.args.footnotes.now in
-    let failed = err_from_is_err_and c.from_residual.result c.from_residual.ensures.1 in
-    rw (failed.1, failed.2) (memory_alone _ (items_document_faults c.args.limit items notes)
-    (plain_documents_are_made c.args.limit items notes are) c.in_err-document.ensures.made.fault)
-
-pub returns-clause-spaces : goal.returns-clause-spaces
-returns-clause-spaces c =
-    spaces_are_left (info_view c.args.info.now) (items_view c.args.items.now)
-    (items_view c.args.footnotes.now) _
-    (c.in_ok-with_anchors.ensures.made ∙ ap document_with_anchors c.in_ok-document.ensures.made.made)
+    let same = no_nodes_around info (document_nodes items) notes in
+    record {
+      made = subst (λ d. GivesDocument document_view made d
+          (items_document_faults c.args.limit items notes))
+          (no_nodes_change_nothing info items notes) given.made;
+      anchors = given.anchors;
+      shown = given.shown;
+      serves = given.serves;
+      unseen = subst (λ d. IfOk made (λ document.
+          HaveSameAtoms (document_root (document_view document)) (document_root d)))
+          same given.unseen;
+      distinct = λ distinct. given.distinct (subst IdsAreDistinct (sym same) distinct);
+      plain = given.plain;
+      spaces = given.spaces tt;
+    }
