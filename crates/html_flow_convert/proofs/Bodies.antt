@@ -27,22 +27,35 @@ with_list e more = record {
   span = (out-HtmlElem e).span;
 }
 
+-- all of an element but its body, as it is seen
+abbrev pub head_of : HtmlElem → ElemHead
+head_of e = record {
+  name = (out-HtmlElem e).tag;
+  attrs = attrs_view (out-HtmlElem e).attrs;
+  css = (out-HtmlElem e).css;
+  parent = option_map (λ l. l.0) (out-HtmlElem e).parent;
+  span = (out-HtmlElem e).span.0;
+}
+
+-- an element that has a body, and one that gets another, as they are seen
+pub view_with_body : (e : HtmlElem) (items : Vec Pair Global) → (out-HtmlElem e).body ≡ Some items →
+    elem_view e ≡ (head_of e, present (items_view items.items))
+view_with_body e items had =
+    fold_out-HtmlElem ItemView ElemView (ItemView × RoleView) item_step elem_step pair_step e
+    ∙ rw had refl
+
+pub view_with_list : (e : HtmlElem) (items : Vec Pair Global) →
+    elem_view (roll-HtmlElem (with_list e items))
+    ≡ (head_of e, present (items_view items.items))
+view_with_list e items =
+    fold-roll-HtmlElem ItemView ElemView (ItemView × RoleView) item_step elem_step pair_step
+    (with_list e items)
+
 -- an element whose body has one item more, as it is seen
 pub with_last_item_view : (e : HtmlElem) (items more : Vec Pair Global) (p : Pair) →
     (out-HtmlElem e).body ≡ Some items → more.items ≡ items.items ++ p ∷ [] →
     elem_view (roll-HtmlElem (with_list e more)) ≡ with_last_item (pair_view p) (elem_view e)
 with_last_item_view e items more p had grown =
-    let head : ElemHead = record {
-      name = (out-HtmlElem e).tag;
-      attrs = attrs_view (out-HtmlElem e).attrs;
-      css = (out-HtmlElem e).css;
-      parent = option_map (λ l. l.0) (out-HtmlElem e).parent;
-      span = (out-HtmlElem e).span.0;
-    } in
-    fold-roll-HtmlElem ItemView ElemView (ItemView × RoleView) item_step elem_step pair_step
-    (with_list e more)
-    ∙ rw (
-      fold_out-HtmlElem ItemView ElemView (ItemView × RoleView) item_step elem_step pair_step e,
-      had,
-    )
-    (ap (λ is. (head, present is)) (ap items_view grown ∙ with_last_view items.items p))
+    view_with_list e more
+    ∙ rw (view_with_body e items had)
+    (ap (λ is. (head_of e, present is)) (ap items_view grown ∙ with_last_view items.items p))

@@ -285,7 +285,7 @@ pub(crate) fn text_pair(text: String, span: Span) -> Pair
     Pair::from(Item::Text(text, span))
 }
 
-#[tactic(auto, using(crate::proofs::Spaces::empty_chars))]
+#[tactic(auto, using(html_names::proofs::EndChars::empty_chars))]
 fn is_empty(text: &str) -> bool
     ensures { result ≡ (length (chars text.now) == 0) }
 {
@@ -332,7 +332,7 @@ fn item_ends_in_space(pair: &Pair) -> bool
     }
 }
 
-#[tactic(auto, using(crate::proofs::Spaces::last_chars))]
+#[tactic(auto, using(crate::proofs::Spaces::last_space))]
 fn text_ends_in_space(text: &str) -> bool
     ensures { result ≡ text_ends_in_space (chars text.now) }
 {

@@ -6,50 +6,23 @@ use Rattle.std.specs.Cmp.Lexicographic.{slice_cmp}
 use Rattle.std.specs.Ordering.{nat_cmp}
 use Rattle.std.proofs.lemmas.Map.Text.{btree_map_updates_text}
 use Rattle.std.specs.Str.{IsUtf8}
-use Rattle.std.proofs.lemmas.Slice.Eq.{bytes_eq-Decides}
 use Rattle.html_dom_tree.specs.declared.introspection.Location.{Location}
 use Rattle.html_names.specs.Names.{stands_in}
 use Rattle.html_names.specs.NameTables.{number_in}
 use Rattle.html_names.proofs.Lists.{bytes_eq-chars}
-use Rattle.html_names.proofs.NameTables.{number_in-append, number_in-last, number_next, stands_in-last}
-use Rattle.html_names.proofs.NumberMaps.{numbered}
+use Rattle.html_names.proofs.NumberMaps.{added_where, numbered}
 use Rattle.html_flow_places.specs.HeldLocations.{location_where, IsLocating}
 use Rattle.html_flow_places.specs.NamedLocations.{location_in}
+
+-- the location for a number
+abbrev location_of : ℕ → Location
+location_of number = record { 0 = number + 1 }
 
 pub fresh : (locations : BTreeMap (String Global) Location) (names : List (List ℕ)) → names ≡ [] →
     ((text : List ℕ) → get_by_text locations text ≡ None) → IsLocating locations names
 unfolding stands_in
 fresh locations [] e none = (λ number h. absurd (omega arith), λ text h. none text)
 fresh locations (n ∷ ns) e none = cc
-
--- a text that is not the last stands among the names as before
-others_stand : (names : List (List ℕ)) (name other : List ℕ) → bytes_eq name other ≡ false →
-    stands_in (names ++ name ∷ []) other ≡ stands_in names other
-unfolding stands_in
-others_stand [] name other e = rw e refl
-others_stand (n ∷ ns) name other e = rw (others_stand ns name other e) refl
-
-abbrev located : ℕ → Option Location
-located number = Some (record { 0 = number + 1 })
-
-other_where : (names : List (List ℕ)) (name other : List ℕ) (s : Bool) →
-    stands_in names other ≡ s →
-    (if s then located (number_in names other) else None)
-    ≡ (if s then located (number_in (names ++ name ∷ []) other) else None)
-other_where names name other true h = ap located (sym (number_in-append names (name ∷ []) other h))
-other_where names name other false h = refl
-
-added_where : (names : List (List ℕ)) (name other : List ℕ) (b : Bool) →
-    stands_in names name ≡ false → bytes_eq name other ≡ b →
-    (if b then located (length names) else location_where names other)
-    ≡ location_where (names ++ name ∷ []) other
-added_where names name other true new e =
-    let is : name ≡ other = (bytes_eq-Decides name other).0 e in
-    rw (sym is, stands_in-last names name, number_in-last names name, number_next names name new)
-    refl
-added_where names name other false new e =
-    rw (others_stand names name other e)
-    (other_where names name other (stands_in names other) refl)
 
 -- a new name goes to the end of the list, and gets the next location
 pub next : (old new : BTreeMap (String Global) Location) (names after : List (List ℕ))
@@ -60,17 +33,18 @@ pub next : (old new : BTreeMap (String Global) Location) (names after : List (Li
 next old new names after key location valid added last was absent put =
     let long : location.0 ≡ length names + 1 =
     last ∙ rw (added, length-append names (chars key ∷ [])) refl in
-    let is : Some location ≡ located (length names) = ap (λ l. Some (record { 0 = l })) long in
+    let is : Some location ≡ Some (location_of (length names)) =
+    ap (λ l. Some (record { 0 = l })) long in
     rw added (
       numbered names (chars key) was.0 absent,
       λ text utf8. put text
           ∙ rw (is, sym (bytes_eq-chars key text valid utf8), was.1 text utf8)
-          (added_where names (chars key) (chars text) _ absent refl),
+          (added_where location_of names (chars key) (chars text) _ absent refl),
     )
 
 found_by : (names : List (List ℕ)) (name : List ℕ) (location : Location) (s : Bool) →
     stands_in names name ≡ s →
-    Some location ≡ (if s then located (number_in names name) else None) →
+    Some location ≡ (if s then Some (location_of (number_in names name)) else None) →
     (location.0 ≡ location_in names name) × (stands_in names name ≡ true)
 found_by names name location true h e =
     (ap (λ found. (unwrap_or {T = Location} found (record { 0 = 0 })).0) e, h)

@@ -3,6 +3,7 @@ pub mod AttrKinds
 pub mod Basics
 pub mod ByTable
 pub mod Digits
+pub mod EndChars
 pub mod Equals
 pub mod Faults
 pub mod Held

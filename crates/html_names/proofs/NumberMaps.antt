@@ -1,5 +1,5 @@
 -- The numbers of names as they are held, against the list of their texts.
-use Rattle.std.proofs.Common.{◌≡◌, ℕ, ◌+◌, ◌<◌, ◌≤◌, ltb, ltb-true, ltb-false, Bool, true, false, if◌then◌else◌, List, [], ◌∷◌, ◌++◌, refl, sym, ap, ◌∙◌, length, get_or, arith, bytes_eq, length-append, Some, None, string_bytes, String, Global}
+use Rattle.std.proofs.Common.{◌≡◌, ℕ, ◌+◌, ◌<◌, ◌≤◌, ltb, ltb-true, ltb-false, Bool, true, false, if◌then◌else◌, List, [], ◌∷◌, ◌++◌, refl, sym, ap, ◌∙◌, length, get_or, arith, bytes_eq, length-append, Option, Some, None, string_bytes, String, Global}
 use Rattle.std.specs.BTreeMap.{UpdatesBy}
 use Rattle.std.specs.String.{string_cmp}
 use Rattle.std.specs.Cmp.Lexicographic.{slice_cmp}
@@ -12,7 +12,7 @@ use Rattle.html_names.specs.declared.name_table.number_map.NumberMap.{NumberMap}
 use Rattle.html_names.specs.Names.{stands_in}
 use Rattle.html_names.specs.Held.{held_text, IsHeld, same_held}
 use Rattle.html_names.specs.NameTables.{number_in, name_at, IsNumbered}
-use Rattle.html_names.specs.NumberMaps.{number_of, HoldsNone, number_where, IsNumbering}
+use Rattle.html_names.specs.NumberMaps.{number_of, HoldsNone, IsNumbering}
 use Rattle.html_names.proofs.Ascending.{stands}
 use Rattle.html_names.proofs.NameTables.{number_next, name_at-append, name_at-last, number_in-append, number_in-last, stands_in-last}
 
@@ -50,24 +50,31 @@ unfolding stands_in
 others_stand [] name other e = rw e refl
 others_stand (n ∷ ns) name other e = rw (others_stand ns name other e) refl
 
-other_where : (names : List (List ℕ)) (name other : List ℕ) (s : Bool) →
-    stands_in names other ≡ s →
-    (if s then Some (number_in names other) else None)
-    ≡ (if s then Some (number_in (names ++ name ∷ []) other) else None)
-other_where names name other true h = ap Some (sym (number_in-append names (name ∷ []) other h))
-other_where names name other false h = refl
+-- what is kept for the number of a name, where the name stands among names
+module _ {A : Type 0} (kept : ℕ → A) where
+  abbrev kept_where : List (List ℕ) → List ℕ → Option A
+  kept_where names name =
+      if stands_in names name then Some (kept (number_in names name)) else None
 
-added_where : (names : List (List ℕ)) (name other : List ℕ) (b : Bool) →
-    stands_in names name ≡ false → bytes_eq name other ≡ b →
-    (if b then Some (length names) else number_where names other)
-    ≡ number_where (names ++ name ∷ []) other
-added_where names name other true new e =
-    let is : name ≡ other = (bytes_eq-Decides name other).0 e in
-    rw (sym is, stands_in-last names name, number_in-last names name, number_next names name new)
-    refl
-added_where names name other false new e =
-    rw (others_stand names name other e)
-    (other_where names name other (stands_in names other) refl)
+  other_where : (names : List (List ℕ)) (name other : List ℕ) (s : Bool) →
+      stands_in names other ≡ s →
+      (if s then Some (kept (number_in names other)) else None)
+      ≡ (if s then Some (kept (number_in (names ++ name ∷ []) other)) else None)
+  other_where names name other true h =
+      ap (λ number. Some (kept number)) (sym (number_in-append names (name ∷ []) other h))
+  other_where names name other false h = refl
+
+  pub added_where : (names : List (List ℕ)) (name other : List ℕ) (b : Bool) →
+      stands_in names name ≡ false → bytes_eq name other ≡ b →
+      (if b then Some (kept (length names)) else kept_where names other)
+      ≡ kept_where (names ++ name ∷ []) other
+  added_where names name other true new e =
+      let is : name ≡ other = (bytes_eq-Decides name other).0 e in
+      rw (sym is, stands_in-last names name, number_in-last names name, number_next names name new)
+      refl
+  added_where names name other false new e =
+      rw (others_stand names name other e)
+      (other_where names name other (stands_in names other) refl)
 
 -- a new name goes to the end of the list, and gets the next number
 module _ (count : ℕ) (table : List (List ℕ)) (is_valid : ℕ → Bool)
@@ -83,7 +90,8 @@ module _ (count : ℕ) (table : List (List ℕ)) (is_valid : ℕ → Bool)
     numbered names (held_text table name) was.0 absent,
     λ other h. put other
         ∙ rw (alike name other held h, was.1 other h)
-        (added_where names (held_text table name) (held_text table other) _ absent refl),
+        (added_where (λ number. number) names (held_text table name) (held_text table other) _ absent
+        refl),
   )
 
   pub numbering : (old new : NumberMap) (names after : List (List ℕ)) (name : Name) (text : List ℕ)

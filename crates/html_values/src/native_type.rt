@@ -261,21 +261,21 @@ fn icon_size(items: &[Value]) -> Result<IconSize, CastFault>
     })
 }
 
-#[tactic(auto, using(crate::proofs::Commas::empty_chars))]
+#[tactic(auto, using(html_names::proofs::EndChars::empty_chars))]
 fn is_empty(src: &str) -> bool
     ensures { result ≡ (length (chars src.now) == 0) }
 {
     src.is_empty()
 }
 
-#[tactic(auto, using(crate::proofs::Commas::first_chars))]
+#[tactic(auto, using(crate::proofs::Commas::first_comma))]
 fn begins_with_comma(src: &str) -> bool
     ensures { result ≡ (slice_index (chars src.now) 0 == 44) }
 {
     src.starts_with(',')
 }
 
-#[tactic(auto, using(crate::proofs::Commas::last_chars))]
+#[tactic(auto, using(crate::proofs::Commas::last_comma))]
 fn ends_with_comma(src: &str) -> bool
     ensures { result ≡ (slice_index (chars src.now) (length (chars src.now) - 1) == 44) }
 {
