@@ -92,7 +92,7 @@ impl Caller for Library {
             "items-text" => pages::items_text(alloc, row),
             "dead-fragments" => checks::dead_fragment_list(alloc, row),
             "repeated-ids" => checks::repeated_id_list(alloc, row),
-            "c-check" | "c-dead-links" | "c-document" | "c-write" => replies::reply(
+            "c-check" | "c-dead-links" | "c-document" | "c-unused" | "c-write" => replies::reply(
                 alloc, row, call,
             ),
             "c-version" => replies::version(alloc),
