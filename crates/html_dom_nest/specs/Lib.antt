@@ -7,5 +7,5 @@ pub mod Contents
 pub mod PageRoots
 pub mod NestingRules
 pub mod Misnested
-pub mod Findings
+pub mod MisnestedViews
 pub mod Walks

@@ -2,7 +2,7 @@
 
 ghost use Rattle.std.specs.Prelude.{◌≡◌, IfOk};
 ghost use Rattle.html_dom_tree.specs.Views.{element_view};
-ghost use Rattle.html_dom_nest.specs.Findings.{findings_view};
+ghost use Rattle.html_dom_nest.specs.MisnestedViews.{findings_view};
 ghost use Rattle.html_dom_nest.specs.Misnested.{misnested_nodes};
 
 use crate::finding::Misnested;

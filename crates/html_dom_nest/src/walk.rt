@@ -3,7 +3,7 @@
 ghost use Rattle.std.specs.Prelude.{◌≡◌, ◌≤◌, ◌++◌, [], ◌∷◌, ℕ, List, IfOk, OnOk, Some};
 ghost use Rattle.html_dom_tree.specs.Tree.{element_node};
 ghost use Rattle.html_dom_tree.specs.Views.{element_view, node_view, nodes_view};
-ghost use Rattle.html_dom_nest.specs.Findings.{findings_view};
+ghost use Rattle.html_dom_nest.specs.MisnestedViews.{findings_view};
 ghost use Rattle.html_dom_nest.specs.Misnested.{found, misnested_nodes};
 ghost use Rattle.html_dom_nest.specs.NestingRules.{element_misnesting, root_misnesting};
 ghost use Rattle.html_dom_nest.specs.Surroundings.{surroundings_of};

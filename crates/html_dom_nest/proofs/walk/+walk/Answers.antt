@@ -1,7 +1,7 @@
 use Rattle.std.proofs.Common.{◌≡◌, ◌+◌, ◌++◌, ◌∷◌, [], drop, ap, ◌∙◌, refl}
 use Rattle.std.proofs.lemmas.Result.{on_ok_weaker}
 use Rattle.html_dom_tree.specs.Views.{element_view, node_view, nodes_view}
-use Rattle.html_dom_nest.specs.Findings.{findings_view}
+use Rattle.html_dom_nest.specs.MisnestedViews.{findings_view}
 use Rattle.html_dom_nest.specs.Walks.{node_walk, nodes_walk}
 use Rattle.html_dom_nest.proofs.Walks.{all_found, both_found, more_found, none_walked, too_deep_found, walked_in_turn}
 use Rattle.html_dom_nest.proofs.walk.+walk.Goals as goal

@@ -1,6 +1,6 @@
 use Rattle.std.proofs.Common.{◌≡◌, drop}
 use Rattle.html_dom_tree.specs.Views.{nodes_view}
-use Rattle.html_dom_nest.specs.Findings.{findings_view}
+use Rattle.html_dom_nest.specs.MisnestedViews.{findings_view}
 use Rattle.html_dom_nest.specs.Walks.{nodes_walk}
 use Rattle.html_dom_nest.proofs.Walks.{FindsUpTo}
 use Rattle.html_dom_nest.proofs.walk.+walk.Given as goal

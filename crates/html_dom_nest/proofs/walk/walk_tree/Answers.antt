@@ -1,6 +1,6 @@
 use Rattle.std.proofs.Common.{ap}
 use Rattle.html_dom_tree.specs.Views.{element_view, nodes_view}
-use Rattle.html_dom_nest.specs.Findings.{findings_view}
+use Rattle.html_dom_nest.specs.MisnestedViews.{findings_view}
 use Rattle.html_dom_nest.proofs.Walks.{tree_found}
 use Rattle.html_dom_nest.proofs.walk.walk_tree.Goals as goal
 
