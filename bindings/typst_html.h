@@ -61,7 +61,8 @@ struct typst_html_reply {
     uint8_t number; /* status 1: enum typst_html_refusal; else 0 */
 };
 
-/* The refusals: typst_html_words() has what each says. Those of a page that is checked are 8 and those from 26 on. */
+/* The refusals: typst_html_words() has what each says. Those of a page that is checked are 8 and those
+   from 26 on. */
 enum typst_html_refusal {
     TYPST_HTML_REFUSAL_EMPTY_TAG = 1,
     TYPST_HTML_REFUSAL_BAD_TAG_CHAR = 2,
