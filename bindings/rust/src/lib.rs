@@ -71,6 +71,11 @@ use path::{Form, Given};
 pub use path::{ItemPath, Step};
 pub use refusal::{DeadLinks, Place, Refusal};
 
+/// The examples of the crate's first page.
+#[cfg(doctest)]
+#[doc = include_str!("../README.md")]
+pub struct FirstPage;
+
 /// The version of the library's calls that this crate was made for.
 pub const VERSION: u32 = 6;
 
