@@ -697,6 +697,7 @@ def write_json(
     which each may be left out, but for the `lang` of a `region`.
 
     `links` and `limit` are for a `document`, and mean what they do for `write`. The bodies of `items` may stand 50 deep.
+    What is refused or bad is read once more, by Python, for its path.
 
     >>> write_json('["el","br",[],[]]', kind="tree")
     '<!DOCTYPE html><br>'

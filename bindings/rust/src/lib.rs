@@ -172,7 +172,8 @@ pub fn write_tree(root: &Element, pretty: bool) -> Result<String, Refusal> {
     raw::write(Kind::Tree, pretty, &json).map_err(|refusal| refusal.located(given))
 }
 
-/// The text of a tree or of the document of a list of items, which JSON spells.
+/// The text of a tree or of the document of a list of items, which JSON spells. Where it is refused or bad,
+/// it is read once more for the path.
 ///
 /// ```
 /// use typst_html_proved::{write_json, Kind, Refusal};
