@@ -1,8 +1,9 @@
 #!/usr/bin/env python3
 """The calls have the same arguments, by number, name and type, in the library's source, in the header, in
 Rust and in Python; the reply has the same fields, laid out as C does; the version, the words of refusals,
-the statuses in C and Python, the licence, and the version of the crate and the package are the same. At the
-end it tries changed copies, of which each must differ.
+the statuses in C and Python, the licence, and the version of the crate and the package are the same. The names
+of refusals in C are those of the source's variants, and where the words are the source's own, they are the same.
+At the end it tries changed copies, of which each must differ.
 """
 
 import ast
@@ -13,10 +14,12 @@ from pathlib import Path
 ROOT = Path(__file__).resolve().parent.parent
 # the exports, and the calls behind them with what they reply
 SOURCES = [ROOT / "crates" / crate / "src" for crate in ("typst_html_static", "typst_html_c")]
+# the faults that have the numbers of refusals
+FAULTS = [ROOT / "crates" / crate / "src" / "fault.rt" for crate in ("html_names", "typst_html_encode", "typst_html_parse_open")]
 FILES = {
     "header": "bindings/typst_html.h", "raw": "bindings/rust/src/raw.rs", "refusal": "bindings/rust/src/refusal.rs",
     "lib": "bindings/rust/src/lib.rs", "package": "bindings/python/typst_html_proved/__init__.py",
-    "library": "bindings/python/typst_html_proved/_library.py", "crate": "bindings/rust/Cargo.toml",
+    "library": "bindings/python/typst_html_proved/_library.py", "spoken": "bindings/python/typst_html_proved/_words.py", "crate": "bindings/rust/Cargo.toml",
     "project": "bindings/python/pyproject.toml", "licence": "LICENSE", "readme": "README.md",
 }  # fmt: skip
 
@@ -51,7 +54,11 @@ CHANGES = [
     ("library", '("status", ctypes.c_uint8)', '("state", ctypes.c_uint8)', "reply"),
     ("library", "VERSION: Final = 6", "VERSION: Final = 7", "version"),
     ("refusal", "tag name must not be empty", "tag name is empty", "words"),
-    ("package", "a token finds no place", "a token has no place", "words"),
+    ("spoken", "a token finds no place", "a token has no place", "words"),
+    ("header", "a void element has a child", "a void element has children", "words"),
+    ("faults", "ExportFault::RawChild { .. } => 13", "ExportFault::RawChild { .. } => 14", "names"),
+    ("faults", "ExportFault::VoidChildren { .. } => 12", "ExportFault::VoidChild { .. } => 12", "names"),
+    ("faults", "an open a would be removed", "an open a is removed", "own words"),
     ("library", "OUT_OF_MEMORY = 3", "OUT_OF_MEMORY = 4", "statuses"),
     ("header", "TYPST_HTML_DEAD_LINKS = 5", "TYPST_HTML_LOST_LINKS = 5", "statuses"),
     ("package", '__version__: Final = "0.1.0"', '__version__: Final = "0.1.1"', "package"),
@@ -153,6 +160,35 @@ def struct_of_python(tree):
     return [layout, *((name, OF_PYTHON[kind]) for name, kind in plain(names["_fields_"]))]
 
 
+def refusals_of_header(text):
+    """The names of refusals, by number."""
+    body = re.search(r"^enum typst_html_refusal \{(.*?)\n\};$", text, re.S | re.M)[1]
+    return {int(number): name for name, number in re.findall(r"TYPST_HTML_REFUSAL_(\w+) = (\d+),", body)}
+
+
+def words_of_header(text):
+    numbers = {name: number for number, name in refusals_of_header(text).items()}
+    cases = re.findall(r'^    case TYPST_HTML_REFUSAL_(\w+):\n        return "(.*)";$', text, re.M)
+    return {numbers[name]: words for name, words in cases}
+
+
+def refusals_of_source(text):
+    """The variants of faults, by number, spelled as constants of C are. Number 25 is of none of the library's calls."""
+    variants = re.findall(r"^            (?:NameFault|ExportFault|PageRefusal)::(\w+)(?: \{ \.\. \})?(?:\(_\))? => (\d+),$", text, re.M)
+    spelled = lambda name: re.sub(r"(?<!^)(?=[A-Z])", "_", name).upper()
+    return {int(number): spelled(name) for name, number in variants if number not in ("0", "25")}
+
+
+def own_words(source, spoken):
+    """The words of the source, of names, of the one character and of pages, and those that are spoken. (Of the other
+    refusals of items, the source tells how its caller may mend them.)"""
+    texts = {name: words for words, name in re.findall(r'#\[error\("(.*)"\)\]\n    (\w+)', source)}
+    spelled = lambda name: "".join(part.capitalize() for part in name.split("_"))
+    numbers = {number: spelled(name) for number, name in refusals_of_source(source).items()}
+    taken = [number for number in numbers if number < 8 or number == 11 or number > 25]
+    return [{it: texts.get(numbers[it]) for it in taken}, {it: spoken.get(it) for it in taken}]
+
+
 def words_of(text, pattern):
     return {int(number): words for number, words in re.findall(pattern, text, re.M)}
 
@@ -161,7 +197,7 @@ def compared(texts):
     """What stands in each file, by what is compared."""
     source, header, raw = texts["source"], texts["header"], texts["raw"]
     library = ast.parse(texts["library"])
-    python, package = assigned(library), assigned(ast.parse(texts["package"]))
+    python, package, spoken = assigned(library), assigned(ast.parse(texts["package"])), assigned(ast.parse(texts["spoken"]))
     exports = "".join(re.findall(r'pub extern "C" (fn.*?)ensures', source, re.S))
     imports = re.search(r'^extern "C" \{\n(.*?)^\}', raw, re.S | re.M)[1]
     first = lambda pattern, name: re.search(pattern, texts[name], re.M)[1]
@@ -174,8 +210,10 @@ def compared(texts):
             number(r"pub const VERSION: u32 = (\d+)", "lib"), plain(python["VERSION"]),
         ],
         "words": [
-            words_of(header, r"^ \* +(\d+)  (.*)$"), words_of(texts["refusal"], r'^ +(\d+) => "(.*)",$'), plain(package["WORDS"]),
+            words_of_header(header), words_of(texts["refusal"], r'^ +(\d+) => "(.*)",$'), plain(spoken["WORDS"]),
         ],
+        "names": [refusals_of_source(texts["faults"]), refusals_of_header(header)],
+        "own words": own_words(texts["faults"], words_of_header(header)),
         "statuses": [statuses_of_header(header), statuses_of_python(library)],
         "package": [first(r'^version = "(.*)"$', "crate"), plain(package["__version__"])],
         "licence": [
@@ -201,6 +239,7 @@ def unseen(texts):
 def main():
     texts = {name: (ROOT / path).read_text() for name, path in FILES.items()}
     texts["source"] = "".join(path.read_text() for source in SOURCES for path in sorted(source.glob("*.rt")))
+    texts["faults"] = "".join(path.read_text() for path in FAULTS)
     found = compared(texts)
     wrong = differing(found)
     for what in wrong:

@@ -3,8 +3,11 @@
  * library of proved code.
  *
  * Ownership: the library keeps nothing. It reads `input` and writes `output` during the call alone, and
- * frees whatever it allocated before it returns. Both buffers are the caller's and may not overlap. They
- * may be of length 0, but neither pointer may be NULL.
+ * frees whatever it allocated before it returns. Both buffers are the caller's.
+ *
+ * Pointers: neither may be NULL, even to a buffer of length 0, nor may the two buffers overlap, even where
+ * nothing is written. No call looks whether that is so: where it is not, what happens is undefined. To ask
+ * how long a text is, give any `output` that is no part of `input`, with `room` 0.
  *
  * Threads: calls share nothing, so any number may run at once, each with an `output` of its own. A call
  * takes memory by `malloc`, `realloc` and `free`, so it is not for signal handlers, nor for a forked
@@ -18,6 +21,7 @@
 
 #include <stddef.h>
 #include <stdint.h>
+#include <string.h>
 
 #ifdef __cplusplus
 extern "C" {
@@ -54,41 +58,108 @@ struct typst_html_reply {
     size_t column;  /* the column there, from 1 on: of JSON in bytes, and where it ends too soon, how long
                        its last line is; of a page in characters, of which a byte order mark is none */
     uint8_t status; /* enum typst_html_status */
-    uint8_t number; /* status 1: which refusal, as below; else 0 */
+    uint8_t number; /* status 1: enum typst_html_refusal; else 0 */
 };
 
-/*
- * Refusals. Those of a page that is checked are 8 and those from 26 on; 16 to 25 are none.
- *    1  tag name must not be empty
- *    2  a character is not valid in a tag name
- *    3  custom element name must start with a lowercase letter
- *    4  custom element name must not contain uppercase letters
- *    5  name is reserved and not valid for a custom element
- *    6  attribute name must not be empty
- *    7  a character is not valid in an attribute name
- *    8  a body, or an element of a page, stands deeper than the limit
- *    9  an html or body element stands among other nodes
- *   10  footnotes stand beside an html or body element of the document's own
- *   11  a character cannot be encoded in HTML
- *   12  a void element has a child
- *   13  a raw text element has a child that is no text
- *   14  a raw text would end its element
- *   15  a frame is refused
- *   26  U+0000
- *   27  a name that no element of this project has
- *   28  a tag has too many attributes
- *   29  a formatting element would be made again
- *   30  an end tag would move nodes out of a formatting element
- *   31  an open a would be removed
- *   32  a text or an element would be moved out of a table
- *   33  attributes would be added to those of html or body
- *   34  the head would be opened again
- *   35  a frameset, plaintext or template
- *   36  a form, object, applet or marquee would be closed by another tag
- *   37  an element of HTML would close svg or math
- *   38  a table hangs on a document type that is not known
- *   39  a token finds no place
- */
+/* The refusals: typst_html_words() has what each says. Those of a page that is checked are 8 and those
+   from 26 on. */
+enum typst_html_refusal {
+    TYPST_HTML_REFUSAL_EMPTY_TAG = 1,
+    TYPST_HTML_REFUSAL_BAD_TAG_CHAR = 2,
+    TYPST_HTML_REFUSAL_CUSTOM_START = 3,
+    TYPST_HTML_REFUSAL_CUSTOM_CAPITAL = 4,
+    TYPST_HTML_REFUSAL_RESERVED = 5,
+    TYPST_HTML_REFUSAL_EMPTY_ATTR = 6,
+    TYPST_HTML_REFUSAL_BAD_ATTR_CHAR = 7,
+    TYPST_HTML_REFUSAL_TOO_DEEP = 8,
+    TYPST_HTML_REFUSAL_NOT_ALONE = 9,
+    TYPST_HTML_REFUSAL_FOOTNOTES = 10,
+    TYPST_HTML_REFUSAL_UNENCODABLE = 11,
+    TYPST_HTML_REFUSAL_VOID_CHILDREN = 12,
+    TYPST_HTML_REFUSAL_RAW_CHILD = 13,
+    TYPST_HTML_REFUSAL_RAW_CLOSING = 14,
+    TYPST_HTML_REFUSAL_FRAME_REFUSED = 15,
+    TYPST_HTML_REFUSAL_NULL_CHARACTER = 26,
+    TYPST_HTML_REFUSAL_UNKNOWN_NAME = 27,
+    TYPST_HTML_REFUSAL_TOO_MANY_ATTRIBUTES = 28,
+    TYPST_HTML_REFUSAL_RECONSTRUCTION = 29,
+    TYPST_HTML_REFUSAL_ADOPTION_AGENCY = 30,
+    TYPST_HTML_REFUSAL_OPEN_ANCHOR_REMOVED = 31,
+    TYPST_HTML_REFUSAL_FOSTER_PARENTING = 32,
+    TYPST_HTML_REFUSAL_MERGED_ATTRIBUTES = 33,
+    TYPST_HTML_REFUSAL_HEAD_REOPENED = 34,
+    TYPST_HTML_REFUSAL_UNREAD_ELEMENT = 35,
+    TYPST_HTML_REFUSAL_CROSSED_ELEMENT = 36,
+    TYPST_HTML_REFUSAL_HTML_IN_FOREIGN = 37,
+    TYPST_HTML_REFUSAL_DOCUMENT_TYPE = 38,
+    TYPST_HTML_REFUSAL_UNSETTLED = 39,
+};
+
+/* What is wrong, in English, by the number of a refusal; "refused" for a number that is none. */
+static inline const char *typst_html_words(uint8_t number) {
+    switch (number) {
+    case TYPST_HTML_REFUSAL_EMPTY_TAG:
+        return "tag name must not be empty";
+    case TYPST_HTML_REFUSAL_BAD_TAG_CHAR:
+        return "a character is not valid in a tag name";
+    case TYPST_HTML_REFUSAL_CUSTOM_START:
+        return "custom element name must start with a lowercase letter";
+    case TYPST_HTML_REFUSAL_CUSTOM_CAPITAL:
+        return "custom element name must not contain uppercase letters";
+    case TYPST_HTML_REFUSAL_RESERVED:
+        return "name is reserved and not valid for a custom element";
+    case TYPST_HTML_REFUSAL_EMPTY_ATTR:
+        return "attribute name must not be empty";
+    case TYPST_HTML_REFUSAL_BAD_ATTR_CHAR:
+        return "a character is not valid in an attribute name";
+    case TYPST_HTML_REFUSAL_TOO_DEEP:
+        return "a body, or an element of a page, stands deeper than the limit";
+    case TYPST_HTML_REFUSAL_NOT_ALONE:
+        return "an html or body element stands among other nodes";
+    case TYPST_HTML_REFUSAL_FOOTNOTES:
+        return "footnotes stand beside an html or body element of the document's own";
+    case TYPST_HTML_REFUSAL_UNENCODABLE:
+        return "a character cannot be encoded in HTML";
+    case TYPST_HTML_REFUSAL_VOID_CHILDREN:
+        return "a void element has a child";
+    case TYPST_HTML_REFUSAL_RAW_CHILD:
+        return "a raw text element has a child that is no text";
+    case TYPST_HTML_REFUSAL_RAW_CLOSING:
+        return "a raw text would end its element";
+    case TYPST_HTML_REFUSAL_FRAME_REFUSED:
+        return "a frame is refused";
+    case TYPST_HTML_REFUSAL_NULL_CHARACTER:
+        return "U+0000";
+    case TYPST_HTML_REFUSAL_UNKNOWN_NAME:
+        return "a name that no element of this project has";
+    case TYPST_HTML_REFUSAL_TOO_MANY_ATTRIBUTES:
+        return "a tag has too many attributes";
+    case TYPST_HTML_REFUSAL_RECONSTRUCTION:
+        return "a formatting element would be made again";
+    case TYPST_HTML_REFUSAL_ADOPTION_AGENCY:
+        return "an end tag would move nodes out of a formatting element";
+    case TYPST_HTML_REFUSAL_OPEN_ANCHOR_REMOVED:
+        return "an open a would be removed";
+    case TYPST_HTML_REFUSAL_FOSTER_PARENTING:
+        return "a text or an element would be moved out of a table";
+    case TYPST_HTML_REFUSAL_MERGED_ATTRIBUTES:
+        return "attributes would be added to those of html or body";
+    case TYPST_HTML_REFUSAL_HEAD_REOPENED:
+        return "the head would be opened again";
+    case TYPST_HTML_REFUSAL_UNREAD_ELEMENT:
+        return "a frameset, plaintext or template";
+    case TYPST_HTML_REFUSAL_CROSSED_ELEMENT:
+        return "a form, object, applet or marquee would be closed by another tag";
+    case TYPST_HTML_REFUSAL_HTML_IN_FOREIGN:
+        return "an element of HTML would close svg or math";
+    case TYPST_HTML_REFUSAL_DOCUMENT_TYPE:
+        return "a table hangs on a document type that is not known";
+    case TYPST_HTML_REFUSAL_UNSETTLED:
+        return "a token finds no place";
+    default:
+        return "refused";
+    }
+}
 
 /* What the input of typst_html_write spells. */
 enum typst_html_kind {
@@ -159,6 +230,49 @@ struct typst_html_reply typst_html_dead_links(uint32_t limit, const uint8_t *inp
  */
 struct typst_html_reply typst_html_check(uint32_t limit, const uint8_t *page, size_t length,
                                          uint8_t *output, size_t room);
+
+/*
+ * The same calls for strings of C: `input` and `page` end with a NUL, and so does what is written. `room`
+ * counts that NUL, `length` does not: where `output` is too short, `length` + 1 is enough.
+ */
+
+/* The reply, behind whose text there is now a NUL. */
+static inline struct typst_html_reply typst_html_ended(struct typst_html_reply reply, char *output) {
+    if (reply.status == TYPST_HTML_DONE || reply.status == TYPST_HTML_DEAD_LINKS)
+        output[reply.length] = '\0';
+    return reply;
+}
+
+static inline struct typst_html_reply typst_html_write_string(uint8_t kind, uint8_t layout,
+                                                              const char *input, char *output,
+                                                              size_t room) {
+    return typst_html_ended(typst_html_write(kind, layout, (const uint8_t *)input, strlen(input),
+                                             (uint8_t *)output, room ? room - 1 : 0),
+                            output);
+}
+
+static inline struct typst_html_reply typst_html_document_string(uint8_t layout, uint8_t links,
+                                                                 uint32_t limit, const char *input,
+                                                                 char *output, size_t room) {
+    return typst_html_ended(typst_html_document(layout, links, limit, (const uint8_t *)input,
+                                                strlen(input), (uint8_t *)output,
+                                                room ? room - 1 : 0),
+                            output);
+}
+
+static inline struct typst_html_reply typst_html_dead_links_string(uint32_t limit, const char *input,
+                                                                   char *output, size_t room) {
+    return typst_html_ended(typst_html_dead_links(limit, (const uint8_t *)input, strlen(input),
+                                                  (uint8_t *)output, room ? room - 1 : 0),
+                            output);
+}
+
+static inline struct typst_html_reply typst_html_check_string(uint32_t limit, const char *page,
+                                                              char *output, size_t room) {
+    return typst_html_ended(typst_html_check(limit, (const uint8_t *)page, strlen(page),
+                                             (uint8_t *)output, room ? room - 1 : 0),
+                            output);
+}
 
 #ifdef __cplusplus
 }

@@ -92,9 +92,11 @@ int main(int count, char **words) {
         break;
     case TYPST_HTML_REFUSED:
         if (reply.line > 0)
-            fprintf(stderr, "refused: %u at line %zu column %zu\n", reply.number, reply.line, reply.column);
+            fprintf(stderr, "%s (refusal %u at line %zu column %zu)\n", typst_html_words(reply.number),
+                    reply.number, reply.line, reply.column);
         else
-            fprintf(stderr, "refused: %u at %llu\n", reply.number, (unsigned long long)reply.span);
+            fprintf(stderr, "%s (refusal %u at %llu)\n", typst_html_words(reply.number), reply.number,
+                    (unsigned long long)reply.span);
         break;
     case TYPST_HTML_BAD_INPUT:
         if (reply.line > 0)

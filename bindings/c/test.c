@@ -242,6 +242,47 @@ static void deep_findings_are_short(void) {
     free(output);
 }
 
+/* The calls for strings: a NUL stands behind the text, for which there has to be room. */
+static void strings_end_with_nul(void) {
+    const char *tree = "[\"el\",\"p\",[],[[\"text\",\"a\"]]]", *text = "<!DOCTYPE html><p>a</p>";
+    const char *document = "{\"items\":[[\"start\",1,9],[\"el\",\"a\",[],[]]]}";
+    const char *dead = "{\"dead_links\":[{\"destination\":9,\"span\":2}]}";
+    const char *page = "<p>x</p>", *found = "{\"dead_fragments\":[],\"repeated_ids\":[]}";
+    char output[256];
+    size_t length = strlen(text);
+    for (size_t room = 0; room <= length; room++) {
+        memset(output, '.', sizeof output);
+        struct typst_html_reply reply = typst_html_write_string(0, 0, tree, output, room);
+        expect("a short string", reply.status == TYPST_HTML_TOO_SHORT && reply.length == length &&
+                                     output[0] == '.' && output[room] == '.');
+    }
+    struct typst_html_reply reply = typst_html_write_string(0, 0, tree, output, length + 1);
+    expect("a string", reply.status == TYPST_HTML_DONE && !strcmp(output, text) && output[length + 1] == '.');
+    reply = typst_html_document_string(0, 1, 50, document, output, sizeof output);
+    expect("a document as a string", reply.status == TYPST_HTML_DEAD_LINKS &&
+                                         strlen(output) == reply.length &&
+                                         strstr(output, "<a></a></body></html>"));
+    reply = typst_html_dead_links_string(50, document, output, sizeof output);
+    expect("dead links as a string", reply.status == TYPST_HTML_DONE && !strcmp(output, dead));
+    reply = typst_html_check_string(50, page, output, sizeof output);
+    expect("findings as a string", reply.status == TYPST_HTML_DONE && !strcmp(output, found));
+    memset(output, '.', sizeof output);
+    reply = typst_html_write_string(0, 0, "{", output, sizeof output);
+    expect("no JSON as a string", reply.status == TYPST_HTML_BAD_INPUT && output[0] == '.');
+}
+
+/* Each number has words of its own, and what is none has others. */
+static void refusals_have_words(void) {
+    for (unsigned number = 0; number < 256; number++) {
+        bool is_one = (number >= 1 && number <= 15) || (number >= 26 && number <= 39);
+        expect("the words of a number", is_one == !!strcmp(typst_html_words(number), "refused"));
+        for (unsigned other = 0; is_one && other < number; other++)
+            expect("words of their own", strcmp(typst_html_words(number), typst_html_words(other)));
+    }
+    expect("a name", TYPST_HTML_REFUSAL_VOID_CHILDREN == 12 &&
+                         !strcmp(typst_html_words(12), "a void element has a child"));
+}
+
 static void *all_rows(void *bad) {
     for (size_t i = 0; i < sizeof rows / sizeof *rows; i++)
         if (!is_as_wanted(&rows[i]))
@@ -335,6 +376,8 @@ int main(int count, char **words) {
     pages_are_read_as_browsers_read_them();
     pages_are_refused();
     deep_findings_are_short();
+    strings_end_with_nul();
+    refusals_have_words();
     if (!is_short) {
         the_stack_is_enough();
         eight_threads_agree();

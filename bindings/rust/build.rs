@@ -1,14 +1,38 @@
-//! Links the static library in the folder that TYPST_HTML_LIB names, or else where bindings/build puts it.
+//! Finds the static library: in the folder that TYPST_HTML_LIB names, or else where bindings/build puts it, or
+//! where pkg-config knows it, or where the linker looks by itself. It need not be there before a program is
+//! linked, so that documentation and packages are made without it.
 
 use std::env::var;
+use std::path::Path;
+use std::process::Command;
 
 const FOLDER: &str = "TYPST_HTML_LIB";
 
+/// The folder of a library that is installed.
+fn installed() -> Option<String> {
+    let words = ["--variable=libdir", "typst_html"];
+    let told = Command::new("pkg-config").args(words).output().ok()?;
+    let folder = String::from_utf8(told.stdout).ok()?.trim().to_owned();
+    Some(folder).filter(|folder| told.status.success() && !folder.is_empty())
+}
+
 fn main() {
-    let built = || format!("{}/../out/lib", env!("CARGO_MANIFEST_DIR"));
-    let folder = var(FOLDER).unwrap_or_else(|_| built());
     println!("cargo:rerun-if-env-changed={FOLDER}");
-    println!("cargo:rerun-if-changed={folder}/libtypst_html.a");
-    println!("cargo:rustc-link-search=native={folder}");
-    println!("cargo:rustc-link-lib=static=typst_html");
+    println!("cargo:rerun-if-env-changed=PKG_CONFIG_PATH");
+    println!("cargo:rerun-if-changed=build.rs");
+    // (not bundled, a library is first wanted where a program is linked)
+    println!("cargo:rustc-link-lib=static:-bundle=typst_html");
+    let built = format!("{}/../out/lib", env!("CARGO_MANIFEST_DIR"));
+    let is_built = Path::new(&built).join("libtypst_html.a").exists();
+    let folder = var(FOLDER)
+        .ok()
+        .or(is_built.then_some(built))
+        .or_else(installed);
+    match folder {
+        Some(folder) => {
+            println!("cargo:rustc-link-search=native={folder}");
+            println!("cargo:rerun-if-changed={folder}/libtypst_html.a");
+        }
+        None => println!("cargo:warning=no libtypst_html.a is found, without which nothing is linked: {FOLDER} names its folder"),
+    }
 }

@@ -24,7 +24,7 @@ from typst_html_proved import Info, Refused, element  # noqa: E402
 from typst_html_proved._library import LIBRARY, Reply  # noqa: E402
 
 ROWS = rows.rows()
-KINDS = ("tree", "items")
+KINDS = ("tree", "items", "document")
 
 # How rows end whose JSON is as deep as it is read, so that it can't stand in an object.
 DEEPEST = b"]" * 127
@@ -76,6 +76,42 @@ def of_row(row):
     items, footnotes = known.pop("items", []), known.pop("footnotes", [])
     settings = {"pretty": pretty, "links": bool(row.links), "limit": row.limit}
     return outcome(html.write, items, info=Info(**known), footnotes=footnotes, **settings)
+
+
+def settings_of(row):
+    """The words of a call of `write_json` for a row."""
+    links = {"links": bool(row.links), "limit": row.limit} if row.kind == 2 else {}
+    return {"pretty": bool(row.layout), **links}
+
+
+def at(value, path):
+    """What stands there."""
+    for step in path:
+        value = value[step]
+    return value
+
+
+def paths_of(kind, given):
+    """The paths of the lists of items, in the order of their opening brackets."""
+
+    def those(items, path):
+        for index, item in enumerate(items if isinstance(items, list) else []):
+            if isinstance(item, list):
+                yield (*path, index)
+                yield from inside(item, (*path, index))
+
+    def inside(item, path):
+        if item and item[0] in ("el", "block", "box"):
+            yield from those(item[-1], (*path, len(item) - 1))
+
+    if kind == 2:
+        for name in ("items", "footnotes"):
+            yield from those(given.get(name, []) if isinstance(given, dict) else [], (name,))
+    elif kind == 1:
+        yield from those(given, ())
+    elif isinstance(given, list):
+        yield ()
+        yield from inside(given, ())
 
 
 class Calls(unittest.TestCase):
@@ -148,7 +184,7 @@ class Calls(unittest.TestCase):
         with self.assertRaises(Refused) as caught:
             html.write(["a", element("p", attrs=[("a b", "c")])], footnotes=["n"])
         self.assertEqual((caught.exception.number, caught.exception.span), (7, 2))
-        self.assertEqual(str(caught.exception), "a character is not valid in an attribute name (refusal 7 at 2)")
+        self.assertEqual(str(caught.exception), f"{html.WORDS[7]} (refusal 7 at 2, items[1])")
         self.assertEqual(outcome(html.write, ["a"], footnotes=[element("P Q")]), (2, 2))
         self.assertEqual(outcome(html.write, ["\0"]), (11, 1))
 
@@ -160,10 +196,10 @@ class Calls(unittest.TestCase):
             self.assertIs(outcome(html.write, [], limit=limit), html.BadInput)
         self.assertIs(outcome(html.write_json, "[]", kind="trees"), html.BadInput)
         self.assertIs(outcome(html.write_tree, html.block()), html.BadInput)
-        for data, words in (('[["space"],["text",1]]', "at 2"), ("[\n{}", "at line 2 column 2")):
+        for data, words in (('[["space"],["text",1]]', "write_json(data[1])"), ("[\n{}", "line 2 column 2")):
             with self.assertRaises(html.BadInput) as caught:
                 html.write_json(data)
-            self.assertEqual(str(caught.exception), f"bad input {words}")
+            self.assertEqual(str(caught.exception), f"bad input at {words}")
         deep = []
         for _ in range(100_000):
             deep = ["el", "b", [], [deep]]
@@ -205,16 +241,98 @@ class Calls(unittest.TestCase):
                 call()
             self.assertEqual(caught.exception.where, where)
             self.assertTrue(caught.exception.what)
+        paragraph = element("p", text)
+        with self.assertRaises(html.BadInput) as caught:
+            html.write(["a", paragraph])
+        self.assertEqual(caught.exception.path, ("items", 1))
+        self.assertIs(caught.exception.item, paragraph)
 
     def test_where_the_library_tells(self):
+        left = "a value is not what the form wants"
         for where, what, call in (
-            ("2", "a value is not what the form wants", lambda: html.write_json('[["space"],["text",1]]')),
+            ("write_json(data[1])", left, lambda: html.write_json('[["space"],["text",1]]')),
+            ("write_json(data.items[0][1][1])", left,
+             lambda: html.write_json('{"items":[["box",[["hole"],7]]]}', kind="document")),
+            ("write_json(data.region)", left, lambda: html.write_json('{"region":"AT"}', kind="document")),
+            ("write_json(data)", left, lambda: html.write_json("7", kind="document")),
+            ("write(items[1])", left, lambda: html.write(["a", html.Node(["text"])])),
+            ("write(footnotes[0][3][0])", left, lambda: html.write([], footnotes=[html.Node(["el", "p", [], [[]]])])),
+            ("write_tree(root[3][1])", left, lambda: html.write_tree(element("p", "a", html.SPACE))),
+            ("write_tree(root)", left, lambda: html.write_tree(html.block())),
             ("line 2 column 2", "it is no JSON", lambda: html.write_json("[\n{}")),
             ("2:3", "a byte that is no UTF-8", lambda: html.check(b"<p>\nab\xff")),
         ):
             with self.subTest(where), self.assertRaises(html.BadInput) as caught:
                 call()
             self.assertEqual((caught.exception.where, caught.exception.what), (where, what))
+
+    def test_refusals_name_the_item(self):
+        seen = 0
+        for row in ROWS:
+            if row.status == 1:
+                with self.subTest(row.input), self.assertRaises(Refused) as caught:
+                    html.write_json(row.input, kind=KINDS[row.kind], **settings_of(row))
+                refused = caught.exception
+                paths = [None, *paths_of(row.kind, json.loads(row.input))]
+                self.assertEqual(refused.path, paths[refused.span])
+                if refused.path is not None:
+                    self.assertEqual(refused.item, at(json.loads(row.input), refused.path))
+                    seen += 1
+        self.assertGreater(seen, 200)
+
+    def test_bad_inputs_name_the_item(self):
+        seen = 0
+        for row in ROWS:
+            if row.status == 2 and not row.line:
+                with self.subTest(row.input), self.assertRaises(html.BadInput) as caught:
+                    html.write_json(row.input, kind=KINDS[row.kind], **settings_of(row))
+                bad = caught.exception
+                value = at(json.loads(row.input), bad.path)
+                is_item = len(bad.path) >= (0, 1, 2)[row.kind]
+                self.assertEqual(bad.item, value if is_item else None)
+                # Where a list leaves the form, it is the last that is opened; else the next value does.
+                paths = [None, *paths_of(row.kind, json.loads(row.input))]
+                if isinstance(value, list) and is_item:
+                    self.assertEqual(paths[bad.span], bad.path)
+                seen += 1
+        self.assertGreater(seen, 50)
+
+    def test_the_item_is_the_one_that_was_given(self):
+        br = element("br", "no")
+        with self.assertRaises(Refused) as caught:
+            html.write(["a", html.block("b", br)])
+        self.assertIs(caught.exception.item, br)
+        self.assertEqual(caught.exception.path, ("items", 1, 1, 1))
+        with self.assertRaises(Refused) as caught:
+            html.write_tree(br)
+        self.assertIs(caught.exception.item, br)
+        self.assertEqual((caught.exception.path, str(caught.exception)), ((), f"{html.WORDS[12]} (refusal 12 at 1)"))
+        with self.assertRaises(Refused) as caught:
+            html.write([], info=Info(title="\0"))
+        self.assertEqual((caught.exception.path, caught.exception.item, caught.exception.span), (None, None, 0))
+        link = element("a", "b")
+        with self.assertRaises(html.DeadLinks) as caught:
+            html.write([html.start(1, 7), link], footnotes=[html.start(2, 8), html.box(element("a"))], links=True)
+        dead, behind = caught.exception.links
+        self.assertIs(dead.item, link)
+        self.assertEqual((dead.path, dead.span), (("items", 1), 2))
+        self.assertEqual((behind.path, behind.span, behind.item), (("footnotes", 1, 1, 0), 6, element("a")))
+
+    def test_the_item_that_is_too_deep(self):
+        for call, count in ((html.write_tree, 64), (lambda root: html.write([root], limit=10_000), 63)):
+            item = deepest = element("b")
+            for _ in range(1, count):
+                item = element("b", item)
+            with self.assertRaises(html.BadInput) as caught:
+                call(item)
+            bad = caught.exception
+            self.assertIs(bad.item, deepest)
+            self.assertEqual(bad.what, "it holds what stands deeper than JSON is read, which is 127 levels")
+            self.assertLess(len(bad.where), 20)
+            with self.assertRaises(html.BadInput) as caught:
+                call(element("b", item))
+            self.assertEqual((caught.exception.path, caught.exception.what), (bad.path, bad.what))
+            self.assertTrue(call(item[3][0]))
 
     def test_what_nothing_changes(self):
         for error, change in refused.FIXED:
@@ -225,10 +343,12 @@ class Calls(unittest.TestCase):
     def test_failures_go_to_other_processes(self):
         for failure in (
             Refused(8, 21, html.Place(21, 2, 1)),
+            Refused(12, 2, None, ("items", 1), element("br", "no")),
             html.BadInput("an item is None", where="write(items[1])"),
+            html.BadInput(where="write(items[1])", span=2, path=("items", 1), item=html.Node(["text"])),
             html.BadInput(line=2, column=1),
             html.BadInput("a byte that is no UTF-8", place=html.Place(0, 1, 1)),
-            html.DeadLinks("a", (html.DeadLink(2, 7),)),
+            html.DeadLinks("a", (html.DeadLink(2, 7, ("items", 1), element("a")),)),
             html.OutOfMemory(),
             html.OtherLibrary(),
         ):
@@ -366,12 +486,12 @@ class Calls(unittest.TestCase):
 
     def test_examples_of_the_documents(self):
         found = 0
-        for page in (BINDINGS / "README.md", BINDINGS.parent / "docs" / "GUIDE.md"):
+        for page in (BINDINGS / "python" / "README.md", BINDINGS.parent / "docs" / "GUIDE.md"):
             for example in re.findall(r"^```python\n(.*?)^```$", page.read_text(), re.M | re.S):
                 with self.subTest(page.name), contextlib.redirect_stdout(io.StringIO()):
                     exec(compile(example, str(page), "exec"), {})
                 found += 1
-        self.assertGreater(found, 1)
+        self.assertGreater(found, 2)
 
 
 if __name__ == "__main__":

@@ -3,10 +3,10 @@
 >>> write([element("p", "Salt & vinegar")])[-45:]
 '<body><p>Salt &amp; vinegar</p></body></html>'
 >>> try:
-...     write([element("br", "no")])
+...     write(["a", element("br", "no")])
 ... except Refused as refused:
-...     print(refused, refused.number, refused.span)
-a void element has a child (refusal 12 at 1) 12 1
+...     print(refused, refused.item)
+a void element has a child (refusal 12 at 2, items[1]) ['el', 'br', [], [['text', 'no']]]
 
 A document is a list of items. They are made by the functions `text`, `element`, `block`, `box`, `start` and
 `end` and the constants `SPACE`, `BREAK` and `HOLE`; a `str` where an item may stand is a text. Items are lists
@@ -28,7 +28,7 @@ is raised has the list of these links, and the text.
 ... except DeadLinks as dead:
 ...     print(dead, dead.links)
 ...     page = dead.text
-links lead nowhere (1, the first at 2) (DeadLink(span=2, destination=7),)
+links lead nowhere (1, the first at 2) (DeadLink(span=2, destination=7, path=('items', 1)),)
 
 A page, written here or elsewhere, can be checked: `check` tells of links within it that lead nowhere, and of ids
 that come twice.
@@ -39,15 +39,16 @@ Calls may be made from any number of threads, and run at once.
 from __future__ import annotations
 
 import json
-from dataclasses import dataclass
-from types import MappingProxyType
+from dataclasses import dataclass, field
 from typing import Any, Final, Iterable, Iterator, Literal, Mapping, Sequence, Union, ValuesView, overload
 
 from ._library import VERSION, Reply, Status, called
+from ._places import DEEPEST, ItemPath, is_too_deep, left, numbered, shown, value_of
+from ._words import WORDS
 
 __all__ = [
     "BREAK", "HOLE", "SPACE", "VERSION", "Attrs", "BadInput", "DeadFragment", "DeadLink", "DeadLinks", "Failure", "Findings",
-    "Info", "Item", "Items", "Kind", "Mark", "Node", "OtherLibrary", "OutOfMemory", "Place", "Refused", "RepeatedId", "Texts",
+    "Info", "Item", "ItemPath", "Items", "Kind", "Mark", "Node", "OtherLibrary", "OutOfMemory", "Place", "Refused", "RepeatedId", "Texts",
     "WORDS", "block", "box", "check", "element", "end", "start", "text", "write", "write_json", "write_tree",
 ]  # fmt: skip
 
@@ -97,40 +98,6 @@ BREAK: Final = Mark(["break"])
 HOLE: Final = Mark(["hole"])
 """Something that has no place in HTML, and is left out."""
 
-WORDS: Final[Mapping[int, str]] = MappingProxyType({
-    1: "tag name must not be empty",
-    2: "a character is not valid in a tag name",
-    3: "custom element name must start with a lowercase letter",
-    4: "custom element name must not contain uppercase letters",
-    5: "name is reserved and not valid for a custom element",
-    6: "attribute name must not be empty",
-    7: "a character is not valid in an attribute name",
-    8: "a body, or an element of a page, stands deeper than the limit",
-    9: "an html or body element stands among other nodes",
-    10: "footnotes stand beside an html or body element of the document's own",
-    11: "a character cannot be encoded in HTML",
-    12: "a void element has a child",
-    13: "a raw text element has a child that is no text",
-    14: "a raw text would end its element",
-    15: "a frame is refused",
-    26: "U+0000",
-    27: "a name that no element of this project has",
-    28: "a tag has too many attributes",
-    29: "a formatting element would be made again",
-    30: "an end tag would move nodes out of a formatting element",
-    31: "an open a would be removed",
-    32: "a text or an element would be moved out of a table",
-    33: "attributes would be added to those of html or body",
-    34: "the head would be opened again",
-    35: "a frameset, plaintext or template",
-    36: "a form, object, applet or marquee would be closed by another tag",
-    37: "an element of HTML would close svg or math",
-    38: "a table hangs on a document type that is not known",
-    39: "a token finds no place",
-})
-"""What is wrong, by the number of the refusal. Those of a page that is checked are 8 and those from 26 on."""
-
-
 @dataclass(frozen=True)
 class Place:
     """A place in a page. As text it is `line:column`.
@@ -157,11 +124,19 @@ class Failure(Exception):
     ...     write([element("p q")])
     ... except Failure as failure:
     ...     print(failure)
-    a character is not valid in a tag name (refusal 2 at 1)
+    a character is not valid in a tag name (refusal 2 at 1, items[0])
     """
 
     place: Place | None = None
     """Where, if a page that is checked is the reason."""
+
+    path: ItemPath | None = None
+    """Where, if an item is the reason, or what stands in the place of one: the names and indices that lead to it in the
+    JSON that was given, or as the items of `write` and the root of `write_tree` spell it. So `("items", 2, 3, 0)` is the
+    first item in the body of an element, which is the third item."""
+
+    item: Any = None
+    """What stands there."""
 
 
 class Refused(Failure):
@@ -170,10 +145,10 @@ class Refused(Failure):
     elements stand deeper than the limit.
 
     >>> try:
-    ...     write(["a", element("br", "no")])
+    ...     write([block("a", element("br", "no"))])
     ... except Refused as refused:
-    ...     print(refused.number, refused.words, refused.span)
-    12 a void element has a child 2
+    ...     print(refused.number, refused.words, refused.span, refused.path, refused.item)
+    12 a void element has a child 3 ('items', 0, 1, 1) ['el', 'br', [], [['text', 'no']]]
     >>> try:
     ...     check("<table>\\n<p>1</p></table>")
     ... except Refused as refused:
@@ -189,9 +164,11 @@ class Refused(Failure):
     JSON, those of footnotes after those of items; 0 where it has no place. Of a page that is checked: how many
     bytes of it stand before."""
 
-    def __init__(self, number: int, span: int, place: Place | None = None) -> None:
+    def __init__(
+        self, number: int, span: int, place: Place | None = None, path: ItemPath | None = None, item: Any = None
+    ) -> None:
         super().__init__(number, span, place)
-        self.number, self.span, self.place = number, span, place
+        self.number, self.span, self.place, self.path, self.item = number, span, place, path, item
 
     @property
     def words(self) -> str:
@@ -199,7 +176,8 @@ class Refused(Failure):
         return WORDS.get(self.number, "refused")
 
     def __str__(self) -> str:
-        return f"{self.words} (refusal {self.number} at {self.place or self.span})"
+        at = f"{self.span}, {shown(self.path)}" if self.path else self.place or self.span
+        return f"{self.words} (refusal {self.number} at {at})"
 
 
 class BadInput(Failure, ValueError):
@@ -214,13 +192,13 @@ class BadInput(Failure, ValueError):
     >>> try:
     ...     write_json('[["space"],["text",1]]')
     ... except BadInput as bad:
-    ...     print(bad.where, "|", bad.what)
-    2 | a value is not what the form wants
+    ...     print(bad.where, "|", bad.what, "|", bad.path, bad.item)
+    write_json(data[1]) | a value is not what the form wants | (1,) ['text', 1]
     """
 
     where: str
-    """Where: the call and its argument, or a part of it, as `write(items[1])`. Where the library tells it, the line and
-    the column or the span in the JSON, or the place in the page; empty where it tells none."""
+    """Where: the call and its argument, or a part of it, as `write(items[1])`. Of what is no JSON the line and the
+    column, and of a page that is no UTF-8 the place in it."""
 
     span: int
     """Where the form is left: how many lists of items are opened in the JSON up to the first value that is not
@@ -233,10 +211,18 @@ class BadInput(Failure, ValueError):
     """The column there, in bytes from 1 on; where the JSON ends too soon, how long its last line is."""
 
     def __init__(
-        self, *words: object, where: str = "", span: int = 0, line: int = 0, column: int = 0, place: Place | None = None
+        self,
+        *words: object,
+        where: str = "",
+        span: int = 0,
+        line: int = 0,
+        column: int = 0,
+        place: Place | None = None,
+        path: ItemPath | None = None,
+        item: Any = None,
     ) -> None:
         super().__init__(*words)
-        self.span, self.line, self.column, self.place = span, line, column, place
+        self.span, self.line, self.column, self.place, self.path, self.item = span, line, column, place, path, item
         in_json = f"line {line} column {column}" if line else f"{span}" if span else ""
         self.where = where or (str(place) if place else in_json)
 
@@ -260,14 +246,18 @@ class DeadLink:
     >>> try:
     ...     page = write([start(1, 7), element("a", "there"), end(1)], links=True)
     ... except DeadLinks as dead:
-    ...     print(*dead.links)
-    DeadLink(span=2, destination=7)
+    ...     print(*dead.links, dead.links[0].item)
+    DeadLink(span=2, destination=7, path=('items', 1)) ['el', 'a', [], [['text', 'there']]]
     """
 
     span: int
     """The number of its list in the JSON, counted as that of a refusal."""
     destination: int
     """The location that it would lead to."""
+    path: ItemPath = field(default=(), compare=False)
+    """Where its `a` stands, as of a refusal."""
+    item: Any = field(default=None, compare=False, repr=False)
+    """Its `a`."""
 
 
 class DeadLinks(Failure):
@@ -294,7 +284,7 @@ class DeadLinks(Failure):
 
     @property
     def span(self) -> int:
-        """Where the first of them is."""
+        """Where the first of them is: the number of its list."""
         return self.links[0].span if self.links else 0
 
     def __str__(self) -> str:
@@ -555,25 +545,90 @@ def end(location: int) -> Node:
     return Node(["end", _location(location, "end(location)")])
 
 
-def _spelled(value: Any, where: str, parts: Iterable[tuple[str, Any]] = ()) -> bytes:
-    """The value in JSON. A text with half of a surrogate pair has no UTF-8, so it is bad input, as what JSON cannot
-    hold is. Of parts, which have their places, the first that is none is told."""
-    try:
-        return json.dumps(value, ensure_ascii=False, separators=(",", ":")).encode()
-    except (TypeError, ValueError, RecursionError) as error:
-        for place, part in parts:
-            _spelled(part, place)
-        raise BadInput(error, where=where) from error
+def _json(value: Any) -> bytes:
+    """The value in JSON. A text with half of a surrogate pair has no UTF-8, so JSON cannot hold it."""
+    return json.dumps(value, ensure_ascii=False, separators=(",", ":")).encode()
 
 
-def _parts(document: Mapping[str, Any]) -> Iterator[tuple[str, Any]]:
-    """The parts of a document, each with its place."""
-    for name, value in document.items():
-        where = f"write({name}" if name in ("items", "footnotes") else f"Info({name}"
-        if isinstance(value, list):
-            yield from ((f"{where}[{at}])", one) for at, one in enumerate(value))
-        else:
-            yield f"{where})", value
+class _Given:
+    """What a call is to write: JSON that is given, or a value that JSON can hold."""
+
+    OUTSIDE: Final[Mapping[str, int]] = {"tree": 0, "items": 1, "document": 2}
+    """How long the paths are, at the least, that lead to items."""
+
+    def __init__(self, call: str, argument: ItemPath, kind: Kind, *, data: bytes = b"", value: Any = None) -> None:
+        self.call, self.argument, self.kind, self.is_json = call, argument, kind, value is None
+        self.data, self._value = data, value
+        if not self.is_json:
+            try:
+                self.data = _json(value)
+            except (TypeError, ValueError, RecursionError) as error:
+                raise self._bad_input(0, error) from error
+
+    @property
+    def value(self) -> Any:
+        """What the JSON spells."""
+        if self._value is None:
+            self._value = value_of(self.data)
+        return self._value
+
+    def _where(self, path: ItemPath) -> str:
+        """How a place is told."""
+        if self.kind == "document" and not self.is_json and path and path[0] not in ("items", "footnotes"):
+            return f"Info({shown(path)})"
+        return f"{self.call}({shown(self.argument + path)})"
+
+    def _without_json(self) -> tuple[ItemPath, Any]:
+        """The first part of a value that JSON cannot hold, though the form is right, and where it stands."""
+        parts: Any = self.value.items() if self.kind == "document" else ()
+        for name, part in parts:
+            each = enumerate(part) if isinstance(part, list) else ()
+            for path, one in (*(((name, at), one) for at, one in each), ((name,), part)):
+                try:
+                    _json(one)
+                except ValueError:
+                    return path, one
+        return (), self.value
+
+    def _bad_input(self, span: int, *words: object) -> BadInput:
+        """Where the form is left, or else what JSON cannot hold."""
+        outside = self.OUTSIDE[self.kind]
+        spot = left(self.kind, self.value)
+        if spot is None:
+            path, item = self._without_json()
+            return BadInput(*words, span=span, where=self._where(path), path=path, item=item)
+        if is_too_deep(spot):
+            deep = f"it holds what stands deeper than JSON is read, which is {DEEPEST} levels"
+            return BadInput(deep, where=self._where(spot.path[:outside]), path=spot.path, item=spot.value)
+        item = spot.value if len(spot.path) >= outside else None
+        return BadInput(*words, where=self._where(spot.path), span=spot.number, path=spot.path, item=item)
+
+    def failure(self, reply: Reply) -> Failure:
+        """Why there is no text."""
+        if reply.status == Status.REFUSED:
+            spot = numbered(self.kind, self.value, [reply.span]).get(reply.span)
+            path, item = (spot.path, spot.value) if spot else (None, None)
+            return Refused(reply.number, reply.span, path=path, item=item)
+        if reply.status == Status.BAD_INPUT:
+            no_json = reply.line > 0 and self.is_json
+            return BadInput(line=reply.line, column=reply.column) if no_json else self._bad_input(reply.span)
+        return OutOfMemory() if reply.status == Status.OUT_OF_MEMORY else OtherLibrary()
+
+    def dead_links(self, text: str, listed: list[dict[str, int]]) -> DeadLinks:
+        """The links that lead nowhere in a text, which the library lists."""
+        spots = numbered(self.kind, self.value, (it["span"] for it in listed))
+        found = ((it, spots[it["span"]]) for it in listed)
+        return DeadLinks(text, tuple(DeadLink(**it, path=spot.path, item=spot.value) for it, spot in found))
+
+    def text(self, call: str, **numbers: int) -> str:
+        """The text that a call of the library makes of it."""
+        reply, output = called(call, self.data, **numbers)
+        if reply.status == Status.DONE:
+            return output.decode()
+        if reply.status != Status.DEAD_LINKS or not numbers.get("links"):
+            raise self.failure(reply)
+        listed = json.loads(self.text("typst_html_dead_links", limit=numbers["limit"]))
+        raise self.dead_links(output.decode(), listed["dead_links"])
 
 
 def _bytes(data: bytes | str, where: str) -> bytes:
@@ -581,30 +636,6 @@ def _bytes(data: bytes | str, where: str) -> bytes:
         return data.encode() if isinstance(data, str) else memoryview(data).tobytes()
     except (UnicodeEncodeError, TypeError) as error:
         raise BadInput(error, where=where) from error
-
-
-def _text(made: tuple[Reply, bytes], of_page: bool = False) -> str:
-    reply, output = made
-    if reply.status == Status.DONE:
-        return output.decode()
-    place = Place(reply.span, reply.line, reply.column) if of_page and reply.line else None
-    if reply.status == Status.REFUSED:
-        raise Refused(reply.number, reply.span, place)
-    if reply.status == Status.BAD_INPUT and place:
-        raise BadInput("a byte that is no UTF-8", place=place)
-    if reply.status == Status.BAD_INPUT:
-        raise BadInput(span=reply.span, line=reply.line, column=reply.column)
-    raise OutOfMemory if reply.status == Status.OUT_OF_MEMORY else OtherLibrary
-
-
-def _document(data: bytes, pretty: bool, links: bool, limit: int) -> str:
-    """The text of the document that JSON spells, if its links lead."""
-    layout, resolved = int(bool(pretty)), int(bool(links))
-    made = called("typst_html_document", data, layout=layout, links=resolved, limit=limit)
-    if made[0].status != Status.DEAD_LINKS:
-        return _text(made)
-    listed = json.loads(_text(called("typst_html_dead_links", data, limit=limit)))["dead_links"]
-    raise DeadLinks(made[1].decode(), tuple(DeadLink(it["span"], it["destination"]) for it in listed))
 
 
 def write(
@@ -632,7 +663,8 @@ def write(
     if not isinstance(info, Info):
         raise BadInput(f"info is {_told(info)}, not an Info", where="write(info)")
     document = {**info.members(), "items": _listed("items", items), "footnotes": _listed("footnotes", footnotes)}
-    return _document(_spelled(document, "write(items)", _parts(document)), pretty, links, limit)
+    given = _Given("write", (), "document", value=document)
+    return given.text("typst_html_document", layout=int(bool(pretty)), links=int(bool(links)), limit=limit)
 
 
 def write_tree(root: Item, *, pretty: bool = False) -> str:
@@ -643,7 +675,8 @@ def write_tree(root: Item, *, pretty: bool = False) -> str:
 
     Raises `Refused`, `BadInput` or `OutOfMemory`.
     """
-    return write_json(_spelled(_item(root, "write_tree(root)"), "write_tree(root)"), kind="tree", pretty=pretty)
+    given = _Given("write_tree", ("root",), "tree", value=_item(root, "write_tree(root)"))
+    return given.text("typst_html_write", kind=0, layout=int(bool(pretty)))
 
 
 @overload
@@ -664,13 +697,14 @@ def write_json(
     which each may be left out, but for the `lang` of a `region`.
 
     `links` and `limit` are for a `document`, and mean what they do for `write`. The bodies of `items` may stand 50 deep.
+    What is refused or bad is read once more, by Python, for its path.
 
     >>> write_json('["el","br",[],[]]', kind="tree")
     '<!DOCTYPE html><br>'
     >>> write_json('{"items":[["block",[["block",[]]]]]}', kind="document", limit=1)
     Traceback (most recent call last):
         ...
-    typst_html_proved.Refused: a body, or an element of a page, stands deeper than the limit (refusal 8 at 2)
+    typst_html_proved.Refused: a body, or an element of a page, stands deeper than the limit (refusal 8 at 2, items[0][1][0])
 
     >>> try:
     ...     write_json('{"items":[["start",1,7],["el","a",[],[]]]}', kind="document", links=True)
@@ -680,15 +714,18 @@ def write_json(
 
     Raises `Refused`, `BadInput`, `OutOfMemory` or, with `links`, `DeadLinks`.
     """
-    data = _bytes(data, "write_json(data)")
+    data, layout = _bytes(data, "write_json(data)"), int(bool(pretty))
     if kind == "document":
-        return _document(data, pretty, links, _number("the limit", limit, 1, 10_000, "write_json(limit)"))
-    if kind not in ("tree", "items"):
+        _number("the limit", limit, 1, 10_000, "write_json(limit)")
+    elif kind not in ("tree", "items"):
         raise BadInput(f"{kind!r} is no kind: tree, items or document", where="write_json(kind)")
-    if links or limit != 50:
-        given, are = ("links", "are") if links else ("limit", "is")
-        raise BadInput(f"the {given} of a document {are} given for kind {kind!r}", where=f"write_json({given})")
-    return _text(called("typst_html_write", data, kind=int(kind == "items"), layout=int(bool(pretty))))
+    elif links or limit != 50:
+        named, are = ("links", "are") if links else ("limit", "is")
+        raise BadInput(f"the {named} of a document {are} given for kind {kind!r}", where=f"write_json({named})")
+    given = _Given("write_json", ("data",), kind, data=data)
+    if kind == "document":
+        return given.text("typst_html_document", layout=layout, links=int(bool(links)), limit=limit)
+    return given.text("typst_html_write", kind=int(kind == "items"), layout=layout)
 
 
 def _paths(found: list[dict[str, Any]]) -> Iterator[tuple[int, ...]]:
@@ -702,6 +739,16 @@ def _paths(found: list[dict[str, Any]]) -> Iterator[tuple[int, ...]]:
 def _place(found: dict[str, Any]) -> Place:
     """Where a finding is told to stand."""
     return Place(found["offset"], found["line"], found["column"])
+
+
+def _unread(reply: Reply) -> Failure:
+    """Why a page is not read."""
+    place = Place(reply.span, reply.line, reply.column)
+    if reply.status == Status.REFUSED:
+        return Refused(reply.number, reply.span, place)
+    if reply.status == Status.BAD_INPUT:
+        return BadInput("a byte that is no UTF-8", place=place)
+    return OutOfMemory() if reply.status == Status.OUT_OF_MEMORY else OtherLibrary()
 
 
 def check(page: bytes | str, *, limit: int = 50) -> Findings:
@@ -723,7 +770,10 @@ def check(page: bytes | str, *, limit: int = 50) -> Findings:
     Raises `Refused`, `BadInput` or `OutOfMemory`.
     """
     _number("the limit", limit, 1, 1_000, "check(limit)")
-    found = json.loads(_text(called("typst_html_check", _bytes(page, "check(page)"), limit=limit), of_page=True))
+    reply, output = called("typst_html_check", _bytes(page, "check(page)"), limit=limit)
+    if reply.status != Status.DONE:
+        raise _unread(reply)
+    found = json.loads(output.decode())
     dead, repeated = found["dead_fragments"], found["repeated_ids"]
     return Findings(
         tuple(DeadFragment(path, it["fragment"], _place(it)) for path, it in zip(_paths(dead), dead)),

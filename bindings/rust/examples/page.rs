@@ -13,11 +13,9 @@ fn main() -> Result<(), Box<dyn std::error::Error>> {
     let text = match how {
         "json" => write_json(Kind::Items, input.as_bytes(), false)?,
         _ => {
-            let mut document = Document::new();
-            for line in input.lines() {
-                document = document.item(Element::new("p").attr("class", "long").child(line));
-            }
-            write(&document, Options::default())?
+            let paragraph = |line| Element::new("p").attr("class", "long").child(line);
+            let document: Document = input.lines().map(paragraph).collect();
+            write(&document, Options::new())?
         }
     };
     println!("{}", text.len());

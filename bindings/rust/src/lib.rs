@@ -2,35 +2,42 @@
 //! wanted stay, and what HTML cannot hold is refused with a number and a place.
 //!
 //! ```
-//! use typst_html_proved::{write, Document, Element, Options, Refusal};
+//! use typst_html_proved::{write, Document, Element, Options};
 //!
 //! let document = Document::new()
 //!     .title("Salt")
 //!     .item(Element::new("p").child("Salt & vinegar"));
-//! let text = write(&document, Options::default())?;
+//! let text = write(&document, Options::new())?;
 //! assert!(text.ends_with("<p>Salt &amp; vinegar</p></body></html>"));
+//! # Ok::<(), typst_html_proved::Refusal>(())
+//! ```
 //!
-//! let wrong = Document::new().item(Element::new("br").child("no"));
-//! let refusal = write(&wrong, Options::default()).unwrap_err();
-//! assert_eq!(refusal, Refusal::Refused { number: 12, span: 1 });
-//! assert_eq!(refusal.to_string(), "a void element has a child (refusal 12 at 1)");
-//! # Ok::<(), Refusal>(())
+//! What is refused is told by a number, with the item:
+//!
+//! ```
+//! use typst_html_proved::{write, Document, Element, Options};
+//!
+//! let wrong = Document::new().item("a").item(Element::new("br").child("no"));
+//! let refusal = write(&wrong, Options::new()).unwrap_err();
+//! assert_eq!(refusal.to_string(), "a void element has a child (refusal 12 at 2, items[1])");
+//! let item = wrong.item_at(refusal.path().unwrap()).unwrap();
+//! assert_eq!((refusal.number(), item), (12, &wrong.items[1]));
 //! ```
 //!
 //! Links get the `href` of their destination where [`Options::links`] says so. What they lead to may be
 //! missing: then the text comes with the list of these links.
 //!
 //! ```
-//! use typst_html_proved::{write, DeadLink, Document, Element, Item, Options, Refusal};
+//! use typst_html_proved::{write, Document, Element, Item, Options, Refusal};
 //!
 //! let document = Document::new()
 //!     .item(Item::Start { location: 1, destination: Some(7) }) // nothing starts 7
 //!     .item(Element::new("a").child("there"));
-//! let options = Options { links: true, ..Options::default() };
-//! match write(&document, options) {
+//! match write(&document, Options::new().links(true)) {
 //!     Ok(text) => print!("{text}"),
 //!     Err(Refusal::DeadLinks(dead)) => {
-//!         assert_eq!(dead.links, [DeadLink { span: 2, destination: 7 }]);
+//!         let told = dead.links[0].to_string();
+//!         assert_eq!(told, "items[1]: a link to location 7 leads nowhere");
 //!         assert!(dead.text.ends_with("<body><a>there</a></body></html>"));
 //!     }
 //!     Err(refusal) => return Err(refusal),
@@ -44,17 +51,30 @@
 //! Calls share nothing, so any number of threads may make them. Each wants 256 KB of stack,
 //! whatever the input and the limit are. Where there is less, a deep input ends the process.
 
+//! Documents and items are JSON for `serde`, in the form that the library reads, and findings are too.
+
 #![deny(missing_docs)]
 
 mod document;
 mod findings;
+mod item;
+mod json;
+mod path;
 mod raw;
 mod refusal;
 
-pub use document::{Document, Element, Info, Item};
-use findings::FoundLinks;
+pub use document::{Document, Info};
 pub use findings::{DeadFragment, DeadLink, Findings, RepeatedId};
+use findings::{ToldFindings, ToldLinks};
+pub use item::{Element, IntoItems, Item};
+use path::{Form, Given};
+pub use path::{ItemPath, Step};
 pub use refusal::{DeadLinks, Place, Refusal};
+
+/// The examples of the crate's first page.
+#[cfg(doctest)]
+#[doc = include_str!("../README.md")]
+pub struct FirstPage;
 
 /// The version of the library's calls that this crate was made for.
 pub const VERSION: u32 = 6;
@@ -63,7 +83,15 @@ pub const VERSION: u32 = 6;
 const KNOWN_FORM: &str = "the library writes JSON of that form";
 
 /// How a document is written.
+///
+/// ```
+/// use typst_html_proved::Options;
+///
+/// let options = Options::new().pretty(true).limit(20);
+/// assert_eq!((options.pretty, options.links, options.limit), (true, false, 20));
+/// ```
 #[derive(Clone, Copy, Debug, PartialEq, Eq)]
+#[non_exhaustive]
 pub struct Options {
     /// Whether the text is laid out in indented lines, where that can't be seen.
     pub pretty: bool,
@@ -76,19 +104,48 @@ pub struct Options {
     pub limit: u32,
 }
 
-impl Default for Options {
+impl Options {
     /// Plain text, links as they are, and bodies 50 deep at most.
-    fn default() -> Options {
+    pub const fn new() -> Options {
         Options {
             pretty: false,
             links: false,
             limit: 50,
         }
     }
+
+    /// With that layout.
+    #[must_use]
+    pub const fn pretty(mut self, pretty: bool) -> Options {
+        self.pretty = pretty;
+        self
+    }
+
+    /// With links that get the `href` of their destination, or not.
+    #[must_use]
+    pub const fn links(mut self, links: bool) -> Options {
+        self.links = links;
+        self
+    }
+
+    /// With bodies as deep as that at most.
+    #[must_use]
+    pub const fn limit(mut self, limit: u32) -> Options {
+        self.limit = limit;
+        self
+    }
+}
+
+impl Default for Options {
+    /// Those of [`Options::new`].
+    fn default() -> Options {
+        Options::new()
+    }
 }
 
 /// What JSON spells that is written by [`write_json`].
 #[derive(Clone, Copy, Debug, PartialEq, Eq)]
+#[non_exhaustive]
 pub enum Kind {
     /// A tree: `["el", tag, [[name, value], ..], [node, ..]]`.
     Tree,
@@ -103,16 +160,20 @@ pub fn version() -> u32 {
 
 /// The text of a document.
 pub fn write(document: &Document, options: Options) -> Result<String, Refusal> {
-    document_text(options, &spelled(document)?)
+    let given = Given::Document(document);
+    document_text(options, &spelled(document, given)?, given)
 }
 
 /// The text of a tree, of which only texts, elements, starts and ends may be part: another item is bad
 /// input.
 pub fn write_tree(root: &Element, pretty: bool) -> Result<String, Refusal> {
-    raw::write(Kind::Tree, pretty, &spelled(root)?)
+    let given = Given::Tree(root);
+    let json = spelled(root, given)?;
+    raw::write(Kind::Tree, pretty, &json).map_err(|refusal| refusal.located(given))
 }
 
-/// The text of a tree or of the document of a list of items, which JSON spells.
+/// The text of a tree or of the document of a list of items, which JSON spells. Where it is refused or bad,
+/// it is read once more for the path.
 ///
 /// ```
 /// use typst_html_proved::{write_json, Kind, Refusal};
@@ -120,11 +181,16 @@ pub fn write_tree(root: &Element, pretty: bool) -> Result<String, Refusal> {
 /// let text = write_json(Kind::Tree, br#"["el","p",[],[["text","a < b"]]]"#, false)?;
 /// assert_eq!(text, "<!DOCTYPE html><p>a &lt; b</p>");
 /// let refusal = write_json(Kind::Items, br#"[["space"],["text"]]"#, false).unwrap_err();
-/// assert_eq!(refusal.to_string(), "bad input at 2");
+/// assert_eq!(refusal.to_string(), "bad input at 2, [1]");
 /// # Ok::<(), Refusal>(())
 /// ```
 pub fn write_json(kind: Kind, json: &[u8], pretty: bool) -> Result<String, Refusal> {
-    raw::write(kind, pretty, json)
+    let form = match kind {
+        Kind::Tree => Form::Tree,
+        Kind::Items => Form::Items,
+    };
+    let told = |refusal: Refusal| refusal.located(Given::Json(form, json));
+    raw::write(kind, pretty, json).map_err(told)
 }
 
 /// The text of a document with what is known of it and with footnotes, which a JSON object spells.
@@ -135,24 +201,31 @@ pub fn write_json(kind: Kind, json: &[u8], pretty: bool) -> Result<String, Refus
 /// use typst_html_proved::{write_document_json, Options, Refusal};
 ///
 /// let json = br#"{"title":"Tides","authors":["A","B"],"items":[["text","Ebbe"]]}"#;
-/// assert!(write_document_json(json, Options::default())?.contains("<title>Tides</title>"));
+/// assert!(write_document_json(json, Options::new())?.contains("<title>Tides</title>"));
 /// # Ok::<(), Refusal>(())
 /// ```
 pub fn write_document_json(json: &[u8], options: Options) -> Result<String, Refusal> {
-    document_text(options, json)
+    document_text(options, json, Given::Json(Form::Document, json))
 }
 
 /// The text of the document that JSON spells, if its links lead.
-fn document_text(options: Options, json: &[u8]) -> Result<String, Refusal> {
-    let (text, lead) = raw::document(options, json)?;
+fn document_text(options: Options, json: &[u8], given: Given<'_>) -> Result<String, Refusal> {
+    let told = |refusal: Refusal| refusal.located(given);
+    let (text, lead) = raw::document(options, json).map_err(told)?;
     if lead {
         return Ok(text);
     }
-    let links = raw::dead_links(options.limit, json)?;
-    let FoundLinks { dead_links } = serde_json::from_str(&links).expect(KNOWN_FORM);
+    let listed = raw::dead_links(options.limit, json).map_err(told)?;
+    let ToldLinks { dead_links } = serde_json::from_str(&listed).expect(KNOWN_FORM);
+    let mut paths = given.paths(dead_links.iter().map(|link| link.span));
+    let links = dead_links.into_iter().map(|link| DeadLink {
+        span: link.span,
+        destination: link.destination,
+        path: paths.remove(&link.span).unwrap_or_default(),
+    });
     Err(Refusal::DeadLinks(DeadLinks {
         text,
-        links: dead_links,
+        links: links.collect(),
     }))
 }
 
@@ -180,11 +253,12 @@ fn document_text(options: Options, json: &[u8]) -> Result<String, Refusal> {
 /// ```
 pub fn check(page: &str, limit: u32) -> Result<Findings, Refusal> {
     let json = raw::check(limit, page.as_bytes())?;
-    Ok(serde_json::from_str(&json).expect(KNOWN_FORM))
+    let told: ToldFindings = serde_json::from_str(&json).expect(KNOWN_FORM);
+    Ok(told.into())
 }
 
 /// The JSON by which the library is told. Texts, numbers, lists and maps of texts are JSON; only what
 /// is deeper than it is read is not spelled.
-fn spelled(value: &impl serde::Serialize) -> Result<Vec<u8>, Refusal> {
-    serde_json::to_vec(value).map_err(|_| Refusal::BAD_INPUT)
+fn spelled(value: &impl serde::Serialize, given: Given<'_>) -> Result<Vec<u8>, Refusal> {
+    serde_json::to_vec(value).map_err(|_| Refusal::BAD_INPUT.located(given))
 }

@@ -1,6 +1,8 @@
 //! The calls of the static library, as typst_html.h has them.
 
 use crate::{Kind, Options, Place, Refusal, VERSION};
+use std::sync::atomic::{AtomicBool, Ordering::Relaxed};
+use std::sync::Once;
 
 /// How a call ended.
 #[repr(C)]
@@ -20,11 +22,13 @@ impl Reply {
             1 => Refusal::Refused {
                 number: self.number,
                 span: self.span,
+                path: None,
             },
             _ => Refusal::BadInput {
                 span: self.span,
                 line: self.line,
                 column: self.column,
+                path: None,
             },
         }
     }
@@ -89,6 +93,14 @@ extern "C" {
 pub(crate) fn version() -> u32 {
     // SAFETY: the call takes nothing.
     unsafe { typst_html_version() }
+}
+
+/// Whether the library that is linked is of the version that is wanted, which is looked at once.
+fn is_known() -> bool {
+    static LOOKED: Once = Once::new();
+    static KNOWN: AtomicBool = AtomicBool::new(false);
+    LOOKED.call_once(|| KNOWN.store(version() == VERSION, Relaxed));
+    KNOWN.load(Relaxed)
 }
 
 /// The text of a tree or of items.
@@ -183,7 +195,7 @@ fn made_by(
     refusal: impl Fn(&Reply) -> Refusal,
     call: impl Fn(&mut [u8]) -> Reply,
 ) -> Result<(String, bool), Refusal> {
-    if version() != VERSION {
+    if !is_known() {
         return Err(Refusal::OtherLibrary);
     }
     let mut output = vec![0; 4 * length + 1024];

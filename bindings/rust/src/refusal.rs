@@ -1,6 +1,8 @@
 //! Why there is no text, or what is wrong with it.
 
-use crate::DeadLink;
+use crate::path::Given;
+use crate::{DeadLink, ItemPath};
+use serde::{Deserialize, Serialize};
 use std::fmt;
 use thiserror::Error;
 
@@ -9,7 +11,7 @@ const DEAD_LINKS: &str = "links lead nowhere";
 const OTHER_LIBRARY: &str = "the library that is linked is not of the version that is wanted";
 
 /// A place in a page.
-#[derive(Clone, Copy, Debug, PartialEq, Eq, Hash)]
+#[derive(Clone, Copy, Debug, PartialEq, Eq, Hash, Serialize, Deserialize)]
 pub struct Place {
     /// How many bytes of the page stand before it.
     pub offset: u64,
@@ -28,6 +30,7 @@ impl fmt::Display for Place {
 
 /// A text in which links lead nowhere.
 #[derive(Clone, Debug, PartialEq, Eq)]
+#[non_exhaustive]
 pub struct DeadLinks {
     /// The text, in which these links stand without an `href`.
     pub text: String,
@@ -52,19 +55,24 @@ impl fmt::Display for DeadLinks {
 
 /// Why there is no text, or none without dead links.
 #[derive(Clone, Debug, PartialEq, Eq, Error)]
+#[non_exhaustive]
 pub enum Refusal {
     /// What is to be written breaks a rule of HTML, or stands where it may not.
-    #[error("{} (refusal {number} at {span})", words(.number))]
+    #[error("{} (refusal {number} at {span}{})", words(.number), behind(.path))]
+    #[non_exhaustive]
     Refused {
         /// Which rule: 1 to 15, whose words [`Refusal::words`] tells.
         number: u8,
         /// Where: the number of the list of a node or item in the JSON, counted from 1 by their opening
         /// brackets, those of footnotes after those of items; 0 where it has no place.
         span: u64,
+        /// The way to that item, where it has a place.
+        path: Option<ItemPath>,
     },
     /// A page that is checked is not read: a browser would move nodes of it or make them a second time,
     /// it holds what no element can have here, or its elements stand deeper than the limit.
     #[error("{} (refusal {number} at {place})", words(.number))]
+    #[non_exhaustive]
     PageRefused {
         /// Why: 8 or 26 to 39, whose words [`Refusal::words`] tells.
         number: u8,
@@ -73,7 +81,8 @@ pub enum Refusal {
     },
     /// The input spells nothing that can be written, or nests more than 127 levels of JSON; or the limit
     /// is wrong.
-    #[error("bad input{}", place(.span, .line, .column))]
+    #[error("bad input{}", place(.span, .line, .column, .path))]
+    #[non_exhaustive]
     BadInput {
         /// Where the form is left: how many lists of nodes or items are opened up to the first value that
         /// is not what the form wants, counted as those of a refusal; 0 before the first, and where
@@ -83,6 +92,10 @@ pub enum Refusal {
         line: usize,
         /// The column there, in bytes from 1 on; where the JSON ends too soon, how long its last line is.
         column: usize,
+        /// The way to the first value that is not what the form wants, which is an item or stands in the place
+        /// of one, of a list of them or of another member; or to the first item that stands deeper than JSON is
+        /// read. Nothing where it is no JSON that is given.
+        path: Option<ItemPath>,
     },
     /// Links were to get the `href` of their destination, and for some no place of the document is one.
     /// The text is there all the same.
@@ -103,6 +116,7 @@ impl Refusal {
         span: 0,
         line: 0,
         column: 0,
+        path: None,
     };
 
     /// The number of the refusal; 0 where there is none.
@@ -124,6 +138,42 @@ impl Refusal {
         }
     }
 
+    /// The way to the item that is refused, to the first dead link, or to what leaves the form, in the JSON
+    /// that was given or that spells what was. [`Document::item_at`](crate::Document::item_at) goes it.
+    pub fn path(&self) -> Option<&ItemPath> {
+        match self {
+            Refusal::Refused { path, .. } | Refusal::BadInput { path, .. } => path.as_ref(),
+            Refusal::DeadLinks(dead) => dead.links.first().map(|link| &link.path),
+            _ => None,
+        }
+    }
+
+    /// The refusal with the path in what was given.
+    pub(crate) fn located(mut self, given: Given<'_>) -> Refusal {
+        match &mut self {
+            Refusal::Refused { span, path, .. } => *path = given.paths([*span]).remove(span),
+            Refusal::BadInput {
+                span,
+                path,
+                line: 0,
+                ..
+            } => {
+                *path = given.left(*span).or_else(|| given.deepest());
+            }
+            // Where this crate wrote the JSON, it is read but for its depth.
+            Refusal::BadInput {
+                path, line, column, ..
+            } => {
+                *path = given.deepest();
+                if path.is_some() {
+                    (*line, *column) = (0, 0);
+                }
+            }
+            _ => {}
+        }
+        self
+    }
+
     /// What is wrong.
     pub fn words(&self) -> &'static str {
         match self {
@@ -136,11 +186,20 @@ impl Refusal {
     }
 }
 
+/// The path behind a number, if it has a step.
+fn behind(path: &Option<ItemPath>) -> String {
+    match path {
+        Some(path) if !path.steps().is_empty() => format!(", {path}"),
+        _ => String::new(),
+    }
+}
+
 /// Where an input is bad, behind these words.
-fn place(span: &u64, line: &usize, column: &usize) -> String {
-    match (span, line) {
-        (0, 0) => String::new(),
-        (_, 0) => format!(" at {span}"),
+fn place(span: &u64, line: &usize, column: &usize, path: &Option<ItemPath>) -> String {
+    match (span, line, path) {
+        (0, 0, Some(path)) if !path.steps().is_empty() => format!(" at {path}"),
+        (0, 0, _) => String::new(),
+        (_, 0, _) => format!(" at {span}{}", behind(path)),
         _ => format!(" at line {line} column {column}"),
     }
 }

@@ -4,12 +4,37 @@ use serde_json::Value;
 use std::thread;
 use typst_html_proved::*;
 
+/// What comes of a call, without the paths that this crate adds.
+#[derive(Debug, PartialEq)]
+enum Told {
+    Text(String),
+    Refused(u8, u64),
+    BadInput(u64, usize, usize),
+    DeadLinks(String, Vec<(u64, u64)>),
+}
+
+fn told(written: &Result<String, Refusal>) -> Told {
+    match written {
+        Ok(text) => Told::Text(text.clone()),
+        Err(Refusal::Refused { number, span, .. }) => Told::Refused(*number, *span),
+        Err(Refusal::BadInput {
+            span, line, column, ..
+        }) => Told::BadInput(*span, *line, *column),
+        Err(Refusal::DeadLinks(dead)) => {
+            let links = dead.links.iter();
+            let links = links.map(|link| (link.span, link.destination)).collect();
+            Told::DeadLinks(dead.text.clone(), links)
+        }
+        Err(other) => panic!("{other}"),
+    }
+}
+
 /// A worked row, with what is to come of it. One without a kind is a document.
 struct Row {
     kind: Option<Kind>,
     options: Options,
     input: Vec<u8>,
-    wanted: Result<String, Refusal>,
+    wanted: Told,
 }
 
 impl Row {
@@ -29,16 +54,13 @@ fn bytes(value: &Value) -> Vec<u8> {
         .collect()
 }
 
-/// The links that the library lists so.
-fn dead_links(listed: &str) -> Vec<DeadLink> {
+/// The spans and the destinations of the links that the library lists so.
+fn dead_links(listed: &str) -> Vec<(u64, u64)> {
     let listed: Value = serde_json::from_str(listed).unwrap();
     let number = |link: &Value, name: &str| link[name].as_u64().unwrap();
     let links = listed["dead_links"].as_array().unwrap().iter();
     links
-        .map(|link| DeadLink {
-            span: number(link, "span"),
-            destination: number(link, "destination"),
-        })
+        .map(|link| (number(link, "span"), number(link, "destination")))
         .collect()
 }
 
@@ -47,27 +69,20 @@ fn row(value: &Value) -> Row {
     let text = |name: &str| String::from_utf8(bytes(&value[name])).unwrap();
     Row {
         kind: [Some(Kind::Tree), Some(Kind::Items), None][number("kind") as usize],
-        options: Options {
-            pretty: number("layout") == 1,
-            links: number("links") == 1,
-            limit: number("limit") as u32,
-        },
+        options: Options::new()
+            .pretty(number("layout") == 1)
+            .links(number("links") == 1)
+            .limit(number("limit") as u32),
         input: bytes(&value["input"]),
         wanted: match number("status") {
-            0 => Ok(text("text")),
-            5 => Err(Refusal::DeadLinks(DeadLinks {
-                text: text("text"),
-                links: dead_links(&text("dead")),
-            })),
-            1 => Err(Refusal::Refused {
-                number: number("number") as u8,
-                span: number("span"),
-            }),
-            _ => Err(Refusal::BadInput {
-                span: number("span"),
-                line: number("line") as usize,
-                column: number("column") as usize,
-            }),
+            0 => Told::Text(text("text")),
+            5 => Told::DeadLinks(text("text"), dead_links(&text("dead"))),
+            1 => Told::Refused(number("number") as u8, number("span")),
+            _ => Told::BadInput(
+                number("span"),
+                number("line") as usize,
+                number("column") as usize,
+            ),
         },
     }
 }
@@ -94,8 +109,72 @@ fn document_around(items: &[u8]) -> Vec<u8> {
 fn rows_are_as_the_program_writes_them() {
     for row in rows() {
         let what = String::from_utf8_lossy(&row.input);
-        assert_eq!(row.written(), row.wanted, "{what}");
+        assert_eq!(told(&row.written()), row.wanted, "{what}");
     }
+}
+
+/// The lists of items in a value, in the order of their opening brackets, by a recursion of its own.
+fn lists<'a>(kind: Option<Kind>, value: &'a Value, found: &mut Vec<&'a Value>) {
+    fn those<'a>(items: &'a Value, found: &mut Vec<&'a Value>) {
+        for item in items.as_array().into_iter().flatten() {
+            inside(item, found);
+        }
+    }
+    fn inside<'a>(item: &'a Value, found: &mut Vec<&'a Value>) {
+        if let Some(list) = item.as_array() {
+            found.push(item);
+            if let Some("el" | "block" | "box") = item[0].as_str() {
+                list.last().into_iter().for_each(|body| those(body, found));
+            }
+        }
+    }
+    match kind {
+        Some(Kind::Tree) => inside(value, found),
+        Some(_) => those(value, found),
+        None => {
+            those(&value["items"], found);
+            those(&value["footnotes"], found);
+        }
+    }
+}
+
+/// What stands in a value where a path leads.
+fn at<'a>(value: &'a Value, path: &ItemPath) -> &'a Value {
+    path.steps().iter().fold(value, |value, step| match step {
+        Step::Index(at) => &value[*at],
+        Step::Name(name) => &value[name],
+    })
+}
+
+#[test]
+fn what_is_refused_or_bad_has_its_item() {
+    let mut seen = 0;
+    for row in rows() {
+        let refusal = match row.written() {
+            Err(refusal) => refusal,
+            Ok(_) => continue,
+        };
+        let what = String::from_utf8_lossy(&row.input);
+        let value: Value = match serde_json::from_slice(&row.input) {
+            Ok(value) => value,
+            Err(_) => {
+                assert_eq!(refusal.path(), None, "{what}");
+                continue;
+            }
+        };
+        let mut found = Vec::new();
+        lists(row.kind, &value, &mut found);
+        let list = found.get((refusal.span() as usize).wrapping_sub(1));
+        let there = refusal.path().map(|path| at(&value, path));
+        match refusal {
+            Refusal::Refused { span: 0, .. } => assert_eq!(there, None, "{what}"),
+            // What leaves the form is that list, or the next value, which is none that is numbered.
+            Refusal::BadInput { .. } if !there.unwrap().is_array() || list.is_none() => {}
+            _ => assert!(std::ptr::eq(there.unwrap(), *list.unwrap()), "{what}"),
+        }
+        seen += 1;
+    }
+    assert!(seen > 300, "{seen}");
 }
 
 #[test]
@@ -106,10 +185,10 @@ fn documents_without_information_are_their_items() {
             let written = write_document_json(&input, row.options);
             match row.wanted {
                 // What is no JSON ends elsewhere, or not at all.
-                Err(Refusal::BadInput { line: 1.., .. }) => {
+                Told::BadInput(_, 1.., _) => {
                     assert!(matches!(written, Err(Refusal::BadInput { .. })));
                 }
-                wanted => assert_eq!(written, wanted),
+                wanted => assert_eq!(told(&written), wanted),
             }
         }
     }
@@ -149,14 +228,10 @@ fn every_item_is_spelled() {
         .item(Element::new("h2").attr("class", "c"))
         .item(Item::End(7))
         .footnote(Element::new("p").child("n"));
-    let links = Options {
-        links: true,
-        ..Options::default()
-    };
-    let text = write(&document, links).unwrap();
+    let text = write(&document, Options::new().links(true)).unwrap();
     assert!(text.contains(r##"<a href="#loc-1">b</a><h2"##), "{text}");
     assert!(text.ends_with("<p>n</p></body></html>"), "{text}");
-    let text = write(&document, Options::default()).unwrap();
+    let text = write(&document, Options::new()).unwrap();
     assert!(text.contains("<a>b</a>"), "{text}");
 }
 
@@ -170,7 +245,7 @@ fn what_is_known_stands_in_the_head() {
         .keyword("k")
         .keyword("l")
         .lang("en", "");
-    let text = write(&document, Options::default()).unwrap();
+    let text = write(&document, Options::new()).unwrap();
     for part in [
         r#"<html lang="en">"#,
         "<title>T</title>",
@@ -186,21 +261,12 @@ fn what_is_known_stands_in_the_head() {
 fn a_region_without_a_language_is_left_out() {
     let mut document = Document::new();
     document.info.region = Some("AT".into());
-    assert!(write(&document, Options::default()).is_ok());
+    assert!(write(&document, Options::new()).is_ok());
 }
 
 #[test]
 fn limits_out_of_range_are_bad_input() {
-    let of = |limit| {
-        write(
-            &Document::new(),
-            Options {
-                limit,
-                ..Options::default()
-            },
-        )
-        .is_ok()
-    };
+    let of = |limit| write(&Document::new(), Options::new().limit(limit)).is_ok();
     assert_eq!(
         [0, 1, 10_000, 10_001, u32::MAX].map(of),
         [false, true, true, false, false]
@@ -212,18 +278,185 @@ fn refusals_have_numbers_spans_and_words() {
     let wrong = Document::new()
         .item("a")
         .item(Element::new("p").attr("a b", "c"));
-    let refusal = write(&wrong, Options::default()).unwrap_err();
+    let refusal = write(&wrong, Options::new()).unwrap_err();
     assert_eq!((refusal.number(), refusal.span()), (7, 2));
     assert_eq!(
         refusal.words(),
         "a character is not valid in an attribute name"
     );
-    let message = "a character is not valid in an attribute name (refusal 7 at 2)";
+    let message = "a character is not valid in an attribute name (refusal 7 at 2, items[1])";
     assert_eq!(refusal.to_string(), message);
     assert_eq!(Refusal::BAD_INPUT.to_string(), "bad input");
-    let told = |json| write_json(Kind::Items, json, false).unwrap_err().to_string();
-    assert_eq!(told(br#"[["space"],["text",1]]"#), "bad input at 2");
+    let told = |json| {
+        write_json(Kind::Items, json, false)
+            .unwrap_err()
+            .to_string()
+    };
+    assert_eq!(told(br#"[["space"],["text",1]]"#), "bad input at 2, [1]");
+    assert_eq!(told(b"[7]"), "bad input at [0]");
     assert_eq!(told(b"[\n{}"), "bad input at line 2 column 2");
+    let told = |json| {
+        write_document_json(json, Options::new())
+            .unwrap_err()
+            .to_string()
+    };
+    assert_eq!(
+        told(br#"{"items":[["box",[["hole"],7]]]}"#),
+        "bad input at 2, items[0][1][1]"
+    );
+    assert_eq!(
+        told(br#"{"items":[["hole"]],"footnotes":7}"#),
+        "bad input at 1, footnotes"
+    );
+    assert_eq!(
+        told(br#"{"title":"t","region":"AT"}"#),
+        "bad input at region"
+    );
+    assert_eq!(told(b"[]"), "bad input");
+}
+
+#[test]
+fn the_item_of_a_refusal_is_in_the_document() {
+    let link = Element::new("a").child("there");
+    let start = Item::Start {
+        location: 1,
+        destination: Some(7),
+    };
+    let body = vec![start, link.into(), Element::new("br").child("no").into()];
+    let mut document = Document::new().item("a").footnote(Item::Block(body));
+    let refusal = write(&document, Options::new()).unwrap_err();
+    let path = refusal.path().unwrap();
+    assert_eq!(path.to_string(), "footnotes[0][1][2]");
+    assert_eq!(document.item_at(path).unwrap().to_string(), "<br>");
+    if let Item::Block(body) = &mut document.footnotes[0] {
+        body.pop();
+    }
+    let refusal = write(&document, Options::new().links(true)).unwrap_err();
+    let path = refusal.path().unwrap();
+    assert_eq!(
+        (refusal.span(), path.to_string()),
+        (4, "footnotes[0][1][1]".into())
+    );
+    assert_eq!(document.item_at(path).unwrap().to_string(), "<a>");
+    let spelled = serde_json::to_value(path).unwrap();
+    assert_eq!(spelled, serde_json::json!(["footnotes", 0, 1, 1]));
+    assert_eq!(&serde_json::from_value::<ItemPath>(spelled).unwrap(), path);
+    let root = Element::new("p").child("a").child(Element::new("P Q"));
+    let refusal = write_tree(&root, false).unwrap_err();
+    let path = refusal.path().unwrap();
+    assert_eq!(
+        (root.item_at(path), path.to_string()),
+        (Some(&root.body[1]), "[3][1]".into())
+    );
+    let refusal = write_tree(&Element::new("P Q"), false).unwrap_err();
+    assert!(refusal.path().unwrap().steps().is_empty());
+    let refusal = write(&Document::new().title("\0"), Options::new()).unwrap_err();
+    assert_eq!((refusal.path(), refusal.number()), (None, 11));
+}
+
+/// Whatever may be an item, or several.
+#[test]
+fn items_are_made_of_all_that_they_may_be() {
+    let owned = String::from("b");
+    let text = std::borrow::Cow::Borrowed("c");
+    let none: Option<Element> = None;
+    let mut element = Element::new("p")
+        .child("a")
+        .child(&owned)
+        .child(owned.clone())
+        .child(text)
+        .child('d')
+        .child(none)
+        .child(Some("e"))
+        .child(vec![Item::Space, Item::Break])
+        .child(["f", "g"])
+        .child(vec![Some(Element::new("i")), None])
+        .children("hi".chars());
+    element.extend(vec![Item::Hole]);
+    element.extend(["j"]);
+    let body: Vec<String> = element.body.iter().map(Item::to_string).collect();
+    let wanted = r#""a" "b" "b" "c" "d" "e" a space|a line break|"f" "g" <i> "h" "i" a hole|"j""#;
+    assert_eq!(body.join(" "), wanted.replace('|', " "));
+    let mut document: Document = ["a", "b"].into_iter().collect();
+    document.extend(Some(element));
+    assert_eq!(document.items.len(), 3);
+    assert_eq!(
+        Document::new()
+            .item(["a", "b"])
+            .footnote(vec!['c', 'd'])
+            .footnotes
+            .len(),
+        2
+    );
+}
+
+#[test]
+fn items_are_told_in_a_line() {
+    let start = |destination| Item::Start {
+        location: 3,
+        destination,
+    };
+    for (item, told) in [
+        (Item::from("a\n\"b\""), r#""a\n\"b\"""#),
+        (
+            Element::new("p")
+                .attr("id", "a")
+                .attr("x", "")
+                .child("b")
+                .into(),
+            r#"<p id="a" x="">"#,
+        ),
+        (Item::Block(vec![Item::Space]), "a block"),
+        (Item::Box(vec![]), "a box"),
+        (start(None), "the start of location 3"),
+        (start(Some(7)), "the start of location 3, which leads to 7"),
+        (Item::End(3), "the end of location 3"),
+    ] {
+        assert_eq!(item.to_string(), told);
+    }
+}
+
+/// What is read of JSON is spelled as it was, and what the library refuses to read is not read here.
+#[test]
+fn documents_and_items_are_read_of_json() {
+    let mut seen = (0, 0);
+    for row in rows() {
+        let bad = matches!(row.wanted, Told::BadInput(..));
+        let json = row.input.as_slice();
+        let read = match row.kind {
+            Some(Kind::Tree) => serde_json::from_slice(json).map(|root: Element| {
+                assert_eq!(told(&write_tree(&root, row.options.pretty)), row.wanted);
+            }),
+            Some(_) => serde_json::from_slice(json).map(|items: Vec<Item>| {
+                let deepest = row.input.ends_with(&DEEPEST);
+                let document = items.into_iter().collect();
+                assert!(deepest || told(&write(&document, row.options)) == row.wanted);
+            }),
+            None => serde_json::from_slice(json).map(|document: Document| {
+                assert_eq!(told(&write(&document, row.options)), row.wanted);
+            }),
+        };
+        // (blocks and spaces, which a tree may not have, are items)
+        let is_tree = row.kind == Some(Kind::Tree);
+        assert!(
+            read.is_err() == bad || is_tree && bad,
+            "{}",
+            String::from_utf8_lossy(json)
+        );
+        seen = (
+            seen.0 + usize::from(read.is_ok()),
+            seen.1 + usize::from(read.is_err()),
+        );
+    }
+    assert!(seen.0 > 800 && seen.1 > 80, "{seen:?}");
+    for wrong in [
+        r#"{"title":null}"#,
+        r#"{"region":"AT"}"#,
+        r#"{"color":"red"}"#,
+        r#"{"items":[["frame"]]}"#,
+    ] {
+        assert!(serde_json::from_str::<Document>(wrong).is_err(), "{wrong}");
+    }
 }
 
 /// So many elements in one another, the inmost without a body.
@@ -241,12 +474,21 @@ fn items_of_any_depth_are_refused_or_written() {
             let root = nested(count);
             let refusal = write_tree(&root, false).unwrap_err();
             assert_eq!(refusal.words(), "bad input");
+            // The element whose body would be deeper than JSON is read.
+            let path = refusal.path().unwrap();
+            assert_eq!(
+                (path.steps().len(), &path.steps()[..2]),
+                (126, [Step::Index(3), Step::Index(0)].as_slice())
+            );
+            assert!(root.item_at(path).is_some());
             let document = Document::new().item(root);
-            let options = Options {
-                limit: 10_000,
-                ..Options::default()
-            };
-            assert_eq!(write(&document, options).unwrap_err().words(), "bad input");
+            let refusal = write(&document, Options::new().limit(10_000)).unwrap_err();
+            assert_eq!((refusal.words(), refusal.span()), ("bad input", 0));
+            let path = refusal.path().unwrap();
+            assert!(document.item_at(path).is_some());
+            assert!(refusal
+                .to_string()
+                .starts_with("bad input at items[0][3][0]"));
         }
         for around in [Item::Block, Item::Box] {
             let block = (0..100_000).fold(Item::Hole, |inner, _| around(vec![inner]));
@@ -276,39 +518,52 @@ fn first_line(offset: u64) -> Place {
 fn findings_have_paths_names_and_places() {
     let page = r##"<!DOCTYPE html><p id="a"><a href="#b%20c&quot;">x</a><b id="a"></b><b id="a">y</b></p>"##;
     let findings = check(page, 50).unwrap();
-    let dead = DeadFragment {
-        path: vec![1, 0, 0],
-        fragment: "b%20c\"".into(),
-        place: first_line(25),
-    };
-    assert_eq!(findings.dead_fragments, [dead]);
-    let repeated = |index, offset| RepeatedId {
-        path: vec![1, 0, index],
-        id: "a".into(),
-        place: first_line(offset),
-    };
-    assert_eq!(findings.repeated_ids, [repeated(1, 53), repeated(2, 67)]);
-    assert!(!findings.is_empty());
+    let dead = |path: &[usize], fragment: &str, place| (path.to_vec(), fragment.to_owned(), place);
+    assert_eq!(
+        dead_fragments(&findings),
+        [dead(&[1, 0, 0], "b%20c\"", first_line(25))]
+    );
+    let repeated: Vec<_> = findings.repeated_ids.iter().collect();
+    for (found, (index, offset)) in repeated.iter().zip([(1, 53), (2, 67)]) {
+        assert_eq!((found.id.as_str(), found.place), ("a", first_line(offset)));
+        assert_eq!(found.path, [1, 0, index]);
+    }
+    assert!(!findings.is_empty() && repeated.len() == 2);
+    let lines = "1:26: \"#b%20c\"\" leads nowhere\n\
+                 1:54: an element before has the id \"a\"\n\
+                 1:68: an element before has the id \"a\"";
+    assert_eq!(findings.to_string(), lines);
+    let spelled = serde_json::to_string(&findings).unwrap();
+    let start = r#"{"dead_fragments":[{"path":[1,0,0],"fragment":"b%20c\"","place":{"offset":25,"line":1,"column":26}}],"#;
+    assert!(spelled.starts_with(start), "{spelled}");
+    assert_eq!(
+        serde_json::from_str::<Findings>(&spelled).unwrap(),
+        findings
+    );
+}
+
+/// The links that lead nowhere: paths, fragments and places.
+fn dead_fragments(findings: &Findings) -> Vec<(Vec<usize>, String, Place)> {
+    let dead = findings.dead_fragments.iter();
+    dead.map(|it| (it.path.clone(), it.fragment.clone(), it.place))
+        .collect()
 }
 
 /// Tags are left out, lines end with CR LF, and a multi-byte character stands before the link.
 #[test]
 fn pages_are_read_as_browsers_read_them() {
     let page = "\u{feff}<TITLE>Pie</TITLE>\r\n<UL><LI>Salt\r\n<LI>ä & <A HREF=#gone>x</A>";
-    let dead = DeadFragment {
-        path: vec![1, 0, 1, 1],
-        fragment: "gone".into(),
-        place: Place {
-            offset: 46,
-            line: 3,
-            column: 9,
-        },
+    let place = Place {
+        offset: 46,
+        line: 3,
+        column: 9,
     };
-    let findings = Findings {
-        dead_fragments: vec![dead],
-        repeated_ids: vec![],
-    };
-    assert_eq!(check(page, 50), Ok(findings));
+    let findings = check(page, 50).unwrap();
+    assert_eq!(
+        dead_fragments(&findings),
+        [(vec![1, 0, 1, 1], "gone".into(), place)]
+    );
+    assert_eq!(findings.repeated_ids, []);
     for page in ["", "<", "<!DOCTYPE html>\n<p>é & x</b>", "<a href=#>"] {
         assert_eq!(check(page, 50), Ok(Findings::default()), "{page}");
     }
@@ -327,11 +582,7 @@ fn links_that_are_given_lead() {
         .item(start(7, None))
         .item(Element::new("h2"))
         .item(Item::End(7));
-    let links = Options {
-        links: true,
-        ..Options::default()
-    };
-    let page = write(&document, links).unwrap();
+    let page = write(&document, Options::new().links(true)).unwrap();
     assert_eq!(check(&page, 50), Ok(Findings::default()));
 }
 
@@ -346,22 +597,19 @@ fn links_that_lead_nowhere_are_told_with_the_text() {
         .item(Element::new("a").child("b"))
         .footnote(start(2, Some(u64::MAX)))
         .footnote(Element::new("a"));
-    let written = |links| {
-        write(
-            &document,
-            Options {
-                links,
-                ..Options::default()
-            },
-        )
-    };
+    let written = |links| write(&document, Options::new().links(links));
     let refusal = written(true).unwrap_err();
-    let link = |span, destination| DeadLink { span, destination };
-    let wanted = DeadLinks {
-        text: written(false).unwrap(),
-        links: vec![link(2, 7), link(5, u64::MAX)],
+    let wanted = Told::DeadLinks(written(false).unwrap(), vec![(2, 7), (5, u64::MAX)]);
+    assert_eq!(told(&Err(refusal.clone())), wanted);
+    let dead = match &refusal {
+        Refusal::DeadLinks(dead) => dead,
+        other => panic!("{other}"),
     };
-    assert_eq!(refusal, Refusal::DeadLinks(wanted));
+    let lines: Vec<_> = dead.links.iter().map(|link| link.to_string()).collect();
+    assert_eq!(lines[0], "items[1]: a link to location 7 leads nowhere");
+    assert!(lines[1].starts_with("footnotes[1]: "));
+    let spelled = serde_json::to_string(&dead.links).unwrap();
+    assert!(spelled.starts_with(r#"[{"span":2,"destination":7,"path":["items",1]},"#));
     assert_eq!((refusal.number(), refusal.span()), (0, 2));
     assert_eq!(refusal.words(), "links lead nowhere");
     let message = "links lead nowhere (2, the first at 2)";
@@ -370,17 +618,15 @@ fn links_that_lead_nowhere_are_told_with_the_text() {
 
 #[test]
 fn pages_that_are_not_read_are_told() {
-    let refused = |number, offset, line, column| Refusal::PageRefused {
-        number,
-        place: Place {
-            offset,
-            line,
-            column,
-        },
+    let place_of = |page, limit| match check(page, limit) {
+        Err(Refusal::PageRefused { number, place, .. }) => {
+            (number, place.offset, place.line, place.column)
+        }
+        other => panic!("{other:?}"),
     };
     let page = "<!DOCTYPE html><p>é\n<b></b></p>";
-    let deep = refused(8, 21, 2, 1);
-    assert_eq!(check(page, 3), Err(deep.clone()));
+    assert_eq!(place_of(page, 3), (8, 21, 2, 1));
+    let deep = check(page, 3).unwrap_err();
     assert_eq!(check(page, 4), Ok(Findings::default()));
     assert_eq!((deep.number(), deep.span()), (8, 21));
     assert_eq!(
@@ -395,14 +641,14 @@ fn pages_that_are_not_read_are_told() {
         assert_eq!(check(page, limit), Err(Refusal::BAD_INPUT));
     }
     for (page, refusal) in [
-        ("<p>\0", refused(26, 3, 1, 4)),
-        ("<p><b>a</p>b", refused(29, 11, 1, 12)),
-        ("<b><p>a</b>", refused(30, 7, 1, 8)),
-        ("<table>\r\n<p>é", refused(32, 9, 2, 1)),
-        ("<head></head>\r<title>", refused(34, 14, 2, 1)),
-        ("<svg><p>", refused(37, 5, 1, 6)),
+        ("<p>\0", (26, 3, 1, 4)),
+        ("<p><b>a</p>b", (29, 11, 1, 12)),
+        ("<b><p>a</b>", (30, 7, 1, 8)),
+        ("<table>\r\n<p>é", (32, 9, 2, 1)),
+        ("<head></head>\r<title>", (34, 14, 2, 1)),
+        ("<svg><p>", (37, 5, 1, 6)),
     ] {
-        assert_eq!(check(page, 50), Err(refusal), "{page}");
+        assert_eq!(place_of(page, 50), refusal, "{page}");
     }
 }
 
@@ -460,7 +706,7 @@ fn eight_threads_agree() {
         for _ in 0..8 {
             scope.spawn(|| {
                 for row in &rows {
-                    assert_eq!(row.written(), row.wanted);
+                    assert_eq!(told(&row.written()), row.wanted);
                 }
             });
         }
@@ -474,14 +720,7 @@ fn ten_megabytes_are_written() {
     let mut document = Document::new();
     document.items = vec![paragraph.into(); 100_000];
     assert!(serde_json::to_vec(&document).unwrap().len() > 9_000_000);
-    let written = write(
-        &document,
-        Options {
-            pretty: true,
-            ..Options::default()
-        },
-    )
-    .unwrap();
+    let written = write(&document, Options::new().pretty(true)).unwrap();
     assert_eq!(
         written
             .matches("with a &lt; b and an &amp; in it.</p>\n")

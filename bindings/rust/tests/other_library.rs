@@ -1,9 +1,12 @@
 //! What a caller sees of a library that is not the one that the crate was made for. Its calls are those of
 //! this file, which the linker finds before those of the archive.
 
-use std::process::abort;
+use std::process::{abort, Command};
 use std::sync::atomic::{AtomicU32, AtomicUsize, Ordering::SeqCst};
 use typst_html_proved::*;
+
+/// Set, this process is one in which a library of another version is linked.
+const OTHER: &str = "TYPST_HTML_OTHER_VERSION";
 
 /// As the library lays it out.
 #[repr(C)]
@@ -21,7 +24,7 @@ static CALLS: AtomicUsize = AtomicUsize::new(0);
 
 /// A reply with that status. One call is too many after a few: then the crate never ends.
 fn reply(status: u8) -> Reply {
-    if CALLS.fetch_add(1, SeqCst) > 10 {
+    if CALLS.fetch_add(1, SeqCst) > 20 {
         abort();
     }
     Reply {
@@ -83,18 +86,28 @@ fn all_are_refused() {
             assert_eq!(write_json(kind, b"[]", pretty), Err(Refusal::OtherLibrary));
         }
     }
-    let document = write(&Document::new(), Options::default());
+    let document = write(&Document::new(), Options::new());
     assert_eq!(document, Err(Refusal::OtherLibrary));
     assert_eq!(check("", 50), Err(Refusal::OtherLibrary));
 }
 
 #[test]
 fn another_library_is_told() {
+    let is_other = std::env::var_os(OTHER).is_some();
+    if is_other {
+        LINKED.store(VERSION + 1, SeqCst);
+    }
     all_are_refused();
-    assert_eq!(CALLS.load(SeqCst), 6);
-    LINKED.store(VERSION + 1, SeqCst);
+    let wanted = if is_other { 0 } else { 6 };
+    assert_eq!(CALLS.load(SeqCst), wanted, "another version is not called");
+    // It is looked at once.
+    LINKED.store(VERSION + 2, SeqCst);
     all_are_refused();
-    assert_eq!(CALLS.load(SeqCst), 6, "another version is not called");
+    assert_eq!(CALLS.load(SeqCst), 2 * wanted);
+    if !is_other {
+        let mut again = Command::new(std::env::current_exe().unwrap());
+        assert!(again.env(OTHER, "1").output().unwrap().status.success());
+    }
     assert_eq!(
         Refusal::OtherLibrary.to_string(),
         "the library that is linked is not of the version that is wanted"

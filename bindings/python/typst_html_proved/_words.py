@@ -1,0 +1,39 @@
+"""What the refusals say."""
+
+from __future__ import annotations
+
+from types import MappingProxyType
+from typing import Final, Mapping
+
+WORDS: Final[Mapping[int, str]] = MappingProxyType({
+    1: "tag name must not be empty",
+    2: "a character is not valid in a tag name",
+    3: "custom element name must start with a lowercase letter",
+    4: "custom element name must not contain uppercase letters",
+    5: "name is reserved and not valid for a custom element",
+    6: "attribute name must not be empty",
+    7: "a character is not valid in an attribute name",
+    8: "a body, or an element of a page, stands deeper than the limit",
+    9: "an html or body element stands among other nodes",
+    10: "footnotes stand beside an html or body element of the document's own",
+    11: "a character cannot be encoded in HTML",
+    12: "a void element has a child",
+    13: "a raw text element has a child that is no text",
+    14: "a raw text would end its element",
+    15: "a frame is refused",
+    26: "U+0000",
+    27: "a name that no element of this project has",
+    28: "a tag has too many attributes",
+    29: "a formatting element would be made again",
+    30: "an end tag would move nodes out of a formatting element",
+    31: "an open a would be removed",
+    32: "a text or an element would be moved out of a table",
+    33: "attributes would be added to those of html or body",
+    34: "the head would be opened again",
+    35: "a frameset, plaintext or template",
+    36: "a form, object, applet or marquee would be closed by another tag",
+    37: "an element of HTML would close svg or math",
+    38: "a table hangs on a document type that is not known",
+    39: "a token finds no place",
+})
+"""What is wrong, by the number of the refusal. Those of a page that is checked are 8 and those from 26 on."""

@@ -1,0 +1,410 @@
+//! Where in JSON an item stands: by the number of its list, or as the first value that leaves the form.
+
+use crate::{Document, Element, Item};
+use serde::{Deserialize, Serialize};
+use serde_json::Value;
+use std::collections::BTreeMap;
+use std::fmt;
+use std::ops::ControlFlow::{self, Break, Continue};
+
+/// How many lists and objects of JSON may stand in one another.
+const DEEPEST: usize = 127;
+
+/// A step on the way to a value in JSON.
+#[derive(Clone, Debug, PartialEq, Eq, Hash, Serialize, Deserialize)]
+#[serde(untagged)]
+pub enum Step {
+    /// The index of a value in a list.
+    Index(usize),
+    /// The name of a member of an object.
+    Name(String),
+}
+
+/// The way to a value in JSON, from the outside in: to an item, mostly, of what is written.
+///
+/// An element's body is the value 3 of its list, and the body of a block or a box is the value 1. So
+/// `items[2][3][0]` is the first child of an element, which is the third item. Of a document that is no
+/// JSON it is the way in the JSON that spells it; [`Document::item_at`] and [`Element::item_at`] go it.
+#[derive(Clone, Debug, Default, PartialEq, Eq, Hash, Serialize, Deserialize)]
+#[serde(transparent)]
+pub struct ItemPath(Vec<Step>);
+
+impl ItemPath {
+    /// Its steps: none for the root of a tree.
+    pub fn steps(&self) -> &[Step] {
+        &self.0
+    }
+
+    fn of(name: &str) -> ItemPath {
+        ItemPath(vec![Step::Name(name.to_owned())])
+    }
+}
+
+impl fmt::Display for ItemPath {
+    /// As it is written in most languages: `items[2][3][0]`.
+    fn fmt(&self, f: &mut fmt::Formatter<'_>) -> fmt::Result {
+        self.0.iter().try_for_each(|step| match step {
+            Step::Index(at) => write!(f, "[{at}]"),
+            Step::Name(name) => f.write_str(name),
+        })
+    }
+}
+
+impl Document {
+    /// The item or the footnote to which a path leads that [`write`](crate::write) told.
+    ///
+    /// ```
+    /// use typst_html_proved::{write, Document, Element, Options};
+    ///
+    /// let document = Document::new().item("a").item(Element::new("br").child("no"));
+    /// let refusal = write(&document, Options::new()).unwrap_err();
+    /// let item = refusal.path().and_then(|path| document.item_at(path));
+    /// assert_eq!(item.unwrap().to_string(), "<br>");
+    /// ```
+    pub fn item_at(&self, path: &ItemPath) -> Option<&Item> {
+        match path.steps() {
+            [Step::Name(name), steps @ ..] if name == "items" => item_in(&self.items, steps),
+            [Step::Name(name), steps @ ..] if name == "footnotes" => {
+                item_in(&self.footnotes, steps)
+            }
+            _ => None,
+        }
+    }
+}
+
+impl Element {
+    /// The item in it to which a path leads that [`write_tree`](crate::write_tree) told; nothing where
+    /// that path has no step, and so leads to the element itself.
+    pub fn item_at(&self, path: &ItemPath) -> Option<&Item> {
+        match path.steps() {
+            [Step::Index(3), steps @ ..] => item_in(&self.body, steps),
+            _ => None,
+        }
+    }
+}
+
+/// The item to which these steps lead.
+fn item_in<'a>(items: &'a [Item], steps: &[Step]) -> Option<&'a Item> {
+    match steps {
+        [Step::Index(at)] => items.get(*at),
+        [Step::Index(at), Step::Index(field), more @ ..] => {
+            let (body_field, body) = items.get(*at)?.body()?;
+            (body_field == *field).then(|| item_in(body, more))?
+        }
+        _ => None,
+    }
+}
+
+/// What stands where an item may.
+trait Part: Sized {
+    /// Whether a list spells it.
+    fn is_list(&self) -> bool;
+
+    /// The field in which its body stands, and that body.
+    fn body(&self) -> Option<(usize, &[Self])>;
+
+    /// How many lists stand in one another in it, apart from what its body holds.
+    fn levels(&self) -> usize;
+}
+
+impl Part for Item {
+    fn is_list(&self) -> bool {
+        true
+    }
+
+    fn body(&self) -> Option<(usize, &[Item])> {
+        match self {
+            Item::Element(element) => Some((3, &element.body)),
+            Item::Block(body) | Item::Box(body) => Some((1, body)),
+            _ => None,
+        }
+    }
+
+    fn levels(&self) -> usize {
+        match self {
+            Item::Element(element) if !element.attrs.is_empty() => 3,
+            Item::Element(_) | Item::Block(_) | Item::Box(_) => 2,
+            _ => 1,
+        }
+    }
+}
+
+impl Part for Value {
+    fn is_list(&self) -> bool {
+        self.is_array()
+    }
+
+    fn body(&self) -> Option<(usize, &[Value])> {
+        match self.as_array()?.as_slice() {
+            [kind, _, _, Value::Array(body)] if kind == "el" => Some((3, body)),
+            [kind, Value::Array(body)] if kind == "block" || kind == "box" => Some((1, body)),
+            _ => None,
+        }
+    }
+
+    fn levels(&self) -> usize {
+        1
+    }
+}
+
+/// A way through items in the order of their opening brackets.
+struct Walk<F> {
+    path: Vec<Step>,
+    number: u64,
+    see: F,
+}
+
+impl<F> Walk<F> {
+    fn new(see: F) -> Walk<F> {
+        Walk {
+            path: Vec::new(),
+            number: 0,
+            see,
+        }
+    }
+
+    /// Sees a part and what stands in it. What is seen comes with its path, and with the number of its list;
+    /// what is no list, with that of the last one before.
+    fn part<P: Part>(&mut self, part: &P) -> ControlFlow<()>
+    where
+        F: FnMut(&P, &[Step], u64) -> ControlFlow<()>,
+    {
+        self.number += u64::from(part.is_list());
+        (self.see)(part, &self.path, self.number)?;
+        match part.body() {
+            Some((field, body)) => self.behind(Step::Index(field), |walk| walk.parts(body)),
+            None => Continue(()),
+        }
+    }
+
+    fn parts<P: Part>(&mut self, parts: &[P]) -> ControlFlow<()>
+    where
+        F: FnMut(&P, &[Step], u64) -> ControlFlow<()>,
+    {
+        let mut each = parts.iter().enumerate();
+        each.try_for_each(|(at, part)| self.behind(Step::Index(at), |walk| walk.part(part)))
+    }
+
+    /// Goes on behind a step.
+    fn behind(
+        &mut self,
+        step: Step,
+        go_on: impl FnOnce(&mut Walk<F>) -> ControlFlow<()>,
+    ) -> ControlFlow<()> {
+        self.path.push(step);
+        go_on(self)?;
+        self.path.pop();
+        Continue(())
+    }
+
+    fn member<P: Part>(&mut self, name: &str, parts: &[P]) -> ControlFlow<()>
+    where
+        F: FnMut(&P, &[Step], u64) -> ControlFlow<()>,
+    {
+        self.behind(Step::Name(name.to_owned()), |walk| walk.parts(parts))
+    }
+}
+
+/// What JSON spells that is given.
+#[derive(Clone, Copy, PartialEq)]
+pub(crate) enum Form {
+    Tree,
+    Items,
+    Document,
+}
+
+/// What is written, of which places are told.
+#[derive(Clone, Copy)]
+pub(crate) enum Given<'a> {
+    Document(&'a Document),
+    Tree(&'a Element),
+    Json(Form, &'a [u8]),
+}
+
+impl Given<'_> {
+    /// The paths of the items whose lists have these numbers.
+    pub(crate) fn paths(self, numbers: impl IntoIterator<Item = u64>) -> BTreeMap<u64, ItemPath> {
+        let mut wanted: Vec<u64> = numbers.into_iter().filter(|number| *number > 0).collect();
+        wanted.sort_unstable_by(|one, other| other.cmp(one));
+        wanted.dedup();
+        let mut found = BTreeMap::new();
+        if wanted.is_empty() {
+            return found;
+        }
+        let mut note = |path: &[Step], number: u64| {
+            if wanted.last() == Some(&number) {
+                found.insert(number, ItemPath(path.to_vec()));
+                wanted.pop();
+            }
+            if wanted.is_empty() {
+                Break(())
+            } else {
+                Continue(())
+            }
+        };
+        let _ended = match self {
+            Given::Json(form, json) => {
+                let value = serde_json::from_slice(json).unwrap_or_default();
+                spots(form, &value, |_, path, number| note(path, number))
+            }
+            Given::Document(document) => {
+                items_of(document, |_: &Item, path, number| note(path, number))
+            }
+            Given::Tree(root) => {
+                let _root = note(&[], 1);
+                nodes_of(root, |_: &Item, path, number| note(path, number))
+            }
+        };
+        found
+    }
+
+    /// Where the form is left: the last item whose list is opened, or the value behind it that is none.
+    /// (The items of this crate leave it only by what a tree may not have.)
+    pub(crate) fn left(self, number: u64) -> Option<ItemPath> {
+        match self {
+            Given::Json(form, json) => left_in(form, &serde_json::from_slice(json).ok()?),
+            _ => self.paths([number]).remove(&number),
+        }
+    }
+
+    /// The first item that stands deeper than JSON is read, in what is no JSON.
+    pub(crate) fn deepest(self) -> Option<ItemPath> {
+        let mut found = None;
+        let see = |item: &Item, path: &[Step], _| {
+            if path.len() + item.levels() <= DEEPEST {
+                return Continue(());
+            }
+            found = Some(ItemPath(path.to_vec()));
+            Break(())
+        };
+        let _ended = match self {
+            Given::Document(document) => items_of(document, see),
+            Given::Tree(root) => nodes_of(root, see),
+            Given::Json(..) => Continue(()),
+        };
+        found
+    }
+}
+
+/// All items of a document.
+fn items_of<F>(document: &Document, see: F) -> ControlFlow<()>
+where
+    F: FnMut(&Item, &[Step], u64) -> ControlFlow<()>,
+{
+    let mut walk = Walk::new(see);
+    walk.member("items", &document.items)?;
+    walk.member("footnotes", &document.footnotes)
+}
+
+/// All that stands in the root of a tree, whose own list is the first.
+fn nodes_of<F>(root: &Element, see: F) -> ControlFlow<()>
+where
+    F: FnMut(&Item, &[Step], u64) -> ControlFlow<()>,
+{
+    let mut walk = Walk::new(see);
+    walk.number = 1;
+    walk.behind(Step::Index(3), |walk| walk.parts(&root.body))
+}
+
+/// All that stands where items may in a value of JSON; and what stands where a list of them should, if it is none.
+fn spots<F>(form: Form, value: &Value, see: F) -> ControlFlow<()>
+where
+    F: FnMut(&Value, &[Step], u64) -> ControlFlow<()>,
+{
+    let mut walk = Walk::new(see);
+    let listed = |walk: &mut Walk<F>, value: &Value| match value {
+        Value::Array(parts) => walk.parts(parts),
+        other => walk.part(other),
+    };
+    match form {
+        Form::Tree => walk.part(value),
+        Form::Items => listed(&mut walk, value),
+        Form::Document => {
+            for name in ["items", "footnotes"] {
+                if let Some(value) = value.get(name) {
+                    walk.behind(Step::Name(name.to_owned()), |walk| listed(walk, value))?;
+                }
+            }
+            Continue(())
+        }
+    }
+}
+
+/// The first value that is not what the form wants.
+fn left_in(form: Form, value: &Value) -> Option<ItemPath> {
+    if form == Form::Document {
+        if let Some(path) = wrong_member(value) {
+            return Some(path);
+        }
+    }
+    let mut found = None;
+    let _ended = spots(form, value, |value, path, _| {
+        let fits = match form {
+            Form::Tree => is_node(value, path.is_empty()),
+            Form::Items | Form::Document => is_item(value),
+        };
+        if fits {
+            return Continue(());
+        }
+        found = Some(ItemPath(path.to_vec()));
+        Break(())
+    });
+    found
+}
+
+/// The first member of a document that is wrong, by its name, or the document if it is no object.
+fn wrong_member(document: &Value) -> Option<ItemPath> {
+    let members = match document.as_object() {
+        None => return Some(ItemPath::default()),
+        Some(members) => members,
+    };
+    let alone = |name: &str| name == "region" && !members.contains_key("lang");
+    let mut wrong: Vec<&String> = members
+        .iter()
+        .filter(|(name, value)| !is_member(name, value) || alone(name))
+        .map(|(name, _)| name)
+        .collect();
+    wrong.sort();
+    wrong.first().map(|name| ItemPath::of(name))
+}
+
+/// Whether a document may have that member. Items and footnotes are looked at later.
+fn is_member(name: &str, value: &Value) -> bool {
+    match name {
+        "title" | "description" | "lang" | "region" => value.is_string(),
+        "authors" | "keywords" => {
+            let texts = value.as_array();
+            texts.map_or(false, |texts| texts.iter().all(Value::is_string))
+        }
+        _ => name == "items" || name == "footnotes",
+    }
+}
+
+/// Whether a value is an item, whatever stands in its body.
+fn is_item(value: &Value) -> bool {
+    let is_attribute = |pair: &Value| match pair.as_array().map(Vec::as_slice) {
+        Some([name, value]) => name.is_string() && value.is_string(),
+        _ => false,
+    };
+    let (kind, fields) = match value.as_array().map(Vec::as_slice) {
+        Some([Value::String(kind), fields @ ..]) => (kind, fields),
+        _ => return false,
+    };
+    match (kind.as_str(), fields) {
+        ("text", [text]) => text.is_string(),
+        ("space" | "break" | "hole", []) => true,
+        ("start", [location]) | ("end", [location]) => location.is_u64(),
+        ("start", [location, destination]) => location.is_u64() && destination.is_u64(),
+        ("block" | "box", [body]) => body.is_array(),
+        ("el", [tag, Value::Array(attrs), body]) => {
+            tag.is_string() && attrs.iter().all(is_attribute) && body.is_array()
+        }
+        _ => false,
+    }
+}
+
+/// Whether a value may stand in a tree, at its root or elsewhere.
+fn is_node(value: &Value, is_root: bool) -> bool {
+    let kind = value.get(0).and_then(Value::as_str).unwrap_or_default();
+    is_item(value) && (kind == "el" || !is_root && ["text", "start", "end"].contains(&kind))
+}
