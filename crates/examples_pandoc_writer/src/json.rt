@@ -2,6 +2,7 @@
 
 use anyhow::{Context, Result};
 use serde_json::Value;
+use std::alloc::Global;
 
 /// The tag of a value, and its content. Where there is none, the value itself stands for it, which is
 /// no text, number or list.
@@ -26,7 +27,22 @@ pub fn fields<const N: usize>(value: &Value) -> Result<&[Value; N]> {
     fields.context("a list of another length")
 }
 
+/// The texts of a list of two.
+pub fn two_texts(value: &Value) -> Result<(&str, &str)> {
+    let [first, second] = fields::<2>(value)?;
+    Ok((text(first)?, text(second)?))
+}
+
 /// The number that a value is.
 pub fn number(value: &Value) -> Result<usize> {
     Ok(usize::try_from(value.as_u64().context("no number")?)?)
+}
+
+/// The texts that stand at that path in the values of a list, with spaces between them.
+pub fn joined(alloc: Global, list: &Value, path: &str) -> Result<String> {
+    let mut texts = Vec::new(alloc);
+    for value in array(list)? {
+        texts.push(text(value.pointer(path).context("no text")?)?)?;
+    }
+    Ok(texts.join(alloc, " ")?)
 }
