@@ -212,6 +212,16 @@ struct typst_html_reply typst_html_dead_links(uint32_t limit, const uint8_t *inp
                                               uint8_t *output, size_t room);
 
 /*
+ * The members that tell what the text of that document does not show, as JSON: all that tell something, where
+ * the items have an `html` of their own, whose head is theirs too, and else none.
+ *     {"unused":["title","lang"]}
+ * They stand in the order of the form above; a list of no texts tells nothing. Input and limit are those of
+ * typst_html_document, which refuses whatever is refused here.
+ */
+struct typst_html_reply typst_html_unused(uint32_t limit, const uint8_t *input, size_t length,
+                                          uint8_t *output, size_t room);
+
+/*
  * What is wrong with the links of a page, as JSON: the links to fragments of the page itself that lead
  * nowhere, and the ids that stand in it before, each with its place.
  *     {"dead_fragments":[{"fragment":t,"keeps":n,"path":[n,..],"offset":n,"line":n,"column":n},..],
@@ -264,6 +274,13 @@ static inline struct typst_html_reply typst_html_dead_links_string(uint32_t limi
                                                                    char *output, size_t room) {
     return typst_html_ended(typst_html_dead_links(limit, (const uint8_t *)input, strlen(input),
                                                   (uint8_t *)output, room ? room - 1 : 0),
+                            output);
+}
+
+static inline struct typst_html_reply typst_html_unused_string(uint32_t limit, const char *input,
+                                                               char *output, size_t room) {
+    return typst_html_ended(typst_html_unused(limit, (const uint8_t *)input, strlen(input),
+                                              (uint8_t *)output, room ? room - 1 : 0),
                             output);
 }
 

@@ -154,6 +154,23 @@ static void dead_links_are_told(void) {
     expect("dead links of no JSON", reply.status == TYPST_HTML_BAD_INPUT && reply.line == 1);
 }
 
+static void unused_members_are_listed(void) {
+    const char *input = "{\"title\":\"t\",\"lang\":\"de\",\"items\":[[\"el\",\"html\",[],[]]]}";
+    const char *found = "{\"unused\":[\"title\",\"lang\"]}";
+    const uint8_t *json = (const uint8_t *)input;
+    uint8_t output[64];
+    size_t length = strlen(input), room = strlen(found);
+    memset(output, '.', sizeof output);
+    struct typst_html_reply reply = typst_html_unused(50, json, length, output, room - 1);
+    expect("unused members in a short buffer",
+           reply.status == TYPST_HTML_TOO_SHORT && reply.length == room && output[0] == '.');
+    reply = typst_html_unused(50, json, length, output, room);
+    expect("unused members are listed", reply.status == TYPST_HTML_DONE && reply.length == room &&
+                                            begins_with(output, sizeof output, found, room));
+    reply = typst_html_unused(0, json, length, output, room);
+    expect("unused members with limit 0", reply.status == TYPST_HTML_BAD_INPUT);
+}
+
 static struct typst_html_reply checked(uint32_t limit, const char *page, uint8_t *output, size_t room) {
     return typst_html_check(limit, (const uint8_t *)page, strlen(page), output, room);
 }
@@ -372,6 +389,7 @@ int main(int count, char **words) {
     a_short_buffer_stays_and_its_length_is_told();
     wrong_numbers_are_bad_input();
     dead_links_are_told();
+    unused_members_are_listed();
     pages_are_checked();
     pages_are_read_as_browsers_read_them();
     pages_are_refused();

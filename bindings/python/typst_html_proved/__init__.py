@@ -49,7 +49,8 @@ from ._words import WORDS
 __all__ = [
     "BREAK", "HOLE", "SPACE", "VERSION", "Attrs", "BadInput", "DeadFragment", "DeadLink", "DeadLinks", "Failure", "Findings",
     "Info", "Item", "ItemPath", "Items", "Kind", "Mark", "Node", "OtherLibrary", "OutOfMemory", "Place", "Refused", "RepeatedId", "Texts",
-    "WORDS", "block", "box", "check", "element", "end", "start", "text", "write", "write_json", "write_tree",
+    "WORDS", "block", "box", "check", "element", "end", "start", "text", "unused", "write", "write_json",
+    "write_tree",
 ]  # fmt: skip
 
 __version__: Final = "0.1.0"
@@ -460,16 +461,16 @@ def _items(items: Iterable[object], where: str) -> list[Sequence[object]]:
     return [_item(item, where, at) for at, item in enumerate(items)]
 
 
-def _listed(what: str, items: Items) -> list[Sequence[object]]:
-    """The items or the footnotes of a document."""
-    where = f"write({what})"
+def _listed(call: str, what: str, items: Items) -> list[Sequence[object]]:
+    """The items or the footnotes of a document that is given to that call."""
+    where = f"{call}({what})"
     if isinstance(items, str):
         return [text(items)]
     if isinstance(items, (Node, Mark)):
         raise BadInput(f"{what} are one item, not a list of them", where=where)
     if isinstance(items, Mapping):
         raise BadInput(f"{what} are {_told(items)}", where=where)
-    return _items(_iterated(what, items, where), f"write({what}[{{}}])")
+    return _items(_iterated(what, items, where), f"{call}({what}[{{}}])")
 
 
 def _pair(pair: object, at: int) -> list[str]:
@@ -662,9 +663,29 @@ def write(
     _number("the limit", limit, 1, 10_000, "write(limit)")
     if not isinstance(info, Info):
         raise BadInput(f"info is {_told(info)}, not an Info", where="write(info)")
-    document = {**info.members(), "items": _listed("items", items), "footnotes": _listed("footnotes", footnotes)}
+    document = {**info.members(), "items": _listed("write", "items", items)}
+    document["footnotes"] = _listed("write", "footnotes", footnotes)
     given = _Given("write", (), "document", value=document)
     return given.text("typst_html_document", layout=int(bool(pretty)), links=int(bool(links)), limit=limit)
+
+
+def unused(items: Items, *, info: Info = Info(), limit: int = 50) -> tuple[str, ...]:
+    """The names of what is known of a document of these items that its text does not show: of all that is known,
+    where the items have an `html` of their own, whose head is theirs too, and else of nothing.
+
+    >>> unused([element("html")], info=Info(title="T", lang="de"))
+    ('title', 'lang')
+    >>> unused(["a"], info=Info(title="T"))
+    ()
+
+    Raises `Refused`, `BadInput` or `OutOfMemory`.
+    """
+    _number("the limit", limit, 1, 10_000, "unused(limit)")
+    if not isinstance(info, Info):
+        raise BadInput(f"info is {_told(info)}, not an Info", where="unused(info)")
+    document = {**info.members(), "items": _listed("unused", "items", items)}
+    given = _Given("unused", (), "document", value=document)
+    return tuple(json.loads(given.text("typst_html_unused", limit=limit))["unused"])
 
 
 def write_tree(root: Item, *, pretty: bool = False) -> str:

@@ -53,6 +53,10 @@ DECLARED: Final[Mapping[str, tuple[Any, dict[str, Any]]]] = MappingProxyType({
         "limit": ctypes.c_uint32, "input": ctypes.c_char_p, "length": ctypes.c_size_t,
         "output": ctypes.c_void_p, "room": ctypes.c_size_t,
     }),
+    "typst_html_unused": (Reply, {
+        "limit": ctypes.c_uint32, "input": ctypes.c_char_p, "length": ctypes.c_size_t,
+        "output": ctypes.c_void_p, "room": ctypes.c_size_t,
+    }),
     "typst_html_check": (Reply, {
         "limit": ctypes.c_uint32, "page": ctypes.c_char_p, "length": ctypes.c_size_t,
         "output": ctypes.c_void_p, "room": ctypes.c_size_t,

@@ -36,6 +36,12 @@ pub(crate) struct ToldLink {
     pub(crate) destination: u64,
 }
 
+/// The names of what a document leaves unused, as the library tells them.
+#[derive(Deserialize)]
+pub(crate) struct ToldUnused {
+    pub(crate) unused: Vec<String>,
+}
+
 /// What is wrong with the links of a page.
 #[derive(Clone, Debug, Default, PartialEq, Eq, Serialize, Deserialize)]
 #[non_exhaustive]

@@ -65,7 +65,7 @@ mod refusal;
 
 pub use document::{Document, Info};
 pub use findings::{DeadFragment, DeadLink, Findings, RepeatedId};
-use findings::{ToldFindings, ToldLinks};
+use findings::{ToldFindings, ToldLinks, ToldUnused};
 pub use item::{Element, IntoItems, Item};
 use path::{Form, Given};
 pub use path::{ItemPath, Step};
@@ -227,6 +227,25 @@ fn document_text(options: Options, json: &[u8], given: Given<'_>) -> Result<Stri
         text,
         links: links.collect(),
     }))
+}
+
+/// The names of what is known of a document that its text does not show: of all that is known, where its
+/// items have an `html` of their own, whose head is theirs too, and else of nothing. They stand in the order
+/// `title`, `description`, `authors`, `keywords`, `lang`, `region`.
+///
+/// ```
+/// use typst_html_proved::{unused, Document, Element, Refusal};
+///
+/// let document = Document::new().title("Tides").item(Element::new("html"));
+/// assert_eq!(unused(&document, 50)?, ["title"]);
+/// # Ok::<(), Refusal>(())
+/// ```
+pub fn unused(document: &Document, limit: u32) -> Result<Vec<String>, Refusal> {
+    let given = Given::Document(document);
+    let json = spelled(document, given)?;
+    let listed = raw::unused(limit, &json).map_err(|refusal| refusal.located(given))?;
+    let ToldUnused { unused } = serde_json::from_str(&listed).expect(KNOWN_FORM);
+    Ok(unused)
 }
 
 /// What is wrong with the links of a page: links to fragments of the page itself that lead nowhere, and

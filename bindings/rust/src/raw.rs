@@ -80,6 +80,14 @@ extern "C" {
         room: usize,
     ) -> Reply;
 
+    fn typst_html_unused(
+        limit: u32,
+        input: *const u8,
+        length: usize,
+        output: *mut u8,
+        room: usize,
+    ) -> Reply;
+
     fn typst_html_check(
         limit: u32,
         page: *const u8,
@@ -150,6 +158,22 @@ pub(crate) fn dead_links(limit: u32, input: &[u8]) -> Result<String, Refusal> {
         // SAFETY: as in `write`.
         unsafe {
             typst_html_dead_links(
+                limit,
+                input.as_ptr(),
+                input.len(),
+                output.as_mut_ptr(),
+                output.len(),
+            )
+        }
+    })
+}
+
+/// The members that tell what the text of a document does not show, in JSON.
+pub(crate) fn unused(limit: u32, input: &[u8]) -> Result<String, Refusal> {
+    text_by(input.len(), Reply::of_json, |output| {
+        // SAFETY: as in `write`.
+        unsafe {
+            typst_html_unused(
                 limit,
                 input.as_ptr(),
                 input.len(),

@@ -12,9 +12,11 @@
 //! page was written, 2 where the words are wrong, and else 1.
 #![tactic(auto)]
 
+mod document;
+
 use anyhow::{Context, Result};
 use clap::{ArgMatches, Command, arg};
-use examples_pandoc_page::page;
+use document::page;
 use serde_json::Value;
 use std::alloc::Global;
 use std::env;

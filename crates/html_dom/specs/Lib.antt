@@ -38,3 +38,12 @@ pub use Rattle.html_dom_check.specs.Fragments
 pub use Rattle.html_dom_check.specs.Hyperlinks
 pub use Rattle.html_dom_check.specs.PlacedTexts
 pub use Rattle.html_dom_check.specs.RepeatedIds
+pub use Rattle.html_dom_nest.specs.Ancestors
+pub use Rattle.html_dom_nest.specs.Contents
+pub use Rattle.html_dom_nest.specs.Misnested
+pub use Rattle.html_dom_nest.specs.MisnestedViews
+pub use Rattle.html_dom_nest.specs.NestingRules
+pub use Rattle.html_dom_nest.specs.PageRoots
+pub use Rattle.html_dom_nest.specs.Surroundings
+pub use Rattle.html_dom_nest.specs.WrittenTags
+pub use Rattle.html_dom_nest.specs.WrittenTexts

@@ -1,8 +1,9 @@
 //! The tree of an HTML document: elements, texts, frames and tags, the document around them, where its
-//! located elements stand, the anchors that links lead to, and the tree as one list.
+//! located elements stand, the anchors that links lead to, what browsers would not leave where it is, and
+//! the tree as one list.
 //!
 //! Each name is of one of the parts `html_dom_tree`, `html_dom_document`, `html_dom_link`,
-//! `html_dom_check` and `html_dom_flat`; users find them here.
+//! `html_dom_check`, `html_dom_nest` and `html_dom_flat`; users find them here.
 //!
 //! ```
 //! use html_dom::{HtmlElement, HtmlNode, Span};
@@ -31,6 +32,7 @@ pub use html_dom_link::{
     DeadLink, create_link_anchors, dead_links, fragment_in, fragment_leads, href_is_script,
     href_to, ids_are_distinct, place_names, resolve_links, with_resolved_links,
 };
+pub use html_dom_nest::{Misnested, Misnesting, misnested};
 pub use html_dom_tree::{
     Frame, FrameItem, HtmlAttrs, HtmlElement, HtmlFrame, HtmlNode, Location, Point, Span, Tag,
     resolve_inline_styles,

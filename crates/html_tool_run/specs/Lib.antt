@@ -2,5 +2,6 @@ pub mod Answers
 pub mod DocumentAnswers
 pub mod ExportRefusals
 pub mod Replies
+pub mod UnusedInformation
 pub mod Words
 pub mod Writing

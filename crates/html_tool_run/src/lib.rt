@@ -14,6 +14,7 @@ mod documents;
 mod program;
 mod recorded;
 mod status;
+mod unused;
 mod whole;
 mod words;
 
@@ -22,4 +23,5 @@ pub use html_tool_spell::{Fault, InputPlace, element_in, items_in};
 pub use program::{run, run_recorded, text_of_input};
 pub use recorded::{LastCall, Recorded, WriteFailed};
 pub use status::Status;
+pub use unused::unused_of_document;
 pub use words::{Task, wanted_task, words_of};

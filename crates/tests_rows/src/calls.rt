@@ -41,6 +41,7 @@
 //!   `too deep at N, L:C`
 //! - `page-text`: what is visible: each text in brackets, objects, `/` for a line break, `|` for an edge
 //! - `dead-fragments`, `repeated-ids`: path and name of each
+//! - `misnested`: path and rule of each
 //!
 //! Of a page as it comes:
 //!
@@ -92,7 +93,8 @@ impl Caller for Library {
             "items-text" => pages::items_text(alloc, row),
             "dead-fragments" => checks::dead_fragment_list(alloc, row),
             "repeated-ids" => checks::repeated_id_list(alloc, row),
-            "c-check" | "c-dead-links" | "c-document" | "c-write" => replies::reply(
+            "misnested" => checks::misnested_list(alloc, row),
+            "c-check" | "c-dead-links" | "c-document" | "c-unused" | "c-write" => replies::reply(
                 alloc, row, call,
             ),
             "c-version" => replies::version(alloc),

@@ -1,4 +1,4 @@
-//! Links that lead nowhere, and ids that come twice.
+//! Links that lead nowhere, ids that come twice, and nodes that browsers would not leave where they are.
 
 use crate::documents::{document_of, linked_of, separate};
 use crate::pages::root_of;
@@ -6,6 +6,7 @@ use anyhow::{Result, ensure};
 use html_dom_check::{dead_fragments, repeated_ids};
 use html_dom_document::HtmlDocument;
 use html_dom_link::{DeadLink, dead_links, href_is_script, ids_are_distinct};
+use html_dom_nest::misnested;
 use std::alloc::Global;
 use tests_rows_run::Row;
 
@@ -54,6 +55,14 @@ pub(crate) fn repeated_id_list(alloc: Global, row: &Row<'_>) -> Result<String> {
     let mut text = String::new(alloc);
     for place in &repeated_ids(alloc, &root_of(alloc, row)?)? {
         write!(text, "{:?} {};", place.path, place.id)?;
+    }
+    Ok(text)
+}
+
+pub(crate) fn misnested_list(alloc: Global, row: &Row<'_>) -> Result<String> {
+    let mut text = String::new(alloc);
+    for node in &misnested(alloc, &root_of(alloc, row)?)? {
+        write!(text, "{:?} {:?};", node.path, node.why)?;
     }
     Ok(text)
 }

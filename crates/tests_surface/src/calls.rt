@@ -5,8 +5,9 @@ use tests_asserts::assert_text;
 use typst_html::output::Output;
 use typst_html::property::Display;
 use typst_html::{
-    ConstructFault, Dir, HorizontalDir, HtmlAttrs, HtmlElem, HtmlElement, PageError, PageNote,
-    PageNotes, Place, Places, Span, ToCss, attr, read_page, read_page_bytes, tag,
+    ConstructFault, Dir, HorizontalDir, HtmlAttrs, HtmlElem, HtmlElement, Misnested, Misnesting,
+    PageError, PageNote, PageNotes, Place, Places, Span, ToCss, attr, misnested, read_page,
+    read_page_bytes, tag,
 };
 
 #[test]
@@ -100,4 +101,24 @@ fn offsets_have_places(rt: HostRuntime) {
         column,
     };
     assert!(rt; Places::new("a\r\nb").at(offset) == place);
+}
+
+/// Asserts that a root is told, and what is told of it.
+fn assert_no_page(found: &[Misnested]) -> Result<(), Fail> {
+    match found {
+        [node] if node.path.is_empty() && node.why == Misnesting::NoPage => Ok(()),
+        _ => Err(Fail::new("the root is to be told")),
+    }
+}
+
+#[test]
+fn roots_are_told_that_are_no_pages(rt: HostRuntime) -> Result<(), Fail> {
+    let root = HtmlElement::new(rt.alloc(), tag::p);
+    assert_no_page(&misnested(rt.alloc(), &root)?)
+}
+
+#[test]
+fn misnestings_are_shown(rt: HostRuntime) -> Result<(), Fail> {
+    let words = format!(in rt.alloc(); "{}", Misnesting::ClosesParagraph)?;
+    assert_text(&words, "closes the p that it stands in")
 }

@@ -5,10 +5,10 @@ mod trees {
     use html_dom::{
         DeadFragment, DeadLink, DocumentInfo, DomIndices, FlatElement, FlatNode, FlatTree, Frame,
         FrameItem, HtmlAttrs, HtmlDocument, HtmlElement, HtmlFrame, HtmlIntrospector, HtmlNode,
-        HtmlOutput, HtmlPosition, HtmlSliceExt, Locale, Location, Point, RepeatedId, Span, Tag,
-        create_link_anchors, dead_fragments, dead_links, element_at, fragment_in, fragment_leads,
-        href_is_script, href_to, ids_are_distinct, laws, place_names, repeated_ids,
-        resolve_inline_styles, resolve_links, with_resolved_links,
+        HtmlOutput, HtmlPosition, HtmlSliceExt, Locale, Location, Misnested, Misnesting, Point,
+        RepeatedId, Span, Tag, create_link_anchors, dead_fragments, dead_links, element_at,
+        fragment_in, fragment_leads, href_is_script, href_to, ids_are_distinct, laws, misnested,
+        place_names, repeated_ids, resolve_inline_styles, resolve_links, with_resolved_links,
     };
     use html_flow::{
         Arg, ArgValue, Args, Bareness, ConstructFault, ConversionLevel, ElementInfo, FlowFault,
@@ -40,8 +40,8 @@ mod values {
 mod program {
     use html_tool_run::{
         DocumentText, Fault, InputPlace, LastCall, Recorded, Settings, Status, Task, WriteFailed,
-        element_in, items_in, run, run_recorded, text_of_document, text_of_input, wanted_task,
-        words_of,
+        element_in, items_in, run, run_recorded, text_of_document, text_of_input,
+        unused_of_document, wanted_task, words_of,
     };
 }
 
@@ -53,9 +53,9 @@ mod all_types {
         FlowFault, Frame, FrameElem, FrameFault, FrameItem, FrameWriter, HtmlAttr, HtmlAttrs,
         HtmlDocument, HtmlElem, HtmlElement, HtmlFrame, HtmlIntrospector, HtmlNode, HtmlOptions,
         HtmlOutput, HtmlPosition, HtmlSliceExt, HtmlTag, Item, ItemList, Locale, Location,
-        NameFault, NameTable, NamedPlaces, Notes, PageError, PageFault, PageNote, PageNotes,
-        PageRefusal, PageText, Pair, Place, Places, Point, ReadFault, Refused, RepeatedId, Role,
-        Shown, Span, Tag, Whitespace,
+        Misnested, Misnesting, NameFault, NameTable, NamedPlaces, Notes, PageError, PageFault,
+        PageNote, PageNotes, PageRefusal, PageText, Pair, Place, Places, Point, ReadFault, Refused,
+        RepeatedId, Role, Shown, Span, Tag, Whitespace,
     };
 }
 
@@ -78,8 +78,8 @@ mod all_calls {
         fragment_in, fragment_leads, has_own_root, href_is_script, href_to, html,
         html_block_fragment, html_document, html_document_for_bundle, html_document_with_head,
         html_in_bundle, html_inline_fragment, html_math_fragment, ids_are_distinct, is_depth_limit,
-        laws, output, page_text, place_names, property, push_located, read_html, read_page,
-        read_page_bytes, repeated_ids, resolve_inline_styles, resolve_links, tag,
+        laws, misnested, output, page_text, place_names, property, push_located, read_html,
+        read_page, read_page_bytes, repeated_ids, resolve_inline_styles, resolve_links, tag,
         with_resolved_links,
     };
 }

@@ -65,6 +65,8 @@ pub use Rattle.html_dom_tree.specs.FrameViews
 pub use Rattle.html_dom_tree.specs.PlainTree
 pub use Rattle.html_dom_tree.specs.Tree
 pub use Rattle.html_dom_tree.specs.Views as TreeViews
+pub use Rattle.html_dom_nest.specs.Misnested
+pub use Rattle.html_dom_nest.specs.MisnestedViews
 pub use Rattle.html_dom_document.specs.Documents
 pub use Rattle.html_dom_document.specs.Views as DocumentViews
 pub use Rattle.html_flow_convert.specs.Items

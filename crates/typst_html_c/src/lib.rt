@@ -12,6 +12,7 @@ ghost use Rattle.html_tool_run.specs.Replies.{GivesAnswerAt};
 ghost use Rattle.typst_html_c.specs.CallReplies.{RepliesAt, RepliesWithAt, call_dead_links, document_call_answer, write_answer};
 ghost use Rattle.typst_html_c.specs.DeadLinks.{dead_links_answer};
 ghost use Rattle.typst_html_c.specs.PageFindings.{Tells, check_told};
+ghost use Rattle.typst_html_c.specs.Unused.{unused_call_answer};
 
 mod dead_links;
 mod findings;
@@ -21,8 +22,10 @@ mod reply;
 
 use dead_links::dead_links_text;
 use findings::reply_to_page;
-use html_tool_run::{DocumentText, Fault, InputPlace, text_of_document, text_of_input};
-use numbers::{wanted_settings, wanted_task};
+use html_tool_run::{
+    DocumentText, Fault, InputPlace, text_of_document, text_of_input, unused_of_document,
+};
+use numbers::{limit_of, wanted_settings, wanted_task};
 pub use reply::Reply;
 use reply::{reply_with, reply_with_document};
 use std::alloc::Global;
@@ -137,6 +140,34 @@ pub fn typst_html_dead_links(alloc: Global, limit: u32, input: &[u8], output: &m
     ensures kept { ¬ (result.status ≡ 0) → output.new ≡ output.old }
 {
     reply_with(dead_links_of(alloc, limit, input), output)
+}
+
+/// The members that tell what the text of the document does not show, as JSON.
+fn unused_of(alloc: Global, limit: u32, input: &[u8]) -> Result<String, Fault>
+    ensures { GivesAnswerAt result (unused_call_answer limit input.now) }
+{
+    match limit_of(limit) {
+        Some(limit) => unused_of_document(alloc, input, limit),
+        None => Err(Fault::BadInput(InputPlace::Unknown)),
+    }
+}
+
+/// Reports in JSON which members of the input tell what the text of its document does not show: all that
+/// tell something, where the items have a root of their own (an `html` alone, which stays as it is),
+/// and else none. The text is copied into the buffer, where it fits:
+///
+/// ```json
+/// {"unused":["title","lang"]}
+/// ```
+///
+/// They stand in the order `title`, `description`, `authors`, `keywords`, `lang`, `region`; a list of no
+/// texts tells nothing. Input and limit are those of [`typst_html_document`], which refuses whatever is
+/// refused here; buffers and replies are those of [`typst_html_write`].
+pub fn typst_html_unused(alloc: Global, limit: u32, input: &[u8], output: &mut [u8]) -> Reply
+    ensures answered { RepliesAt (unused_call_answer limit input.now) output.old result output.new }
+    ensures kept { ¬ (result.status ≡ 0) → output.new ≡ output.old }
+{
+    reply_with(unused_of(alloc, limit, input), output)
 }
 
 /// Reads a page, and tells in JSON which links to fragments of the page lead nowhere, and which ids

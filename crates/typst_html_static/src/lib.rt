@@ -5,6 +5,7 @@ ghost use Rattle.std.specs.Prelude.{◌≡◌};
 ghost use Rattle.typst_html_c.specs.CallReplies.{RepliesAt, RepliesWithAt, call_dead_links, document_call_answer, write_answer};
 ghost use Rattle.typst_html_c.specs.DeadLinks.{dead_links_answer};
 ghost use Rattle.typst_html_c.specs.PageFindings.{Tells, check_told};
+ghost use Rattle.typst_html_c.specs.Unused.{unused_call_answer};
 
 use std::alloc::Global;
 use typst_html_c::Reply;
@@ -61,6 +62,20 @@ pub extern "C" fn typst_html_dead_links(
     ensures kept { ¬ (result.status ≡ 0) → output.new ≡ output.old }
 {
     typst_html_c::typst_html_dead_links(alloc, limit, input, output)
+}
+
+/// As [`typst_html_c::typst_html_unused`].
+#[unsafe(no_mangle)]
+pub extern "C" fn typst_html_unused(
+    alloc: Global,
+    limit: u32,
+    input: &[u8],
+    output: &mut [u8],
+) -> Reply
+    ensures answered { RepliesAt (unused_call_answer limit input.now) output.old result output.new }
+    ensures kept { ¬ (result.status ≡ 0) → output.new ≡ output.old }
+{
+    typst_html_c::typst_html_unused(alloc, limit, input, output)
 }
 
 /// As [`typst_html_c::typst_html_check`].

@@ -1,0 +1,2 @@
+pub mod SmallNames
+pub mod Walks

@@ -1,0 +1,128 @@
+-- The walk finds what the definition says.
+use Rattle.std.proofs.Common.{◌≡◌, ℕ, suc, ◌+◌, ◌≤◌, ◌<◌, List, [], ◌∷◌, ◌++◌, length, get_or, drop, refl, ap, sym, ◌∙◌, add-one, append_assoc, append-nil}
+use Rattle.std.specs.Prelude.{if◌then◌else◌, Some}
+use Rattle.std.proofs.lemmas.Bool.{le-ltb, lt-ltb}
+use Rattle.std.proofs.lemmas.List.{drop_all}
+use Rattle.html_dom_tree.specs.Tree.{Head, NodeView, tag_node, text_node, element_node, frame_node, NodesView, none, node, ElementView}
+use Rattle.html_dom_tree.specs.Views.{node_view, nodes_view}
+use Rattle.html_dom_tree.specs.declared.node.HtmlNode.{HtmlNode}
+use Rattle.html_dom_tree.proofs.Nodes.{nodes_view-drop}
+use Rattle.html_dom_nest.specs.Ancestors.{Ancestor, ancestor}
+use Rattle.html_dom_nest.specs.Misnested.{Finding, found, misnested_nodes, node_misnested, nodes_misnested}
+use Rattle.html_dom_nest.specs.NestingRules.{element_misnesting, is_too_deep, root_misnesting}
+use Rattle.html_dom_nest.specs.Surroundings.{surroundings_of}
+use Rattle.html_dom_nest.specs.Walks.{node_walk, nodes_walk, surroundings_in}
+use Rattle.html_dom_nest.specs.declared.misnesting.Misnesting.TheVariants as rule
+use Rattle.html_dom_nest.specs.declared.surroundings.Surroundings.{Surroundings}
+
+-- what an element is to its children follows from what its own ancestors are to it
+pub inside_is : (h : Head) (above : List Ancestor) →
+    surroundings_in h (surroundings_of above) ≡ surroundings_of (ancestor h above ∷ above)
+inside_is h above = refl
+
+mutual
+  unfolding node_walk nodes_walk node_misnested nodes_misnested
+
+  pub node_found : (path : List ℕ) (above : List Ancestor) (n : NodeView) →
+      node_walk path (surroundings_of above) n ≡ node_misnested path above n
+  node_found path above (tag_node t) = refl
+  node_found path above (text_node s span) = refl
+  node_found path above (element_node h kids) =
+      ap (λ fs. if is_too_deep (surroundings_of above) then found path h.span (Some rule.TooDeep)
+      else found path h.span (element_misnesting h kids (surroundings_of above)) ++ fs)
+      (nodes_found path 0 (ancestor h above ∷ above) kids)
+  node_found path above (frame_node f) = refl
+
+  pub nodes_found : (path : List ℕ) (i : ℕ) (above : List Ancestor) (ns : NodesView) →
+      nodes_walk path i (surroundings_of above) ns ≡ nodes_misnested path i above ns
+  nodes_found path i above none = refl
+  nodes_found path i above (node n ns) =
+      ap (λ fs. fs ++ nodes_walk path (suc i) (surroundings_of above) ns)
+      (node_found (path ++ i ∷ []) above n)
+      ∙ ap (λ fs. node_misnested (path ++ i ∷ []) above n ++ fs) (nodes_found path (suc i) above ns)
+
+-- nodes from an index on are the one there, and those behind it
+pub walked_in_turn : (around : Surroundings) (path : List ℕ) (ns : List HtmlNode) (i : ℕ)
+    (x : HtmlNode) → i < length ns → x ≡ get_or ns i x →
+    nodes_walk path i around (nodes_view (drop i ns))
+    ≡ node_walk (path ++ i ∷ []) around (node_view x)
+    ++ nodes_walk path (i + 1) around (nodes_view (drop (i + 1) ns))
+unfolding nodes_walk
+walked_in_turn around path ns i x within is =
+    ap (nodes_walk path i around) (nodes_view-drop ns i x within is)
+    ∙ ap (λ k. node_walk (path ++ i ∷ []) around (node_view x)
+    ++ nodes_walk path k around (nodes_view (drop (i + 1) ns))) (sym (add-one i))
+
+-- behind the last there are none
+pub none_walked : (around : Surroundings) (path : List ℕ) (ns : List HtmlNode) (i : ℕ) →
+    length ns ≤ i → nodes_walk path i around (nodes_view (drop i ns)) ≡ []
+unfolding nodes_walk
+none_walked around path ns i past =
+    ap (λ xs. nodes_walk path i around (nodes_view xs)) (drop_all i ns past)
+
+-- in a walk these findings are told, and these are left
+abbrev pub FindsUpTo : (first now all left : List Finding) → Type 0
+FindsUpTo first now all left = now ++ left ≡ first ++ all
+
+pub more_found : (first old new all left here later : List Finding) → left ≡ here ++ later →
+    FindsUpTo first old all left → new ≡ old ++ here → FindsUpTo first new all later
+more_found first old new all left here later is so_far more =
+    ap (λ fs. fs ++ later) more
+    ∙ (append_assoc old here later ∙ (ap (λ fs. old ++ fs) (sym is) ∙ so_far))
+
+pub all_found : (first now all left : List Finding) → left ≡ [] → FindsUpTo first now all left →
+    now ≡ first ++ all
+all_found first now all left nothing so_far =
+    sym (append-nil now) ∙ (ap (λ fs. now ++ fs) (sym nothing) ∙ so_far)
+
+-- the findings of a whole tree: those of the root, and those of its children
+pub tree_found : (e : ElementView) (before own all : List Finding) (start path : List ℕ)
+    (inside : Surroundings) (kids : NodesView) → before ≡ [] → start ≡ [] →
+    own ≡ before ++ found start e.0.span (root_misnesting e (surroundings_of [])) → path ≡ start →
+    inside ≡ surroundings_in e.0 (surroundings_of []) → kids ≡ e.1 →
+    all ≡ own ++ nodes_walk path 0 inside kids → all ≡ misnested_nodes e
+tree_found e before own all start path inside kids nothing root own_is path_is inside_is' kids_is all_is =
+    let above = ancestor e.0 [] ∷ [] in
+    let why = root_misnesting e (surroundings_of []) in
+    all_is
+    ∙ (ap (λ p. own ++ nodes_walk p 0 inside kids) (path_is ∙ root)
+    ∙ (ap (λ s. own ++ nodes_walk [] 0 s kids) (inside_is' ∙ inside_is e.0 [])
+    ∙ (ap (λ ns. own ++ nodes_walk [] 0 (surroundings_of above) ns) kids_is
+    ∙ (ap (λ fs. own ++ fs) (nodes_found [] 0 above e.1)
+    ∙ ap (λ fs. fs ++ nodes_misnested [] 0 above e.1) (own_is
+    ∙ (ap (λ fs. fs ++ found start e.0.span why) nothing
+    ∙ ap (λ p. found p e.0.span why) root))))))
+
+module _ (path : List ℕ) (around : Surroundings) (h : Head) (kids : NodesView) where
+  -- an element that stands too deep is found alone
+  pub too_deep_found : 512 < around.depth →
+      found path h.span (Some rule.TooDeep) ≡ node_walk path around (element_node h kids)
+  unfolding node_walk
+  too_deep_found deep = ap (λ b. if b then found path h.span (Some rule.TooDeep)
+      else found path h.span (element_misnesting h kids around)
+      ++ nodes_walk path 0 (surroundings_in h around) kids) (sym (lt-ltb 512 around.depth deep))
+
+  -- another with what is in it
+  pub element_found : around.depth ≤ 512 →
+      found path h.span (element_misnesting h kids around)
+      ++ nodes_walk path 0 (surroundings_in h around) kids
+      ≡ node_walk path around (element_node h kids)
+  unfolding node_walk
+  element_found within = ap (λ b. if b then found path h.span (Some rule.TooDeep)
+      else found path h.span (element_misnesting h kids around)
+      ++ nodes_walk path 0 (surroundings_in h around) kids) (sym (le-ltb 512 around.depth within))
+
+  pub both_found : (before own all : List Finding) (inner_path : List ℕ) (inside : Surroundings)
+      (ns : NodesView) → around.depth ≤ 512 →
+      own ≡ before ++ found path h.span (element_misnesting h kids around) → inner_path ≡ path →
+      inside ≡ surroundings_in h around → ns ≡ kids → all ≡ own ++ nodes_walk inner_path 0 inside ns →
+      all ≡ before ++ node_walk path around (element_node h kids)
+  both_found before own all inner_path inside ns within own_is path_is inside_is' kids_is all_is =
+      let here = found path h.span (element_misnesting h kids around) in
+      all_is
+      ∙ (ap (λ p. own ++ nodes_walk p 0 inside ns) path_is
+      ∙ (ap (λ s. own ++ nodes_walk path 0 s ns) inside_is'
+      ∙ (ap (λ ms. own ++ nodes_walk path 0 (surroundings_in h around) ms) kids_is
+      ∙ (ap (λ fs. fs ++ nodes_walk path 0 (surroundings_in h around) kids) own_is
+      ∙ (append_assoc before here (nodes_walk path 0 (surroundings_in h around) kids)
+      ∙ ap (λ fs. before ++ fs) (element_found within))))))

@@ -1,0 +1,11 @@
+pub mod AncestorViews
+pub mod Ancestors
+pub mod Surroundings
+pub mod WrittenTexts
+pub mod WrittenTags
+pub mod Contents
+pub mod PageRoots
+pub mod NestingRules
+pub mod Misnested
+pub mod MisnestedViews
+pub mod Walks

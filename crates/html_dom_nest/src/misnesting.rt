@@ -1,0 +1,119 @@
+//! Why a browser does not leave a node where it is.
+
+use std::fmt;
+
+/// Why a browser does not leave a node where it is, as its parser reads the written text (HTML Standard
+/// 13.2). Shown, it is what becomes of the node.
+#[derive(Clone, Copy, Debug, PartialEq, Eq, Hash)]
+pub enum Misnesting {
+    /// The root is no `html` that holds a `head`, white space if any, a `body`, and nothing else
+    /// (13.2.6.4.2 to 13.2.6.4.6, 13.2.6.4.19): browsers add what lacks, and move what is more.
+    NoPage,
+    /// An element stands more than 511 elements below `body`, and not below another that does. Chromium
+    /// puts it beside its parent. What is in it is not looked at.
+    TooDeep,
+    /// The name of an element does not begin with a letter (13.2.5.6), or has capitals that are read as
+    /// small letters, or as others (13.2.5.8, 13.2.6.5).
+    TagName,
+    /// The name of an attribute has capitals that are read as small letters, or as others (13.2.5.33,
+    /// 13.2.6.1).
+    AttributeName,
+    /// Of two attributes of one name the second is dropped (13.2.5.33).
+    RepeatedAttribute,
+    /// A text or a value has a carriage return, which is read as a line feed (13.2.3.5).
+    CarriageReturn,
+    /// An element is written without an end tag, as `mspace` outside of MathML and `input` in it, and
+    /// holds what follows (13.2.6.4.7, 13.2.6.5).
+    StaysOpen,
+    /// Browsers know no end tag of a `basefont`, `bgsound`, `keygen` or `param`, and put what is in it
+    /// behind it (13.2.6.4.4, 13.2.6.4.7).
+    UnreadEnd,
+    /// In `iframe`, `noembed`, `noframes` and `xmp` elements and references are read as text
+    /// (13.2.6.2).
+    RawText,
+    /// A `script` or `style` in SVG or MathML has a `&` or `<`, which is read as that of a reference or a
+    /// tag (13.2.5.1).
+    ForeignText,
+    /// A line feed at the beginning of a `listing` is dropped (13.2.6.4.7); one more that is written in a
+    /// `textarea` of SVG or MathML is kept.
+    FirstLineFeed,
+    /// Behind a `<!--` the end tag of a `script` may be read as text (13.2.5.15 to 13.2.5.31).
+    ScriptComment,
+    /// It does not belong in a `head`, or in a `noscript` there, which it closes (13.2.6.4.4, 13.2.6.4.5).
+    NotInHead,
+    /// It does not belong right in a `table`, a section of one or a row: it is moved before the table, or
+    /// put into parts that are added (13.2.6.4.9 to 13.2.6.4.14, 13.2.6.1). Told of an `input` of type
+    /// `hidden` and of a `form` too, which browsers may leave there.
+    NotInTable,
+    /// It does not belong in a `colgroup`, which it closes (13.2.6.4.12).
+    NotInColumns,
+    /// A part of a table does not stand in the part that it belongs to, and is dropped (13.2.6.4.7). Told
+    /// of parts right in a `template` too, which browsers may leave there.
+    OutsideTable,
+    /// There can be no `html`, `head`, `body`, `frameset` or `frame` here, and nowhere an `image` or a
+    /// `plaintext`: it is ignored, its attributes go to the first, it is read as `img`, or it never ends
+    /// (13.2.6.4.7).
+    NeverRead,
+    /// A `form` in a `form` is ignored (13.2.6.4.7).
+    FormInForm,
+    /// The `p` around it is closed (13.2.6.4.7).
+    ClosesParagraph,
+    /// The heading right around it is closed (13.2.6.4.7).
+    ClosesHeading,
+    /// The `li`, `dd` or `dt` around it is closed (13.2.6.4.7).
+    ClosesItem,
+    /// An `a`, `button`, `nobr` or `select` around it is closed, as it is one too (13.2.6.4.7).
+    ClosesSame,
+    /// The `option`, or else its parent in a `select`, is closed (13.2.6.4.7).
+    ClosesOption,
+    /// The `select` around it is closed (13.2.6.4.7).
+    ClosesSelect,
+    /// The part of a `ruby` right around it is closed (13.2.6.4.7).
+    ClosesRubyPart,
+    /// It closes the `svg` or `math` around it (13.2.6.5).
+    LeavesForeign,
+    /// A `selectedcontent` in a `select` is filled with what the chosen `option` holds (4.10.10).
+    Filled,
+}
+
+impl Misnesting {
+    fn words(self) -> &'static str {
+        match self {
+            Misnesting::NoPage => "is no html with a head and a body alone",
+            Misnesting::TooDeep => "stands too deep, and is put beside its parent",
+            Misnesting::TagName => "has a name that is read otherwise",
+            Misnesting::AttributeName => "has an attribute whose name is read otherwise",
+            Misnesting::RepeatedAttribute => "has an attribute twice, and loses one",
+            Misnesting::CarriageReturn => "has a carriage return, which is read as a line feed",
+            Misnesting::StaysOpen => "has no end tag here, and holds what follows",
+            Misnesting::UnreadEnd => "has an end tag that is not read, and loses what it holds",
+            Misnesting::RawText => "holds elements or references, which are read as text",
+            Misnesting::ForeignText => "has a & or < in svg or math, which is no text there",
+            Misnesting::FirstLineFeed => "begins with a line feed, which is not read as one",
+            Misnesting::ScriptComment => "has a <!--, behind which it may not end",
+            Misnesting::NotInHead => "closes the head or noscript that it stands in",
+            Misnesting::NotInTable => "is moved before the table that it stands in",
+            Misnesting::NotInColumns => "closes the colgroup that it stands in",
+            Misnesting::OutsideTable => "is dropped outside of its part of a table",
+            Misnesting::NeverRead => "is ignored here, or read as another",
+            Misnesting::FormInForm => "is ignored in a form",
+            Misnesting::ClosesParagraph => "closes the p that it stands in",
+            Misnesting::ClosesHeading => "closes the heading that it stands in",
+            Misnesting::ClosesItem => "closes the li, dd or dt that it stands in",
+            Misnesting::ClosesSame => "closes the one of its name that it stands in",
+            Misnesting::ClosesOption =>
+                "closes the option or the part of a select that it stands in",
+            Misnesting::ClosesSelect => "closes the select that it stands in",
+            Misnesting::ClosesRubyPart => "closes the part of a ruby that it stands in",
+            Misnesting::LeavesForeign => "closes the svg or math that it stands in",
+            Misnesting::Filled => "is filled with what the chosen option holds",
+        }
+    }
+}
+
+/// What becomes of the node: `closes the p that it stands in`.
+impl fmt::Display for Misnesting {
+    fn fmt<W: fmt::Write>(&self, f: &mut fmt::Formatter<W>) -> fmt::Result {
+        f.write_str(self.words())
+    }
+}

@@ -1,0 +1,162 @@
+//! The walk over a tree that finds its misnested nodes.
+
+ghost use Rattle.std.specs.Prelude.{◌≡◌, ◌≤◌, ◌++◌, [], ◌∷◌, ℕ, List, IfOk, OnOk, Some};
+ghost use Rattle.html_dom_tree.specs.Tree.{element_node};
+ghost use Rattle.html_dom_tree.specs.Views.{element_view, node_view, nodes_view};
+ghost use Rattle.html_dom_nest.specs.MisnestedViews.{findings_view};
+ghost use Rattle.html_dom_nest.specs.Misnested.{found, misnested_nodes};
+ghost use Rattle.html_dom_nest.specs.NestingRules.{element_misnesting, root_misnesting};
+ghost use Rattle.html_dom_nest.specs.Surroundings.{surroundings_of};
+ghost use Rattle.html_dom_nest.specs.Walks.{node_walk, nodes_walk, surroundings_in};
+
+use crate::element::KnownElement;
+use crate::finding::Misnested;
+use crate::misnesting::Misnesting;
+use crate::rules::{element_misnesting, frame_misnesting, root_misnesting, text_misnesting};
+use crate::surroundings::Surroundings;
+use html_dom_tree::{HtmlElement, HtmlNode, Span};
+use std::alloc::{AllocError, Global};
+
+/// So many ancestors an element has at most that browsers leave where it is.
+const MOST_ANCESTORS: usize = 512;
+
+#[derive(Drop)]
+struct Walk {
+    alloc: Global,
+    path: Vec<usize>,
+    found: Vec<Misnested>,
+}
+
+/// The misnested nodes of a tree.
+pub(crate) fn walk_tree(alloc: Global, root: &HtmlElement) -> Result<Vec<Misnested>, AllocError>
+    ensures { IfOk result (λ found. findings_view found.items ≡ misnested_nodes (element_view root.now)) }
+{
+    let mut walk = Walk {
+        alloc,
+        path: Vec::new(alloc),
+        found: Vec::new(alloc),
+    };
+    let inside = pass_root(root, &mut walk)?;
+    pass_nodes(&root.children, &inside, &mut walk)?;
+    let Walk { found, .. } = walk;
+    Ok(found)
+}
+
+fn leave(path: &mut Vec<usize>)
+    ensures { (parent : List ℕ) → (index : ℕ) → path.old.items ≡ parent ++ index ∷ [] →
+        path.new.items ≡ parent }
+{
+    let _ = path.pop();
+}
+
+#[inline(never)]
+fn tell(span: Span, why: Misnesting, walk: &mut Walk) -> Result<(), AllocError>
+    ensures path { OnOk result (walk.new.path.items ≡ walk.old.path.items) }
+    ensures found { OnOk result (findings_view walk.new.found.items
+        ≡ findings_view walk.old.found.items
+        ++ found walk.old.path.items span.0 (Some why)) }
+{
+    let path = walk.path.as_slice().to_vec(walk.alloc)?;
+    walk.found.push(Misnested { path, span, why })?;
+    Ok(())
+}
+
+fn tell_any(span: Span, why: Option<Misnesting>, walk: &mut Walk) -> Result<(), AllocError>
+    ensures path { OnOk result (walk.new.path.items ≡ walk.old.path.items) }
+    ensures found { OnOk result (findings_view walk.new.found.items
+        ≡ findings_view walk.old.found.items ++ found walk.old.path.items span.0 why) }
+{
+    match why {
+        Some(why) => tell(span, why, walk),
+        None => Ok(()),
+    }
+}
+
+/// Tells what an element breaks, and gives what stands around its children. What that takes is no part of
+/// the walk's own frame, of which one stands for each level.
+#[inline(never)]
+fn pass_own(
+    element: &HtmlElement,
+    around: &Surroundings,
+    walk: &mut Walk,
+) -> Result<Surroundings, AllocError>
+    requires { around.now.depth ≤ 512 }
+    ensures path { OnOk result (walk.new.path.items ≡ walk.old.path.items) }
+    ensures found { let e = element_view element.now in
+        OnOk result (findings_view walk.new.found.items ≡ findings_view walk.old.found.items
+        ++ found walk.old.path.items e.0.span (element_misnesting e.0 e.1 around.now)) }
+    ensures inside { IfOk result (λ inside.
+        inside ≡ surroundings_in (element_view element.now).0 around.now) }
+{
+    let known = KnownElement::new(element);
+    tell_any(element.span, element_misnesting(&known, around), walk)?;
+    Ok(around.inside(&known))
+}
+
+/// The same of a root.
+fn pass_root(root: &HtmlElement, walk: &mut Walk) -> Result<Surroundings, AllocError>
+    ensures path { OnOk result (walk.new.path.items ≡ walk.old.path.items) }
+    ensures found { let e = element_view root.now in
+        OnOk result (findings_view walk.new.found.items ≡ findings_view walk.old.found.items
+        ++ found walk.old.path.items e.0.span (root_misnesting e (surroundings_of []))) }
+    ensures inside { IfOk result (λ inside.
+        inside ≡ surroundings_in (element_view root.now).0 (surroundings_of [])) }
+{
+    let around = Surroundings::NONE;
+    let known = KnownElement::new(root);
+    tell_any(root.span, root_misnesting(&known, &around), walk)?;
+    Ok(around.inside(&known))
+}
+
+// Each node stands first among the parameters: its depth shows that the calls end.
+
+#[cycle(walk)]
+fn pass_element(
+    element: &HtmlElement,
+    around: &Surroundings,
+    walk: &mut Walk,
+) -> Result<(), AllocError>
+    ensures path { OnOk result (walk.new.path.items ≡ walk.old.path.items) }
+    ensures found { let e = element_view element.now in
+        OnOk result (findings_view walk.new.found.items ≡ findings_view walk.old.found.items
+        ++ node_walk walk.old.path.items around.now (element_node e.0 e.1)) }
+{
+    if around.depth > MOST_ANCESTORS {
+        return tell(element.span, Misnesting::TooDeep, walk);
+    }
+    let inside = pass_own(element, around, walk)?;
+    pass_nodes(&element.children, &inside, walk)
+}
+
+#[cycle(walk)]
+#[tactic(auto, unfolding(crate::specs::Walks::node_walk))]
+fn pass_node(child: &HtmlNode, around: &Surroundings, walk: &mut Walk) -> Result<(), AllocError>
+    ensures path { OnOk result (walk.new.path.items ≡ walk.old.path.items) }
+    ensures found { OnOk result (findings_view walk.new.found.items
+        ≡ findings_view walk.old.found.items
+        ++ node_walk walk.old.path.items around.now (node_view child.now)) }
+{
+    match child {
+        HtmlNode::Tag(_) => Ok(()),
+        HtmlNode::Text(text, span) => {
+            tell_any(*span, text_misnesting(text.as_str(), around), walk)
+        }
+        HtmlNode::Element(element) => pass_element(element, around, walk),
+        HtmlNode::Frame(frame) => tell_any(frame.span, frame_misnesting(around), walk),
+    }
+}
+
+#[cycle(walk)]
+fn pass_nodes(nodes: &[HtmlNode], around: &Surroundings, walk: &mut Walk) -> Result<(), AllocError>
+    ensures path { OnOk result (walk.new.path.items ≡ walk.old.path.items) }
+    ensures found { OnOk result (findings_view walk.new.found.items
+        ≡ findings_view walk.old.found.items
+        ++ nodes_walk walk.old.path.items 0 around.now (nodes_view nodes.now)) }
+{
+    for (index, child) in nodes.iter().enumerate() {
+        walk.path.push(index)?;
+        pass_node(child, around, walk)?;
+        leave(&mut walk.path);
+    }
+    Ok(())
+}

@@ -1,0 +1,50 @@
+use Rattle.std.proofs.Common.{◌≡◌, ℕ, ◌==◌, Bool, String, Global, not, List, ◌++◌, length, map, codes, append_assoc, refl, ap, sym, ◌∙◌, Option, Some, None, is_some, option_map}
+use Rattle.std.proofs.lemmas.List.{map-append}
+use Rattle.serde_json.specs.Data.{string}
+use Rattle.serde_json.specs.View.{view}
+use Rattle.html_dom_document.specs.Views.{info_view, locale_view}
+use Rattle.html_names.specs.Texts.{text_view, texts_view}
+use Rattle.html_tool_run.specs.UnusedInformation.{name_if}
+use Rattle.html_tool_run.proofs.unused.push_known_names.Goals as goal
+
+-- what is there, is there as a pure value
+seen_some : {A B : Type 0} (f : A → B) (o : Option A) → is_some o ≡ is_some (option_map f o)
+seen_some f None = refl
+seen_some f (Some a) = refl
+
+-- names behind those that were added
+more : {A B : Type 0} (f : A → B) (old x y : List B) (ns ms : List A) → x ≡ old ++ map f ns
+    → y ≡ x ++ map f ms → y ≡ old ++ map f (ns ++ ms)
+more f old x y ns ms so_far next =
+    next ∙ (ap (λ z. z ++ map f ms) so_far ∙ (append_assoc old (map f ns) (map f ms)
+    ∙ ap (λ z. old ++ z) (sym (map-append f ns ms))))
+
+-- the names by what tells something
+abbrev names_by : (title description authors keywords lang region : Bool) → List (List ℕ)
+names_by title description authors keywords lang region = name_if title (codes "title")
+    ++ name_if description (codes "description") ++ name_if authors (codes "authors")
+    ++ name_if keywords (codes "keywords") ++ name_if lang (codes "lang")
+    ++ name_if region (codes "region")
+
+same_names : {a b c d e f a' b' c' d' e' f' : Bool} → a ≡ a' → b ≡ b' → c ≡ c' → d ≡ d' → e ≡ e'
+    → f ≡ f' → names_by a b c d e f ≡ names_by a' b' c' d' e' f'
+same_names h i j k l m = rw (h, i, j, k, l, m) refl
+
+abbrev told_of : List (String Global) → Bool
+told_of texts = not (length (texts_view texts) == 0)
+
+pub returns : goal.returns
+returns c =
+    let info = c.args.info.now in
+    let old = map view c.args.names.now.items in
+    let all = more string old _ _ _ _ (more string old _ _ _ _ (more string old _ _ _ _
+    (more string old _ _ _ _ (more string old _ _ _ _ c.in_ok-push_name.ensures
+    c.in_ok-push_name-2.ensures) c.in_ok-push_name-3.ensures) c.in_ok-push_name-4.ensures)
+    c.in_ok-push_name-5.ensures) c.in_ok-push_name-6.ensures in
+    all ∙ ap (λ names. old ++ map string names) (same_names
+    (c.is_some.ensures ∙ seen_some text_view info.title)
+    (c.is_some-2.ensures ∙ seen_some text_view info.description)
+    (c.are_told.ensures ∙ ap told_of c.deref.ensures.value)
+    (c.are_told-2.ensures ∙ ap told_of c.deref-2.ensures.value)
+    (c.is_some-3.ensures ∙ seen_some locale_view info.locale)
+    c.has_region.ensures)

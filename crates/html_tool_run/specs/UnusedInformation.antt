@@ -1,0 +1,52 @@
+-- What is known of a document that its text does not show, since its items have a root of their own, as
+-- JSON: the names of the members that tell it.
+--     {"unused":["title","description","authors","keywords","lang","region"]}
+use Rattle.std.specs.Prelude.{ℕ, ◌==◌, Bool, List, [], ◌∷◌, ◌++◌, length, map, not, is_some, codes, chars, option_and_then, if◌then◌else◌}
+use Rattle.serde_json.specs.Data.{Data, string, array, object, member, no_members}
+use Rattle.serde_json.specs.View.{items_of}
+use Rattle.serde_json.specs.Written.{compact_text}
+use Rattle.html_dom_document.specs.Documents.{InfoView}
+use Rattle.html_flow_convert.specs.Items.{no_items}
+use Rattle.typst_html_export.specs.Assembled.{items_document_faults}
+use Rattle.typst_html_export.specs.OwnHead.{have_own_root}
+use Rattle.html_tool_run.specs.Answers.{Answer, TextPlace, in_text, answer_if, answer_to, fault_refusal, first_refusal_or_text}
+use Rattle.html_tool_spell.specs.Json.{json_of}
+use Rattle.html_tool_spell.specs.NameRefusals.{Refusal}
+use Rattle.html_tool_spell.specs.SpelledDocuments.{Spelling, names_refusals, spelled_document}
+
+-- the name, where it tells something
+abbrev pub name_if : (tells : Bool) (name : List ℕ) → List (List ℕ)
+name_if tells name = if tells then name ∷ [] else []
+
+-- the names of the members that tell something; a list of no texts tells nothing
+abbrev pub known_names : InfoView → List (List ℕ)
+known_names info = name_if (is_some info.title) (codes "title")
+    ++ name_if (is_some info.description) (codes "description")
+    ++ name_if (not (length info.author == 0)) (codes "authors")
+    ++ name_if (not (length info.keywords == 0)) (codes "keywords")
+    ++ name_if (is_some info.locale) (codes "lang")
+    ++ name_if (is_some (option_and_then (λ l. l.region) info.locale)) (codes "region")
+
+-- all of them where the items have a root of their own, and else none
+abbrev pub unused_names : Spelling → List (List ℕ)
+unused_names s = if have_own_root s.1.0 then known_names s.0 else []
+
+abbrev pub unused_data : List (List ℕ) → Data
+unused_data names =
+    object (member (codes "unused") (array (items_of (map string names))) no_members)
+
+abbrev pub unused_text : Spelling → List ℕ
+unused_text s = chars (compact_text (unused_data (unused_names s)))
+
+-- what is wrong with the document of the items, without footnotes
+abbrev pub unused_refusals : (limit : ℕ) → Spelling → List Refusal
+unused_refusals limit s = map fault_refusal (items_document_faults limit s.1.0 no_items)
+
+-- names are refused before what else is wrong
+unfoldable pub unused_answer : (limit : ℕ) → Spelling → Answer
+unused_answer limit s =
+    first_refusal_or_text (names_refusals s ++ unused_refusals limit s) (unused_text s)
+
+unfoldable pub unused_input_answer : (limit : ℕ) (input : List ℕ) → TextPlace → Answer
+unused_input_answer limit input at =
+    answer_if (in_text at) (λ d. answer_to (unused_answer limit) (spelled_document d)) (json_of input)

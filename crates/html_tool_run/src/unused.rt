@@ -1,0 +1,142 @@
+//! What is known of a document that its text does not show, as JSON.
+
+ghost use Rattle.std.specs.Prelude.{◌≡◌, ◌≤◌, ◌==◌, ◌++◌, [], IfOk, OnOk, not, length, map, is_some, option_and_then, string_bytes, if◌then◌else◌};
+ghost use Rattle.serde_json.specs.Data.{string};
+ghost use Rattle.serde_json.specs.View.{view};
+ghost use Rattle.serde_json.specs.Written.{compact_text};
+ghost use Rattle.html_dom_document.specs.Views.{info_view};
+ghost use Rattle.html_dom_tree.specs.Views.{text_view};
+ghost use Rattle.html_names.specs.Texts.{texts_view};
+ghost use Rattle.html_tool_run.specs.Answers.{answer_to};
+ghost use Rattle.html_tool_run.specs.Replies.{GivesAnswer, GivesAnswerAt};
+ghost use Rattle.html_tool_run.specs.UnusedInformation.{known_names, name_if, unused_data, unused_text};
+ghost use Rattle.html_tool_run.specs.UnusedInformation.{unused_answer, unused_input_answer, unused_refusals};
+ghost use Rattle.html_tool_spell.specs.Refusals.{Gives};
+ghost use Rattle.html_tool_spell.specs.SpelledDocuments.{spelled_document};
+ghost use Rattle.html_tool_spell.specs.Spelling.{spelling_view};
+
+use crate::program::fault_of;
+use html_dom_document::{DocumentInfo, Locale};
+use html_tool_spell::{Fault, SpelledDocument, document_in, parse};
+use serde_json::{Value, json};
+use std::alloc::{AllocError, Global};
+use typst_html_export::has_own_root;
+
+/// The names of the members of an input that tell what the text of its document does not show, as JSON:
+/// all that tell something, where the items have a root of their own
+/// ([`has_own_root`](typst_html_export::has_own_root)), and else none.
+///
+/// They stand in the order `title`, `description`, `authors`, `keywords`, `lang`, `region`. The input is
+/// that of [`text_of_document`](crate::text_of_document). It is refused as there, but for footnotes and
+/// for what can't be written.
+///
+/// ```
+/// use html_tool_run::unused_of_document;
+///
+/// let alloc = rt.alloc();
+/// let own = br#"{"title":"Tides","lang":"de","authors":[],"items":[["el","html",[],[]]]}"#;
+/// assert_eq!(rt; unused_of_document(alloc, own, 50)?.as_str(), r#"{"unused":["title","lang"]}"#);
+/// let none = br#"{"title":"Tides","items":[["el","p",[],[]]]}"#;
+/// assert_eq!(rt; unused_of_document(alloc, none, 50)?.as_str(), r#"{"unused":[]}"#);
+/// ```
+pub fn unused_of_document(alloc: Global, input: &[u8], limit: usize) -> Result<String, Fault>
+    requires some_limit { 1 ≤ limit }
+    requires low_limit { limit ≤ 10000 }
+    ensures { GivesAnswerAt result (unused_input_answer limit input.now) }
+{
+    let value = parse(alloc, input)?;
+    unused_of_value(alloc, value, limit)
+}
+
+fn unused_of_value(alloc: Global, value: Value, limit: usize) -> Result<String, Fault>
+    requires some_limit { 1 ≤ limit }
+    requires low_limit { limit ≤ 10000 }
+    ensures { GivesAnswer result (answer_to (unused_answer limit) (spelled_document (view value))) }
+{
+    let document = document_in(alloc, value)?;
+    unused_text(alloc, &document, limit)
+}
+
+#[tactic(auto, using(crate::proofs::FirstFaults::first_faults))]
+fn unused_text(alloc: Global, document: &SpelledDocument, limit: usize) -> Result<String, Fault>
+    requires some_limit { 1 ≤ limit }
+    requires low_limit { limit ≤ 10000 }
+    ensures { Gives text_view result (unused_text (spelling_view document.now))
+        (unused_refusals limit (spelling_view document.now)) }
+{
+    match has_own_root(alloc, &document.items, limit) {
+        Ok(own_root) => Ok(names_text(alloc, own_root, &document.info)?),
+        Err(fault) => Err(fault_of(&fault)),
+    }
+}
+
+fn names_text(alloc: Global, own_root: bool, info: &DocumentInfo) -> Result<String, AllocError>
+    ensures { IfOk result (λ text. string_bytes text ≡ compact_text (unused_data
+        (if own_root then known_names (info_view info.now) else []))) }
+{
+    let value = names_value(alloc, own_root, info)?;
+    Ok(value.to_string(alloc)?)
+}
+
+fn names_value(alloc: Global, own_root: bool, info: &DocumentInfo) -> Result<Value, AllocError>
+    ensures { IfOk result (λ value. view value ≡ unused_data
+        (if own_root then known_names (info_view info.now) else [])) }
+{
+    let mut names = Vec::new(alloc);
+    if own_root {
+        push_known_names(alloc, &mut names, info)?;
+    }
+    json!(in alloc; {"unused": names})
+}
+
+fn push_known_names(
+    alloc: Global,
+    names: &mut Vec<Value>,
+    info: &DocumentInfo,
+) -> Result<(), AllocError>
+    ensures { OnOk result (map view names.new.items
+        ≡ map view names.old.items ++ map string (known_names (info_view info.now))) }
+{
+    push_name(alloc, names, "title", info.title.is_some())?;
+    push_name(alloc, names, "description", info.description.is_some())?;
+    push_name(alloc, names, "authors", are_told(&info.author))?;
+    push_name(alloc, names, "keywords", are_told(&info.keywords))?;
+    push_name(alloc, names, "lang", info.locale.is_some())?;
+    push_name(alloc, names, "region", has_region(info))?;
+    Ok(())
+}
+
+fn are_told(texts: &[String]) -> bool
+    ensures { result ≡ not (length (texts_view texts.now) == 0) }
+{
+    !texts.is_empty()
+}
+
+fn has_region(info: &DocumentInfo) -> bool
+    ensures { result ≡ is_some (option_and_then (λ l. l.region) (info_view info.now).locale) }
+{
+    match &info.locale {
+        Some(
+            Locale {
+                region: Some(_),
+                ..
+            },
+        ) => true,
+        _ => false,
+    }
+}
+
+fn push_name(
+    alloc: Global,
+    names: &mut Vec<Value>,
+    name: &str,
+    tells: bool,
+) -> Result<(), AllocError>
+    ensures { OnOk result (map view names.new.items
+        ≡ map view names.old.items ++ map string (name_if tells name.now)) }
+{
+    if tells {
+        names.push(Value::String(name.to_string(alloc)?))?;
+    }
+    Ok(())
+}

@@ -1,0 +1,11 @@
+-- The answer to an input that spells a document: what is known that its text does not show; bad input
+-- where the limit is wrong.
+use Rattle.std.specs.Prelude.{ℕ, List}
+use Rattle.html_tool_run.specs.Answers.{Answer, TextPlace, answer_if}
+use Rattle.html_tool_run.specs.UnusedInformation.{unused_input_answer}
+use Rattle.html_tool_spell.specs.declared.fault.InputPlace.TheVariants.{Unknown}
+use Rattle.typst_html_c.specs.CallReplies.{limit_of}
+
+abbrev pub unused_call_answer : (limit : ℕ) (input : List ℕ) → TextPlace → Answer
+unused_call_answer limit input at =
+    answer_if Unknown (λ most. unused_input_answer most input at) (limit_of limit)
