@@ -60,6 +60,9 @@ def main() -> int:
     parser = batches.parser(__doc__)
     parser.add_argument("folders", type=Path, nargs="+")
     words = parser.parse_args()
+    for folder in words.folders:
+        if not folder.is_dir():
+            parser.error(f"{folder} is no folder")
     found: list[Row] = []
     progress = batches.Progress("pages", words.quiet)
     with batches.engine(words) as client:

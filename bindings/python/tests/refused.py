@@ -9,8 +9,8 @@ from typing import Callable
 
 import typst_html_proved
 from typst_html_proved import (
-    BREAK, HOLE, SPACE, WORDS, DeadLink, Findings, Info, Node, Place, block, box, check, element, end, start, text, write,
-    write_json, write_tree,
+    BREAK, HOLE, SPACE, WORDS, DeadLink, Findings, Info, Node, Place, block, box, check, element, end, start, text, unused,
+    write, write_json, write_tree,
 )  # fmt: skip
 
 # The words that tell where and what is wrong, and the call.
@@ -68,6 +68,8 @@ REFUSED: list[tuple[str, str, Callable[[], object]]] = [
     ("write(footnotes)", "footnotes are one item, not a list of them",
      lambda: write([], footnotes=element("p"))),  # type: ignore
     ("write(info)", "info is None, not an Info", lambda: write([], info=None)),  # type: ignore
+    ("unused(info)", "info is None, not an Info", lambda: unused([], info=None)),  # type: ignore
+    ("unused(items[1])", "an item is None", lambda: unused(["a", None])),  # type: ignore
     ("write_json(links)", "the links of a document are given for kind 'items'",
      lambda: write_json("[]", links=True)),  # type: ignore
     ("write_json(limit)", "the limit of a document is given for kind 'tree'",
@@ -82,6 +84,7 @@ REFUSED += [
     ("write(limit)", "the limit is 0, not from 1 to 10000", lambda: write([], limit=0)),
     ("write_json(limit)", "the limit is 0, not from 1 to 10000", lambda: write_json("{}", kind="document", limit=0)),
     ("check(limit)", "the limit is 1001, not from 1 to 1000", lambda: check("", limit=1001)),
+    ("unused(limit)", "the limit is 10001, not from 1 to 10000", lambda: unused([], limit=10_001)),
 ]
 
 # What of the package nothing changes: the error that comes of a change, and the change.

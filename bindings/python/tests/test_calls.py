@@ -176,6 +176,14 @@ class Calls(unittest.TestCase):
         self.assertEqual(outcome(html.write_json, data, kind="document", links=True), (dead.text, dead.links))
         self.assertEqual(html.write_json(data, kind="document"), dead.text)
 
+    def test_what_an_own_root_leaves_unused(self):
+        info = Info(title="T", keywords=["k"], lang="de", region="AT")
+        self.assertEqual(html.unused([element("html")], info=info), ("title", "keywords", "lang", "region"))
+        self.assertEqual(html.unused([element("p")], info=info), ())
+        with self.assertRaises(Refused) as caught:
+            html.unused(["a", element("P Q")], info=info)
+        self.assertEqual((caught.exception.number, caught.exception.path), (2, ("items", 1)))
+
     def test_every_item(self):
         body = ["a", html.SPACE, html.BREAK, html.HOLE]
         self.assertIn("<div>a", html.write([html.block(*body), html.box(*body)]))

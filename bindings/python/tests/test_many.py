@@ -97,6 +97,8 @@ class Many(unittest.TestCase):
             self.assertEqual((status, told.splitlines()[-1].split(":")[0]), (1, "1 pages, 4 failed"))
             Path(folder, "i").mkdir()
             self.assertEqual(run("check_pages.py", Path(folder, "i"))[:2], (0, ""))
+            status, output, told = run("check_pages.py", Path(folder, "none"))
+            self.assertEqual((status, output, told.endswith("none is no folder\n")), (2, "", True))
 
     def test_batches_that_fail(self):
         words = batches.parser(None).parse_args(["--workers", "2"])

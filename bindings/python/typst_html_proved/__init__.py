@@ -49,8 +49,7 @@ from ._words import WORDS
 __all__ = [
     "BREAK", "HOLE", "SPACE", "VERSION", "Attrs", "BadInput", "DeadFragment", "DeadLink", "DeadLinks", "Failure", "Findings",
     "Info", "Item", "ItemPath", "Items", "Kind", "Mark", "Node", "OtherLibrary", "OutOfMemory", "Place", "Refused", "RepeatedId", "Texts",
-    "WORDS", "block", "box", "check", "element", "end", "start", "text", "unused", "write", "write_json",
-    "write_tree",
+    "WORDS", "block", "box", "check", "element", "end", "start", "text", "unused", "write", "write_json", "write_tree",
 ]  # fmt: skip
 
 __version__: Final = "0.1.0"
@@ -639,14 +638,17 @@ def _bytes(data: bytes | str, where: str) -> bytes:
         raise BadInput(error, where=where) from error
 
 
+def _document(call: str, items: Items, footnotes: Items, info: Info, limit: int) -> _Given:
+    """A document that is given to that call."""
+    _number("the limit", limit, 1, 10_000, f"{call}(limit)")
+    if not isinstance(info, Info):
+        raise BadInput(f"info is {_told(info)}, not an Info", where=f"{call}(info)")
+    listed = {"items": _listed(call, "items", items), "footnotes": _listed(call, "footnotes", footnotes)}
+    return _Given(call, (), "document", value={**info.members(), **listed})
+
+
 def write(
-    items: Items,
-    *,
-    info: Info = Info(),
-    footnotes: Items = (),
-    pretty: bool = False,
-    links: bool = False,
-    limit: int = 50,
+    items: Items, *, info: Info = Info(), footnotes: Items = (), pretty: bool = False, links: bool = False, limit: int = 50
 ) -> str:
     """The text of a document of these items.
 
@@ -660,12 +662,7 @@ def write(
 
     Raises `Refused`, `BadInput`, `OutOfMemory` or `DeadLinks`.
     """
-    _number("the limit", limit, 1, 10_000, "write(limit)")
-    if not isinstance(info, Info):
-        raise BadInput(f"info is {_told(info)}, not an Info", where="write(info)")
-    document = {**info.members(), "items": _listed("write", "items", items)}
-    document["footnotes"] = _listed("write", "footnotes", footnotes)
-    given = _Given("write", (), "document", value=document)
+    given = _document("write", items, footnotes, info, limit)
     return given.text("typst_html_document", layout=int(bool(pretty)), links=int(bool(links)), limit=limit)
 
 
@@ -680,11 +677,7 @@ def unused(items: Items, *, info: Info = Info(), limit: int = 50) -> tuple[str, 
 
     Raises `Refused`, `BadInput` or `OutOfMemory`.
     """
-    _number("the limit", limit, 1, 10_000, "unused(limit)")
-    if not isinstance(info, Info):
-        raise BadInput(f"info is {_told(info)}, not an Info", where="unused(info)")
-    document = {**info.members(), "items": _listed("unused", "items", items)}
-    given = _Given("unused", (), "document", value=document)
+    given = _document("unused", items, (), info, limit)
     return tuple(json.loads(given.text("typst_html_unused", limit=limit))["unused"])
 
 

@@ -23,8 +23,8 @@ pub enum Step {
 /// The way to a value in JSON, from the outside in: to an item, mostly, of what is written.
 ///
 /// An element's body is the value 3 of its list, and the body of a block or a box is the value 1. So
-/// `items[2][3][0]` is the first child of an element, which is the third item. Of a document that is no
-/// JSON it is the way in the JSON that spells it; [`Document::item_at`] and [`Element::item_at`] go it.
+/// `items[2][3][0]` is the first child of an element, which is the third item. Of a [`Document`] or an
+/// [`Element`] it is the way in the JSON that spells it, which their `item_at` goes.
 #[derive(Clone, Debug, Default, PartialEq, Eq, Hash, Serialize, Deserialize)]
 #[serde(transparent)]
 pub struct ItemPath(Vec<Step>);
@@ -102,9 +102,6 @@ trait Part: Sized {
 
     /// The field in which its body stands, and that body.
     fn body(&self) -> Option<(usize, &[Self])>;
-
-    /// How many lists stand in one another in it, apart from what its body holds.
-    fn levels(&self) -> usize;
 }
 
 impl Part for Item {
@@ -119,13 +116,14 @@ impl Part for Item {
             _ => None,
         }
     }
+}
 
-    fn levels(&self) -> usize {
-        match self {
-            Item::Element(element) if !element.attrs.is_empty() => 3,
-            Item::Element(_) | Item::Block(_) | Item::Box(_) => 2,
-            _ => 1,
-        }
+/// How many lists stand in one another in an item, apart from what its body holds.
+fn levels(item: &Item) -> usize {
+    match item {
+        Item::Element(element) if !element.attrs.is_empty() => 3,
+        Item::Element(_) | Item::Block(_) | Item::Box(_) => 2,
+        _ => 1,
     }
 }
 
@@ -140,10 +138,6 @@ impl Part for Value {
             [kind, Value::Array(body)] if kind == "block" || kind == "box" => Some((1, body)),
             _ => None,
         }
-    }
-
-    fn levels(&self) -> usize {
-        1
     }
 }
 
@@ -271,7 +265,7 @@ impl Given<'_> {
     pub(crate) fn deepest(self) -> Option<ItemPath> {
         let mut found = None;
         let see = |item: &Item, path: &[Step], _| {
-            if path.len() + item.levels() <= DEEPEST {
+            if path.len() + levels(item) <= DEEPEST {
                 return Continue(());
             }
             found = Some(ItemPath(path.to_vec()));

@@ -258,6 +258,24 @@ fn what_is_known_stands_in_the_head() {
 }
 
 #[test]
+fn what_an_own_root_leaves_unused_is_listed() {
+    let document = Document::new()
+        .title("T")
+        .keyword("k")
+        .lang("de", "AT")
+        .item(Element::new("html"));
+    let wanted = ["title", "keywords", "lang", "region"];
+    assert_eq!(unused(&document, 50).unwrap(), wanted);
+    let shown = Document::new().title("T").item(Element::new("p"));
+    assert!(unused(&shown, 50).unwrap().is_empty());
+    let refusal = unused(&shown.item(Element::new("P Q")), 50).unwrap_err();
+    assert_eq!(
+        (refusal.number(), refusal.path().unwrap().to_string()),
+        (2, "items[1]".into())
+    );
+}
+
+#[test]
 fn a_region_without_a_language_is_left_out() {
     let mut document = Document::new();
     document.info.region = Some("AT".into());

@@ -74,6 +74,11 @@ extern "C" fn typst_html_dead_links(_: u32, _: *const u8, _: usize, _: *mut u8, 
 }
 
 #[no_mangle]
+extern "C" fn typst_html_unused(_: u32, _: *const u8, _: usize, _: *mut u8, _: usize) -> Reply {
+    reply(9)
+}
+
+#[no_mangle]
 extern "C" fn typst_html_check(_: u32, _: *const u8, _: usize, _: *mut u8, _: usize) -> Reply {
     reply(7)
 }
@@ -88,6 +93,7 @@ fn all_are_refused() {
     }
     let document = write(&Document::new(), Options::new());
     assert_eq!(document, Err(Refusal::OtherLibrary));
+    assert_eq!(unused(&Document::new(), 50), Err(Refusal::OtherLibrary));
     assert_eq!(check("", 50), Err(Refusal::OtherLibrary));
 }
 
@@ -98,7 +104,7 @@ fn another_library_is_told() {
         LINKED.store(VERSION + 1, SeqCst);
     }
     all_are_refused();
-    let wanted = if is_other { 0 } else { 6 };
+    let wanted = if is_other { 0 } else { 7 };
     assert_eq!(CALLS.load(SeqCst), wanted, "another version is not called");
     // It is looked at once.
     LINKED.store(VERSION + 2, SeqCst);
