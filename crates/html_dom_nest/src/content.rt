@@ -14,7 +14,7 @@ use typst_html_parse_names::Kind;
 
 /// Where the tokenizer is in the text of a script (HTML Standard 13.2.5.4, 13.2.5.15, 13.2.5.18, 13.2.5.19).
 #[derive(Clone, Copy)]
-pub(crate) enum ScriptState {
+pub enum ScriptState {
     Data,
     /// Behind `<`.
     LessThan,

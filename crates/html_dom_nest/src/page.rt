@@ -12,7 +12,7 @@ use typst_html_parse_names::Kind;
 
 /// How much of a page stands before a child of the root.
 #[derive(Clone, Copy)]
-pub(crate) enum Stage {
+pub enum Stage {
     First,
     BehindHead,
     BehindBody,

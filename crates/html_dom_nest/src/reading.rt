@@ -5,7 +5,7 @@ ghost use Rattle.html_dom_nest.specs.Ancestors.{foreign_space, is_html};
 
 /// The namespace of an element.
 #[derive(Clone, Copy)]
-pub(crate) enum Space {
+pub enum Space {
     Html,
     Svg,
     MathMl,
@@ -13,7 +13,7 @@ pub(crate) enum Space {
 
 /// By which rules the start tags in an element are read (HTML Standard 13.2.6).
 #[derive(Clone, Copy)]
-pub(crate) enum Reading {
+pub enum Reading {
     /// As those of HTML.
     AsHtml,
     /// As those of SVG.
@@ -28,7 +28,7 @@ pub(crate) enum Reading {
 
 /// What may stand in an element (HTML Standard 13.2.6.4).
 #[derive(Clone, Copy)]
-pub(crate) enum Place {
+pub enum Place {
     /// The head and the body.
     Page,
     /// What belongs in a `head`.

@@ -4,44 +4,44 @@ use crate::reading::{Place, Reading};
 
 /// What the parent is, an element of HTML.
 #[derive(Clone, Copy)]
-pub(crate) struct Parent {
-    pub(crate) head: bool,
-    pub(crate) heading: bool,
+pub struct Parent {
+    pub head: bool,
+    pub heading: bool,
     /// Its end tag is implied.
-    pub(crate) implied: bool,
-    pub(crate) optgroup: bool,
-    pub(crate) option: bool,
-    pub(crate) rtc: bool,
+    pub implied: bool,
+    pub optgroup: bool,
+    pub option: bool,
+    pub rtc: bool,
 }
 
 /// Which elements of HTML stand around a node with no boundary between.
 #[derive(Clone, Copy)]
-pub(crate) struct Open {
-    pub(crate) paragraph: bool,
-    pub(crate) button: bool,
-    pub(crate) nobr: bool,
-    pub(crate) ruby: bool,
-    pub(crate) select: bool,
+pub struct Open {
+    pub paragraph: bool,
+    pub button: bool,
+    pub nobr: bool,
+    pub ruby: bool,
+    pub select: bool,
     /// A `li`.
-    pub(crate) list_item: bool,
+    pub list_item: bool,
     /// A `dd` or `dt`.
-    pub(crate) description: bool,
+    pub description: bool,
     /// An `a`.
-    pub(crate) anchor: bool,
-    pub(crate) form: bool,
+    pub anchor: bool,
+    pub form: bool,
     /// A `select`, with no `template` between.
-    pub(crate) outer_select: bool,
+    pub outer_select: bool,
 }
 
 /// What a node's ancestors are to it.
 #[derive(Clone, Copy)]
-pub(crate) struct Surroundings {
+pub struct Surroundings {
     /// How many they are.
-    pub(crate) depth: usize,
-    pub(crate) place: Place,
-    pub(crate) reading: Reading,
-    pub(crate) parent: Parent,
-    pub(crate) open_elements: Open,
+    pub depth: usize,
+    pub place: Place,
+    pub reading: Reading,
+    pub parent: Parent,
+    pub open_elements: Open,
 }
 
 impl Surroundings {
