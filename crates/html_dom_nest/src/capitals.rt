@@ -1,9 +1,10 @@
 //! Names that have capitals in SVG and MathML (HTML Standard 13.2.6.1, 13.2.6.5).
 
 ghost use Rattle.std.specs.List.{list_any};
-ghost use Rattle.std.specs.Prelude.{◌≡◌, bytes_eq, chars, IsTrue};
+ghost use Rattle.std.specs.Prelude.{◌≡◌, [], bytes_eq, chars, map, IsTrue};
 ghost use Rattle.html_names.specs.Characters.{is_capital};
 ghost use Rattle.html_names.specs.Names.{are_ascii, texts};
+ghost use Rattle.html_names.specs.Starts.{are_starts};
 ghost use Rattle.typst_html_parse_names.specs.ForeignNames.{lowered};
 ghost use Rattle.html_dom_nest.specs.WrittenTags.{capital_attrs, capital_tags, keeps_case};
 
@@ -48,6 +49,12 @@ const SVG_TAGS: [&str; 37] = [
     "linearGradient",
     "radialGradient",
     "textPath",
+];
+
+/// The places of `SVG_TAGS` at which the names with each first letter begin, and the end.
+const SVG_TAG_STARTS: [u8; 27] = [
+    0, 6, 6, 7, 7, 7, 33, 34, 34, 34, 34, 34, 35, 35, 35, 35, 35, 35, 36, 36, 37, 37, 37, 37, 37,
+    37, 37,
 ];
 
 const SVG_ATTRS: [&str; 58] = [
@@ -111,7 +118,18 @@ const SVG_ATTRS: [&str; 58] = [
     "zoomAndPan",
 ];
 
+/// The places of `SVG_ATTRS` at which the names with each first letter begin, and the end.
+const SVG_ATTR_STARTS: [u8; 27] = [
+    0, 2, 4, 6, 7, 8, 9, 12, 12, 12, 12, 17, 19, 24, 25, 25, 35, 35, 41, 49, 53, 53, 55, 55, 56,
+    57, 58,
+];
+
 const MATH_ATTRS: [&str; 1] = ["definitionURL"];
+
+/// The places of `MATH_ATTRS` at which the names with each first letter begin, and the end.
+const MATH_ATTR_STARTS: [u8; 27] = [
+    0, 0, 0, 0, 1, 1, 1, 1, 1, 1, 1, 1, 1, 1, 1, 1, 1, 1, 1, 1, 1, 1, 1, 1, 1, 1, 1,
+];
 
 fn has_capital(name: &str) -> bool
     ensures { result ≡ list_any is_capital (chars name.now) }
@@ -119,35 +137,48 @@ fn has_capital(name: &str) -> bool
     name.chars().any(|c| c.is_ascii_uppercase())
 }
 
-fn is_small_form(names: &[&'static str], name: &str) -> bool
-    ensures { result ≡ list_any (λ n. bytes_eq (lowered (chars n.now)) (chars name.now)) names.now }
+/// Whether the name is one of these in small letters. Of the names only those that begin with its first
+/// letter are looked at, whose places `starts` tells.
+fn is_lowered(names: &[&'static str], starts: &[u8; 27], name: &str) -> bool
+    requires ascii { IsTrue (are_ascii (texts names.now)) }
+    requires starts { IsTrue (are_starts starts.now (map lowered (texts names.now))) }
+    ensures { result ≡ list_any (λ n. bytes_eq (lowered n) (chars name.now)) (texts names.now) }
 {
-    for capital_name in names {
-        if is_same_lowered(capital_name, name) {
+    let Some(first) = name.as_bytes().first() else {
+        return false;
+    };
+    if !first.is_ascii_lowercase() {
+        return false;
+    }
+    let letter = usize::from(*first - b'a');
+    for place in starts[letter]..starts[letter + 1] {
+        if is_same_lowered(names[usize::from(place)], name) {
             return true;
         }
     }
     false
 }
 
-/// Whether the name is one of these in small letters.
-fn is_lowered(names: &[&'static str], name: &str) -> bool
-    requires { IsTrue (are_ascii (texts names.now)) }
-    ensures { result ≡ list_any (λ n. bytes_eq (lowered n) (chars name.now)) (texts names.now) }
-{
-    is_small_form(names, name)
-}
-
+/// Whether the name is read as it is written, where these names have capitals.
 #[tactic(auto, unfolding(crate::specs::WrittenTags::keeps_case))]
-fn keeps_case(names: &[&'static str], name: &str) -> bool
-    requires { IsTrue (are_ascii (texts names.now)) }
+fn keeps_case(names: &[&'static str], starts: &[u8; 27], name: &str) -> bool
+    requires ascii { IsTrue (are_ascii (texts names.now)) }
+    requires starts { IsTrue (are_starts starts.now (map lowered (texts names.now))) }
     ensures { result ≡ keeps_case (texts names.now) (chars name.now) }
 {
     if has_capital(name) {
         is_one_of(names, name)
     } else {
-        !is_lowered(names, name)
+        !is_lowered(names, starts, name)
     }
+}
+
+/// The same where no names have capitals.
+#[tactic(auto, unfolding(crate::specs::WrittenTags::keeps_case, html_names::specs::Names::stands_in))]
+fn has_small_letters(name: &str) -> bool
+    ensures { result ≡ keeps_case [] (chars name.now) }
+{
+    !has_capital(name)
 }
 
 /// Whether the name of an element in that namespace is read as it is written.
@@ -155,8 +186,8 @@ pub(crate) fn tag_keeps_case(space: Space, name: &str) -> bool
     ensures { result ≡ keeps_case (capital_tags space) (chars name.now) }
 {
     match space {
-        Space::Svg => keeps_case(&SVG_TAGS, name),
-        Space::Html | Space::MathMl => keeps_case(&[], name),
+        Space::Svg => keeps_case(&SVG_TAGS, &SVG_TAG_STARTS, name),
+        Space::Html | Space::MathMl => has_small_letters(name),
     }
 }
 
@@ -165,8 +196,8 @@ pub(crate) fn attr_keeps_case(space: Space, name: &str) -> bool
     ensures { result ≡ keeps_case (capital_attrs space) (chars name.now) }
 {
     match space {
-        Space::Html => keeps_case(&[], name),
-        Space::Svg => keeps_case(&SVG_ATTRS, name),
-        Space::MathMl => keeps_case(&MATH_ATTRS, name),
+        Space::Html => has_small_letters(name),
+        Space::Svg => keeps_case(&SVG_ATTRS, &SVG_ATTR_STARTS, name),
+        Space::MathMl => keeps_case(&MATH_ATTRS, &MATH_ATTR_STARTS, name),
     }
 }

@@ -3,7 +3,7 @@ use Rattle.html_dom_nest.specs.WrittenTags.{capital_attrs, keeps_case}
 use Rattle.html_dom_nest.proofs.capitals.attr_keeps_case.Goals as goal
 
 pub returns-in-Svg : goal.returns-in-Svg
-returns-in-Svg c = c.keeps_case-in-Svg.ensures
+returns-in-Svg c = c.keeps_case.ensures
     ∙ ap (λ s. keeps_case (capital_attrs s) (chars c.args.name.now)) (sym c.in-Svg.is)
 
 pub returns-in-MathMl : goal.returns-in-MathMl
