@@ -8,15 +8,15 @@ use serde_json::{Map, Value};
 use std::alloc::Global;
 use std::slice;
 use typst_html::{
-    DocumentInfo, ExportFault, HtmlDocument, HtmlOptions, Locale, Span, dead_links, html,
-    html_document, resolve_links, tag,
+    DocumentInfo, ExportFault, HtmlDocument, HtmlElement, HtmlOptions, Locale, Span, dead_links,
+    element_at, html, html_document, misnested, resolve_links, tag,
 };
 
 /// How deep blocks, inlines or items may stand in one another. JSON of 127 levels holds fewer.
 const DEPTH_LIMIT: usize = 200;
 
-/// The page of a document of pandoc, and what of the document can't be written as it is. Raw HTML is
-/// shown as a text, or dropped. A value that is no document is refused.
+/// The page of a document of pandoc, and what of the document can't be written as it is, or is read
+/// otherwise. Raw HTML is shown as a text, or dropped. A value that is no document is refused.
 pub fn page(
     alloc: Global,
     document: &Value,
@@ -148,7 +148,20 @@ fn linked(writer: Writer, info: &DocumentInfo) -> Result<(HtmlDocument, Vec<Stri
         warnings.push(format!(in alloc; "block {block}: a link to no place: {name:?}")?)?;
     }
     resolve_links(alloc, &mut made)?;
+    add_misnested(alloc, made.root(), &mut warnings)?;
     Ok((made, warnings))
+}
+
+/// Adds what of a page browsers read otherwise.
+fn add_misnested(alloc: Global, root: &HtmlElement, warnings: &mut Vec<String>) -> Result<()> {
+    for node in &misnested(alloc, root)? {
+        let (block, why) = (node.span.0, node.why);
+        let name = element_at(root, &node.path).map_or("#text", |found| found.tag.resolve());
+        warnings.push(format!(in alloc;
+            "block {block}: a browser reads {name:?} otherwise: it {why}"
+        )?)?;
+    }
+    Ok(())
 }
 
 /// The fault, and the block in which it lies.

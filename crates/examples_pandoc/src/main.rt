@@ -7,7 +7,8 @@
 //!
 //! What can't be written as it is, is told on standard error with the number of the block in which it
 //! stands: a link to no place, raw HTML (dropped, or shown as a text by `--raw-text`), an `id` that an
-//! earlier element has, an attribute without a name, a script as an address. Raw comments are dropped, and
+//! earlier element has, an attribute without a name, a script as an address, what a browser reads otherwise
+//! than it is written (a link in a link, as a note in a link is one). Raw comments are dropped, and
 //! a raw `<br>` is a line break. Attributes that may do harm get `data-` in front. The status is 0 where a
 //! page was written, 2 where the words are wrong, and else 1.
 #![tactic(auto)]
