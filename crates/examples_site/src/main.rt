@@ -1,5 +1,6 @@
 //! A site maker: of each page `NAME.txt` of a folder, in the text form that `examples_site_pages` tells in
-//! `page.rt`, it makes a page `NAME.html`. Where a link leads nowhere, it says where, and writes none.
+//! `page.rt`, it makes a page `NAME.html`. Where a link leads nowhere, it says where, and writes none. Where
+//! a browser would read a page otherwise than it is meant, it says so, and writes all.
 #![tactic(auto)]
 
 use anyhow::{Context, Result, ensure};
@@ -109,6 +110,9 @@ fn texts(rt: &HostRuntime, site: &Site<'_>, options: &HtmlOptions) -> Result<Vec
     let documents = documents(rt, site, &mut hrefs)?;
     let mut texts = Vec::new(site.alloc);
     for (page, document) in site.pages.iter().zip(documents) {
+        for warning in &site.misnested(page, &document)? {
+            eprintln!(rt; "{warning}")?;
+        }
         texts.push(site.text(page, document, &hrefs, options)?)?;
         progress(rt, texts.len(), "linked")?;
     }

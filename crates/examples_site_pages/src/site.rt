@@ -8,8 +8,8 @@ use std::collections::BTreeMap;
 use std::mem;
 use typst_html::{
     DocumentInfo, HtmlAttrs, HtmlDocument, HtmlElem, HtmlElement, HtmlNode, HtmlOptions, Item,
-    Location, NamedPlaces, Pair, Span, Tag, attr, create_link_anchors, dead_links, href_to, html,
-    html_document_for_bundle, push_located, resolve_links, tag,
+    Location, NamedPlaces, Pair, Span, Tag, attr, create_link_anchors, dead_links, element_at,
+    href_to, html, html_document_for_bundle, misnested, push_located, resolve_links, tag,
 };
 
 /// How deep elements may stand in one another.
@@ -123,6 +123,20 @@ impl Site<'_> {
         };
         let fragment = href_to(self.alloc, anchor)?;
         Ok(Some(format!(in self.alloc; "{file}{fragment}")?))
+    }
+
+    /// What of the document of a page browsers read otherwise, with the file and the line of each.
+    pub fn misnested(&self, page: &Page, document: &HtmlDocument) -> Result<Vec<String>> {
+        let (root, mut told) = (document.root(), Vec::new(self.alloc));
+        for node in &misnested(self.alloc, root)? {
+            let place = page.place(self.alloc, node.span)?;
+            let name = element_at(root, &node.path).map_or("#text", |found| found.tag.resolve());
+            told.push(format!(in self.alloc;
+                "{place}: a browser reads {name:?} otherwise: it {}",
+                node.why
+            )?)?;
+        }
+        Ok(told)
     }
 
     /// The HTML text of the document of a page, all of whose links lead.
