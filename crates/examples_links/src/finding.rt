@@ -60,7 +60,7 @@ impl fmt::Display for Unread {
     }
 }
 
-/// What is wrong with a link or an id.
+/// What is wrong with a link, an id or another node.
 #[derive(Clone, Copy)]
 pub enum Kind {
     /// A link to a fragment that leads to no place of its page.
@@ -71,6 +71,8 @@ pub enum Kind {
     OtherCase,
     /// An id that an element before has.
     RepeatedId,
+    /// What some browsers read otherwise.
+    Misnested,
 }
 
 impl Kind {
@@ -81,6 +83,7 @@ impl Kind {
             Kind::MissingFile => "missing-file",
             Kind::OtherCase => "other-case",
             Kind::RepeatedId => "repeated-id",
+            Kind::Misnested => "misnested",
         }
     }
 }
@@ -90,13 +93,13 @@ impl Kind {
 pub struct Finding<'a> {
     /// The path of the page.
     pub file: &'a str,
-    /// Where the element begins.
+    /// Where it begins.
     pub place: Place,
     /// What is wrong.
     pub kind: Kind,
     /// The link, if it is one.
     pub link: Option<&'a str>,
-    /// Where it leads, the file in other case, or the id.
+    /// Where it leads, the file in other case, the id, or what becomes of it.
     pub target: String,
 }
 
@@ -113,6 +116,7 @@ impl fmt::Display for Finding<'_> {
             Kind::MissingFile => write!(f, "{link:?} leads nowhere: there is no file {target}"),
             Kind::OtherCase => write!(f, "{link:?} differs in case from the file {target}"),
             Kind::RepeatedId => write!(f, "an element before has the id {target:?}"),
+            Kind::Misnested => write!(f, "a browser reads this otherwise: it {target}"),
         }
     }
 }

@@ -18,6 +18,9 @@
 //!   `object`. A folder stands for its `index.html` or `index.htm`.
 //! - `other-case`: the same, but a file of the folders that are named differs in case alone.
 //! - `repeated-id`: an element has an `id` that an element before it has.
+//! - `misnested`: an element stands more than 511 elements below `body`, where Chromium puts it beside its
+//!   parent, or is a `selectedcontent`, which browsers fill from the chosen `option`. All else is read as
+//!   browsers read it, so that no other rule of nesting can be broken.
 //!
 //! # What is not
 //!
@@ -44,8 +47,8 @@
 //! ```
 //!
 //! With `--json` it is one object. `target` is the page and the fragment, the path that is missing, that of
-//! the file in other case, or the id; `link` is the link as it stands there, and null for an id. `number` is
-//! that of the refusal in the project's guide. Where the system does not give a file or a folder, it is
+//! the file in other case, the id, or what becomes of what is misnested; `link` is the link as it stands
+//! there, and null for what is none. `number` is that of the refusal in the project's guide. Where the system does not give a file or a folder, it is
 //! null, as `line` and `column` are. `pages` counts those that are not read, too.
 //!
 //! ```text

@@ -5,7 +5,8 @@ use std::alloc::{AllocError, Global};
 use std::collections::BTreeSet;
 use std::str;
 use typst_html::{
-    HtmlElement, HtmlNode, PageFault, Place, Places, place_names, read_page_bytes, repeated_ids,
+    HtmlElement, HtmlNode, Misnesting, PageFault, Place, Places, misnested, place_names,
+    read_page_bytes, repeated_ids,
 };
 
 /// How deep elements may stand in one another.
@@ -22,6 +23,8 @@ pub struct Page {
     pub base: Option<String>,
     /// The ids that stand before, and where.
     pub repeated: Vec<(Place, String)>,
+    /// What some browsers read otherwise, and where.
+    pub misnested: Vec<(Place, Misnesting)>,
 }
 
 impl Page {
@@ -35,6 +38,7 @@ impl Page {
             links: found,
             base,
             repeated: repeated(alloc, &root, text)?,
+            misnested: misnested_in(alloc, &root, text)?,
         })
     }
 }
@@ -54,6 +58,23 @@ fn repeated(
         }
     }
     Ok(repeated)
+}
+
+/// What of a page some browsers read otherwise than it was read here. The other rules of nesting say how its
+/// tree would be read if it were written anew.
+fn misnested_in(
+    alloc: Global,
+    root: &HtmlElement,
+    text: &str,
+) -> Result<Vec<(Place, Misnesting)>, AllocError> {
+    let mut places = Places::new(text);
+    let mut found = Vec::new(alloc);
+    for node in &misnested(alloc, root)? {
+        if matches!(node.why, Misnesting::TooDeep | Misnesting::Filled) {
+            found.push((places.at(node.span.0 as usize), node.why))?;
+        }
+    }
+    Ok(found)
 }
 
 /// The element to which a path leads, as far as there are elements.

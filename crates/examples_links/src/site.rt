@@ -66,6 +66,7 @@ impl Site<'_> {
     ) -> Result<Vec<Finding<'a>>, AllocError> {
         let mut findings = Vec::new(self.alloc);
         self.add_repeated(file, page, &mut findings)?;
+        self.add_misnested(file, page, &mut findings)?;
         self.add_links(rt, file, page, &mut findings)?;
         findings.sort_by_key(|finding: &Finding<'_>| finding.place.offset)?;
         Ok(findings)
@@ -85,6 +86,25 @@ impl Site<'_> {
                 kind: Kind::RepeatedId,
                 link: None,
                 target: id.clone()?,
+            })?;
+        }
+        Ok(())
+    }
+
+    /// Adds what some browsers read otherwise.
+    fn add_misnested<'a>(
+        &'a self,
+        file: &'a str,
+        page: &'a Page,
+        findings: &mut Vec<Finding<'a>>,
+    ) -> Result<(), AllocError> {
+        for (place, why) in &page.misnested {
+            findings.push(Finding {
+                file,
+                place: *place,
+                kind: Kind::Misnested,
+                link: None,
+                target: format!(in self.alloc; "{why}")?,
             })?;
         }
         Ok(())
