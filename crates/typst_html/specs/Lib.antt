@@ -50,6 +50,7 @@ pub use Rattle.typst_html_export.specs.Exported
 pub use Rattle.typst_html_export.specs.Linked
 pub use Rattle.typst_html_export.specs.OwnHead
 pub use Rattle.typst_html_export.specs.SpacesInDocuments
+pub use Rattle.typst_html_nest.specs.TreesStay
 pub use Rattle.typst_html_check.specs.ItemHyperlinks
 pub use Rattle.typst_html_check.specs.SoundLinks
 pub use Rattle.html_names.specs.Characters

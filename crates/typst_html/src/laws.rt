@@ -7,6 +7,7 @@ pub use html_values::laws as values;
 pub use typst_html_check::laws as check;
 pub use typst_html_encode::laws as encode;
 pub use typst_html_export::laws as export;
+pub use typst_html_nest::laws as nest;
 pub use typst_html_page::laws as page;
 pub use typst_html_read::laws as read;
 pub use typst_html_spaces::laws as spaces;

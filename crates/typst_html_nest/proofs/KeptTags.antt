@@ -1,0 +1,172 @@
+-- A start tag whose name and attributes keep their case is read as it is.
+use Rattle.std.proofs.Common.{◌≡◌, ℕ, ◌<◌, Bool, true, false, not, ◌&&◌, List, [], length, inl, inr, map-id, refl, sym, ap, ◌∙◌, Ok}
+use Rattle.std.specs.List.{list_any}
+use Rattle.std.specs.Prelude.{if◌then◌else◌, None}
+use Rattle.std.proofs.lemmas.Bool.{and_parts, cases_Bool, false≢true, not-false}
+use Rattle.html_names.specs.Kinds.{is_foreign_self_closing}
+use Rattle.html_names.specs.Names.{stands_in}
+use Rattle.html_dom_tree.specs.Attributes.{names_differ}
+use Rattle.html_dom_tree.specs.Tree.{TextPair, Head}
+use Rattle.html_dom_nest.specs.Ancestors.{begun_space, is_read_as_html, space_of}
+use Rattle.html_dom_nest.specs.WrittenTags.{attrs_misnesting, begins_with_letter, capital_attrs, capital_tags, keep_case, keeps_case, tag_misnesting}
+use Rattle.html_dom_nest.specs.WrittenTexts.{has_return}
+use Rattle.html_dom_nest.specs.declared.misnesting.Misnesting.TheVariants as why
+use Rattle.html_dom_nest.specs.declared.reading.Reading.{Reading}
+use Rattle.html_dom_nest.specs.declared.reading.Reading.TheVariants as reading
+use Rattle.html_dom_nest.specs.declared.reading.Space.{Space}
+use Rattle.html_dom_nest.specs.declared.reading.Space.TheVariants.{Html, Svg, MathMl}
+use Rattle.typst_html_parse_names.specs.ForeignNames.{lowered, svg_attrs, svg_names, math_attrs}
+use Rattle.typst_html_parse_names.specs.PageNames.{of}
+use Rattle.typst_html_parse_names.specs.declared.kind.Kind.TheVariants as kind
+use Rattle.typst_html_parse_open.specs.Pages.{Page, StartTag, ◌next◌, opened}
+use Rattle.typst_html_parse_open.specs.declared.modes.Space.TheVariants as spaces
+use Rattle.typst_html_parse_tree.specs.PageBodies.{entered, foreign_attrs, foreign_name}
+use Rattle.typst_html_nest.proofs.BegunBasics.{Opens, else_none, if_none, made, one_of, opens}
+use Rattle.typst_html_nest.proofs.Capitals.{attrs_back, attrs_small, capitals_back, come_back, math_attrs_back, names_lowered_differ, small_back, svg_attrs_back, svg_names_back}
+use Rattle.typst_html_nest.proofs.KindFacts.{each_of, excluded}
+use Rattle.typst_html_nest.proofs.Readers.{lowered_attrs, written_tag}
+use Rattle.typst_html_nest.proofs.Ways.{open_space}
+
+-- what a start tag is where it breaks no rule
+pub record IsKept (s : Space) (h : Head) : Type 0 where
+  pub letter : begins_with_letter h.name ≡ true
+  pub name : keeps_case (capital_tags s) h.name ≡ true
+  pub attrs : keep_case (capital_attrs s) h.attrs ≡ true
+  pub differ : names_differ h.attrs ≡ true
+  pub returns : list_any (λ a. has_return a.1) h.attrs ≡ false
+
+pub kept_tag : (s : Space) (h : Head) → tag_misnesting s h ≡ None → IsKept s h
+kept_tag s h e =
+    let a = else_none (begins_with_letter h.name && keeps_case (capital_tags s) h.name) why.TagName
+    (attrs_misnesting s h.attrs) e in
+    let n = and_parts (begins_with_letter h.name) (keeps_case (capital_tags s) h.name) a.0 in
+    let b = if_none (not (keep_case (capital_attrs s) h.attrs)) why.AttributeName _ a.1 in
+    let c = if_none (not (names_differ h.attrs)) why.RepeatedAttribute _ b.1 in
+    let d = if_none (list_any (λ a. has_return a.1) h.attrs) why.CarriageReturn None c.1 in
+    record {
+      letter = n.0;
+      name = n.1;
+      attrs = not-false (keep_case (capital_attrs s) h.attrs) b.0;
+      differ = not-false (names_differ h.attrs) c.0;
+      returns = d.0;
+    }
+
+capitals_come_back : (s : Space) → come_back (capital_attrs s) ≡ true
+capitals_come_back Html = refl
+capitals_come_back Svg = svg_attrs_back
+capitals_come_back MathMl = math_attrs_back
+
+-- its attributes differ in small letters
+pub lowered_differ : (s : Space) (h : Head) → IsKept s h →
+    names_differ (lowered_attrs h.attrs) ≡ true
+lowered_differ s h kept = names_lowered_differ (capital_attrs s) h.attrs (capitals_come_back s)
+    kept.attrs kept.differ
+
+-- the names that the reader gives them
+
+name_back : (s : Space) (n : List ℕ) → keeps_case (capital_tags s) n ≡ true →
+    foreign_name (open_space s) (lowered n) ≡ n
+name_back Html n h = small_back n h
+name_back Svg n h = capitals_back svg_names n svg_names_back h
+name_back MathMl n h = small_back n h
+
+pairs_back : (s : Space) (attrs : List TextPair) → keep_case (capital_attrs s) attrs ≡ true →
+    foreign_attrs (open_space s) (lowered_attrs attrs) ≡ attrs
+pairs_back Html attrs h = map-id (lowered_attrs attrs) ∙ attrs_small attrs h
+pairs_back Svg attrs h = attrs_back svg_attrs attrs svg_attrs_back h
+pairs_back MathMl attrs h = attrs_back math_attrs attrs math_attrs_back h
+
+module _ (h : Head) (p : Page) (fits : length p.stack < p.limit) where
+  abbrev tag : StartTag
+  tag = written_tag h
+
+  pub entered_back : (s : Space) → IsKept s h → entered (open_space s) tag p
+      ≡ one_of (is_foreign_self_closing h.name) (made (open_space s) h.name h.attrs p)
+  entered_back s kept =
+      let own = is_foreign_self_closing h.name in
+      ap (λ r. r next (one_of own))
+      (opens (open_space s) (foreign_name (open_space s) tag.name)
+      (foreign_attrs (open_space s) tag.attrs) p fits)
+      ∙ (ap (λ n. one_of own (made (open_space s) n (foreign_attrs (open_space s) tag.attrs) p))
+      (name_back s h.name kept.name)
+      ∙ ap (λ l. one_of own (made (open_space s) h.name l p)) (pairs_back s h.attrs kept.attrs))
+
+  opened_by : (s : Space) → s ≡ Html → IsKept s h →
+      opened tag.name tag.attrs p ≡ Ok (made (open_space s) h.name h.attrs p)
+  opened_by Html e kept =
+      opens spaces.Html tag.name tag.attrs p fits
+      ∙ (ap (λ n. Ok (made spaces.Html n tag.attrs p)) (small_back h.name kept.name)
+      ∙ ap (λ l. Ok (made spaces.Html h.name l p)) (attrs_small h.attrs kept.attrs))
+  opened_by Svg e kept = absurd (cc)
+  opened_by MathMl e kept = absurd (cc)
+
+  svg_by : (s : Space) → s ≡ Svg → IsKept s h → is_foreign_self_closing h.name ≡ false →
+      entered spaces.Svg tag p ≡ Ok (made (open_space s) h.name h.attrs p)
+  svg_by Html e kept c = absurd (cc)
+  svg_by Svg e kept c =
+      entered_back Svg kept ∙ ap (λ b. one_of b (made spaces.Svg h.name h.attrs p)) c
+  svg_by MathMl e kept c = absurd (cc)
+
+  math_by : (s : Space) → s ≡ MathMl → IsKept s h → is_foreign_self_closing h.name ≡ false →
+      entered spaces.MathMl tag p ≡ Ok (made (open_space s) h.name h.attrs p)
+  math_by Html e kept c = absurd (cc)
+  math_by Svg e kept c = absurd (cc)
+  math_by MathMl e kept c =
+      entered_back MathMl kept ∙ ap (λ b. one_of b (made spaces.MathMl h.name h.attrs p)) c
+
+-- a name that is read by the rules of HTML has no capitals
+
+not_svg : (a b : Bool) → a ≡ false →
+    capital_tags (if a then Svg else (if b then MathMl else Html)) ≡ []
+not_svg true b h = absurd (false≢true (sym h))
+not_svg false true h = refl
+not_svg false false h = refl
+
+svg_small : (n : List ℕ) → of kind.Svg n ≡ true → lowered n ≡ n
+unfolding of stands_in
+svg_small n h = each_of (λ m. lowered m ≡ m) kind.Svg n (refl, tt) h
+
+pub small_begun : (n : List ℕ) → keeps_case (capital_tags (begun_space n)) n ≡ true →
+    lowered n ≡ n
+small_begun n h = elim (cases_Bool (of kind.Svg n)) [
+  | inl e ↦ svg_small n e
+  | inr e ↦ small_back n (ap (λ names. keeps_case names n)
+      (sym (not_svg (of kind.Svg n) (of kind.Math n) e)) ∙ h)
+]
+
+small_in : (b : Bool) (n : List ℕ) →
+    keeps_case (capital_tags (if b then begun_space n else MathMl)) n ≡ true → lowered n ≡ n
+small_in true n h = small_begun n h
+small_in false n h = small_back n h
+
+-- how it is read does not change in small letters
+pub reading_small : (r : Reading) (n : List ℕ) → keeps_case (capital_tags (space_of r n)) n ≡ true →
+    is_read_as_html r (lowered n) ≡ is_read_as_html r n
+reading_small reading.AsHtml n h = refl
+reading_small reading.AsSvg n h = refl
+reading_small reading.AsMathMl n h = refl
+reading_small reading.AsMathText n h =
+    ap (λ m. not (of kind.Glyph m)) (small_in (not (of kind.Glyph n)) n h)
+reading_small reading.AsAnnotation n h = ap (of kind.Svg) (small_in (of kind.Svg n) n h)
+
+-- the element that it opens by the rules of HTML
+no_svg_in_math : (n : List ℕ) → of kind.Math n ≡ true → of kind.Svg n ≡ false
+unfolding of stands_in
+no_svg_in_math n h = excluded kind.Svg kind.Math n refl h
+
+pub written_opens : (h : Head) (p : Page) (s : Space) → length p.stack < p.limit →
+    s ≡ begun_space h.name → IsKept s h → lowered h.name ≡ h.name →
+    is_foreign_self_closing h.name ≡ false →
+    Opens (written_tag h) p (made (open_space s) h.name h.attrs p)
+written_opens h p s fits is kept small c = record {
+  plain = λ a b. opened_by h p fits s
+      (is ∙ (ap (λ x. if x then Svg else (if of kind.Math h.name then MathMl else Html))
+      (sym (ap (of kind.Svg) small) ∙ a)
+      ∙ ap (λ x. if x then MathMl else Html) (sym (ap (of kind.Math) small) ∙ b))) kept;
+  svg = λ a. svg_by h p fits s
+      (is ∙ ap (λ x. if x then Svg else (if of kind.Math h.name then MathMl else Html))
+      (sym (ap (of kind.Svg) small) ∙ a)) kept c;
+  math = λ a. let m = sym (ap (of kind.Math) small) ∙ a in math_by h p fits s
+      (is ∙ (ap (λ x. if x then Svg else (if of kind.Math h.name then MathMl else Html))
+      (no_svg_in_math h.name m) ∙ ap (λ x. if x then MathMl else Html) m)) kept c;
+}

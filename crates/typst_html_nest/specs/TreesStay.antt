@@ -1,0 +1,69 @@
+-- A tree in which nothing is misnested stays: a parser of pages makes the same tree of its text.
+use Rattle.std.specs.Prelude.{◌≡◌, ℕ, ◌<◌, ◌≤◌, false, [], List, length, Some, Ok}
+use Rattle.html_dom_tree.specs.FrameFree.{ElementIsFrameFree}
+use Rattle.html_dom_tree.specs.PlainTree.{element_normal}
+use Rattle.html_dom_tree.specs.Tree.{Head, NodeView, tag_node, text_node, element_node, frame_node, NodesView, none, node, ElementView}
+use Rattle.html_dom_nest.specs.Misnested.{misnested_nodes}
+use Rattle.typst_html_encode.specs.ExportFaults.{document_faults}
+use Rattle.typst_html_encode.specs.FrameWriters.{Frames}
+use Rattle.typst_html_encode.specs.Reader.{read}
+use Rattle.typst_html_encode.specs.ReadingBack.{ElementIsNamed}
+use Rattle.typst_html_encode.specs.Text.{plain_options, document_text}
+use Rattle.typst_html_parse_names.specs.PageNames.{of}
+use Rattle.typst_html_parse_names.specs.declared.kind.Kind.TheVariants as kind
+use Rattle.typst_html_parse_open.specs.Pages.{Notes, Reads}
+use Rattle.typst_html_parse.specs.PageReading.{page_read}
+use Rattle.typst_html_parse.specs.PageTokens.{most_attrs}
+
+-- what the reader of pages refuses in any tree: a `template`, and more attributes than it keeps
+abbrev pub HeadIsReadable : Head → Type 0
+HeadIsReadable h = (of kind.Template h.name ≡ false) × (length h.attrs ≤ most_attrs)
+
+-- there is none at any depth
+unfoldable mutual
+  pub NodeIsReadable : NodeView → Type 0
+  NodeIsReadable (tag_node t) = Unit {0}
+  NodeIsReadable (text_node s span) = Unit {0}
+  NodeIsReadable (element_node h kids) = HeadIsReadable h × NodesAreReadable kids
+  NodeIsReadable (frame_node f) = Unit {0}
+
+  pub NodesAreReadable : NodesView → Type 0
+  NodesAreReadable none = Unit {0}
+  NodesAreReadable (node n ns) = NodeIsReadable n × NodesAreReadable ns
+
+abbrev pub ElementIsReadable : ElementView → Type 0
+ElementIsReadable e = NodeIsReadable (element_node e.0 e.1)
+
+-- no error was gone over
+abbrev pub no_notes : Notes
+no_notes = record { count = 0; first = [] }
+
+-- what is read is the element, tags dropped and texts joined
+pub record IsReadAs (e : ElementView) (r : Reads (ElementView × Notes)) : Type 0 where
+  pub root : ElementView
+  pub read : r ≡ Ok (root, no_notes)
+  pub same : element_normal root ≡ element_normal e
+
+-- a tree that browsers keep: it can be written, and nothing in it is misnested
+pub record IsKept (frames : Frames) (e : ElementView) : Type 0 where
+  pub named : ElementIsNamed e
+  pub frame_free : ElementIsFrameFree e
+  pub readable : ElementIsReadable e
+  pub clean : document_faults frames plain_options e ≡ []
+  pub nested : misnested_nodes e ≡ []
+
+-- its plain text is read as the tree, where a page may be as deep as browsers let it be
+abbrev pub TreesStay : Type 0
+TreesStay = (frames : Frames) (limit : ℕ) (e : ElementView) → IsKept frames e → 512 < limit →
+    IsReadAs e (page_read limit (document_text frames plain_options e))
+
+-- so both readers, of what is written here and of pages, read the same of it
+pub record IsReadAlike (text : List ℕ) (r : Reads (ElementView × Notes)) : Type 0 where
+  pub root : ElementView
+  pub page : r ≡ Ok (root, no_notes)
+  pub same : read text ≡ Some (element_normal root)
+
+abbrev pub ReadersAgree : Type 0
+ReadersAgree = (frames : Frames) (limit : ℕ) (e : ElementView) → IsKept frames e → 512 < limit →
+    IsReadAlike (document_text frames plain_options e)
+    (page_read limit (document_text frames plain_options e))
