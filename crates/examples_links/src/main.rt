@@ -48,8 +48,9 @@
 //!
 //! With `--json` it is one object. `target` is the page and the fragment, the path that is missing, that of
 //! the file in other case, the id, or what becomes of what is misnested; `link` is the link as it stands
-//! there, and null for what is none. `number` is that of the refusal in the project's guide. Where the system does not give a file or a folder, it is
-//! null, as `line` and `column` are. `pages` counts those that are not read, too.
+//! there, and null for what is none. `number` is that of the refusal in the project's guide. Where the system
+//! does not give a file or a folder, it is null, as `line` and `column` are. `pages` counts those that are not
+//! read, too.
 //!
 //! ```text
 //! {"pages": 5,
