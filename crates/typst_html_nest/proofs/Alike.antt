@@ -141,16 +141,16 @@ pub none_active : (test : List ℕ → Bool) (above : List Ancestor) (os : List 
 none_active test above os s plain h = unreached (nest.is_of test) hides_formatting
     (open_elements.is_of test) (open_elements.is_of (of kind.Marker))
     (λ a o t k e. sym (of_is test a o t) ∙ e) marks_it above os s plain h where
-  marked : (html marker template : Bool) → template ≡ false →
-      (html && (marker || template)) ≡ true → (html && marker) ≡ true
-  marked true true template k e = refl
-  marked true false template k e = absurd (false≢true (sym k ∙ e))
-  marked false marker template k e = absurd (false≢true e)
+      marked : (html marker template : Bool) → template ≡ false →
+          (html && (marker || template)) ≡ true → (html && marker) ≡ true
+      marked true true template k e = refl
+      marked true false template k e = absurd (false≢true (sym k ∙ e))
+      marked false marker template k e = absurd (false≢true e)
 
-  marks_it : (a : Ancestor) (o : OpenElement) → IsAlike a o → of kind.Template a.head.name ≡ false →
-      hides_formatting a ≡ true → open_elements.is_of (of kind.Marker) o ≡ true
-  marks_it a o t k e = of_is (of kind.Marker) a o t ∙ marked (nest.is_html a.space)
-      (of kind.Marker a.head.name) (of kind.Template a.head.name) k e
+      marks_it : (a : Ancestor) (o : OpenElement) → IsAlike a o → of kind.Template a.head.name ≡ false →
+          hides_formatting a ≡ true → open_elements.is_of (of kind.Marker) o ≡ true
+      marks_it a o t k e = of_is (of kind.Marker) a o t ∙ marked (nest.is_html a.space)
+          (of kind.Marker a.head.name) (of kind.Template a.head.name) k e
 
 -- any open element
 pub none_open : (test : List ℕ → Bool) (above : List Ancestor) (os : List OpenElement) →
@@ -159,9 +159,9 @@ pub none_open : (test : List ℕ → Bool) (above : List Ancestor) (os : List Op
 none_open test above os s plain h = unreached (nest.is_of test) is_template
     (open_elements.is_of test) (λ o. false) (λ a o t k e. sym (of_is test a o t) ∙ e)
     unbound above os s plain h where
-  unbound : (a : Ancestor) (o : OpenElement) → IsAlike a o → of kind.Template a.head.name ≡ false →
-      is_template a ≡ true → false ≡ true
-  unbound a o t k e = sym k ∙ (and_parts (nest.is_html a.space) (of kind.Template a.head.name) e).1
+      unbound : (a : Ancestor) (o : OpenElement) → IsAlike a o → of kind.Template a.head.name ≡ false →
+          is_template a ≡ true → false ≡ true
+      unbound a o t k e = sym k ∙ (and_parts (nest.is_html a.space) (of kind.Template a.head.name) e).1
 
 -- an item
 pub none_item : (test : List ℕ → Bool) (above : List Ancestor) (os : List OpenElement) →
@@ -170,27 +170,27 @@ pub none_item : (test : List ℕ → Bool) (above : List Ancestor) (os : List Op
 none_item test above os s plain h = unreached (nest.is_of test) nest.bounds_item
     (open_elements.is_of test) open_elements.bounds_item (λ a o t k e. sym (of_is test a o t) ∙ e)
     bounded above os s plain h where
-  -- by its space, and whether its name is special, passed, or `search`
-  bounds_it : (sp : Space) (special passed search : Bool) (name : List ℕ) →
-      ((nest.is_html sp && (special && not passed && not search)) || is_point sp name) ≡ true →
-      (((nest.is_html sp && special) || is_point sp name) && not (nest.is_html sp && passed)) ≡ true
-  bounds_it Html true false search name e = refl
-  bounds_it Html false passed search name e = absurd (false≢true e)
-  bounds_it Html true true search name e = absurd (false≢true e)
-  bounds_it Svg special passed search name e = ap (λ b. b && true) e
-  bounds_it MathMl special passed search name e = ap (λ b. b && true) e
+      -- by its space, and whether its name is special, passed, or `search`
+      bounds_it : (sp : Space) (special passed search : Bool) (name : List ℕ) →
+          ((nest.is_html sp && (special && not passed && not search)) || is_point sp name) ≡ true →
+          (((nest.is_html sp && special) || is_point sp name) && not (nest.is_html sp && passed)) ≡ true
+      bounds_it Html true false search name e = refl
+      bounds_it Html false passed search name e = absurd (false≢true e)
+      bounds_it Html true true search name e = absurd (false≢true e)
+      bounds_it Svg special passed search name e = ap (λ b. b && true) e
+      bounds_it MathMl special passed search name e = ap (λ b. b && true) e
 
-  bounded : (a : Ancestor) (o : OpenElement) → IsAlike a o → of kind.Template a.head.name ≡ false →
-      nest.bounds_item a ≡ true → open_elements.bounds_item o ≡ true
-  bounded a o t k e =
-      ap (λ b. (b || is_foreign_bound o.space o.head.name)
-      && not (open_elements.is_of (of kind.PassedByItems) o)) (of_is (of kind.Special) a o t)
-      ∙ (ap (λ b. (nest.is_of (of kind.Special) a || b)
-      && not (open_elements.is_of (of kind.PassedByItems) o)) (point_is a o t)
-      ∙ (ap (λ b. (nest.is_of (of kind.Special) a || is_point a.space a.head.name) && not b)
-      (of_is (of kind.PassedByItems) a o t)
-      ∙ bounds_it a.space (of kind.Special a.head.name) (of kind.PassedByItems a.head.name)
-      (nest.is_search a.head.name) a.head.name e))
+      bounded : (a : Ancestor) (o : OpenElement) → IsAlike a o → of kind.Template a.head.name ≡ false →
+          nest.bounds_item a ≡ true → open_elements.bounds_item o ≡ true
+      bounded a o t k e =
+          ap (λ b. (b || is_foreign_bound o.space o.head.name)
+          && not (open_elements.is_of (of kind.PassedByItems) o)) (of_is (of kind.Special) a o t)
+          ∙ (ap (λ b. (nest.is_of (of kind.Special) a || b)
+          && not (open_elements.is_of (of kind.PassedByItems) o)) (point_is a o t)
+          ∙ (ap (λ b. (nest.is_of (of kind.Special) a || is_point a.space a.head.name) && not b)
+          (of_is (of kind.PassedByItems) a o t)
+          ∙ bounds_it a.space (of kind.Special a.head.name) (of kind.PassedByItems a.head.name)
+          (nest.is_search a.head.name) a.head.name e))
 
 -- how what stands there is read
 
@@ -351,14 +351,35 @@ module _ (m : Mode) (below : List OpenElement) where
   of_none n a b c d e f g h = absurd (none-some m (rw (a, b, c, d, e, f, g) at h))
 
   brings : (n : List ℕ) → Brings n
-  brings n = elim (cases_Bool (of kind.Html n)) [ | inl h ↦ of_html n h | inr a ↦
-      elim (cases_Bool (of kind.Head n)) [ | inl h ↦ of_head n h | inr b ↦
-      elim (cases_Bool (of kind.Noscript n)) [ | inl h ↦ of_noscript n h | inr c ↦
-      elim (cases_Bool (of kind.Table n)) [ | inl h ↦ of_table n h | inr d ↦
-      elim (cases_Bool (of kind.Section n)) [ | inl h ↦ of_section n h | inr e ↦
-      elim (cases_Bool (of kind.Tr n)) [ | inl h ↦ of_row n h | inr f ↦
-      elim (cases_Bool (of kind.Colgroup n)) [ | inl h ↦ of_columns n h | inr g ↦
-      of_none n a b c d e f g ] ] ] ] ] ] ]
+  brings n = elim (cases_Bool (of kind.Html n)) [
+    | inl h ↦ of_html n h
+    | inr a ↦
+        elim (cases_Bool (of kind.Head n)) [
+          | inl h ↦ of_head n h
+          | inr b ↦
+              elim (cases_Bool (of kind.Noscript n)) [
+                | inl h ↦ of_noscript n h
+                | inr c ↦
+                    elim (cases_Bool (of kind.Table n)) [
+                      | inl h ↦ of_table n h
+                      | inr d ↦
+                          elim (cases_Bool (of kind.Section n)) [
+                            | inl h ↦ of_section n h
+                            | inr e ↦
+                                elim (cases_Bool (of kind.Tr n)) [
+                                  | inl h ↦ of_row n h
+                                  | inr f ↦
+                                      elim (cases_Bool (of kind.Colgroup n)) [
+                                        | inl h ↦ of_columns n h
+                                        | inr g ↦
+                                            of_none n a b c d e f g
+                                      ]
+                                ]
+                          ]
+                    ]
+              ]
+        ]
+  ]
 
 html_in : (m : Mode) (s : Space) (b : Bool) (n : List ℕ) → mode_in (place_inside b s n) ≡ Some m →
     nest.is_html s ≡ true

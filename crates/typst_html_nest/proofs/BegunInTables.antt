@@ -76,9 +76,9 @@ module _ (tag : StartTag) (p q : Page) (ops : Opens tag p q)
   head_taken h =
       elim (or_cases (of kind.HeadContent n || of kind.Noscript n) (of kind.Template n) h) [
         | inl e ↦ elim (or_cases (of kind.HeadContent n) (of kind.Noscript n) e) [
-            | inl c ↦ head_content c ∙ content_begun c
-            | inr c ↦ head_noscript c ∙ whole_begun (noscript_whole c)
-          ]
+          | inl c ↦ head_content c ∙ content_begun c
+          | inr c ↦ head_noscript c ∙ whole_begun (noscript_whole c)
+        ]
         | inr e ↦ absurd (false≢true (sym plain ∙ e))
       ]
 
@@ -143,15 +143,15 @@ module _ (tag : StartTag) (p q : Page) (ops : Opens tag p q)
   pub table_taken : has_place place.Table n ≡ true → in_table (Start tag) p ≡ result
   table_taken h = elim (or_cases (of kind.Caption n || of kind.Colgroup n || of kind.Section n)
       (is_in_tables n) h) [
-    | inl e ↦ elim (or_cases (of kind.Caption n || of kind.Colgroup n) (of kind.Section n) e) [
-        | inl f ↦ elim (or_cases (of kind.Caption n) (of kind.Colgroup n) f) [
+        | inl e ↦ elim (or_cases (of kind.Caption n || of kind.Colgroup n) (of kind.Section n) e) [
+          | inl f ↦ elim (or_cases (of kind.Caption n) (of kind.Colgroup n) f) [
             | inl g ↦ table_caption g ∙ whole_begun (caption_whole g)
             | inr g ↦ table_columns g ∙ whole_begun (columns_whole g)
           ]
-        | inr f ↦ table_section f ∙ whole_begun (section_whole f)
+          | inr f ↦ table_section f ∙ whole_begun (section_whole f)
+        ]
+        | inr e ↦ let s = in_tables n plain e in table_script s ∙ content_begun (script_in_head s)
       ]
-    | inr e ↦ let s = in_tables n plain e in table_script s ∙ content_begun (script_in_head s)
-  ]
 
   abbrev InSection : List ℕ → Type 0
   InSection m = in_section (Start (with_name m)) p ≡ taken (head_element (with_name m) p)

@@ -28,10 +28,10 @@ pub marks_hold_none : (name : List ℕ) (os : List OpenElement) → is_lost name
 marks_hold_none name [] = refl
 marks_hold_none name (o ∷ os) =
     by_mark (is_of (of kind.Marker) o) (marks os) (marks_hold_none name os) where
-  by_mark : (b : Bool) (ls : List (Option (List ℕ))) → is_lost name ls ≡ false →
-      is_lost name (if b then None ∷ ls else ls) ≡ false
-  by_mark true ls h = refl
-  by_mark false ls h = h
+      by_mark : (b : Bool) (ls : List (Option (List ℕ))) → is_lost name ls ≡ false →
+          is_lost name (if b then None ∷ ls else ls) ≡ false
+      by_mark true ls h = refl
+      by_mark false ls h = h
 
 -- the current node is closed by its own end tag, which takes its mark with it
 lost_by : (marker formatting : Bool) (x : Option (List ℕ)) (ls : List (Option (List ℕ))) →
@@ -96,8 +96,10 @@ marks_text (c ∷ cs) (o ∷ os) = refl
 pub calm_begun : (above : List Ancestor) (h : Head) (p : Page) → IsCalm above p →
     of kind.Template h.name ≡ false → IsCalm (ancestor h above ∷ above) (begun h above p)
 calm_begun above h p c t = record {
-  alike = (record { name = refl; attrs = refl; space = refl },
-      alike_text p.text above p.stack c.alike);
+  alike = (
+    record { name = refl; attrs = refl; space = refl },
+    alike_text p.text above p.stack c.alike,
+  );
   lost = ap (λ l. if is_of (of kind.Marker) (begun_element h above p.start) then None ∷ l else l)
       (c.lost ∙ sym (marks_text p.text p.stack));
   tables = c.tables;

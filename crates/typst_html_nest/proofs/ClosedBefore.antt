@@ -66,9 +66,9 @@ pub none_same_open : (k : Kind) (n : List ℕ) (above : List Ancestor) (os : Lis
 none_same_open k n above os it s plain h =
     unreached (nest.is_of (of k)) is_template (elements.is_of (is n)) (λ o. false)
     (λ a o t e i. same_kind k n a o it t i) unbound above os s plain h where
-  unbound : (a : Ancestor) (o : OpenElement) → IsAlike a o → of kind.Template a.head.name ≡ false →
-      is_template a ≡ true → false ≡ true
-  unbound a o t k e = sym k ∙ (and_parts (nest.is_html a.space) (of kind.Template a.head.name) e).1
+      unbound : (a : Ancestor) (o : OpenElement) → IsAlike a o → of kind.Template a.head.name ≡ false →
+          is_template a ≡ true → false ≡ true
+      unbound a o t k e = sym k ∙ (and_parts (nest.is_html a.space) (of kind.Template a.head.name) e).1
 
 -- what a start tag would close, and does not
 pub record ClosesNone (n : List ℕ) (around : Surroundings) : Type 0 where
@@ -90,8 +90,15 @@ closes_none n around h =
     let e = if_none (closes_option n around) why.ClosesOption _ d.1 in
     let f = if_none (of kind.Input n && around.open_elements.select) why.ClosesSelect _ e.1 in
     let g = if_none (closes_ruby_part n around) why.ClosesRubyPart None f.1 in
-    record { paragraph = a.0; heading = b.0; item = c.0; same = d.0; option = e.0; input = f.0;
-    ruby = g.0 }
+    record {
+      paragraph = a.0;
+      heading = b.0;
+      item = c.0;
+      same = d.0;
+      option = e.0;
+      input = f.0;
+      ruby = g.0;
+    }
 
 -- names whose start tags close a `p`
 module _ (n : List ℕ) where

@@ -171,18 +171,18 @@ module _ (p : Page) (o : OpenElement) (os : List OpenElement) (html : is_html o.
       (in_scope scope.General (is n) q.stack) (is_near (is n) q.stack) l
       (reached (is n) (is_of (of kind.Marker)) named) (reached (is n) (bounds scope.General) named)
       (reached (is n) is_special named) where
-    adopted_by : (lost active scoped near : Bool) → lost ≡ false → active ≡ true →
-        scoped ≡ true → near ≡ true → (if lost
-        then Ok (noted error.EndTagOfClosedElement (record q { lost = without_lost n q.lost }))
-        else (if not active then other_closed n q
-        else (if not scoped then Ok (noted error.EndTagWithoutStart q)
-        else (if not near then refused refusal.AdoptionAgency q
-        else closed_to (is n) told)))) ≡ closed true q
-    adopted_by false true true true a b c d = closed_last
-    adopted_by true active scoped near a b c d = absurd (false≢true (sym a))
-    adopted_by false false scoped near a b c d = absurd (false≢true b)
-    adopted_by false true false near a b c d = absurd (false≢true c)
-    adopted_by false true true false a b c d = absurd (false≢true d)
+        adopted_by : (lost active scoped near : Bool) → lost ≡ false → active ≡ true →
+            scoped ≡ true → near ≡ true → (if lost
+            then Ok (noted error.EndTagOfClosedElement (record q { lost = without_lost n q.lost }))
+            else (if not active then other_closed n q
+            else (if not scoped then Ok (noted error.EndTagWithoutStart q)
+            else (if not near then refused refusal.AdoptionAgency q
+            else closed_to (is n) told)))) ≡ closed true q
+        adopted_by false true true true a b c d = closed_last
+        adopted_by true active scoped near a b c d = absurd (false≢true (sym a))
+        adopted_by false false scoped near a b c d = absurd (false≢true b)
+        adopted_by false true false near a b c d = absurd (false≢true c)
+        adopted_by false true true false a b c d = absurd (false≢true d)
 
   end_element : is_lost n p.lost ≡ false → element_ended n q ≡ closed true q
   end_element l =

@@ -304,9 +304,9 @@ module _ (frames : Frames) (level : ℕ) (above : List Ancestor) (h : Head) (kid
     no_feed : is_fed h kids ≡ false → drops ≡ true → begin_with_feed kids ≡ false
     no_feed e d = elim (or_cases (drops_feed h.name) (is_listing h.name)
         (feed_dropped h.name (it_drops d))) [
-      | inl k ↦ feed_less kids (both_no (drops_feed h.name) (begins_with_feed kids) e k)
-      | inr k ↦ fits.listing k
-    ]
+          | inl k ↦ feed_less kids (both_no (drops_feed h.name) (begins_with_feed kids) e k)
+          | inr k ↦ fits.listing k
+        ]
 
     pub html_filled : of kind.Raw h.name ≡ false → is_raw h.name ≡ false →
         is_escapable_raw h.name ≡ false → KidsAreGathered frames level kids page it outer →

@@ -425,13 +425,13 @@ pub nodes_lead : (frames : Frames) (ns : NodesView) (pre_span due : Bool) (level
 unfolding node_text nodes_text node_faults nodes_faults NodeIsFrameFree NodesAreFrameFree
 nodes_lead frames none pre_span due level above p o os fresh place c t s there f clean first =
     record {
-  children = c;
-  words = t;
-  place = place;
-  start = s;
-  is = refl;
-  same = λ k. refl;
-}
+      children = c;
+      words = t;
+      place = place;
+      start = s;
+      is = refl;
+      same = λ k. refl;
+    }
 nodes_lead frames (node (tag_node m) ns) pre_span due level above p o os fresh place c t s there f
     clean first =
     let g = nodes_lead frames ns pre_span due level above p o os fresh place c t s there

@@ -194,7 +194,7 @@ clean_end a b since k h (inl e) m =
 clean_end a b since k h (inr r) m =
     let far : length (a ++ b) - k ≡ length a + (length b - k) = omega (arith, length-append a b) in
     let rest : drop (length (a ++ b) - k) (a ++ b) ≡ drop (length b - k) b =
-        ap (λ n. drop n (a ++ b)) far ∙ drop-append-add a b (length b - k) in
+    ap (λ n. drop n (a ++ b)) far ∙ drop-append-add a b (length b - k) in
     ap (all is_not_less) rest ∙ clean_drop (length b - k) b h
 
 not_within : (name a b : List ℕ) (since : ℕ) → all is_not_less b ≡ true → Reach a b since →
@@ -243,15 +243,15 @@ no_comment x c cs h =
     let y = drop n x in
     let dash : c ≡ 45 = eqb-true c 45 both.0 in
     let word : map to_ascii_lowercase y ≡ 60 ∷ 33 ∷ 45 ∷ [] =
-        (bytes_eq-Decides (map to_ascii_lowercase y) (codes "<!-")).0 both.1 in
+    (bytes_eq-Decides (map to_ascii_lowercase y) (codes "<!-")).0 both.1 in
     let same : y ≡ 60 ∷ 33 ∷ 45 ∷ [] = own_word y word in
     let split : (x ++ c ∷ cs) ≡ a ++ (60 ∷ 33 ∷ 45 ∷ 45 ∷ cs) =
-        ap (λ t. t ++ c ∷ cs) (sym (take-append-drop n x)) ∙ (append_assoc a y (c ∷ cs)
-        ∙ (λ i. a ++ (same i ++ dash i ∷ cs))) in
+    ap (λ t. t ++ c ∷ cs) (sym (take-append-drop n x)) ∙ (append_assoc a y (c ∷ cs)
+    ∙ (λ i. a ++ (same i ++ dash i ∷ cs))) in
     let all_of_it : fold state_behind state.Data (x ++ c ∷ cs) ≡ state.Escaped =
-        ap (fold state_behind state.Data) split
-        ∙ (fold-append state_behind state.Data a (60 ∷ 33 ∷ 45 ∷ 45 ∷ cs)
-        ∙ escapes (fold state_behind state.Data a) cs) in
+    ap (fold state_behind state.Data) split
+    ∙ (fold-append state_behind state.Data a (60 ∷ 33 ∷ 45 ∷ 45 ∷ cs)
+    ∙ escapes (fold state_behind state.Data a) cs) in
     false≢true (sym h ∙ ap is_escaped all_of_it))
 
 -- a page whose current element is one of HTML of that name
@@ -322,9 +322,9 @@ module _ (name : List ℕ) (p : Page) (within : IsWithin name p) (takes : Takes 
       let e0 : eqb c 0 ≡ false = ne_eqb c 0 (λ e. omega (arith, positive, e)) in
       let e10 : (eqb c 10 && false) ≡ false = and_false (eqb c 10) in
       let ended : ended_name p.stack 0 since text c ≡ None =
-          ap (λ o. ended_of o 0 since text c) within.current ∙ none in
+      ap (λ o. ended_of o 0 since text c) within.current ∙ none in
       let reference : (eqb c 38 && is_at (of kind.EscapableRaw) p.stack) ≡ false =
-          ap (λ b. eqb c 38 && b) within.escapable ∙ plain in
+      ap (λ b. eqb c 38 && b) within.escapable ∙ plain in
       let depth : depth_behind 0 (texted text p.start p) c ≡ 0 = depth_stays text c shallow in
       let taken = takes c text p.start refl in
       rw (e0, e10, n, ended, reference, kept, taken, depth) refl
@@ -370,22 +370,22 @@ module _ (name : List ℕ) (p : Page) (within : IsWithin name p) (takes : Takes 
       let k = length (closing name) in
       let x : List ℕ = s ++ (codes "</" ++ name) in
       let long : length x - k ≡ length s =
-          omega (arith, length-append s (codes "</" ++ name), length-map name to_ascii_lowercase) in
+      omega (arith, length-append s (codes "</" ++ name), length-map name to_ascii_lowercase) in
       let cut : drop (length x - k) x ≡ codes "</" ++ name =
-          ap (λ n. drop n x) long ∙ drop_at s (codes "</" ++ name) (length s) refl in
+      ap (λ n. drop n x) long ∙ drop_at s (codes "</" ++ name) (length s) refl in
       let front : before_closing name x ≡ s =
-          ap (λ n. take n x) long ∙ take_at s (codes "</" ++ name) (length s) refl in
+      ap (λ n. take n x) long ∙ take_at s (codes "</" ++ name) (length s) refl in
       let ends : ends_closing name x ≡ true =
-          (bytes_eq-Decides (map to_ascii_lowercase (drop (length x - k) x)) (closing name)).1
-          (ap (map to_ascii_lowercase) cut) in
+      (bytes_eq-Decides (map to_ascii_lowercase (drop (length x - k) x)) (closing name)).1
+      (ap (map to_ascii_lowercase) cut) in
       let may : may_end name 0 since ≡ true = le-leb k since enough in
       let raw : ends_raw name x 62 ≡ true =
-          and_from (is_tag_end 62) (ends_closing name x) tag_ends.2 ends in
+      and_from (is_tag_end 62) (ends_closing name x) tag_ends.2 ends in
       let both : (may_end name 0 since && ends_raw name x 62) ≡ true =
-          and_from (may_end name 0 since) (ends_raw name x 62) may raw in
+      and_from (may_end name 0 since) (ends_raw name x 62) may raw in
       let ended : ended_name p.stack 0 since x 62 ≡ Some name =
-          ap (λ o. ended_of o 0 since x 62) within.current
-          ∙ ap (λ b. if b then Some name else None) both in
+      ap (λ o. ended_of o 0 since x 62) within.current
+      ∙ ap (λ b. if b then Some name else None) both in
       rw (ended, front, named, e) refl
 
   -- an end tag behind the text
@@ -398,20 +398,20 @@ module _ (name : List ℕ) (p : Page) (within : IsWithin name p) (takes : Takes 
       let few : length name ≤ 8 = leb-true (length name) 8 first.1 in
       let some : 0 < length name = ltb-true 0 (length name) both.1 in
       let less = raw_one fresh since place s 60 (omega arith) refl (and_false fresh)
-          (not_ended since s 60 (and_left (is_tag_end 60) (ends_closing name s) tag_ends.1)) refl
-          (λ e. refl) in
+      (not_ended since s 60 (and_left (is_tag_end 60) (ends_closing name s) tag_ends.1)) refl
+      (λ e. refl) in
       let early = and_right (is_tag_end 47) (ends_closing name (s ++ 60 ∷ []))
-          (no_end_at_less name s both.0) in
+      (no_end_at_less name s both.0) in
       let slash = raw_one false (min (since + 1) 255) (place + 1) (s ++ 60 ∷ []) 47 (omega arith)
-          refl refl (not_ended (min (since + 1) 255) (s ++ 60 ∷ []) 47 early) refl (λ e. refl) in
+      refl refl (not_ended (min (since + 1) 255) (s ++ 60 ∷ []) 47 early) refl (λ e. refl) in
       let named = name_read (min (min (since + 1) 255 + 1) 255) (place + 1 + 1)
-          ((s ++ 60 ∷ []) ++ 47 ∷ []) name both.0 in
+      ((s ++ 60 ∷ []) ++ 47 ∷ []) name both.0 in
       let text_is : ((s ++ 60 ∷ []) ++ 47 ∷ []) ++ name ≡ s ++ (codes "</" ++ name) =
-          append_assoc (s ++ 60 ∷ []) (47 ∷ []) name ∙ append_assoc s (60 ∷ []) (47 ∷ name) in
+      append_assoc (s ++ 60 ∷ []) (47 ∷ []) name ∙ append_assoc s (60 ∷ []) (47 ∷ name) in
       let long : length (closing name) ≤ named.since =
-          named.enough (length (closing name))
-          (omega (arith, few, length-map name to_ascii_lowercase))
-          (omega (arith, length-map name to_ascii_lowercase)) in
+      named.enough (length (closing name))
+      (omega (arith, few, length-map name to_ascii_lowercase))
+      (omega (arith, length-map name to_ascii_lowercase)) in
       record {
         start = p.start;
         place = named.place;
@@ -450,15 +450,15 @@ module _ (name : List ℕ) (p : Page) (within : IsWithin name p) (takes : Takes 
       let both = and_parts (is_text_char c) (all is_text_char cs) good in
       let no = or_parts (is_return c) (has_return cs) n in
       let here : (is_tag_end c && ends_closing name x) ≡ false =
-          false_from_ne_true _ (λ e. let ends = and_parts (is_tag_end c) (ends_closing name x) e in
-          false≢true (sym closes ∙ ends_holds name x c cs ends.0 ends.1)) in
+      false_from_ne_true _ (λ e. let ends = and_parts (is_tag_end c) (ends_closing name x) e in
+      false≢true (sym closes ∙ ends_holds name x c cs ends.0 ends.1)) in
       let one = raw_one false since place x c (text_positive c both.0) no.0 refl
-          (not_ended since x c here) (and_right (eqb c 38) (of kind.EscapableRaw name) raw)
-          (λ s. no_comment x c cs (comment s)) in
+      (not_ended since x c here) (and_right (eqb c 38) (of kind.EscapableRaw name) raw)
+      (λ s. no_comment x c cs (comment s)) in
       let joined = append_assoc x (c ∷ []) cs in
       let more = raw_more (min (since + 1) 255) (place + len_utf8 c) (x ++ c ∷ []) cs raw both.1
-          no.1 (ap (holds_closing name) joined ∙ closes)
-          (λ s. ap (λ t. is_escaped (fold state_behind state.Data t)) joined ∙ comment s) in
+      no.1 (ap (holds_closing name) joined ∙ closes)
+      (λ s. ap (λ t. is_escaped (fold state_behind state.Data t)) joined ∙ comment s) in
       record {
         fresh = more.fresh;
         since = more.since;
@@ -498,8 +498,8 @@ module _ (name : List ℕ) (p : Page) (within : IsWithin name p) (takes : Takes 
   escaped_plain escapable fresh since place a b c clean reach plain good n kept =
       let e = is_plain_text_char c plain in
       let one = raw_one fresh since place (a ++ b) c (text_positive c good) n kept
-          (no_early since a b c clean reach) (and_left (eqb c 38) (of kind.EscapableRaw name) e.0)
-          (λ s. absurd (not_both (of kind.Script name) (no_script name escapable) s)) in
+      (no_early since a b c clean reach) (and_left (eqb c 38) (of kind.EscapableRaw name) e.0)
+      (λ s. absurd (not_both (of kind.Script name) (no_script name escapable) s)) in
       record {
         since = min (since + 1) 255;
         place = place + len_utf8 c;
@@ -518,19 +518,19 @@ module _ (name : List ℕ) (p : Page) (within : IsWithin name p) (takes : Takes 
       (fresh && eqb c 10) ≡ false → Escaped (raw_in fresh since place x p) (reference_to c) (x ++ c ∷ [])
   escaped_reference escapable fresh since place x c good n kept =
       let ended : ended_name p.stack 0 since x 38 ≡ None =
-          ap (λ o. ended_of o 0 since x 38) within.current ∙ not_ended since x 38
-          (and_left (is_tag_end 38) (ends_closing name x) tag_ends.3) in
+      ap (λ o. ended_of o 0 since x 38) within.current ∙ not_ended since x 38
+      (and_left (is_tag_end 38) (ends_closing name x) tag_ends.3) in
       let is_escapable : is_at (of kind.EscapableRaw) p.stack ≡ true =
-          within.escapable ∙ escapable in
+      within.escapable ∙ escapable in
       let begun : step (raw_in fresh since place x p) 38 ≡ Ok (record {
-            state = Reference [] (Raw 0 since);
-            reading = reading_at fresh (place + 1) (texted x p.start p);
-          }) = rw (ended, is_escapable) refl in
+        state = Reference [] (Raw 0 since);
+        reading = reading_at fresh (place + 1) (texted x p.start p);
+      }) = rw (ended, is_escapable) refl in
       let taken = takes c x p.start refl in
       let read = reference_leads (Raw 0 since) (raw_in fresh since place x p) fresh (place + 1)
-          (texted x p.start p) c good n begun in
+      (texted x p.start p) c good n begun in
       let done : run (raw_in fresh since place x p) (reference_to c)
-          ≡ Ok (raw_in false 0 (read.0 + 1) (x ++ c ∷ []) p) = read.1 ∙ rw (kept, taken) refl in
+      ≡ Ok (raw_in false 0 (read.0 + 1) (x ++ c ∷ []) p) = read.1 ∙ rw (kept, taken) refl in
       record {
         since = 0;
         place = read.0 + 1;
@@ -569,11 +569,11 @@ module _ (name : List ℕ) (p : Page) (within : IsWithin name p) (takes : Takes 
       let both = and_parts (is_text_char c) (all is_text_char cs) good in
       let no = or_parts (is_return c) (has_return cs) n in
       let one = escaped_one escapable fresh since place a b c clean reach both.0 no.0
-          (not_dropped fresh c cs kept) in
+      (not_dropped fresh c cs kept) in
       let more = escaped_more escapable false one.since one.place one.a one.b cs one.clean one.reach
-          both.1 no.1 (nothing_dropped cs) in
+      both.1 no.1 (nothing_dropped cs) in
       let joined : (one.a ++ one.b) ++ cs ≡ (a ++ b) ++ (c ∷ cs) =
-          ap (λ t. t ++ cs) one.split ∙ append_assoc (a ++ b) (c ∷ []) cs in
+      ap (λ t. t ++ cs) one.split ∙ append_assoc (a ++ b) (c ∷ []) cs in
       record {
         fresh = more.fresh;
         since = more.since;
@@ -589,10 +589,10 @@ module _ (name : List ℕ) (p : Page) (within : IsWithin name p) (takes : Takes 
       step (raw_in true 0 place [] p) 10 ≡ Ok (raw_in false 1 (place + 1) [] p)
   feed_read escapable place =
       let ended : ended_name p.stack 0 0 [] 10 ≡ None =
-          ap (λ o. ended_of o 0 0 [] 10) within.current ∙ no_early 0 [] [] 10 refl (inl refl) in
+      ap (λ o. ended_of o 0 0 [] 10) within.current ∙ no_early 0 [] [] 10 refl (inl refl) in
       let depth : depth_behind 0 (texted [] p.start p) 10 ≡ 0 =
-          depth_stays [] 10
-          (λ s. absurd (not_both (of kind.Script name) (no_script name escapable) s)) in
+      depth_stays [] 10
+      (λ s. absurd (not_both (of kind.Script name) (no_script name escapable) s)) in
       rw (ended, depth) refl
 
   escaped_emits : of kind.EscapableRaw name ≡ true → is_short_name name ≡ true →

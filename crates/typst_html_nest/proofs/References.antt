@@ -140,9 +140,12 @@ by_number : (c : ℕ) → is_text_char c ≡ true → is_return c ≡ false → 
 by_number c h n e =
     let small = scalar_fits c (text_scalar c h) in
     let ds = digits 16 false c in
-    let k = digits_is_IsNumeral 16 false (omega arith) (omega arith) c (omega arith) in
-    (35 ∷ 120 ∷ ds, e ∙ numeric_is c, digits_continue [] ds k.0.1,
-    λ v. number_resolved v ds c k.0.0 k.1 h n)
+    let k = digits_is_IsNumeral 16 false (omega arith) (omega arith) c (omega arith) in (
+      35 ∷ 120 ∷ ds,
+      e ∙ numeric_is c,
+      digits_continue [] ds k.0.1,
+      λ v. number_resolved v ds c k.0.0 k.1 h n,
+    )
 
 spelled : (c : ℕ) → is_text_char c ≡ true → is_return c ≡ false → Spelled c
 spelled c h n =
@@ -156,13 +159,19 @@ spelled c h n =
           | inl e ↦ by_name c 62 e
               (codes "gt", refl, refl, λ v. named_resolved v 103 (codes "t") 62 refl gt_named)
           | inr e62 ↦ elim (cases_Bool (eqb c 34)) [
-            | inl e ↦ by_name c 34 e
-                (codes "quot", refl, refl,
-                λ v. named_resolved v 113 (codes "uot") 34 refl quot_named)
+            | inl e ↦ by_name c 34 e (
+              codes "quot",
+              refl,
+              refl,
+              λ v. named_resolved v 113 (codes "uot") 34 refl quot_named,
+            )
             | inr e34 ↦ elim (cases_Bool (eqb c 39)) [
-              | inl e ↦ by_name c 39 e
-                  (codes "apos", refl, refl,
-                  λ v. named_resolved v 97 (codes "pos") 39 refl apos_named)
+              | inl e ↦ by_name c 39 e (
+                codes "apos",
+                refl,
+                refl,
+                λ v. named_resolved v 97 (codes "pos") 39 refl apos_named,
+              )
               | inr e39 ↦ by_number c h n (rw (e38, e60, e62, e34, e39) refl)
             ]
           ]
@@ -218,9 +227,11 @@ module _ (s : TokenState) (fresh : Bool) (p : Page) where
       let both = and_parts (is_inner c && continues since c)
       (all_continue (since ++ c ∷ []) cs) h in
       let here = and_parts (is_inner c) (continues since c) both.0 in
-      let more = many_since (since ++ c ∷ []) cs (place + len_utf8 c) both.1 in
-      (more.0, ap (λ r. r next (λ q. run q cs)) (one_since since place c here.0 here.1)
-      ∙ (more.1 ∙ ap (λ l. Ok (since_at l more.0)) (append_assoc since (c ∷ []) cs)))
+      let more = many_since (since ++ c ∷ []) cs (place + len_utf8 c) both.1 in (
+        more.0,
+        ap (λ r. r next (λ q. run q cs)) (one_since since place c here.0 here.1)
+            ∙ (more.1 ∙ ap (λ l. Ok (since_at l more.0)) (append_assoc since (c ∷ []) cs)),
+      )
 
   end_since : (since : List ℕ) (place c : ℕ) → ((v : Bool) → resolved v since (Some 59) ≡ whole c) →
       step (since_at since place) 59
@@ -245,11 +256,13 @@ reference_leads s q fresh place p c h n start =
     let last : run (since_at s fresh p x.0 more.0) (59 ∷ [])
     ≡ ((reference_read (c ∷ []) s (reading_at fresh more.0 p))
     next (λ r. Ok (past_char 59 more.0 r))) =
-    last_step (step (since_at s fresh p x.0 more.0) 59) ∙ end_since s fresh p x.0 more.0 c x.3 in
-    (more.0, ap (run q) x.1
-    ∙ (ap (λ r. r next (λ t. run t (x.0 ++ 59 ∷ []))) start
-    ∙ run_on (since_at s fresh p [] place) (since_at s fresh p x.0 more.0) _ x.0 (59 ∷ [])
-    more.1 last))
+    last_step (step (since_at s fresh p x.0 more.0) 59) ∙ end_since s fresh p x.0 more.0 c x.3 in (
+      more.0,
+      ap (run q) x.1
+          ∙ (ap (λ r. r next (λ t. run t (x.0 ++ 59 ∷ []))) start
+          ∙ run_on (since_at s fresh p [] place) (since_at s fresh p x.0 more.0) _ x.0 (59 ∷ [])
+          more.1 last),
+    )
 
 -- within the quotes of a value
 abbrev pub value_at : TagDraft → (attr value : List ℕ) (fresh : Bool) (place : ℕ) → Page →

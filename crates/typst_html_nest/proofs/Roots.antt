@@ -277,23 +277,25 @@ module _ (frames : Frames) (level : ℕ) (above : List Ancestor) (h : Head) (kid
     head_read there named name =
         let filled = part_filled frames level above h kids part f values inner.as_html
         (page at_start)
-        (it at_start) (outer at_start) there content (begins.place + 1) at_start in
-        (element_closed above h p o [] c t at_start (data_at false place (on p o [] c t s))
-        (data_at false (begins.place + 1) (page at_start)) (rest frames level h kids) kids
-        inner.lost
-        (calm_page at_start).lost begun_there filled
-        (λ children words start. one_turn (End (lowered h.name))
-        (on (page at_start) (it at_start) (outer at_start) children words start) InHead
-        (closed true (on (page at_start) (it at_start) (outer at_start) children words start))
-        (calm_page at_start).tables (ended (record (it at_start) { children = children })
-        (html_it at_start))
-        (head_mode (record (it at_start) { children = children }) (outer at_start) name
-        (html_it at_start))
-        (rw named refl)), element_counts (texted_children o.head.span c t) (it at_start).head
-        (texted_children at_start filled.children filled.words)) where
-      ended : (x : OpenElement) → x.space ≡ spaces.Html →
-          is_foreign_token (End (lowered h.name)) (x ∷ outer at_start) ≡ false
-      ended x e = rw e refl
+        (it at_start) (outer at_start) there content (begins.place + 1) at_start in (
+          element_closed above h p o [] c t at_start (data_at false place (on p o [] c t s))
+              (data_at false (begins.place + 1) (page at_start)) (rest frames level h kids) kids
+              inner.lost
+              (calm_page at_start).lost begun_there filled
+              (λ children words start. one_turn (End (lowered h.name))
+              (on (page at_start) (it at_start) (outer at_start) children words start) InHead
+              (closed true (on (page at_start) (it at_start) (outer at_start) children words start))
+              (calm_page at_start).tables (ended (record (it at_start) { children = children })
+              (html_it at_start))
+              (head_mode (record (it at_start) { children = children }) (outer at_start) name
+              (html_it at_start))
+              (rw named refl)),
+          element_counts (texted_children o.head.span c t) (it at_start).head
+              (texted_children at_start filled.children filled.words),
+        ) where
+          ended : (x : OpenElement) → x.space ≡ spaces.Html →
+              is_foreign_token (End (lowered h.name)) (x ∷ outer at_start) ≡ false
+          ended x e = rw e refl
 
     -- the body, whose end tag and that of the root do nothing
     body_read : Stands (ancestor h above ∷ above) (page at_start) (it at_start) (outer at_start) →

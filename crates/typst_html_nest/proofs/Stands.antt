@@ -119,10 +119,10 @@ pub mode_around : (o q : OpenElement) (qs : List OpenElement) →
     named_mode o.head.name (q ∷ qs) ≡ None → mode (o ∷ q ∷ qs) ≡ mode (q ∷ qs)
 mode_around o q qs h = by_space (is_html o.space) (named_mode o.head.name (q ∷ qs)) _ h
     ∙ outer_mode o q qs where
-  by_space : (b : Bool) (brought : Option Mode) (m : Mode) → brought ≡ None →
-      unwrap_or (if b then brought else None) m ≡ m
-  by_space true brought m h = ap (λ x. unwrap_or x m) h
-  by_space false brought m h = refl
+      by_space : (b : Bool) (brought : Option Mode) (m : Mode) → brought ≡ None →
+          unwrap_or (if b then brought else None) m ≡ m
+      by_space true brought m h = ap (λ x. unwrap_or x m) h
+      by_space false brought m h = refl
 
 pub mode_foreign : (o q : OpenElement) (qs : List OpenElement) → is_html o.space ≡ false →
     mode (o ∷ q ∷ qs) ≡ mode (q ∷ qs)
@@ -204,17 +204,21 @@ module _ (n : List ℕ) (os : List OpenElement) where
   pub parts : of kind.TablePart n ≡ false → (of kind.Cell n ≡ false) × (of kind.Section n ≡ false)
       × (of kind.Tr n ≡ false) × (of kind.Caption n ≡ false) × (of kind.Colgroup n ≡ false)
   unfolding of stands_in
-  parts h = (not_included kind.TablePart kind.Cell n refl h,
-      not_included kind.TablePart kind.Section n refl h,
-      not_included kind.TablePart kind.Tr n refl h,
-      not_included kind.TablePart kind.Caption n refl h,
-      not_included kind.TablePart kind.Colgroup n refl h)
+  parts h = (
+    not_included kind.TablePart kind.Cell n refl h,
+    not_included kind.TablePart kind.Section n refl h,
+    not_included kind.TablePart kind.Tr n refl h,
+    not_included kind.TablePart kind.Caption n refl h,
+    not_included kind.TablePart kind.Colgroup n refl h,
+  )
 
   body_head : of kind.Root n ≡ false → of kind.Misplaced n ≡ false →
       (of kind.Body n ≡ false) × (of kind.Head n ≡ false)
   unfolding of stands_in
-  body_head r m = (not_included kind.Root kind.Body n refl r,
-      not_included kind.Misplaced kind.Head n refl m)
+  body_head r m = (
+    not_included kind.Root kind.Body n refl r,
+    not_included kind.Misplaced kind.Head n refl m,
+  )
 
   -- none of the names that bring a mode
   no_mode : of kind.TablePart n ≡ false → of kind.Table n ≡ false → of kind.Root n ≡ false →
@@ -243,12 +247,12 @@ module _ (n : List ℕ) (os : List OpenElement) where
             | inl k ↦ let both = and_parts (of kind.Noscript n) (is_at (of kind.Head) os) k in
                 noscript_stands place.Body both.0 both.1
             | inr k ↦ inr (record {
-                none = no_mode part.0 table root.0 misplaced raw k;
-                body = refl;
-                part = part.0;
-                table = table;
-                root = root.0;
-              })
+              none = no_mode part.0 table root.0 misplaced raw k;
+              body = refl;
+              part = part.0;
+              table = table;
+              root = root.0;
+            })
           ]
         ]
       ]
@@ -385,10 +389,10 @@ placed b n = first (of kind.Html n) place.Page _ (λ e. e)
     (first (of kind.Section n) place.Section _ (λ e. e)
     (first (of kind.Tr n) place.Row _ (λ e. e)
     (first (of kind.Colgroup n) place.Columns place.Body (λ e. e) refl)))))) where
-  first : (x : Bool) (p q : Place) → (x ≡ true → place_test p b n ≡ true) →
-      place_test q b n ≡ true → place_test (if x then p else q) b n ≡ true
-  first true p q h k = h refl
-  first false p q h k = k
+      first : (x : Bool) (p q : Place) → (x ≡ true → place_test p b n ≡ true) →
+          place_test q b n ≡ true → place_test (if x then p else q) b n ≡ true
+      first true p q h k = h refl
+      first false p q h k = k
 
 -- within the head, the parent is the head
 head_parent : (above : List Ancestor) → place_of above ≡ place.Head →

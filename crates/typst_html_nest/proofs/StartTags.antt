@@ -188,14 +188,14 @@ attr_moves s t behind (c ∷ cs) named fresh place p =
     (32 ∷ c ∷ []) cs (behind.goes_on fresh place p c named.0)
     (λ here. grows (AttrName t) to_ascii_lowercase is_attr_char fresh p more
     (to_ascii_lowercase c ∷ []) cs here named.1) where
-  more : (xs : List ℕ) (d place : ℕ) → is_attr_char d ≡ true →
-      step (at_state (AttrName t xs) fresh place p) d
-      ≡ goes (AttrName t (xs ++ to_ascii_lowercase d ∷ []))
-      (reading_at fresh (place + len_utf8 d) p)
-  more xs d place h =
-      let k = of_attr d h in
-      stepped (AttrName t xs) _ fresh place p d k.no_zero k.no_return
-      (rw (k.no_space, k.no_equals, k.no_solidus, k.no_greater) refl)
+      more : (xs : List ℕ) (d place : ℕ) → is_attr_char d ≡ true →
+          step (at_state (AttrName t xs) fresh place p) d
+          ≡ goes (AttrName t (xs ++ to_ascii_lowercase d ∷ []))
+          (reading_at fresh (place + len_utf8 d) p)
+      more xs d place h =
+          let k = of_attr d h in
+          stepped (AttrName t xs) _ fresh place p d k.no_zero k.no_return
+          (rw (k.no_space, k.no_equals, k.no_solidus, k.no_greater) refl)
 
 module _ (t : TagDraft) (attr : List ℕ) (fresh : Bool) (p : Page) where
   -- within the quotes

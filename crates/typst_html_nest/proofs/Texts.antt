@@ -38,9 +38,10 @@ nothing_dropped cs h = cc
 pub is_plain_text_char : (c : ℕ) → is_element_text_char c ≡ true →
     (eqb c 38 ≡ false) × (eqb c 60 ≡ false)
 is_plain_text_char c h =
-    let parts = and_parts (is_text_char c && not (eqb c 38)) (not (eqb c 60)) h in
-    (is_not (eqb c 38) (and_parts (is_text_char c) (not (eqb c 38)) parts.0).1,
-    is_not (eqb c 60) parts.1)
+    let parts = and_parts (is_text_char c && not (eqb c 38)) (not (eqb c 60)) h in (
+      is_not (eqb c 38) (and_parts (is_text_char c) (not (eqb c 38)) parts.0).1,
+      is_not (eqb c 60) parts.1,
+    )
   where
     is_not : (b : Bool) → not b ≡ true → b ≡ false
     is_not true e = sym e
@@ -76,7 +77,7 @@ module _ (passes : ℕ → Bool) (p : Page) (takes : Takes passes p) where
       CharLeads (data_at fresh place (texted text start p)) (reference_to c) (text ++ c ∷ [])
   reference_char_leads fresh place text start c pass h n kept =
       let x = reference_leads Data (data_at fresh place (texted text start p)) fresh (place + 1)
-          (texted text place p) c h n refl in
+      (texted text place p) c h n refl in
       let taken = takes c text place pass in
       record { place = x.0 + 1; start = place; is = x.1 ∙ rw (kept, taken) refl }
 
@@ -108,7 +109,7 @@ module _ (passes : ℕ → Bool) (p : Page) (takes : Takes passes p) where
       let good = and_parts (is_text_char c) (all is_text_char cs) h in
       let no = or_parts (is_return c) (has_return cs) n in
       let one = char_leads pre_span fresh place text start c passed.0 good.0 no.0
-          (not_dropped fresh c cs kept) in
+      (not_dropped fresh c cs kept) in
       let more = chars_lead pre_span false one.place (text ++ c ∷ []) one.start cs passed.1 good.1
       no.1 (nothing_dropped cs) in
       record {
@@ -129,5 +130,5 @@ pub text_leads : (pre_span : Bool) (s : List ℕ) (span : ℕ) (passes : ℕ →
     (record p { text = p.text ++ s })
 text_leads pre_span s span passes good n pass fresh place p takes kept =
     let x = chars_lead passes p takes pre_span fresh place p.text p.start s pass
-        (text_good (escaping_of pre_span) span s good) n kept in
+    (text_good (escaping_of pre_span) span s good) n kept in
     record { start = x.start; place = x.place; is = x.is }
