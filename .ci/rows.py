@@ -18,7 +18,7 @@ DATA = Path(__file__).resolve().parent.parent / "crates" / "tests_rows" / "data"
 CALLS = frozenset(
     "kinds attribute address nodes block-fragment inline-fragment math-fragment spans bare document links anchors positions dead-links "
     "distinct-ids read as-browsers page-places page-text items-text dead-fragments repeated-ids misnested c-write c-document "
-    "c-dead-links c-unused c-check c-version".split()
+    "c-dead-links c-unused c-check c-links c-version".split()
 )
 
 HEAD = '<meta charset="utf-8">', '<meta name="viewport" content="width=device-width, initial-scale=1">'

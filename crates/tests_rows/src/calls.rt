@@ -52,7 +52,7 @@
 //! Of an input, by the library for C, what it replies and what its buffer has then, which had `room=N` points:
 //!
 //! - `c-write [kind=N] [layout=N]`, `c-document [layout=N] [links=N] [limit=N]`, `c-dead-links [limit=N]`,
-//!   `c-check [limit=N]`, with the limit 50 and else 0 where no number is said
+//!   `c-check [limit=N]`, `c-links [limit=N]`, with the limit 50 and else 0 where no number is said
 //! - `c-version`: the version of these calls
 //!
 //! A refusal is `refused`, its number, `at` and its span.
@@ -94,9 +94,8 @@ impl Caller for Library {
             "dead-fragments" => checks::dead_fragment_list(alloc, row),
             "repeated-ids" => checks::repeated_id_list(alloc, row),
             "misnested" => checks::misnested_list(alloc, row),
-            "c-check" | "c-dead-links" | "c-document" | "c-unused" | "c-write" => replies::reply(
-                alloc, row, call,
-            ),
+            "c-check" | "c-dead-links" | "c-document" | "c-links" | "c-unused" | "c-write" =>
+                replies::reply(alloc, row, call),
             "c-version" => replies::version(alloc),
             _ => runs::output(alloc, row),
         }

@@ -8,6 +8,7 @@ use lib.Utf8.{encodes}
 use Rattle.serde_json.specs.Data.{Data, string, object, Members, member}
 use Rattle.serde_json.specs.View.{items_of}
 use Rattle.serde_json.specs.Written.{comma_if, compact_text, items_text, members_text}
+use Rattle.html_dom_tree.specs.Tree.{ElementView}
 use Rattle.html_dom_tree.specs.Views.{element_view, text_view}
 use Rattle.html_dom_tree.specs.declared.node.HtmlElement.{HtmlElement}
 use Rattle.typst_html_parse.specs.PageAnswers.{GivesBytes}
@@ -15,7 +16,7 @@ use Rattle.typst_html_parse.specs.declared.fault.PageFault.{PageFault}
 use Rattle.typst_html_parse.specs.declared.fault.PageFault.TheVariants.{OutOfMemory, NotText, Refused}
 use Rattle.typst_html_parse.specs.declared.fault.PageNotes.{PageNotes}
 use Rattle.typst_html_c.specs.declared.reply.Reply.{Reply}
-use Rattle.typst_html_c.specs.PageFindings.{Told, Tells, unread, failed, page_findings, page_told}
+use Rattle.typst_html_c.specs.PageTold.{Told, Tells, unread, failed, page_told}
 use Rattle.typst_html_c.specs.PageSteps.{IsTold, unread_reply}
 
 pub text_written : (s : String Global) → encodes (text_view s) ≡ string_bytes s
@@ -57,14 +58,16 @@ module _ (limit : ℕ) (page : List ℕ) where
       GivesBytes (Ok (root, notes)) page limit → is_utf8 page ≡ true
   read_is_text = text_if_read (is_utf8 page) refl
 
+-- what is told of both
+module _ (data_of : (text : List ℕ) → ElementView → Data) (limit : ℕ) (page : List ℕ) where
   pub read_told : (root : HtmlElement) (notes : PageNotes) → GivesBytes (Ok (root, notes)) page limit
-      → page_told page limit ≡ Ok (compact_text (page_findings (chars page) (element_view root)))
+      → page_told data_of page limit ≡ Ok (compact_text (data_of (chars page) (element_view root)))
   unfolding page_told
   read_told root notes g =
-      let is = read_is_text root notes g in rw (is, (g.text is).made.read) refl
+      let is = read_is_text limit page root notes g in rw (is, (g.text is).made.read) refl
 
   fault_if : (b : Bool) → is_utf8 page ≡ b → (f : PageFault) → GivesBytes (Err f) page limit
-      → IsTold (page_told page limit) f
+      → IsTold (page_told data_of page limit) f
   unfolding page_told
   fault_if b is OutOfMemory g = tt
   fault_if true is (NotText place) g = absurd (g.text is).fault
@@ -73,7 +76,8 @@ module _ (limit : ℕ) (page : List ℕ) where
       let found = (g.text is).fault in rw (is, found.1, found.2) refl
   fault_if false is (Refused refusal place) g = absurd (g.no_text is)
 
-  pub fault_told : (f : PageFault) → GivesBytes (Err f) page limit → IsTold (page_told page limit) f
+  pub fault_told : (f : PageFault) → GivesBytes (Err f) page limit →
+      IsTold (page_told data_of page limit) f
   fault_told = fault_if (is_utf8 page) refl
 
 -- the reply to a fault tells it

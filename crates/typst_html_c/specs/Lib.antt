@@ -1,5 +1,9 @@
 pub mod CallReplies
 pub mod DeadLinks
+pub mod FindingLists
+pub mod MisnestedNodes
 pub mod PageFindings
+pub mod PageLinks
 pub mod PageSteps
+pub mod PageTold
 pub mod Unused

@@ -1,9 +1,11 @@
--- What the steps of checking a page give.
+-- What the steps of telling something of a page give.
 use Rattle.std.specs.Prelude.{◌≡◌, ℕ, List, ◌++◌, Result, Err, Ok, MatchResult, String, string_bytes}
 use Rattle.std.specs.declared.alloc.Global.{Global}
+use Rattle.serde_json.specs.Data.{Data}
 use Rattle.serde_json.specs.View.{items_of}
 use Rattle.serde_json.specs.Written.{items_text}
 use Rattle.html_dom_check.specs.PlacedTexts.{Placed}
+use Rattle.html_dom_tree.specs.Tree.{Head, NodeView, ElementView}
 use Rattle.html_dom_tree.specs.Views.{element_view}
 use Rattle.typst_html_parse.specs.PlaceViews.{text_of}
 use Rattle.typst_html_parse.specs.declared.fault.PageFault.{PageFault}
@@ -11,10 +13,17 @@ use Rattle.typst_html_parse.specs.declared.fault.PageFault.TheVariants.{OutOfMem
 use Rattle.typst_html_parse_open.specs.PageRefusals.{refusal_number}
 use Rattle.typst_html_read.specs.declared.place.Place.{Place}
 use Rattle.typst_html_c.specs.CallReplies.{without_text}
-use Rattle.typst_html_c.specs.PageFindings.{Told, element_place, findings_behind, placed}
-use Rattle.typst_html_c.specs.declared.findings.FindingList.{FindingList}
+use Rattle.typst_html_c.specs.FindingLists.{element_place, findings_behind}
+use Rattle.typst_html_c.specs.PageFindings.{page_findings}
+use Rattle.typst_html_c.specs.PageLinks.{of_elements, own_hrefs, own_ids, own_names, page_links}
+use Rattle.typst_html_c.specs.PageTold.{Told, placed}
+use Rattle.typst_html_c.specs.declared.lists.FindingList.{FindingList}
 use Rattle.typst_html_c.specs.declared.page.Page.{Page}
 use Rattle.typst_html_c.specs.declared.reply.Reply.{Reply}
+use Rattle.typst_html_c.specs.declared.texts.Wanted.{Wanted}
+use Rattle.typst_html_c.specs.declared.texts.Wanted.TheVariants as wanted
+use Rattle.typst_html_c.specs.declared.told.Asked.{Asked}
+use Rattle.typst_html_c.specs.declared.told.Asked.TheVariants as asked
 
 -- the place of the element at a path
 abbrev pub place_in : Page → (path : List ℕ) → Place
@@ -24,6 +33,20 @@ place_in page = element_place (text_of page.places) (element_view page.root.now)
 abbrev pub text_with : FindingList → List Placed → List ℕ
 text_with list ps = string_bytes list.text ++ items_text list.later (items_of
     (findings_behind (place_in list.page) (string_bytes list.name) list.previous.items ps))
+
+-- the texts of elements that are wanted
+abbrev pub own_texts : Wanted → Head → List (List ℕ)
+own_texts wanted.Ids = own_ids
+own_texts wanted.Names = own_names
+own_texts wanted.Hrefs = own_hrefs
+
+abbrev pub texts_at : Wanted → NodeView → List (List ℕ)
+texts_at w = of_elements (own_texts w)
+
+-- what a call is to tell
+abbrev pub asked_data : Asked → (text : List ℕ) → ElementView → Data
+asked_data asked.Findings = page_findings
+asked_data asked.Links = page_links
 
 -- why a page is not read, as a reply
 abbrev pub unread_reply : PageFault → Reply

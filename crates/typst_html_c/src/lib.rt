@@ -11,17 +11,23 @@ ghost use Rattle.html_tool_run.specs.DocumentAnswers.{text_given};
 ghost use Rattle.html_tool_run.specs.Replies.{GivesAnswerAt};
 ghost use Rattle.typst_html_c.specs.CallReplies.{RepliesAt, RepliesWithAt, call_dead_links, document_call_answer, write_answer};
 ghost use Rattle.typst_html_c.specs.DeadLinks.{dead_links_answer};
-ghost use Rattle.typst_html_c.specs.PageFindings.{Tells, check_told};
+ghost use Rattle.typst_html_c.specs.PageFindings.{check_told};
+ghost use Rattle.typst_html_c.specs.PageLinks.{links_told};
+ghost use Rattle.typst_html_c.specs.PageTold.{Tells};
 ghost use Rattle.typst_html_c.specs.Unused.{unused_call_answer};
 
 mod dead_links;
 mod findings;
+mod links;
+mod lists;
+mod misnested;
 mod numbers;
 mod page;
 mod reply;
+mod texts;
+mod told;
 
 use dead_links::dead_links_text;
-use findings::reply_to_page;
 use html_tool_run::{
     DocumentText, Fault, InputPlace, text_of_document, text_of_input, unused_of_document,
 };
@@ -29,6 +35,7 @@ use numbers::{limit_of, wanted_settings, wanted_task};
 pub use reply::Reply;
 use reply::{reply_with, reply_with_document};
 use std::alloc::Global;
+use told::{Asked, reply_to_page};
 
 /// The version of these calls. It grows by one where a call or a status changes its meaning.
 const VERSION: u32 = 6;
@@ -170,13 +177,17 @@ pub fn typst_html_unused(alloc: Global, limit: u32, input: &[u8], output: &mut [
     reply_with(unused_of(alloc, limit, input), output)
 }
 
-/// Reads a page, and tells in JSON which links to fragments of the page lead nowhere, and which ids
-/// stand in it before, each with its place. The text is copied into the buffer, where it fits:
+/// Reads a page, and tells in JSON which links to fragments of the page lead nowhere, which ids stand in it
+/// before, and which nodes a browser would not leave where they are if the tree of the page were written
+/// ([`misnested`](html_dom_nest::misnested)), each with its place. The text is copied into the buffer, where
+/// it fits:
 ///
 /// ```json
 /// {"dead_fragments":[{"fragment":"mint","keeps":0,"path":[1,3],"offset":120,"line":5,"column":9},
 ///                    {"fragment":"sage","keeps":1,"path":[5],"offset":165,"line":5,"column":54}],
-///  "repeated_ids":[{"id":"dill","keeps":0,"path":[1,4],"offset":144,"line":5,"column":33}]}
+///  "repeated_ids":[{"id":"dill","keeps":0,"path":[1,4],"offset":144,"line":5,"column":33}],
+///  "misnested":[{"rule":"ClosesParagraph","why":"closes the p that it stands in","keeps":0,"path":[1,7,0],
+///                "offset":190,"line":6,"column":4}]}
 /// ```
 ///
 /// (It stands in one line.) How many there are is how long each list is. The path of each is the index of
@@ -184,9 +195,14 @@ pub fn typst_html_unused(alloc: Global, limit: u32, input: &[u8], output: &mut [
 /// finding before it in its list, as many as it keeps, and goes on with those that follow. So the link to
 /// `sage` stands at 1, 5. The first of a list keeps none.
 ///
-/// The offset of each is how many bytes of the page stand before the `<` of its start tag. Lines and
-/// columns are counted from 1, columns in characters. A line ends with a line feed, a carriage return or
-/// both, in that order, and a byte order mark is no character of the first.
+/// The offset of each is how many bytes of the page stand before the `<` of its start tag, or, of a text,
+/// before that of the element in which it stands. Lines and columns are counted from 1, columns in
+/// characters. A line ends with a line feed, a carriage return or both, in that order, and a byte order mark
+/// is no character of the first.
+///
+/// A misnested node stands where a browser puts it as it reads this page, but not as it reads the text of
+/// the tree: a page without a document type keeps a `table` in a `p`, and a carriage return by reference is
+/// one. Its rule is the name of a [`Misnesting`](html_dom_nest::Misnesting), and why what that shows.
 ///
 /// Any page is read as a browser reads it (HTML Standard 13.2, with scripting disabled), by
 /// [`read_page_bytes`](typst_html_parse::read_page_bytes). It is refused, with the number of the refusal
@@ -196,10 +212,35 @@ pub fn typst_html_unused(alloc: Global, limit: u32, input: &[u8], output: &mut [
 /// place of the first byte that is none. A limit that is not from 1 to 1,000 is bad input without a place.
 /// Buffers and replies are those of [`typst_html_write`].
 ///
-/// Cost: that of reading; each list takes one pass over the page more, and for each finding its depth.
+/// Cost: that of reading; each list takes one pass over the page more, and for each finding its depth. The
+/// misnested nodes are held with their paths, each of at most 513 indices.
 pub fn typst_html_check(alloc: Global, limit: u32, page: &[u8], output: &mut [u8]) -> Reply
     ensures answered { Tells (check_told limit page.now) output.old result output.new }
     ensures kept { ¬ (result.status ≡ 0) → output.new ≡ output.old }
 {
-    reply_to_page(alloc, limit, page, output)
+    reply_to_page(alloc, Asked::Findings, limit, page, output)
+}
+
+/// Reads a page, and tells in JSON what links between pages need to know of it: the names to which links
+/// to it may lead, and its own links, each with its place. The text is copied into the buffer, where it
+/// fits:
+///
+/// ```json
+/// {"ids":[{"id":"dill","keeps":0,"path":[1,0],"offset":40,"line":3,"column":1}],
+///  "names":[{"name":"top","keeps":0,"path":[1,1],"offset":58,"line":4,"column":1}],
+///  "links":[{"href":"herbs.html#mint","keeps":0,"path":[1,2],"offset":78,"line":5,"column":1}]}
+/// ```
+///
+/// (It stands in one line.) The ids are those of elements, and the names those of `a` elements, to which a
+/// link may lead as to an id; both without empty ones. The links are the addresses (`href`) of `a` and `area`
+/// elements, as they are written: an empty one too, and those that lead out of the site. Of two attributes
+/// of one name the first counts.
+///
+/// Each list stands in document order. Paths and places are told as by [`typst_html_check`], and pages,
+/// limits and refusals are those of that call.
+pub fn typst_html_links(alloc: Global, limit: u32, page: &[u8], output: &mut [u8]) -> Reply
+    ensures answered { Tells (links_told limit page.now) output.old result output.new }
+    ensures kept { ¬ (result.status ≡ 0) → output.new ≡ output.old }
+{
+    reply_to_page(alloc, Asked::Links, limit, page, output)
 }

@@ -2,7 +2,7 @@
 
 ghost use Rattle.std.specs.Prelude.{◌≡◌};
 ghost use Rattle.html_dom_tree.specs.Views.{element_view};
-ghost use Rattle.typst_html_c.specs.PageFindings.{offset_at};
+ghost use Rattle.typst_html_c.specs.FindingLists.{offset_at};
 ghost use Rattle.typst_html_c.specs.PageSteps.{place_in};
 
 use html_dom_check::element_at;

@@ -8,7 +8,7 @@ ghost use Rattle.html_tool_run.specs.Replies.{GivesAnswer};
 ghost use Rattle.html_dom_link.specs.Links.{DeadLinkView};
 ghost use Rattle.typst_html_c.specs.CallReplies.{Replies, bad_reply, fault_reply, text_reply, buffer_with, without_text};
 ghost use Rattle.typst_html_c.specs.CallReplies.{RepliesWith, with_dead_links};
-ghost use Rattle.typst_html_c.specs.PageFindings.{placed};
+ghost use Rattle.typst_html_c.specs.PageTold.{placed};
 
 use html_dom_link::DeadLink;
 use html_dom_tree::Span;

@@ -4,7 +4,9 @@
 ghost use Rattle.std.specs.Prelude.{◌≡◌};
 ghost use Rattle.typst_html_c.specs.CallReplies.{RepliesAt, RepliesWithAt, call_dead_links, document_call_answer, write_answer};
 ghost use Rattle.typst_html_c.specs.DeadLinks.{dead_links_answer};
-ghost use Rattle.typst_html_c.specs.PageFindings.{Tells, check_told};
+ghost use Rattle.typst_html_c.specs.PageFindings.{check_told};
+ghost use Rattle.typst_html_c.specs.PageLinks.{links_told};
+ghost use Rattle.typst_html_c.specs.PageTold.{Tells};
 ghost use Rattle.typst_html_c.specs.Unused.{unused_call_answer};
 
 use std::alloc::Global;
@@ -90,4 +92,18 @@ pub extern "C" fn typst_html_check(
     ensures kept { ¬ (result.status ≡ 0) → output.new ≡ output.old }
 {
     typst_html_c::typst_html_check(alloc, limit, page, output)
+}
+
+/// As [`typst_html_c::typst_html_links`].
+#[unsafe(no_mangle)]
+pub extern "C" fn typst_html_links(
+    alloc: Global,
+    limit: u32,
+    page: &[u8],
+    output: &mut [u8],
+) -> Reply
+    ensures answered { Tells (links_told limit page.now) output.old result output.new }
+    ensures kept { ¬ (result.status ≡ 0) → output.new ≡ output.old }
+{
+    typst_html_c::typst_html_links(alloc, limit, page, output)
 }

@@ -1,9 +1,14 @@
 use Rattle.std.proofs.Common.{◌≡◌, ◌++◌, ◌∷◌, [], false, true, codes, string_bytes, ap, ◌∙◌}
 use Rattle.serde_json.specs.Data.{member, no_members}
+use Rattle.serde_json.specs.Written.{compact_text}
 use Rattle.html_dom_check.specs.Fragments.{dead_fragments}
 use Rattle.html_dom_check.specs.RepeatedIds.{repeated_ids}
+use Rattle.html_dom_nest.specs.Misnested.{misnested_nodes}
+use Rattle.html_dom_nest.specs.MisnestedViews.{findings_view}
 use Rattle.html_dom_tree.specs.Views.{element_view}
-use Rattle.typst_html_c.specs.PageFindings.{findings}
+use Rattle.typst_html_parse.specs.PlaceViews.{text_of}
+use Rattle.typst_html_c.specs.FindingLists.{findings}
+use Rattle.typst_html_c.specs.MisnestedNodes.{misnested_data}
 use Rattle.typst_html_c.specs.PageSteps.{place_in}
 use Rattle.typst_html_c.proofs.Pages.{no_member_yet, one_more_member}
 use Rattle.typst_html_c.proofs.findings.findings_text.Goals as goal
@@ -12,16 +17,24 @@ pub returns : goal.returns
 returns c =
     let e = element_view c.args.page.root.now in
     let place_of = place_in c.args.page in
+    let page = text_of c.args.page.places in
     let dead = findings place_of (codes "fragment") (dead_fragments e) in
     let repeated = findings place_of (codes "id") (repeated_ids e) in
-    let last = member (codes "repeated_ids") repeated no_members in
+    let lost = misnested_data page (misnested_nodes e) in
+    let last = member (codes "misnested") lost no_members in
+    let later = member (codes "repeated_ids") repeated last in
     let start : string_bytes c.push_str.new.self ≡ [] ++ 123 ∷ [] =
     c.in_ok-push_str.ensures.bytes ∙ ap (λ l. l ++ 123 ∷ []) c.new-text.ensures.bytes in
+    let mid = string_bytes c.push_key-3.new.text in
     c.in_ok-push_str-2.ensures.bytes
-    ∙ one_more_member true (codes "repeated_ids") repeated no_members _ _ _ _
-    (one_more_member false (codes "dead_fragments") dead last _ _ _ _
-    (no_member_yet (member (codes "dead_fragments") dead last) [] _ start)
+    ∙ one_more_member true (codes "misnested") lost no_members _ _ _ _
+    (one_more_member true (codes "repeated_ids") repeated last _ _ _ _
+    (one_more_member false (codes "dead_fragments") dead later _ _ _ _
+    (no_member_yet (member (codes "dead_fragments") dead later) [] _ start)
     c.in_ok-push_key.ensures (c.in_ok-text.ensures
     ∙ (c.in_ok-tell_dead_fragments.ensures ∙ c.in_ok-list.ensures (dead_fragments e))))
     c.in_ok-push_key-2.ensures (c.in_ok-text-2.ensures
-    ∙ (c.in_ok-tell_repeated_ids.ensures ∙ c.in_ok-list-2.ensures (repeated_ids e)))
+    ∙ (c.in_ok-tell_repeated_ids.ensures ∙ c.in_ok-list-2.ensures (repeated_ids e))))
+    c.in_ok-push_key-3.ensures (c.in_ok-push_misnested.ensures
+    ∙ ap (λ fs. mid ++ compact_text (misnested_data page fs))
+    (ap findings_view c.deref.ensures.value ∙ c.in_ok-nodes.ensures))

@@ -3,10 +3,10 @@ use Rattle.serde_json.specs.View.{items_of}
 use Rattle.serde_json.specs.Written.{compact_text, items_text}
 use Rattle.html_dom_check.specs.PlacedTexts.{Placed}
 use Rattle.html_dom_tree.specs.Views.{text_view}
-use Rattle.typst_html_c.specs.PageFindings.{finding, finding_data, findings_behind}
+use Rattle.typst_html_c.specs.FindingLists.{finding, finding_data, findings_behind, where_behind}
 use Rattle.typst_html_c.specs.PageSteps.{place_in, text_with}
 use Rattle.typst_html_c.proofs.Pages.{one_more_item, text_written}
-use Rattle.typst_html_c.proofs.findings.FindingListTextSink.take.Goals as goal
+use Rattle.typst_html_c.proofs.lists.FindingListTextSink.take.Goals as goal
 
 pub returns : goal.returns
 returns c rest =
@@ -15,17 +15,15 @@ returns c rest =
     let name = string_bytes list.name in
     let path = c.args.path.now in
     let here : Placed = (path, text_view c.args.text) in
-    let keeps = c.kept_count-keeps.result in
     let mid = string_bytes c.push_comma_if.new.text in
     let new = string_bytes c.push_finding.new.text in
-    let told : finding_data c.deref-2.result.now c.deref-3.result.now keeps c.behind-rest.result.now
-    c.place_of-place.result ≡ finding place_of name list.previous.items here =
+    let told : finding_data c.deref.result.now c.deref-2.result.now
+    (where_behind c.deref-3.result.now path c.place_of-place.result)
+    ≡ finding place_of name list.previous.items here =
     rw (
-      c.behind-rest.ensures,
+      c.deref.ensures,
       c.deref-2.ensures,
-      c.deref-3.ensures,
-      c.kept_count-keeps.ensures.count,
-      c.deref.ensures.value,
+      c.deref-3.ensures.value,
       c.place_of-place.ensures.told,
       text_written c.args.text,
     ) refl in

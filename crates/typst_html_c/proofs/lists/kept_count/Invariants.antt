@@ -1,6 +1,6 @@
 use Rattle.std.proofs.Common.{◌≡◌, ◌+◌, ◌-◌, ◌≤◌, length, drop}
-use Rattle.typst_html_c.specs.PageFindings.{kept_count}
-use Rattle.typst_html_c.proofs.findings.kept_count.Given as goal
+use Rattle.typst_html_c.specs.FindingLists.{kept_count}
+use Rattle.typst_html_c.proofs.lists.kept_count.Given as goal
 
 abbrev pub invariant-loop-kept : goal.invariant-loop-kept
 invariant-loop-kept l =

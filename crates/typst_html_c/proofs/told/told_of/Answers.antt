@@ -3,9 +3,9 @@ use Rattle.std.proofs.lemmas.Str.{IsUtf8-from_is_utf8}
 use Rattle.serde_json.specs.Written.{compact_text}
 use Rattle.html_dom_tree.specs.Views.{element_view}
 use Rattle.typst_html_parse.specs.PageAnswers.{GivesBytes}
-use Rattle.typst_html_c.specs.PageFindings.{page_findings}
+use Rattle.typst_html_c.specs.PageSteps.{asked_data}
 use Rattle.typst_html_c.proofs.Pages.{fault_told, given_unless, read_is_text, read_told}
-use Rattle.typst_html_c.proofs.findings.findings_of.Goals as goal
+use Rattle.typst_html_c.proofs.told.told_of.Goals as goal
 
 pub unwrap-requires : goal.unwrap-requires
 unwrap-requires c =
@@ -18,18 +18,19 @@ unwrap-requires c =
 
 pub returns-in-Ok : goal.returns-in-Ok
 returns-in-Ok c =
+    let data_of = asked_data c.args.asked in
     let page = c.args.page.now in
     let limit = c.args.limit in
     let e = element_view c.in-Ok.root in
     let text = rw c.unwrap.ensures at c.from_utf8.ensures.cases in
-    read_told limit page c.in-Ok.root c.in-Ok.field-0-1
+    read_told data_of limit page c.in-Ok.root c.in-Ok.field-0-1
     (subst (λ r. GivesBytes r page limit) c.in-Ok.is c.read_page_bytes.ensures)
-    ∙ ap Ok (sym (c.in_ok-findings_text-in-Ok.ensures
-    ∙ ap (λ t. compact_text (page_findings t e)) (c.new-places.ensures.text ∙ ap chars text.0)))
+    ∙ ap Ok (sym (c.in_ok-asked_text-in-Ok.ensures
+    ∙ ap (λ t. compact_text (data_of t e)) (c.new-places.ensures.text ∙ ap chars text.0)))
 
 pub returns : goal.returns
 returns c =
     let page = c.args.page.now in
     let limit = c.args.limit in
-    fault_told limit page c.in-Err.fault
+    fault_told (asked_data c.args.asked) limit page c.in-Err.fault
     (subst (λ r. GivesBytes r page limit) c.in-Err.is c.read_page_bytes.ensures)

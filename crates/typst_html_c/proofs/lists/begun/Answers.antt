@@ -1,5 +1,5 @@
 use Rattle.std.proofs.Common.{refl, append_assoc}
-use Rattle.typst_html_c.proofs.findings.begun.Goals as goal
+use Rattle.typst_html_c.proofs.lists.begun.Goals as goal
 
 pub returns : goal.returns
 returns c ps =

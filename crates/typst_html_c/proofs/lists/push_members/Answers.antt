@@ -1,12 +1,11 @@
-use Rattle.std.proofs.Common.{refl, false, true, codes, ◌∙◌}
-use Rattle.serde_json.specs.Data.{string, number, unsigned, member, no_members}
-use Rattle.typst_html_c.specs.PageFindings.{path_data, place_members}
-use Rattle.typst_html_c.proofs.Pages.{no_member_yet, one_more_member}
-use Rattle.typst_html_c.proofs.findings.push_finding.Goals as goal
+use Rattle.std.proofs.Common.{refl, true, codes, ◌∙◌}
+use Rattle.serde_json.specs.Data.{number, unsigned, member, no_members}
+use Rattle.typst_html_c.specs.FindingLists.{path_data, place_members}
+use Rattle.typst_html_c.proofs.Pages.{one_more_member}
+use Rattle.typst_html_c.proofs.lists.push_members.Goals as goal
 
 pub returns : goal.returns
 returns c =
-    let told = string c.args.told.now in
     let keeps = number (unsigned c.args.keeps) in
     let rest = path_data c.args.rest.now in
     let place = place_members c.args.place in
@@ -16,18 +15,14 @@ returns c =
     let last = member (codes "column") column no_members in
     let lines = member (codes "line") line last in
     let path = member (codes "path") rest place in
-    let behind = member (codes "keeps") keeps path in
-    c.in_ok-push_str-2.ensures.bytes
+    c.in_ok-push_str.ensures.bytes
     ∙ one_more_member true (codes "column") column no_members _ _ _ _
     (one_more_member true (codes "line") line last _ _ _ _
     (one_more_member true (codes "offset") offset lines _ _ _ _
     (one_more_member true (codes "path") rest place _ _ _ _
-    (one_more_member true (codes "keeps") keeps path _ _ _ _
-    (one_more_member false c.args.name.now told behind _ _ _ _
-    (no_member_yet (member c.args.name.now told behind) _ _ c.in_ok-push_str.ensures.bytes)
-    c.in_ok-push_key.ensures c.in_ok-push_string.ensures)
+    (one_more_member true (codes "keeps") keeps path _ _ _ _ refl
     refl c.in_ok-push_member.ensures)
-    c.in_ok-push_key-2.ensures c.in_ok-push_path.ensures)
+    c.in_ok-push_key.ensures c.in_ok-push_path.ensures)
     refl c.in_ok-push_member-2.ensures)
     refl c.in_ok-push_member-3.ensures)
     refl c.in_ok-push_member-4.ensures

@@ -1,6 +1,6 @@
 use Rattle.std.proofs.Common.{◌≡◌, ◌==◌, ℕ, true, get_or, drop, arith, length-drop, rules}
 use Rattle.std.proofs.lemmas.List.Sums.{common_prefix_len-drop_yes, common_prefix_len-le}
-use Rattle.typst_html_c.proofs.findings.kept_count.Goals as goal
+use Rattle.typst_html_c.proofs.lists.kept_count.Goals as goal
 
 pub loop-kept-preserved : goal.loop-kept-preserved
 loop-kept-preserved c =

@@ -2,8 +2,8 @@ use Rattle.std.proofs.Common.{◌≡◌, ◌++◌, string_bytes, map, drop}
 use Rattle.serde_json.specs.Data.{number, unsigned}
 use Rattle.serde_json.specs.View.{items_of}
 use Rattle.serde_json.specs.Written.{compact_text, items_text}
-use Rattle.typst_html_c.specs.PageFindings.{path_data}
-use Rattle.typst_html_c.proofs.findings.push_path.Given as goal
+use Rattle.typst_html_c.specs.FindingLists.{path_data}
+use Rattle.typst_html_c.proofs.lists.push_path.Given as goal
 
 abbrev pub invariant-loop-index : goal.invariant-loop-index
 invariant-loop-index l =

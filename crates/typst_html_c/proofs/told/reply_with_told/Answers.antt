@@ -1,8 +1,8 @@
 use Rattle.std.proofs.Common.{refl, string_bytes, subst}
-use Rattle.typst_html_c.specs.PageFindings.{made}
+use Rattle.typst_html_c.specs.PageTold.{made}
 use Rattle.typst_html_c.specs.PageSteps.{GivesTold}
 use Rattle.typst_html_c.proofs.Pages.{fault_replied}
-use Rattle.typst_html_c.proofs.findings.reply_with_findings.Goals as goal
+use Rattle.typst_html_c.proofs.told.reply_with_told.Goals as goal
 
 pub returns-in-Ok-clause-answered : goal.returns-in-Ok-clause-answered
 returns-in-Ok-clause-answered c told given =

@@ -1,0 +1,92 @@
+//! What is told of a page, or why it is not read.
+
+ghost use Rattle.std.specs.Prelude.{◌≡◌, ◌≤◌, string_bytes, IfOk};
+ghost use Rattle.serde_json.specs.Written.{compact_text};
+ghost use Rattle.html_dom_tree.specs.Views.{element_view};
+ghost use Rattle.typst_html_parse.specs.PlaceViews.{text_of};
+ghost use Rattle.typst_html_c.specs.PageSteps.{GivesTold, asked_data, unread_reply};
+ghost use Rattle.typst_html_c.specs.PageTold.{Told, Tells, page_told, told_by};
+
+use crate::findings::findings_text;
+use crate::links::links_text;
+use crate::numbers::page_limit_of;
+use crate::page::Page;
+use crate::reply::{BAD_INPUT, OUT_OF_MEMORY, REFUSED, Reply, placed, put, without_text};
+use std::alloc::{AllocError, Global};
+use std::str;
+use typst_html_parse::{PageFault, Places, read_page_bytes};
+
+/// What a call tells of a page.
+#[derive(Clone, Copy)]
+pub(crate) enum Asked {
+    /// What is wrong.
+    Findings,
+    /// Its ids, names and links.
+    Links,
+}
+
+pub(crate) fn reply_to_page(
+    alloc: Global,
+    asked: Asked,
+    limit: u32,
+    page: &[u8],
+    output: &mut [u8],
+) -> Reply
+    ensures answered { Tells (told_by (asked_data asked) limit page.now)
+        output.old result output.new }
+    ensures kept { ¬ (result.status ≡ 0) → output.new ≡ output.old }
+{
+    match page_limit_of(limit) {
+        Some(limit) => reply_with_told(told_of(alloc, asked, page, limit), output),
+        None => without_text(BAD_INPUT, 0, 0),
+    }
+}
+
+/// The reply of a call that tells this text, or has none.
+fn reply_with_told(text: Result<String, PageFault>, output: &mut [u8]) -> Reply
+    ensures answered { (told : Told) → GivesTold text told →
+        Tells told output.old result output.new }
+    ensures kept { ¬ (result.status ≡ 0) → output.new ≡ output.old }
+{
+    match text {
+        Ok(text) => put(text.as_bytes(), output),
+        Err(fault) => unread_reply(fault),
+    }
+}
+
+fn unread_reply(fault: PageFault) -> Reply
+    ensures { result ≡ unread_reply fault }
+{
+    match fault {
+        PageFault::OutOfMemory => without_text(OUT_OF_MEMORY, 0, 0),
+        PageFault::NotText { place } => placed(BAD_INPUT, 0, place),
+        PageFault::Refused { refusal, place } => placed(REFUSED, refusal.number(), place),
+    }
+}
+
+/// What is told of a page of these bytes.
+fn told_of(alloc: Global, asked: Asked, page: &[u8], limit: usize) -> Result<String, PageFault>
+    requires some_limit { 1 ≤ limit }
+    requires low_limit { limit ≤ 10000 }
+    ensures { GivesTold result (page_told (asked_data asked) page.now limit) }
+{
+    match read_page_bytes(alloc, page, limit) {
+        Ok((root, _)) => {
+            // A page that is read is a text.
+            let places = Places::new(str::from_utf8(page).unwrap());
+            let root = &root;
+            Ok(asked_text(alloc, asked, Page { root, places })?)
+        }
+        Err(fault) => Err(fault),
+    }
+}
+
+fn asked_text(alloc: Global, asked: Asked, page: Page<'_>) -> Result<String, AllocError>
+    ensures { let page = page.entry in IfOk result (λ text. string_bytes text
+        ≡ compact_text (asked_data asked (text_of page.places) (element_view page.root.now))) }
+{
+    match asked {
+        Asked::Findings => findings_text(alloc, page),
+        Asked::Links => links_text(alloc, page),
+    }
+}
