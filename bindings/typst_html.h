@@ -222,15 +222,18 @@ struct typst_html_reply typst_html_unused(uint32_t limit, const uint8_t *input, 
                                           uint8_t *output, size_t room);
 
 /*
- * What is wrong with the links of a page, as JSON: the links to fragments of the page itself that lead
- * nowhere, and the ids that stand in it before, each with its place.
+ * What is wrong in a page, as JSON: the links to fragments of the page itself that lead nowhere, the ids
+ * that stand in it before, and the nodes that a browser would not leave where they are if the tree that is
+ * read were written, each with its place.
  *     {"dead_fragments":[{"fragment":t,"keeps":n,"path":[n,..],"offset":n,"line":n,"column":n},..],
- *      "repeated_ids":[{"id":t,"keeps":n,"path":[n,..],"offset":n,"line":n,"column":n},..]}
+ *      "repeated_ids":[{"id":t,"keeps":n,"path":[n,..],"offset":n,"line":n,"column":n},..],
+ *      "misnested":[{"rule":t,"why":t,"keeps":n,"path":[n,..],"offset":n,"line":n,"column":n},..]}
  * The path of each is the index of each child on the way from the root, texts counted. It begins with the
  * first `keeps` indices of the path of the finding before it in its list, and goes on with those of
  * `path`; the first keeps none. So the text is no longer where findings stand deep. The place is that of
- * the `<` of the start tag: how many bytes of the page stand before, and the line and the column, as of a
- * reply.
+ * the `<` of the start tag, of a text that of the element in which it stands: how many bytes of the page
+ * stand before, and the line and the column, as of a reply. `rule` names what a misnested node breaks, and
+ * `why` says in English what becomes of it. Read members by their names: there may be more.
  *
  * Any page is read, as a browser reads it whose scripting is disabled: what may be left out is implied, and
  * errors are gone over. But where a browser would move nodes or make them a second time, it is refused, with
@@ -239,6 +242,18 @@ struct typst_html_reply typst_html_unused(uint32_t limit, const uint8_t *input, 
  * byte that is none.
  */
 struct typst_html_reply typst_html_check(uint32_t limit, const uint8_t *page, size_t length,
+                                         uint8_t *output, size_t room);
+
+/*
+ * What links between pages need to know of a page, as JSON, each list in document order:
+ *     {"ids":[{"id":t,"keeps":n,"path":[n,..],"offset":n,"line":n,"column":n},..],
+ *      "names":[{"name":t,"keeps":n,"path":[n,..],"offset":n,"line":n,"column":n},..],
+ *      "links":[{"href":t,"keeps":n,"path":[n,..],"offset":n,"line":n,"column":n},..]}
+ * A link with a fragment may lead to each `id` of an element, and to each `name` of an `a`; empty ones are
+ * left out. The links are the addresses of `a` and `area`, as they are written, an empty one too. Paths and
+ * places, pages, limits and refusals are those of typst_html_check.
+ */
+struct typst_html_reply typst_html_links(uint32_t limit, const uint8_t *page, size_t length,
                                          uint8_t *output, size_t room);
 
 /*
@@ -287,6 +302,13 @@ static inline struct typst_html_reply typst_html_unused_string(uint32_t limit, c
 static inline struct typst_html_reply typst_html_check_string(uint32_t limit, const char *page,
                                                               char *output, size_t room) {
     return typst_html_ended(typst_html_check(limit, (const uint8_t *)page, strlen(page),
+                                             (uint8_t *)output, room ? room - 1 : 0),
+                            output);
+}
+
+static inline struct typst_html_reply typst_html_links_string(uint32_t limit, const char *page,
+                                                              char *output, size_t room) {
+    return typst_html_ended(typst_html_links(limit, (const uint8_t *)page, strlen(page),
                                              (uint8_t *)output, room ? room - 1 : 0),
                             output);
 }

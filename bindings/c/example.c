@@ -1,8 +1,9 @@
 /*
  * example tree|items|document [--pretty] [--links]: JSON from standard input becomes HTML on standard
  * output. example dead-links: the links that lead nowhere in a document are told in JSON. example check:
- * a page from standard input is checked, and what is wrong with its links is told in JSON. It ends with
- * the status of the call, and tells of a refusal, or of links that lead nowhere, on standard error.
+ * a page from standard input is checked, and what is wrong in it is told in JSON. example links: its ids and
+ * its links are. It ends with the status of the call, and tells of a refusal, or of links that lead nowhere,
+ * on standard error.
  */
 #include "typst_html.h"
 
@@ -16,14 +17,16 @@ struct bytes {
     size_t length;
 };
 
-enum task { TREE, ITEMS, DOCUMENT, DEAD_LINKS, CHECK };
+enum task { TREE, ITEMS, DOCUMENT, DEAD_LINKS, CHECK, LINKS };
 
-static const char *const names[] = {"tree", "items", "document", "dead-links", "check"};
+static const char *const names[] = {"tree", "items", "document", "dead-links", "check", "links"};
 
 static struct typst_html_reply call(enum task task, bool pretty, bool links, struct bytes input,
                                     struct bytes output) {
     if (task == CHECK)
         return typst_html_check(1000, input.at, input.length, output.at, output.length);
+    if (task == LINKS)
+        return typst_html_links(1000, input.at, input.length, output.at, output.length);
     if (task == DEAD_LINKS)
         return typst_html_dead_links(50, input.at, input.length, output.at, output.length);
     if (task == DOCUMENT)
@@ -65,10 +68,10 @@ static struct bytes all_of(FILE *file) {
 int main(int count, char **words) {
     bool pretty = false, links = false;
     enum task task = TREE;
-    while (task <= CHECK && (count < 2 || strcmp(words[1], names[task])))
+    while (task <= LINKS && (count < 2 || strcmp(words[1], names[task])))
         task++;
-    if (task > CHECK) {
-        fputs("wanted: example tree|items|document|dead-links|check\n", stderr);
+    if (task > LINKS) {
+        fputs("wanted: example tree|items|document|dead-links|check|links\n", stderr);
         return TYPST_HTML_BAD_INPUT;
     }
     for (int i = 2; i < count; i++) {

@@ -48,7 +48,10 @@ int main() {
     expect(reply.status == TYPST_HTML_DONE && text == "{\"dead_links\":[{\"destination\":9,\"span\":2}]}");
     text = text_of([](char *output, size_t room) { return typst_html_check_string(50, "<p>", output, room); },
                    reply);
-    expect(reply.status == TYPST_HTML_DONE && text == "{\"dead_fragments\":[],\"repeated_ids\":[]}");
+    expect(reply.status == TYPST_HTML_DONE && text == "{\"dead_fragments\":[],\"repeated_ids\":[],\"misnested\":[]}");
+    text = text_of([](char *output, size_t room) { return typst_html_links_string(50, "<p>", output, room); },
+                   reply);
+    expect(reply.status == TYPST_HTML_DONE && text == "{\"ids\":[],\"names\":[],\"links\":[]}");
     text_of([](char *output, size_t room) { return typst_html_check_string(50, "<table>a", output, room); },
             reply);
     expect(reply.status == TYPST_HTML_REFUSED && reply.number == TYPST_HTML_REFUSAL_FOSTER_PARENTING);

@@ -180,7 +180,7 @@ static void pages_are_checked(void) {
     const char *found = "{\"dead_fragments\":[{\"fragment\":\"b\",\"keeps\":0,\"path\":[1,0,0],"
                         "\"offset\":25,\"line\":1,\"column\":26}],"
                         "\"repeated_ids\":[{\"id\":\"a\",\"keeps\":0,\"path\":[1,0,1],"
-                        "\"offset\":43,\"line\":1,\"column\":44}]}";
+                        "\"offset\":43,\"line\":1,\"column\":44}],\"misnested\":[]}";
     uint8_t output[256];
     size_t length = strlen(page), room = strlen(found);
     memset(output, '.', sizeof output);
@@ -198,11 +198,49 @@ static void pages_are_checked(void) {
     }
 }
 
+/* A table stays in a p where no document type stands, and would not in the text of that tree. */
+static void misnested_nodes_are_told(void) {
+    const char *found = "{\"dead_fragments\":[],\"repeated_ids\":[],\"misnested\":["
+                        "{\"rule\":\"ClosesParagraph\",\"why\":\"closes the p that it stands in\","
+                        "\"keeps\":0,\"path\":[1,0,0],\"offset\":3,\"line\":1,\"column\":4}]}";
+    uint8_t output[256];
+    struct typst_html_reply reply = checked(50, "<p><table>", output, sizeof output);
+    expect("misnested nodes", reply.status == TYPST_HTML_DONE && reply.length == strlen(found) &&
+                                  !memcmp(output, found, reply.length));
+}
+
+static struct typst_html_reply linked(uint32_t limit, const char *page, uint8_t *output, size_t room) {
+    return typst_html_links(limit, (const uint8_t *)page, strlen(page), output, room);
+}
+
+static void pages_tell_their_links(void) {
+    const char *page = "<!DOCTYPE html><h1 id=a>x</h1><a name=b href=\"c.html#d\">y</a>";
+    const char *found = "{\"ids\":[{\"id\":\"a\",\"keeps\":0,\"path\":[1,0],"
+                        "\"offset\":15,\"line\":1,\"column\":16}],"
+                        "\"names\":[{\"name\":\"b\",\"keeps\":0,\"path\":[1,1],"
+                        "\"offset\":30,\"line\":1,\"column\":31}],"
+                        "\"links\":[{\"href\":\"c.html#d\",\"keeps\":0,\"path\":[1,1],"
+                        "\"offset\":30,\"line\":1,\"column\":31}]}";
+    uint8_t output[300];
+    size_t room = strlen(found);
+    memset(output, '.', sizeof output);
+    struct typst_html_reply reply = linked(50, page, output, room - 1);
+    expect("links in a short buffer", reply.status == TYPST_HTML_TOO_SHORT && reply.length == room &&
+                                          output[0] == '.');
+    reply = linked(50, page, output, room);
+    expect("links", reply.status == TYPST_HTML_DONE && reply.length == room &&
+                        !memcmp(output, found, room) && output[room] == '.');
+    expect("links with limit 0", linked(0, page, output, room).status == TYPST_HTML_BAD_INPUT);
+    reply = linked(50, "<table>\r\n<p>a", output, room);
+    expect("links of a page that is refused", reply.status == TYPST_HTML_REFUSED && reply.number == 32 &&
+                                                  reply.span == 9 && reply.line == 2 && reply.column == 1);
+}
+
 /* A page as it stands in the wild, in which a multi-byte character stands before the link. */
 static void pages_are_read_as_browsers_read_them(void) {
     const char *page = "<TITLE>Pie</TITLE>\r\n<UL><LI>Salt\r\n<LI>\xc3\xa4 & <A HREF=#gone>x</A>";
     const char *found = "{\"dead_fragments\":[{\"fragment\":\"gone\",\"keeps\":0,\"path\":[1,0,1,1],"
-                        "\"offset\":43,\"line\":3,\"column\":9}],\"repeated_ids\":[]}";
+                        "\"offset\":43,\"line\":3,\"column\":9}],\"repeated_ids\":[],\"misnested\":[]}";
     uint8_t output[256];
     struct typst_html_reply reply = checked(50, page, output, sizeof output);
     expect("a page in the wild", reply.status == TYPST_HTML_DONE && reply.length == strlen(found) &&
@@ -237,7 +275,8 @@ static void pages_are_refused(void) {
     }
 }
 
-/* Links to nowhere 990 deep: the text is no longer than that of as many at the top. */
+/* Links to nowhere 990 deep: the text is no longer than that of as many at the top. Browsers go 511 deep, so one
+   node is told that stands deeper. */
 static void deep_findings_are_short(void) {
     enum { DEEP = 990, COUNT = 10000, ROOM = 1 << 20 };
     const char *link = "<a href=\"#x\"></a>";
@@ -250,11 +289,13 @@ static void deep_findings_are_short(void) {
     for (int i = 0; i < DEEP; i++)
         end = stpcpy(end, "</b>");
     struct typst_html_reply reply =
-        typst_html_check(1000, (uint8_t *)page, (size_t)(end - page), output, ROOM);
+        typst_html_check(1000, (uint8_t *)page, (size_t)(end - page), output, ROOM - 1);
     const char *last = ",{\"fragment\":\"x\",\"keeps\":991,\"path\":[9999],\"offset\":172968,"
-                       "\"line\":1,\"column\":172969}],\"repeated_ids\":[]}";
-    expect("deep findings", reply.status == TYPST_HTML_DONE &&
-                                !memcmp(output + reply.length - strlen(last), last, strlen(last)));
+                       "\"line\":1,\"column\":172969}],\"repeated_ids\":[],"
+                       "\"misnested\":[{\"rule\":\"TooDeep\",";
+    output[reply.length] = '\0';
+    const char *deep = strstr((char *)output, last);
+    expect("deep findings", reply.status == TYPST_HTML_DONE && deep && strlen(deep) < 1500);
     free(page);
     free(output);
 }
@@ -264,7 +305,8 @@ static void strings_end_with_nul(void) {
     const char *tree = "[\"el\",\"p\",[],[[\"text\",\"a\"]]]", *text = "<!DOCTYPE html><p>a</p>";
     const char *document = "{\"items\":[[\"start\",1,9],[\"el\",\"a\",[],[]]]}";
     const char *dead = "{\"dead_links\":[{\"destination\":9,\"span\":2}]}";
-    const char *page = "<p>x</p>", *found = "{\"dead_fragments\":[],\"repeated_ids\":[]}";
+    const char *page = "<p>x</p>", *found = "{\"dead_fragments\":[],\"repeated_ids\":[],\"misnested\":[]}";
+    const char *names = "{\"ids\":[],\"names\":[],\"links\":[]}";
     char output[256];
     size_t length = strlen(text);
     for (size_t room = 0; room <= length; room++) {
@@ -283,6 +325,8 @@ static void strings_end_with_nul(void) {
     expect("dead links as a string", reply.status == TYPST_HTML_DONE && !strcmp(output, dead));
     reply = typst_html_check_string(50, page, output, sizeof output);
     expect("findings as a string", reply.status == TYPST_HTML_DONE && !strcmp(output, found));
+    reply = typst_html_links_string(50, page, output, sizeof output);
+    expect("links as a string", reply.status == TYPST_HTML_DONE && !strcmp(output, names));
     memset(output, '.', sizeof output);
     reply = typst_html_write_string(0, 0, "{", output, sizeof output);
     expect("no JSON as a string", reply.status == TYPST_HTML_BAD_INPUT && output[0] == '.');
@@ -391,6 +435,8 @@ int main(int count, char **words) {
     dead_links_are_told();
     unused_members_are_listed();
     pages_are_checked();
+    misnested_nodes_are_told();
+    pages_tell_their_links();
     pages_are_read_as_browsers_read_them();
     pages_are_refused();
     deep_findings_are_short();

@@ -392,6 +392,27 @@ class Calls(unittest.TestCase):
         self.assertEqual(list(found.repeated_ids), repeated)
         self.assertTrue(found)
 
+    def test_misnested_nodes(self):
+        found = html.check("<p><table></table><b><table></table></b>")  # in quirks mode a table stays in a p
+        why = "closes the p that it stands in"
+        places = (((1, 0, 0), html.Place(3, 1, 4)), ((1, 0, 1, 0), html.Place(21, 1, 22)))
+        wanted = tuple(html.Misnested(path, "ClosesParagraph", why, place) for path, place in places)
+        self.assertEqual(found, html.Findings(misnested=wanted))
+        self.assertTrue(found)
+
+    def test_links_of_a_page(self):
+        page = '<html id=r><p id="">é<a id=s name=t href="b.html#c">x</a><map><area href></map>'
+        root, a, area = ((), html.Place(0, 1, 1)), ((1, 0, 1), html.Place(22, 1, 22)), ((1, 0, 2, 0), html.Place(63, 1, 63))
+        told = html.links(page)
+        self.assertEqual(told.ids, tuple(html.PageId(path, id, place) for id, (path, place) in (("r", root), ("s", a))))
+        self.assertEqual(told.names, (html.PageName(a[0], "t", a[1]),))
+        links = tuple(html.PageLink(path, href, place) for href, (path, place) in (("b.html#c", a), ("", area)))
+        self.assertEqual(told.links, links)
+        self.assertEqual(html.links(page.encode()), told)
+        for bad, limit, failure in (("<table>a", 50, Refused), ("", 0, html.BadInput), (b"\xff", 50, html.BadInput)):
+            with self.subTest(bad), self.assertRaises(failure):
+                html.links(bad, limit=limit)
+
     def test_pages_are_read_as_browsers_read_them(self):
         page = "\ufeff<TITLE>Pie</TITLE>\r\n<UL><LI>Salt\r\n<LI>ä & <A HREF=#gone>x</A>"
         dead = html.DeadFragment((1, 0, 1, 1), "gone", html.Place(46, 3, 9))
@@ -448,6 +469,8 @@ class Calls(unittest.TestCase):
                 deep = limit - 3
                 found = html.check('<div id="a"><a href="#b"></a>' * deep, limit=limit)
                 told.append((len(found.dead_fragments), len(found.repeated_ids) + 1) == (deep, deep))
+                page = html.links('<div id="a"><a href="#b"></a>' * deep, limit=limit)
+                told.append((len(page.ids), len(page.links)) == (deep, deep))
 
         told: list[bool] = []
         before = threading.stack_size(256 << 10)
@@ -457,7 +480,7 @@ class Calls(unittest.TestCase):
         finally:
             threading.stack_size(before)
         thread.join()
-        self.assertEqual(told, [True] * 5)
+        self.assertEqual(told, [True] * 10)
 
     def test_findings_deep_in_their_page_have_whole_paths(self):
         link = '<a href="#x" id="i"></a>'

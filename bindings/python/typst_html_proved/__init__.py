@@ -30,8 +30,9 @@ is raised has the list of these links, and the text.
 ...     page = dead.text
 links lead nowhere (1, the first at 2) (DeadLink(span=2, destination=7, path=('items', 1)),)
 
-A page, written here or elsewhere, can be checked: `check` tells of links within it that lead nowhere, and of ids
-that come twice.
+A page, written here or elsewhere, can be checked: `check` tells of links within it that lead nowhere, of ids that
+come twice, and of nodes that browsers would move. `links` lists its ids and its links, so that links between pages can
+be checked.
 
 Calls may be made from any number of threads, and run at once.
 """
@@ -43,17 +44,24 @@ from dataclasses import dataclass, field
 from typing import Any, Final, Iterable, Iterator, Literal, Mapping, Sequence, Union, ValuesView, overload
 
 from ._library import VERSION, Reply, Status, called
+from ._pages import (
+    DeadFragment, Findings, Misnested, PageId, PageLink, PageLinks, PageName, Place, RepeatedId, findings_of, links_of,
+)  # fmt: skip
 from ._places import DEEPEST, ItemPath, is_too_deep, left, numbered, shown, value_of
 from ._words import WORDS
 
 __all__ = [
     "BREAK", "HOLE", "SPACE", "VERSION", "Attrs", "BadInput", "DeadFragment", "DeadLink", "DeadLinks", "Failure", "Findings",
-    "Info", "Item", "ItemPath", "Items", "Kind", "Mark", "Node", "OtherLibrary", "OutOfMemory", "Place", "Refused", "RepeatedId", "Texts",
-    "WORDS", "block", "box", "check", "element", "end", "start", "text", "unused", "write", "write_json", "write_tree",
+    "Info", "Item", "ItemPath", "Items", "Kind", "Mark", "Misnested", "Node", "OtherLibrary", "OutOfMemory", "PageId", "PageLink",
+    "PageLinks", "PageName", "Place", "Refused", "RepeatedId", "Texts", "WORDS", "block", "box", "check", "element", "end", "links", "start",
+    "text", "unused", "write", "write_json", "write_tree",
 ]  # fmt: skip
 
 __version__: Final = "0.1.0"
 """The version of this package. `VERSION` is that of the library's calls."""
+
+for _kind in (DeadFragment, Findings, Misnested, PageId, PageLink, PageLinks, PageName, Place, RepeatedId):
+    _kind.__module__ = __name__
 
 
 class Node(list[object]):
@@ -97,24 +105,6 @@ BREAK: Final = Mark(["break"])
 
 HOLE: Final = Mark(["hole"])
 """Something that has no place in HTML, and is left out."""
-
-@dataclass(frozen=True)
-class Place:
-    """A place in a page. As text it is `line:column`.
-
-    >>> str(Place(offset=29, line=2, column=11))
-    '2:11'
-    """
-
-    offset: int
-    """How many bytes of the page, in UTF-8, stand before it."""
-    line: int
-    """Its line, counted from 1. A line ends with a line feed, a carriage return or both, in that order."""
-    column: int
-    """Its column, in characters, counted from 1. A byte order mark at the beginning of the page is none."""
-
-    def __str__(self) -> str:
-        return f"{self.line}:{self.column}"
 
 
 class Failure(Exception):
@@ -342,53 +332,6 @@ class Info:
             "region": _known("a region", self.region, "Info(region)") if self.lang is not None else None,
         }
         return {name: value for name, value in given.items() if value is not None}
-
-
-@dataclass(frozen=True)
-class DeadFragment:
-    """A link to a fragment of its own page that leads nowhere.
-
-    >>> check("<a href=#salt>salt</a>").dead_fragments[0].fragment
-    'salt'
-    """
-
-    path: tuple[int, ...]
-    """The index of each child on the way to the link, from the root on, texts counted."""
-    fragment: str
-    """What stands behind `#`, as it is written."""
-    place: Place
-    """Where the start tag of the link begins."""
-
-
-@dataclass(frozen=True)
-class RepeatedId:
-    """An id that stands before in its page.
-
-    >>> check("<p id=a></p>\\n<p id=a></p>").repeated_ids[0]
-    RepeatedId(path=(1, 2), id='a', place=Place(offset=13, line=2, column=1))
-    """
-
-    path: tuple[int, ...]
-    """The index of each child on the way to the element, from the root on, texts counted."""
-    id: str
-    """The id."""
-    place: Place
-    """Where the start tag of the element begins."""
-
-
-@dataclass(frozen=True)
-class Findings:
-    """What is wrong with the links of a page, in order. It is false where nothing is.
-
-    >>> bool(check("<p id=a><a href=#a>up</a>")), bool(check("<a href=#b>up</a>"))
-    (False, True)
-    """
-
-    dead_fragments: Sequence[DeadFragment] = ()
-    repeated_ids: Sequence[RepeatedId] = ()
-
-    def __bool__(self) -> bool:
-        return bool(self.dead_fragments or self.repeated_ids)
 
 
 KINDS: Final = ("text", "space", "break", "hole", "el", "block", "box", "start", "end")
@@ -742,19 +685,6 @@ def write_json(
     return given.text("typst_html_write", kind=int(kind == "items"), layout=layout)
 
 
-def _paths(found: list[dict[str, Any]]) -> Iterator[tuple[int, ...]]:
-    """The whole paths of findings, of which each is told by how much it keeps of the one before, and what follows."""
-    path: list[int] = []
-    for it in found:
-        path[it["keeps"] :] = it["path"]
-        yield tuple(path)
-
-
-def _place(found: dict[str, Any]) -> Place:
-    """Where a finding is told to stand."""
-    return Place(found["offset"], found["line"], found["column"])
-
-
 def _unread(reply: Reply) -> Failure:
     """Why a page is not read."""
     place = Place(reply.span, reply.line, reply.column)
@@ -765,9 +695,19 @@ def _unread(reply: Reply) -> Failure:
     return OutOfMemory() if reply.status == Status.OUT_OF_MEMORY else OtherLibrary()
 
 
+def _told_by(call: str, page: bytes | str, limit: int, where: str) -> dict[str, list[dict[str, Any]]]:
+    """What a call tells of a page."""
+    _number("the limit", limit, 1, 1_000, f"{where}(limit)")
+    reply, output = called(call, _bytes(page, f"{where}(page)"), limit=limit)
+    if reply.status != Status.DONE:
+        raise _unread(reply)
+    told: dict[str, list[dict[str, Any]]] = json.loads(output.decode())
+    return told
+
+
 def check(page: bytes | str, *, limit: int = 50) -> Findings:
-    """What is wrong with the links of a page: links to fragments of the page itself that lead nowhere, and ids
-    that stand in it before.
+    """What is wrong in a page: links to fragments of the page itself that lead nowhere, ids that stand in it before,
+    and nodes that a browser would not leave where they are if the tree of the page were written.
 
     Any page is read, as a browser reads it whose scripting is disabled: what may be left out is implied, and errors
     are gone over. But where a browser would move nodes or make them a second time, the page is `Refused`; so is one
@@ -783,13 +723,20 @@ def check(page: bytes | str, *, limit: int = 50) -> Findings:
 
     Raises `Refused`, `BadInput` or `OutOfMemory`.
     """
-    _number("the limit", limit, 1, 1_000, "check(limit)")
-    reply, output = called("typst_html_check", _bytes(page, "check(page)"), limit=limit)
-    if reply.status != Status.DONE:
-        raise _unread(reply)
-    found = json.loads(output.decode())
-    dead, repeated = found["dead_fragments"], found["repeated_ids"]
-    return Findings(
-        tuple(DeadFragment(path, it["fragment"], _place(it)) for path, it in zip(_paths(dead), dead)),
-        tuple(RepeatedId(path, it["id"], _place(it)) for path, it in zip(_paths(repeated), repeated)),
-    )
+    return findings_of(_told_by("typst_html_check", page, limit, "check"))
+
+
+def links(page: bytes | str, *, limit: int = 50) -> PageLinks:
+    """What links between pages need to know of a page: the ids and names in it to which a link with a fragment may
+    lead, and its own links.
+
+    Pages are read, limited and refused as by `check`. Where an address leads is for the caller to find out: it is told
+    as it is written.
+
+    >>> page = links("<h1 id=salt>Salt</h1>\\n<a href=pepper.html#black>pepper</a>")
+    >>> [it.id for it in page.ids], [it.href for it in page.links], str(page.links[0].place)
+    (['salt'], ['pepper.html#black'], '2:1')
+
+    Raises `Refused`, `BadInput` or `OutOfMemory`.
+    """
+    return links_of(_told_by("typst_html_links", page, limit, "links"))

@@ -61,6 +61,10 @@ DECLARED: Final[Mapping[str, tuple[Any, dict[str, Any]]]] = MappingProxyType({
         "limit": ctypes.c_uint32, "page": ctypes.c_char_p, "length": ctypes.c_size_t,
         "output": ctypes.c_void_p, "room": ctypes.c_size_t,
     }),
+    "typst_html_links": (Reply, {
+        "limit": ctypes.c_uint32, "page": ctypes.c_char_p, "length": ctypes.c_size_t,
+        "output": ctypes.c_void_p, "room": ctypes.c_size_t,
+    }),
 })  # fmt: skip
 """What each call gives, and what it takes, by name and in order."""
 

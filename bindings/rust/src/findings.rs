@@ -1,4 +1,4 @@
-//! What is wrong with the links of a document, and with those of a page.
+//! What is wrong with the links of a document, and what is wrong in a page.
 
 use crate::{ItemPath, Place};
 use serde::{Deserialize, Serialize};
@@ -42,7 +42,7 @@ pub(crate) struct ToldUnused {
     pub(crate) unused: Vec<String>,
 }
 
-/// What is wrong with the links of a page.
+/// What is wrong in a page.
 #[derive(Clone, Debug, Default, PartialEq, Eq, Serialize, Deserialize)]
 #[non_exhaustive]
 pub struct Findings {
@@ -50,12 +50,16 @@ pub struct Findings {
     pub dead_fragments: Vec<DeadFragment>,
     /// The ids that stand in the page before, in order.
     pub repeated_ids: Vec<RepeatedId>,
+    /// The nodes that a browser would not leave where they are, if the tree of the page were written, in
+    /// order.
+    #[serde(default)] // JSON of earlier findings has none
+    pub misnested: Vec<Misnested>,
 }
 
 impl Findings {
     /// Whether nothing is wrong.
     pub fn is_empty(&self) -> bool {
-        self.dead_fragments.is_empty() && self.repeated_ids.is_empty()
+        self.dead_fragments.is_empty() && self.repeated_ids.is_empty() && self.misnested.is_empty()
     }
 }
 
@@ -67,8 +71,9 @@ impl fmt::Display for Findings {
             .iter()
             .map(|one| one as &dyn fmt::Display);
         let repeated = self.repeated_ids.iter().map(|one| one as &dyn fmt::Display);
+        let misnested = self.misnested.iter().map(|one| one as &dyn fmt::Display);
         let mut before = "";
-        for one in dead.chain(repeated) {
+        for one in dead.chain(repeated).chain(misnested) {
             write!(f, "{before}{one}")?;
             before = "\n";
         }
@@ -118,52 +123,97 @@ impl fmt::Display for RepeatedId {
     }
 }
 
+/// A node of a page that a browser would not leave where it is, if the tree of the page were written: its
+/// parser closes elements where others begin, moves what has no place in a table, and more.
+#[derive(Clone, Debug, PartialEq, Eq, Serialize, Deserialize)]
+#[non_exhaustive]
+pub struct Misnested {
+    /// The index of each child on the way to the node, from the root on, texts counted.
+    pub path: Vec<usize>,
+    /// The name of the first rule that it breaks, as `ClosesParagraph`.
+    pub rule: String,
+    /// What becomes of it, as `closes the p that it stands in`.
+    pub why: String,
+    /// Where the start tag of the element begins; of a text, that of the element in which it stands.
+    pub place: Place,
+}
+
+impl fmt::Display for Misnested {
+    /// In a line: `1:4: a node closes the p that it stands in`.
+    fn fmt(&self, f: &mut fmt::Formatter<'_>) -> fmt::Result {
+        write!(f, "{}: a node {}", self.place, self.why)
+    }
+}
+
 /// The findings as the library tells them.
 #[derive(Deserialize)]
 pub(crate) struct ToldFindings {
-    dead_fragments: Vec<ToldFinding>,
-    repeated_ids: Vec<ToldFinding>,
+    dead_fragments: Vec<Told<ToldFragment>>,
+    repeated_ids: Vec<Told<ToldId>>,
+    misnested: Vec<Told<ToldRule>>,
 }
 
-/// A finding whose path begins with as many indices of the path before as it keeps.
+/// What stands in a page, at a path that begins with as many indices of the path before as it keeps.
 #[derive(Deserialize)]
-struct ToldFinding {
-    #[serde(alias = "fragment", alias = "id")]
-    text: String,
+pub(crate) struct Told<T> {
+    #[serde(flatten)]
+    told: T,
     keeps: usize,
     path: Vec<usize>,
     #[serde(flatten)]
     place: Place,
 }
 
+#[derive(Deserialize)]
+struct ToldFragment {
+    fragment: String,
+}
+
+#[derive(Deserialize)]
+pub(crate) struct ToldId {
+    pub(crate) id: String,
+}
+
+#[derive(Deserialize)]
+struct ToldRule {
+    rule: String,
+    why: String,
+}
+
 impl From<ToldFindings> for Findings {
     fn from(told: ToldFindings) -> Findings {
         Findings {
-            dead_fragments: with_paths(told.dead_fragments, |path, fragment, place| DeadFragment {
+            dead_fragments: with_paths(told.dead_fragments, |path, told, place| DeadFragment {
                 path,
-                fragment,
+                fragment: told.fragment,
                 place,
             }),
-            repeated_ids: with_paths(told.repeated_ids, |path, id, place| RepeatedId {
+            repeated_ids: with_paths(told.repeated_ids, |path, told, place| RepeatedId {
                 path,
-                id,
+                id: told.id,
+                place,
+            }),
+            misnested: with_paths(told.misnested, |path, told, place| Misnested {
+                path,
+                rule: told.rule,
+                why: told.why,
                 place,
             }),
         }
     }
 }
 
-/// The findings of one list with their whole paths.
-fn with_paths<T>(
-    told: Vec<ToldFinding>,
-    finding: impl Fn(Vec<usize>, String, Place) -> T,
-) -> Vec<T> {
+/// What one list tells, with whole paths.
+pub(crate) fn with_paths<T, U>(
+    listed: Vec<Told<T>>,
+    finding: impl Fn(Vec<usize>, T, Place) -> U,
+) -> Vec<U> {
     let mut path = Vec::new();
-    let mut findings = Vec::with_capacity(told.len());
-    for one in told {
+    let mut findings = Vec::with_capacity(listed.len());
+    for one in listed {
         path.truncate(one.keeps);
         path.extend(one.path);
-        findings.push(finding(path.clone(), one.text, one.place));
+        findings.push(finding(path.clone(), one.told, one.place));
     }
     findings
 }

@@ -45,8 +45,9 @@
 //! # Ok::<(), Refusal>(())
 //! ```
 //!
-//! A page, written here or elsewhere, can be checked: links within it that lead nowhere, and ids that come
-//! twice.
+//! A page, written here or elsewhere, can be checked: links within it that lead nowhere, ids that come
+//! twice, and nodes that browsers would move ([`check`]). [`links`] lists its ids and its links, so that
+//! links between pages can be checked.
 //!
 //! Calls share nothing, so any number of threads may make them. Each wants 256 KB of stack,
 //! whatever the input and the limit are. Where there is less, a deep input ends the process.
@@ -59,14 +60,17 @@ mod document;
 mod findings;
 mod item;
 mod json;
+mod links;
 mod path;
 mod raw;
 mod refusal;
 
 pub use document::{Document, Info};
-pub use findings::{DeadFragment, DeadLink, Findings, RepeatedId};
+pub use findings::{DeadFragment, DeadLink, Findings, Misnested, RepeatedId};
 use findings::{ToldFindings, ToldLinks, ToldUnused};
 pub use item::{Element, IntoItems, Item};
+use links::ToldPageLinks;
+pub use links::{PageId, PageLink, PageLinks, PageName};
 use path::{Form, Given};
 pub use path::{ItemPath, Step};
 pub use refusal::{DeadLinks, Place, Refusal};
@@ -248,8 +252,9 @@ pub fn unused(document: &Document, limit: u32) -> Result<Vec<String>, Refusal> {
     Ok(unused)
 }
 
-/// What is wrong with the links of a page: links to fragments of the page itself that lead nowhere, and
-/// ids that stand in it before, each with its place.
+/// What is wrong in a page: links to fragments of the page itself that lead nowhere, ids that stand in it
+/// before, and nodes that a browser would not leave where they are if the tree of the page were written,
+/// each with its place.
 ///
 /// Any page is read, as a browser reads it whose scripting is disabled: what may be left out is implied,
 /// and errors are gone over. But where a browser would move nodes or make them a second time, the page is
@@ -263,7 +268,11 @@ pub fn unused(document: &Document, limit: u32) -> Result<Vec<String>, Refusal> {
 /// let dead = &findings.dead_fragments[0];
 /// assert_eq!((dead.fragment.as_str(), dead.path.as_slice()), ("pepper", &[1, 0, 1][..]));
 /// assert_eq!(dead.place, Place { offset: 29, line: 2, column: 11 });
-/// assert!(findings.repeated_ids.is_empty());
+/// assert!(findings.repeated_ids.is_empty() && findings.misnested.is_empty());
+///
+/// // Without a document type a table stays in a p.
+/// let findings = check("<p><table></table>", 50)?;
+/// assert_eq!(findings.to_string(), "1:4: a node closes the p that it stands in");
 ///
 /// let refusal = check("<table>\n<p>1</p></table>", 50).unwrap_err();
 /// let moved = "a text or an element would be moved out of a table (refusal 32 at 2:1)";
@@ -273,6 +282,28 @@ pub fn unused(document: &Document, limit: u32) -> Result<Vec<String>, Refusal> {
 pub fn check(page: &str, limit: u32) -> Result<Findings, Refusal> {
     let json = raw::check(limit, page.as_bytes())?;
     let told: ToldFindings = serde_json::from_str(&json).expect(KNOWN_FORM);
+    Ok(told.into())
+}
+
+/// What links between pages need to know of a page: the ids and names in it to which a link with a fragment
+/// may lead, and its own links, each with its place. Pages, limits and refusals are those of [`check`].
+///
+/// Where an address leads is for the caller to find out: it is told as it is written.
+///
+/// ```
+/// use typst_html_proved::{links, Place, Refusal};
+///
+/// let page = links("<h1 id=salt>Salt</h1>\n<a href=pepper.html#black>pepper</a>", 50)?;
+/// assert_eq!(page.ids[0].id, "salt");
+/// let link = &page.links[0];
+/// assert_eq!((link.href.as_str(), link.path.as_slice()), ("pepper.html#black", &[1, 2][..]));
+/// assert_eq!(link.place, Place { offset: 22, line: 2, column: 1 });
+/// assert_eq!(link.to_string(), "2:1: a link to \"pepper.html#black\"");
+/// # Ok::<(), Refusal>(())
+/// ```
+pub fn links(page: &str, limit: u32) -> Result<PageLinks, Refusal> {
+    let json = raw::links(limit, page.as_bytes())?;
+    let told: ToldPageLinks = serde_json::from_str(&json).expect(KNOWN_FORM);
     Ok(told.into())
 }
 

@@ -95,6 +95,14 @@ extern "C" {
         output: *mut u8,
         room: usize,
     ) -> Reply;
+
+    fn typst_html_links(
+        limit: u32,
+        page: *const u8,
+        length: usize,
+        output: *mut u8,
+        room: usize,
+    ) -> Reply;
 }
 
 /// The version of the library that is linked.
@@ -184,12 +192,28 @@ pub(crate) fn unused(limit: u32, input: &[u8]) -> Result<String, Refusal> {
     })
 }
 
-/// What is wrong with the links of a page, in JSON.
+/// What is wrong in a page, in JSON.
 pub(crate) fn check(limit: u32, page: &[u8]) -> Result<String, Refusal> {
     text_by(page.len(), Reply::of_page, |output| {
         // SAFETY: as in `write`.
         unsafe {
             typst_html_check(
+                limit,
+                page.as_ptr(),
+                page.len(),
+                output.as_mut_ptr(),
+                output.len(),
+            )
+        }
+    })
+}
+
+/// The ids, the names and the links of a page, in JSON.
+pub(crate) fn links(limit: u32, page: &[u8]) -> Result<String, Refusal> {
+    text_by(page.len(), Reply::of_page, |output| {
+        // SAFETY: as in `write`.
+        unsafe {
+            typst_html_links(
                 limit,
                 page.as_ptr(),
                 page.len(),

@@ -560,6 +560,50 @@ fn findings_have_paths_names_and_places() {
     );
 }
 
+/// A page without a document type keeps a table in a p, which the text of its tree would not.
+#[test]
+fn misnested_nodes_have_rules_and_words() {
+    let findings = check("<p><table></table><b><table></table></b>", 50).unwrap();
+    assert!(!findings.is_empty() && findings.dead_fragments.is_empty());
+    let found: Vec<_> = findings.misnested.iter().collect();
+    let places = [(vec![1, 0, 0], 3), (vec![1, 0, 1, 0], 21)];
+    assert_eq!(found.len(), places.len());
+    for (node, (path, offset)) in found.iter().zip(places) {
+        assert_eq!((&node.path, node.place), (&path, first_line(offset)));
+        assert_eq!(node.rule, "ClosesParagraph");
+    }
+    let lines = "1:4: a node closes the p that it stands in\n\
+                 1:22: a node closes the p that it stands in";
+    assert_eq!(findings.to_string(), lines);
+    let spelled = serde_json::to_string(&findings).unwrap();
+    assert_eq!(
+        serde_json::from_str::<Findings>(&spelled).unwrap(),
+        findings
+    );
+    let earlier = r#"{"dead_fragments":[],"repeated_ids":[]}"#;
+    let read: Findings = serde_json::from_str(earlier).unwrap();
+    assert_eq!(read, Findings::default());
+}
+
+#[test]
+fn pages_tell_their_ids_names_and_links() {
+    let page = r#"<html id=r><p id="">é<a id=s name=t href="b.html#c">x</a><map><area href></map>"#;
+    let told = links(page, 50).unwrap();
+    let lines = "1:1: the id \"r\"\n1:22: the id \"s\"\n1:22: the name \"t\"\n\
+                 1:22: a link to \"b.html#c\"\n1:63: a link to \"\"";
+    assert_eq!(told.to_string(), lines);
+    let paths: Vec<_> = told.links.iter().map(|it| it.path.as_slice()).collect();
+    assert_eq!(paths, [&[1, 0, 1][..], &[1, 0, 2, 0]]);
+    assert!(told.ids[0].path.is_empty());
+    assert_eq!(told.links[0].place.offset, 22);
+    let spelled = serde_json::to_string(&told).unwrap();
+    assert_eq!(serde_json::from_str::<PageLinks>(&spelled).unwrap(), told);
+    assert_eq!(links("", 50), Ok(PageLinks::default()));
+    let refusal = links("<table>a", 50).unwrap_err();
+    assert_eq!(refusal, check("<table>a", 50).unwrap_err());
+    assert!(matches!(links("", 0), Err(Refusal::BadInput { .. })));
+}
+
 /// The links that lead nowhere: paths, fragments and places.
 fn dead_fragments(findings: &Findings) -> Vec<(Vec<usize>, String, Place)> {
     let dead = findings.dead_fragments.iter();
@@ -758,6 +802,8 @@ fn the_deepest_page_on_a_small_stack() {
             let findings = check(&page, limit).unwrap();
             assert_eq!(findings.dead_fragments.len(), deep);
             assert_eq!(findings.repeated_ids.len(), deep - 1);
+            let told = links(&page, limit).unwrap();
+            assert_eq!((told.ids.len(), told.links.len()), (deep, deep));
             assert_eq!(check(&page, limit - 1).unwrap_err().number(), 8);
         }
     };

@@ -83,6 +83,11 @@ extern "C" fn typst_html_check(_: u32, _: *const u8, _: usize, _: *mut u8, _: us
     reply(7)
 }
 
+#[no_mangle]
+extern "C" fn typst_html_links(_: u32, _: *const u8, _: usize, _: *mut u8, _: usize) -> Reply {
+    reply(10)
+}
+
 /// Each call of this crate, of which none has a text. (Status 4 tells a length that is less than the
 /// buffer's.)
 fn all_are_refused() {
@@ -95,6 +100,7 @@ fn all_are_refused() {
     assert_eq!(document, Err(Refusal::OtherLibrary));
     assert_eq!(unused(&Document::new(), 50), Err(Refusal::OtherLibrary));
     assert_eq!(check("", 50), Err(Refusal::OtherLibrary));
+    assert_eq!(links("", 50), Err(Refusal::OtherLibrary));
 }
 
 #[test]
@@ -104,7 +110,7 @@ fn another_library_is_told() {
         LINKED.store(VERSION + 1, SeqCst);
     }
     all_are_refused();
-    let wanted = if is_other { 0 } else { 7 };
+    let wanted = if is_other { 0 } else { 8 };
     assert_eq!(CALLS.load(SeqCst), wanted, "another version is not called");
     // It is looked at once.
     LINKED.store(VERSION + 2, SeqCst);

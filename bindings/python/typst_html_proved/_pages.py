@@ -1,0 +1,186 @@
+"""What the library tells of pages."""
+
+from __future__ import annotations
+
+from dataclasses import dataclass
+from typing import Any, Callable, Sequence, TypeVar
+
+Found = TypeVar("Found")
+
+
+@dataclass(frozen=True)
+class Place:
+    """A place in a page. As text it is `line:column`.
+
+    >>> str(Place(offset=29, line=2, column=11))
+    '2:11'
+    """
+
+    offset: int
+    """How many bytes of the page, in UTF-8, stand before it."""
+    line: int
+    """Its line, counted from 1. A line ends with a line feed, a carriage return or both, in that order."""
+    column: int
+    """Its column, in characters, counted from 1. A byte order mark at the beginning of the page is none."""
+
+    def __str__(self) -> str:
+        return f"{self.line}:{self.column}"
+
+
+@dataclass(frozen=True)
+class DeadFragment:
+    """A link to a fragment of its own page that leads nowhere.
+
+    >>> check("<a href=#salt>salt</a>").dead_fragments[0].fragment
+    'salt'
+    """
+
+    path: tuple[int, ...]
+    """The index of each child on the way to the link, from the root on, texts counted."""
+    fragment: str
+    """What stands behind `#`, as it is written."""
+    place: Place
+    """Where the start tag of the link begins."""
+
+
+@dataclass(frozen=True)
+class RepeatedId:
+    """An id that stands before in its page.
+
+    >>> check("<p id=a></p>\\n<p id=a></p>").repeated_ids[0]
+    RepeatedId(path=(1, 2), id='a', place=Place(offset=13, line=2, column=1))
+    """
+
+    path: tuple[int, ...]
+    """The index of each child on the way to the element, from the root on, texts counted."""
+    id: str
+    """The id."""
+    place: Place
+    """Where the start tag of the element begins."""
+
+
+@dataclass(frozen=True)
+class Misnested:
+    """A node of a page that a browser would not leave where it is, if the tree of the page were written: its parser
+    closes elements where others begin, moves what has no place in a table, and more.
+
+    >>> check("<p><table></table>").misnested[0].why  # without a document type a table stays in a p
+    'closes the p that it stands in'
+    """
+
+    path: tuple[int, ...]
+    """The index of each child on the way to the node, from the root on, texts counted."""
+    rule: str
+    """The name of the first rule that it breaks, as `ClosesParagraph`."""
+    why: str
+    """What becomes of it."""
+    place: Place
+    """Where the start tag of the element begins; of a text, that of the element in which it stands."""
+
+
+@dataclass(frozen=True)
+class Findings:
+    """What is wrong in a page, in order. It is false where nothing is.
+
+    >>> bool(check("<p id=a><a href=#a>up</a>")), bool(check("<a href=#b>up</a>"))
+    (False, True)
+    """
+
+    dead_fragments: Sequence[DeadFragment] = ()
+    repeated_ids: Sequence[RepeatedId] = ()
+    misnested: Sequence[Misnested] = ()
+
+    def __bool__(self) -> bool:
+        return bool(self.dead_fragments or self.repeated_ids or self.misnested)
+
+
+@dataclass(frozen=True)
+class PageId:
+    """The id of an element of a page.
+
+    >>> links("<p id=a></p>").ids[0]
+    PageId(path=(1, 0), id='a', place=Place(offset=0, line=1, column=1))
+    """
+
+    path: tuple[int, ...]
+    """The index of each child on the way to the element, from the root on, texts counted."""
+    id: str
+    """The id."""
+    place: Place
+    """Where the start tag of the element begins."""
+
+
+@dataclass(frozen=True)
+class PageName:
+    """The name of an `a` of a page, to which a link may lead as to an id.
+
+    >>> links("<a name=b></a>").names[0].name
+    'b'
+    """
+
+    path: tuple[int, ...]
+    """The index of each child on the way to the element, from the root on, texts counted."""
+    name: str
+    """The name."""
+    place: Place
+    """Where the start tag of the element begins."""
+
+
+@dataclass(frozen=True)
+class PageLink:
+    """A link of a page: an `a` or `area` with an `href`.
+
+    >>> links("<a href='c.html?d&amp;e#f'>g</a>").links[0].href
+    'c.html?d&e#f'
+    """
+
+    path: tuple[int, ...]
+    """The index of each child on the way to the element, from the root on, texts counted."""
+    href: str
+    """Its address, as it is written."""
+    place: Place
+    """Where the start tag of the element begins."""
+
+
+@dataclass(frozen=True)
+class PageLinks:
+    """What links between pages need to know of a page, each in order.
+
+    >>> links("<p>Salt</p>") == PageLinks()
+    True
+    """
+
+    ids: Sequence[PageId] = ()
+    """The ids of its elements, but for empty ones."""
+    names: Sequence[PageName] = ()
+    """The names of its `a` elements, but for empty ones."""
+    links: Sequence[PageLink] = ()
+
+
+def _all(listed: list[dict[str, Any]], found: Callable[[tuple[int, ...], dict[str, Any], Place], Found]) -> tuple[Found, ...]:
+    """What stands in a list, with whole paths, of which each is told by how much it keeps of the one before, and what
+    follows."""
+    path: list[int] = []
+    made = []
+    for it in listed:
+        path[it["keeps"] :] = it["path"]
+        made.append(found(tuple(path), it, Place(it["offset"], it["line"], it["column"])))
+    return tuple(made)
+
+
+def findings_of(told: dict[str, list[dict[str, Any]]]) -> Findings:
+    """The findings as the library tells them."""
+    return Findings(
+        _all(told["dead_fragments"], lambda path, it, place: DeadFragment(path, it["fragment"], place)),
+        _all(told["repeated_ids"], lambda path, it, place: RepeatedId(path, it["id"], place)),
+        _all(told["misnested"], lambda path, it, place: Misnested(path, it["rule"], it["why"], place)),
+    )
+
+
+def links_of(told: dict[str, list[dict[str, Any]]]) -> PageLinks:
+    """The ids, the names and the links as the library tells them."""
+    return PageLinks(
+        _all(told["ids"], lambda path, it, place: PageId(path, it["id"], place)),
+        _all(told["names"], lambda path, it, place: PageName(path, it["name"], place)),
+        _all(told["links"], lambda path, it, place: PageLink(path, it["href"], place)),
+    )
