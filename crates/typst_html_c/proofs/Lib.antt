@@ -2,3 +2,4 @@ mod DeadLinks
 pub mod Pages
 mod Faults
 mod Misnested
+mod Texts

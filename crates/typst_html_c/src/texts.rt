@@ -2,6 +2,7 @@
 
 ghost use Rattle.std.specs.Prelude.{◌≡◌, ◌++◌, [], ◌∷◌, ℕ, List, chars, IfOk, OnOk, option_map, option_to_list};
 ghost use Rattle.html_dom_check.specs.PlacedTexts.{Takes, element_placed, node_placed, nodes_placed, placed_at};
+ghost use Rattle.html_dom_link.specs.Indicated.{unless_empty};
 ghost use Rattle.html_dom_nest.specs.WrittenTexts as texts;
 ghost use Rattle.html_dom_tree.specs.Attributes.{first};
 ghost use Rattle.html_dom_tree.specs.Tree.{element_node};
@@ -178,8 +179,20 @@ fn filled(value: Option<&String>) -> Option<&String>
         ≡ filled (option_map (λ value. text_view value.now) value.entry) }
 {
     match value {
-        Some(value) if !is_empty(value.as_str()) => Some(value),
-        _ => None,
+        Some(value) => unless_empty(value),
+        None => None,
+    }
+}
+
+#[tactic(auto, using(crate::proofs::Texts::none_of_empty, crate::proofs::Texts::one_unless_empty))]
+fn unless_empty(value: &String) -> Option<&String>
+    ensures { option_to_list (option_map (λ value. text_view value.now) result)
+        ≡ unless_empty (text_view value.now) }
+{
+    if is_empty(value.as_str()) {
+        None
+    } else {
+        Some(value)
     }
 }
 
