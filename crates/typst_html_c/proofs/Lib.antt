@@ -1,5 +1,5 @@
 mod DeadLinks
 pub mod Pages
+mod Emptiness
 mod Faults
-mod Misnested
-mod Texts
+mod LeftNodes

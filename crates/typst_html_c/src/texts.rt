@@ -184,7 +184,7 @@ fn filled(value: Option<&String>) -> Option<&String>
     }
 }
 
-#[tactic(auto, using(crate::proofs::Texts::none_of_empty, crate::proofs::Texts::one_unless_empty))]
+#[tactic(auto, using(crate::proofs::Emptiness::none_of_empty, crate::proofs::Emptiness::one_unless_empty))]
 fn unless_empty(value: &String) -> Option<&String>
     ensures { option_to_list (option_map (λ value. text_view value.now) result)
         ≡ unless_empty (text_view value.now) }

@@ -4,7 +4,7 @@ use Rattle.serde_json.specs.Written.{compact_text, items_text}
 use Rattle.html_dom_nest.specs.MisnestedViews.{finding_view, findings_view}
 use Rattle.typst_html_parse.specs.PlaceViews.{text_of}
 use Rattle.typst_html_c.specs.MisnestedNodes.{misnested_behind, misnested_node}
-use Rattle.typst_html_c.proofs.Misnested.{left_in_turn}
+use Rattle.typst_html_c.proofs.LeftNodes.{left_in_turn}
 use Rattle.typst_html_c.proofs.Pages.{one_more_item}
 use Rattle.typst_html_c.proofs.misnested.push_misnested.Goals as goal
 
