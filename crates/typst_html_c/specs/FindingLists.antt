@@ -2,7 +2,7 @@
 --     [{NAME:t,"keeps":n,"path":[n,..],"offset":n,"line":n,"column":n},..]
 use Rattle.std.specs.List.{common_prefix_len}
 use Rattle.std.specs.Option.{option_map_or}
-use Rattle.std.specs.Prelude.{◌==◌, ℕ, List, [], ◌∷◌, map, drop, codes, Option}
+use Rattle.std.specs.Prelude.{◌==◌, ℕ, List, [], ◌∷◌, map, drop, codes}
 use lib.Utf8.{encodes}
 use Rattle.serde_json.specs.Data.{Data, number, string, array, object, unsigned, Members, member, no_members}
 use Rattle.serde_json.specs.View.{items_of}

@@ -5,7 +5,7 @@ use Rattle.serde_json.specs.Data.{Data}
 use Rattle.serde_json.specs.View.{items_of}
 use Rattle.serde_json.specs.Written.{items_text}
 use Rattle.html_dom_check.specs.PlacedTexts.{Placed}
-use Rattle.html_dom_tree.specs.Tree.{Head, NodeView, ElementView}
+use Rattle.html_dom_tree.specs.Tree.{NodeView, ElementView}
 use Rattle.html_dom_tree.specs.Views.{element_view}
 use Rattle.typst_html_parse.specs.PlaceViews.{text_of}
 use Rattle.typst_html_parse.specs.declared.fault.PageFault.{PageFault}
@@ -35,13 +35,10 @@ text_with list ps = string_bytes list.text ++ items_text list.later (items_of
     (findings_behind (place_in list.page) (string_bytes list.name) list.previous.items ps))
 
 -- the texts of elements that are wanted
-abbrev pub own_texts : Wanted → Head → List (List ℕ)
-own_texts wanted.Ids = own_ids
-own_texts wanted.Names = own_names
-own_texts wanted.Hrefs = own_hrefs
-
 abbrev pub texts_at : Wanted → NodeView → List (List ℕ)
-texts_at w = of_elements (own_texts w)
+texts_at wanted.Ids = of_elements own_ids
+texts_at wanted.Names = of_elements own_names
+texts_at wanted.Hrefs = of_elements own_hrefs
 
 -- what a call is to tell
 abbrev pub asked_data : Asked → (text : List ℕ) → ElementView → Data

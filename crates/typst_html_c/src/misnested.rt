@@ -58,6 +58,7 @@ fn push_node(
 }
 
 /// The name of a rule.
+#[tactic(auto, unfolding(crate::specs::MisnestedNodes::rule_name))]
 fn rule_name(rule: Misnesting) -> &'static str
     ensures { result.now ≡ rule_name rule }
 {
@@ -93,6 +94,7 @@ fn rule_name(rule: Misnesting) -> &'static str
 }
 
 /// What becomes of a node that breaks it.
+#[tactic(auto, unfolding(crate::specs::MisnestedNodes::rule_words))]
 fn rule_words(rule: Misnesting) -> &'static str
     ensures { result.now ≡ rule_words rule }
 {

@@ -8,7 +8,7 @@ ghost use Rattle.html_dom_tree.specs.Attributes.{first};
 ghost use Rattle.html_dom_tree.specs.Tree.{element_node};
 ghost use Rattle.html_dom_tree.specs.Views.{element_view, node_view, nodes_view, text_view};
 ghost use Rattle.typst_html_c.specs.PageLinks.{filled, may_link, own_hrefs, own_ids, own_names};
-ghost use Rattle.typst_html_c.specs.PageSteps.{text_with, texts_at, own_texts};
+ghost use Rattle.typst_html_c.specs.PageSteps.{text_with, texts_at};
 
 use crate::lists::FindingList;
 use html_dom_check::TextSink;
@@ -123,8 +123,9 @@ fn pass_nodes(nodes: &[HtmlNode], wanted: Wanted, walk: &mut Walk<'_>) -> Result
 
 /// The wanted text of an element, if it has one.
 fn own_text(element: &HtmlElement, wanted: Wanted) -> Option<&String>
-    ensures { option_to_list (option_map (λ text. text_view text.now) result)
-        ≡ own_texts wanted (element_view element.now).0 }
+    ensures { let e = element_view element.now in
+        option_to_list (option_map (λ text. text_view text.now) result)
+        ≡ texts_at wanted (element_node e.0 e.1) }
 {
     match wanted {
         Wanted::Ids => own_id(element),

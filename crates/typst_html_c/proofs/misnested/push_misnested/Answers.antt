@@ -17,14 +17,14 @@ loop-node-preserved c =
     let node = c.node-item.result in
     let here = finding_view node in
     let rest = findings_view (drop (i + 1) nodes) in
-    let previous = c.loop-node.previous in
+    let previous = c.loop-node.previous.now in
     let old = string_bytes c.loop-node.text in
     let mid = string_bytes c.push_comma_if.new.text in
     let new = string_bytes c.push_node.new.text in
     record {
       places = c.in_ok-push_node.ensures.places ∙ held.places;
       text = ap (λ path. new ++ items_text true (items_of (misnested_behind page path rest)))
-          c.deref.ensures.value
+          c.deref-previous.ensures.value
           ∙ one_more_item c.loop-node.later (misnested_node page previous here)
           (misnested_behind page here.path rest) _ old mid new
           (ap (λ ds. old ++ items_text c.loop-node.later (items_of ds))
