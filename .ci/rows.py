@@ -1,10 +1,10 @@
-"""The rows of crates/tests_rows: what goes into a run or a call, and what comes of it.
+"""The rows of crates/tests_rows: the input of a run or a call, and its result.
 
-A row is a line of three fields, `words | input | output`, cut at the first two ` | `. Lines that begin with
-`#` are comments. The input stands as it is, unless `escaped` is the last of the words: then it is read as
-the output is, and `\\xff` is a byte. In the output `\\n`, `\\r`, `\\t`, `\\\\` and `\\u{20}` stand for
-characters. In both, `⟨500*<p>⟩` stands for so many copies, in which each `%` is the number of the copy, from
-1, and `⟨100..fdcf⟩` for each character from U+0100 to U+FDCF.
+A row is a line of three fields, `words | input | output`, cut at the first two ` | `. Lines that begin with `#`
+are comments. The input is taken as it is, unless `escaped` is the last of the words: then it is read like the
+output, and `\\xff` is a byte. In the output `\\n`, `\\r`, `\\t`, `\\\\` and `\\u{20}` stand for characters. In
+both, `⟨500*<p>⟩` stands for that many copies, in which each `%` is the number of the copy, from 1, and
+`⟨100..fdcf⟩` for each character from U+0100 to U+FDCF.
 """
 
 import re
@@ -16,14 +16,14 @@ DATA = Path(__file__).resolve().parent.parent / "crates" / "tests_rows" / "data"
 
 # The first words of rows that call the library. Any other row is a run of the program.
 CALLS = frozenset(
-    "kinds attribute address nodes block-fragment inline-fragment math-fragment spans bare document links anchors positions dead-links "
+    "kinds attribute address nodes block-fragment inline-fragment math-fragment fragment-text spans bare document links anchors positions dead-links "
     "distinct-ids read as-browsers page-places page-text items-text dead-fragments repeated-ids misnested c-write c-document "
     "c-dead-links c-unused c-check c-links c-version".split()
 )
 
 HEAD = '<meta charset="utf-8">', '<meta name="viewport" content="width=device-width, initial-scale=1">'
 
-# What stands around the outputs of texts, by the words of a run.
+# The texts around the outputs, by the words of a run.
 FRAMES = {
     ("tree",): ("<!DOCTYPE html>", ""),
     ("tree", "--pretty"): ("<!DOCTYPE html>\n", "\n"),
@@ -39,7 +39,7 @@ FORM = re.compile("⟨([^⟩]*)⟩")
 
 
 class Row(NamedTuple):
-    """A row with its fields expanded, and where it stands."""
+    """A row with its fields expanded, and its place."""
 
     file: str
     line: int
@@ -49,18 +49,18 @@ class Row(NamedTuple):
 
     @property
     def place(self) -> str:
-        """The file and the line."""
+        """Returns the file and the line."""
         return f"{self.file}:{self.line}"
 
     @property
     def is_run(self) -> bool:
-        """Whether the row is a run of the program, and not a call of the library."""
+        """Returns whether the row is a run of the program, rather than a call of the library."""
         return not self.words or self.words[0] not in CALLS
 
 
 class Answer(NamedTuple):
-    """The exit status of a run, what it writes, the number and the span of a refusal, and where an input is bad:
-    the list in which the form is left is its span, and what is no JSON has a line and a column."""
+    """The exit status of a run, its output, the number and the span of a refusal, and the place of a bad input:
+    the list in which the form is left is its span, and an input that is no JSON has a line and a column."""
 
     status: int
     text: str
@@ -71,7 +71,7 @@ class Answer(NamedTuple):
 
 
 def answer(row: Row) -> Answer:
-    """How the run of a row ends."""
+    """Returns how the run of a row ends."""
     if refusal := re.fullmatch(r"refused (\d+) at (\d+)", row.output):
         number, span = map(int, refusal.groups())
         return Answer(1, f"refused: {number} at {span}\n", number, span)
@@ -87,7 +87,7 @@ def answer(row: Row) -> Answer:
 
 
 def character(escape: re.Match[str]) -> str:
-    """What an escape stands for. A byte above 127 is a lone surrogate, as Python decodes it."""
+    """Returns the character of an escape. A byte above 127 is a lone surrogate, as Python decodes it."""
     letter, code, high, low = escape.groups()
     if letter:
         return {"n": "\n", "r": "\r", "t": "\t", "\\": "\\"}[letter]
@@ -99,12 +99,12 @@ def character(escape: re.Match[str]) -> str:
 
 
 def unescaped(text: str) -> str:
-    """The text with what its escapes stand for."""
+    """Returns the text with its escapes replaced."""
     return ESCAPE.sub(character, text)
 
 
 def copies(form: str, plain: Callable[[str], str]) -> str:
-    """What copies or a range of characters stand for."""
+    """Returns the copies or the range of characters."""
     times, star, text = form.partition("*")
     if not star:
         first, last = (int(code, 16) for code in form.split(".."))
@@ -116,7 +116,7 @@ def copies(form: str, plain: Callable[[str], str]) -> str:
 
 
 def expanded(field: str, plain: Callable[[str], str]) -> bytes:
-    """The bytes of a field, whose texts are read by that function."""
+    """Returns the bytes of a field, whose texts that function reads."""
     parts = FORM.split(field)
     parts[::2] = map(plain, parts[::2])
     parts[1::2] = (copies(form, plain) for form in parts[1::2])
@@ -124,7 +124,7 @@ def expanded(field: str, plain: Callable[[str], str]) -> bytes:
 
 
 def read(file: str, number: int, line: str) -> Row:
-    """The row that a line spells."""
+    """Returns the row that a line spells."""
     first, *rest = line.split(" | ", 2)
     if len(rest) == 1 and rest[0].endswith(" |"):
         rest = [rest[0][:-2], ""]
@@ -138,7 +138,7 @@ def read(file: str, number: int, line: str) -> Row:
 
 
 def rows() -> Iterator[Row]:
-    """All rows, one at a time, since some are large. None stands twice."""
+    """Returns all rows, one at a time, since some are large. None is repeated."""
     places: dict[tuple[tuple[str, ...], bytes], str] = {}
     for path in sorted(DATA.glob("*.rows")):
         for number, line in enumerate(path.read_text(encoding="utf-8").split("\n"), 1):

@@ -1,9 +1,9 @@
 #!/usr/bin/env python3
-"""The calls have the same arguments, by number, name and type, in the library's source, in the header, in
-Rust and in Python; the reply has the same fields, laid out as C does; the version, the words of refusals,
-the statuses in C and Python, the licence, and the version of the crate and the package are the same. The names
-of refusals in C are those of the source's variants, and where the words are the source's own, they are the same.
-At the end it tries changed copies, of which each must differ.
+"""The calls have the same arguments, by number, name and type, in the library's source, in the header, in Rust and in
+Python; the reply has the same fields, laid out as C does; the version, the words of refusals, the statuses in C and
+Python, the licence, and the version of the crate and the package are the same. The names of refusals in C are those of
+the source's variants, and if the words are the source's own, they are the same. At the end it tries changed copies,
+each of which must differ.
 """
 
 import ast
@@ -34,7 +34,7 @@ OF_PYTHON = {
     "c_void_p": "*mut u8", "Reply": "Reply",
 }  # fmt: skip
 
-# What is changed in which file, and what then differs.
+# The changes of each file, and what then differs.
 CHANGES = [
     ("header", "uint8_t kind, uint8_t layout", "uint8_t layout, uint8_t kind", "calls"),
     ("header", "uint8_t links", "uint32_t links", "calls"),
@@ -52,7 +52,7 @@ CHANGES = [
     ("raw", "    status: u8,\n    number: u8,", "    number: u8,\n    status: u8,", "reply"),
     ("library", "    _fields_", "    _pack_ = 1\n    _fields_", "reply"),
     ("library", '("status", ctypes.c_uint8)', '("state", ctypes.c_uint8)', "reply"),
-    ("library", "VERSION: Final = 6", "VERSION: Final = 7", "version"),
+    ("library", "VERSION: Final = 7", "VERSION: Final = 8", "version"),
     ("refusal", "tag name must not be empty", "tag name is empty", "words"),
     ("spoken", "a token finds no place", "a token has no place", "words"),
     ("header", "a void element has a child", "a void element has children", "words"),
@@ -72,7 +72,7 @@ def parted(text):
 
 
 def given(argument):
-    """What a call in a text of Rust or Rattle is given for `name: type`: the memory to allocate in is none of it."""
+    """Returns the arguments `name: type` of a call in a text of Rust or Rattle, without the allocator."""
     name, kind = re.match(r"(\w+): (.*)$", argument).groups()
     if kind in SLICES:
         pointer, length = SLICES[kind]
@@ -81,13 +81,13 @@ def given(argument):
 
 
 def of_rust(text):
-    """The calls that stand in a text of Rust or Rattle: what each takes, and what it gives."""
+    """Returns the calls in a text of Rust or Rattle, with their arguments and results."""
     calls = re.findall(r"fn (typst_html_\w+)\(([^)]*)\)\s*->\s*(\w+)", text)
     return {name: ([one for it in parted(takes) for one in given(it)], gives) for name, takes, gives in calls}
 
 
 def struct_of_rust(text):
-    """How the reply is laid out, and its fields."""
+    """Returns the layout of the reply, and its fields."""
     attributes, body = re.search(r"((?:^#.*\n)*)^(?:pub )?struct Reply \{(.*?)\n\}", text, re.S | re.M).groups()
     layout = "C" if "#[repr(C)]\n" in attributes else "Rust"
     return [layout, *re.findall(r"^\s*(?:pub )?(\w+): (\w+),", body, re.M)]
@@ -125,7 +125,7 @@ def plain(node):
 
 
 def assigned(tree):
-    """What names are given in a tree of Python, in its classes too."""
+    """Returns the values of names in a tree of Python, in its classes too."""
     found = {}
     for node in ast.walk(tree):
         if isinstance(node, (ast.Assign, ast.AnnAssign)):
@@ -161,7 +161,7 @@ def struct_of_python(tree):
 
 
 def refusals_of_header(text):
-    """The names of refusals, by number."""
+    """Returns the names of refusals, by number."""
     body = re.search(r"^enum typst_html_refusal \{(.*?)\n\};$", text, re.S | re.M)[1]
     return {int(number): name for name, number in re.findall(r"TYPST_HTML_REFUSAL_(\w+) = (\d+),", body)}
 
@@ -173,15 +173,15 @@ def words_of_header(text):
 
 
 def refusals_of_source(text):
-    """The variants of faults, by number, spelled as constants of C are. Number 25 is of none of the library's calls."""
+    """Returns the variants of faults, by number, spelled like constants of C. No call has number 25."""
     variants = re.findall(r"^            (?:NameFault|ExportFault|PageRefusal)::(\w+)(?: \{ \.\. \})?(?:\(_\))? => (\d+),$", text, re.M)
     spelled = lambda name: re.sub(r"(?<!^)(?=[A-Z])", "_", name).upper()
     return {int(number): spelled(name) for name, number in variants if number not in ("0", "25")}
 
 
 def own_words(source, spoken):
-    """The words of the source, of names, of the one character and of pages, and those that are spoken. (Of the other
-    refusals of items, the source tells how its caller may mend them.)"""
+    """Returns the words of the source, for names, for the one character and for pages, and those that are shown. (For
+    the other refusals of items, the source says how its caller may mend them.)"""
     texts = {name: words for words, name in re.findall(r'#\[error\("(.*)"\)\]\n    (\w+)', source)}
     spelled = lambda name: "".join(part.capitalize() for part in name.split("_"))
     numbers = {number: spelled(name) for number, name in refusals_of_source(source).items()}
@@ -194,7 +194,7 @@ def words_of(text, pattern):
 
 
 def compared(texts):
-    """What stands in each file, by what is compared."""
+    """Returns the content of each file, by what is compared."""
     source, header, raw = texts["source"], texts["header"], texts["raw"]
     library = ast.parse(texts["library"])
     python, package, spoken = assigned(library), assigned(ast.parse(texts["package"])), assigned(ast.parse(texts["spoken"]))
@@ -229,7 +229,7 @@ def differing(found):
 
 
 def unseen(texts):
-    """The changes of which nothing is seen."""
+    """Returns the changes that nothing shows."""
     for name, old, new, what in CHANGES:
         changed = {**texts, name: texts[name].replace(old, new, 1)}
         if changed == texts or differing(compared(changed)) != [what]:

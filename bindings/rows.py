@@ -2,9 +2,9 @@
 """rows.py json|c: the rows of crates/tests_rows, as the tests of the bindings read them.
 
 Runs of the program on trees and items are calls of typst_html_write, and rows of whole documents calls of
-typst_html_document, where its JSON has all that is in them. With links, those that lead nowhere are listed as
-the row `dead-links` of that input says; where there is none, all lead. Rows about the program's words are left out,
-since the library has none; so are, of JSON and C, rows whose input or text is longer than MOST bytes.
+typst_html_document, if its JSON has everything in them. With links, those that lead nowhere are listed as the row
+`dead-links` of that input says; without such a row, all lead. Rows about the program's words are left out, since
+the library has none; so are, for JSON and C, rows whose input or text is longer than MOST bytes.
 """
 
 import json
@@ -17,13 +17,16 @@ READER = Path(__file__).resolve().parent.parent / ".ci" / "rows.py"
 KINDS = {"tree": 0, "doc": 1, "document": 2, "links": 2}
 MOST = 1 << 16
 
-# How long the lists of the library's items are. It has no roles, css, frames and labels.
-LENGTHS = {"text": {2}, "space": {1}, "break": {1}, "hole": {1}, "start": {2, 3}, "end": {2}, "block": {2}, "box": {2}, "el": {4}}
+# The lengths of the lists of a document's items. The library has no frames.
+LENGTHS = {
+    "text": {2}, "space": {1}, "break": {1}, "hole": {1}, "start": {2, 3, 4}, "end": {2}, "block": {2}, "box": {2}, "el": {4, 5},
+    "place": {2}, "link": {2}, "role": {3},
+}  # fmt: skip
 BODIES = ("block", "box", "el")
 
 
 class Row(NamedTuple):
-    """What goes into a call, and what comes of it."""
+    """The input of a call, and its result."""
 
     kind: int
     layout: int
@@ -41,7 +44,7 @@ class Row(NamedTuple):
 
 
 def reader() -> Any:
-    """The module that reads the files."""
+    """Returns the module that reads the files."""
     sys.dont_write_bytecode = True
     spec = spec_from_file_location("reader", READER)
     module = module_from_spec(spec)
@@ -50,14 +53,17 @@ def reader() -> Any:
 
 
 def is_own(items: list | None) -> bool:
-    """Whether the library has all these items. It has no body that is absent."""
-    return items is not None and all(
-        len(item) in LENGTHS.get(item[0], ()) and (item[0] not in BODIES or is_own(item[-1])) for item in items
-    )
+    """Returns whether the library has all these items. It has no absent body."""
+    return items is not None and all(len(item) in LENGTHS.get(item[0], ()) and is_own(inside(item)) for item in items)
+
+
+def inside(item: list) -> list | None:
+    """Returns the items inside an item."""
+    return item[-1] if item[0] in BODIES else [item[-1]] if item[0] == "role" else []
 
 
 def document(given: bytes) -> bytes | None:
-    """The object of a document that a row is about, if the library has all its items."""
+    """Returns the object of a document that a row is about, if the library has all its items."""
     spelled = json.loads(given)
     if isinstance(spelled, list):
         spelled, given = {"items": spelled}, b'{"items":' + given + b"}"
@@ -65,13 +71,13 @@ def document(given: bytes) -> bytes | None:
 
 
 def dead_links(output: str) -> list[dict[str, int]]:
-    """The links of a row `dead-links`, which tells of each its span and its destination."""
+    """Returns the links of a row `dead-links`, which has the span and the destination of each."""
     told = [map(int, one.split(" to ")) for one in output.split(", ") if one]
     return [{"destination": destination, "span": span} for span, destination in told]
 
 
 def rows(most: int | None = None) -> list[Row]:
-    """All rows that are about an input; those whose input and text are at most so long, if that is given."""
+    """Returns all rows about an input; with `most`, only those whose input and text are at most that long."""
     found = []
     files = reader()
     dead = {row.input: dead_links(row.output) for row in files.rows() if row.words == ("dead-links",)}
@@ -97,18 +103,18 @@ def rows(most: int | None = None) -> list[Row]:
 
 
 def as_json(found: list[Row]) -> str:
-    """The rows, their bytes in hexadecimal."""
+    """Returns the rows, their bytes in hexadecimal."""
     plain = lambda value: value.hex() if isinstance(value, bytes) else value
     return json.dumps([{k: plain(v) for k, v in row._asdict().items()} for row in found], indent=1)
 
 
 def quoted(data: bytes) -> str:
-    """The bytes as a string of C."""
+    """Returns the bytes as a string of C."""
     return '"' + "".join(chr(b) if 32 <= b < 127 and b not in b'"\\?' else f"\\{b:03o}" for b in data) + '"'
 
 
 def as_c(found: list[Row]) -> str:
-    """The rows as an array of C."""
+    """Returns the rows as an array of C."""
     lines = [
         f"    {{{r.kind}, {r.layout}, {r.links}, {r.limit}, {r.status}, {r.number}, {r.span}, {r.line}, {r.column}, "
         f"{len(r.input)}, {len(r.text)}, {quoted(r.input)}, {quoted(r.text)}, {quoted(r.dead)}}},"

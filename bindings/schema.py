@@ -1,10 +1,10 @@
 #!/usr/bin/python3
-"""items.schema.json accepts what the program and the library read, and nothing else, over the rows of
-crates/tests_rows: an input is valid where a text or a refusal comes of it, and invalid where the form is left.
-Each rule of the schema is needed: without it a row differs. What no schema can say is counted by its rule.
+"""items.schema.json accepts what the program and the library read, and nothing else, over the rows of crates/tests_rows:
+an input is valid if its result is a text or a refusal, and invalid if the form is left. Each rule of the schema is
+needed: without it a row differs. What no schema can say is counted by its rule.
 
-It needs Debian's python3-jsonschema. With TYPST_HTML_LIB and PYTHONPATH=python the library reads MORE, too. The
-last line is the counts, and the status is not 0 where something differs.
+It needs Debian's python3-jsonschema. With TYPST_HTML_LIB and PYTHONPATH=python the library reads MORE, too. The last
+line is the counts, and the status is not 0 if something differs.
 """
 
 import copy
@@ -38,18 +38,33 @@ MORE = [
     ("document", '{"description":7}'),
     ("document", '{"lang":7}'),
     ("document", '{"lang":"de","region":7}'),
+    ("document", '{"items":[["EL","p",[],[]]]}'),
+    ("document", '{"items":[["el",7,[],[]]]}'),
+    ("document", '{"items":[["el","p",[7],[]]]}'),
+    ("document", '{"items":[["el","p",[],[7]]]}'),
+    ("document", '{"items":[["EL","p",[],[],[]]]}'),
+    ("document", '{"items":[["el",7,[],[],[]]]}'),
+    ("document", '{"items":[["BLOCK",[]]]}'),
+    ("document", '{"items":[["block",[],[]]]}'),
+    ("document", '{"items":[["ROLE","a",["space"]]]}'),
+    ("document", '{"items":[["START",1,2,"a"]]}'),
+    ("document", '{"items":[["START",1]]}'),
+    ("document", '{"items":[["END",1]]}'),
+    ("document", '{"items":[["PLACE","a"]]}'),
+    ("document", '{"items":[["space",7]]}'),
+    ("document", '{"items":[["block"]]}'),
 ]  # fmt: skip
 
 VERDICTS = ("valid", "invalid")
 DEEPEST = 127
-# Of a list with more values only the first and the last are looked at, half each: no list of a fixed length has so many.
+# Of longer lists, only the first and the last values are checked, half each: no list of a fixed length has so many.
 MOST = 200
-# Of rows with longer inputs none is tried on a changed schema.
+# Rows with longer inputs are not tried on a changed schema.
 SHORT = 2000
 
 
 class Case(NamedTuple):
-    """An input, the definition that it is read by, and what becomes of it: `read`, `left` or `no JSON`."""
+    """An input, the definition that it is read by, and the result: `read`, `left` or `no JSON`."""
 
     place: str
     kind: str
@@ -58,13 +73,13 @@ class Case(NamedTuple):
 
 
 def of_run(row: Any, answer: Any) -> Case:
-    """What becomes of the input of a run."""
+    """Returns the result of a run."""
     end = "read" if answer.status < 2 else "no JSON" if answer.line else "left"
     return Case(row.place, RUNS[row.words[0]], row.input, end)
 
 
 def of_call(row: Any) -> Case | None:
-    """What becomes of the input of a call; nothing where its numbers are wrong, so that it is not looked at."""
+    """Returns the result of a call, or nothing if its numbers are wrong, so that its input is not read."""
     word, *more = row.words
     numbers = {name: int(number) for name, number in (one.split("=") for one in more)}
     reply = {name: int(number) for name, number in re.findall(r"(\w+): (\d+)", row.output.partition("}")[0])}
@@ -77,13 +92,13 @@ def of_call(row: Any) -> Case | None:
 
 
 def of_tests(row: Any) -> Case:
-    """Whether the library has the items of a row, which the tests read in a larger form: with css, frames and roles."""
+    """Returns whether the library has the items of a row; the tests also read css, frames and roles."""
     given = row.input if row.input.startswith(b"{") else b'{"items":' + row.input + b"}"
     return Case(row.place, "document", given, "left" if document(row.input) is None else "read")
 
 
 def cases() -> Iterator[Case]:
-    """The inputs of all rows that are of the schema's kinds."""
+    """Returns the inputs of all rows of the schema's kinds."""
     files = reader()
     for row in files.rows():
         word = row.words[0] if row.words else ""
@@ -101,23 +116,23 @@ def constant(name: str) -> None:
 
 
 def value_of(text: bytes) -> Any:
-    """The JSON value, as any reader tells it: 1.0 and 1e2 are whole numbers."""
+    """Returns the JSON value, as any reader takes it: 1.0 and 1e2 are whole numbers."""
     return json.loads(text.decode(), parse_constant=constant)
 
 
 def strict_value_of(text: bytes) -> Any:
-    """The JSON value with null for each number that is not in digits alone."""
+    """Returns the JSON value with null for each number that is not in digits alone."""
     whole = lambda digits: None if digits == "-0" else int(digits)
     return json.loads(text.decode(), parse_constant=constant, parse_int=whole, parse_float=lambda _: None)
 
 
 def parts(value: Any) -> list[Any]:
-    """What stands in a list or an object."""
+    """Returns the values in a list or an object."""
     return value if isinstance(value, list) else [*value, *value.values()] if isinstance(value, dict) else []
 
 
 def levels(value: Any) -> list[list[Any]]:
-    """The values at each depth."""
+    """Returns the values at each depth."""
     found = []
     level = [value]
     while level:
@@ -127,7 +142,7 @@ def levels(value: Any) -> list[list[Any]]:
 
 
 def thinned(value: Any) -> Any:
-    """The value with the first and the last values of long lists."""
+    """Returns the value with the first and the last values of long lists."""
     if isinstance(value, dict):
         return {name: thinned(part) for name, part in value.items()}
     if not isinstance(value, list):
@@ -135,8 +150,15 @@ def thinned(value: Any) -> Any:
     return [thinned(part) for part in (value if len(value) <= MOST else value[: MOST // 2] + value[-MOST // 2 :])]
 
 
+def has_names_and_numbers(document: Any) -> bool:
+    """Whether some tags of a document have names, and some have numbers."""
+    lists = [one for level in levels(document) for one in level if isinstance(one, list)]
+    kinds = {one[0] for one in lists if one and isinstance(one[0], str)}
+    return bool(kinds & {"place", "link"} and kinds & {"start", "end"})
+
+
 def why_no_json(text: bytes) -> str | None:
-    """Why the program reads no JSON in a text, though a schema never sees that; nothing if it should."""
+    """Returns why the program reads no JSON in a text, though a schema never learns that; nothing if it should."""
     try:
         found = levels(value_of(text))
     except ValueError:
@@ -153,13 +175,13 @@ def why_no_json(text: bytes) -> str | None:
 
 
 def validators(schema: Any) -> dict[str, Draft202012Validator]:
-    """What judges values by a definition."""
+    """Returns a validator for each definition."""
     kinds = ("tree", "items", "document")
     return {kind: Draft202012Validator({"$ref": f"#/$defs/{kind}", "$defs": schema["$defs"]}) for kind in kinds}
 
 
 def judged(case: Case, by: dict[str, Draft202012Validator], whole: Draft202012Validator) -> str | None:
-    """What the schema says of an input: `valid`, `invalid`, or why it can't tell; nothing where it is wrong."""
+    """Returns what the schema says of an input: `valid`, `invalid`, or why it can't tell; nothing if it is wrong."""
     if case.end == "no JSON":
         return why_no_json(case.input)
     try:
@@ -171,11 +193,13 @@ def judged(case: Case, by: dict[str, Draft202012Validator], whole: Draft202012Va
         return "valid" if valid and strictly and whole.is_valid(value) else None
     if valid and not strictly:
         return "a number not in digits alone"
+    if valid and case.kind == "document" and has_names_and_numbers(value):
+        return "names beside numbers"
     return None if valid else "invalid"
 
 
 def rules(node: Any, path: tuple[Any, ...] = ()) -> Iterator[tuple[Any, ...]]:
-    """Where each rule of the definitions stands."""
+    """Returns the path of each rule of the definitions."""
     inside: Any = node.items() if isinstance(node, dict) else enumerate(node) if isinstance(node, list) else ()
     for key, part in inside:
         if key != "description" or isinstance(part, dict):
@@ -185,7 +209,7 @@ def rules(node: Any, path: tuple[Any, ...] = ()) -> Iterator[tuple[Any, ...]]:
 
 
 def without(schema: Any, path: tuple[Any, ...]) -> Any:
-    """The schema without a rule."""
+    """Returns the schema without a rule."""
     changed = copy.deepcopy(schema)
     node = changed["$defs"]
     *before, last = path
@@ -199,13 +223,13 @@ def without(schema: Any, path: tuple[Any, ...]) -> Any:
 
 
 def is_seen(schema: Any, tried: list[tuple[str, Any, bool]]) -> bool:
-    """Whether some value is judged in another way."""
+    """Returns whether any value is judged in another way."""
     by = validators(schema)
     return any(by[kind].is_valid(value) != valid for kind, value, valid in tried)
 
 
 def read_by_library(kind: Any, text: str) -> bool:
-    """Whether the library reads an input."""
+    """Returns whether the library reads an input."""
     from typst_html_proved import BadInput, write_json
 
     try:
@@ -216,7 +240,7 @@ def read_by_library(kind: Any, text: str) -> bool:
 
 
 def main() -> int:
-    """How many things differ."""
+    """Returns the number of differences."""
     schema = json.loads(SCHEMA.read_text(encoding="utf-8"))
     Draft202012Validator.check_schema(schema)
     by, whole, differ, long = validators(schema), Draft202012Validator(schema), [], 0
@@ -247,7 +271,7 @@ def main() -> int:
 
 
 if __name__ == "__main__":
-    # The inputs that are read are up to 127 levels deep, of which each takes several calls; others are deeper.
+    # The inputs that are read are up to 127 levels deep, each of which takes several calls; others are deeper.
     sys.setrecursionlimit(100_000)
     sys.set_int_max_str_digits(0)
     threading.stack_size(256 << 20)

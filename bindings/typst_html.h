@@ -28,7 +28,7 @@ extern "C" {
 #endif
 
 /* The version of these calls: compare it with typst_html_version(). */
-#define TYPST_HTML_VERSION 6
+#define TYPST_HTML_VERSION 7
 
 /* How a call ended. In all but TYPST_HTML_DONE and TYPST_HTML_DEAD_LINKS `output` is as it was. */
 enum typst_html_status {
@@ -189,14 +189,22 @@ struct typst_html_reply typst_html_write(uint8_t kind, uint8_t layout, const uin
                                          size_t length, uint8_t *output, size_t room);
 
 /*
- * The text of a document with what is known of it and with footnotes. The input spells an object:
+ * The text of a document with what is known of it, with footnotes and with nodes for its head. The input
+ * spells an object:
  *     {"title": t, "description": t, "authors": [t, ..], "keywords": [t, ..], "lang": t, "region": t,
- *      "items": [item, ..], "footnotes": [item, ..]}
- * Each member may be left out, but for the "lang" of a "region"; another is bad input. With links = 1
- * each `a` without `href` behind a start with a destination gets the `href` of that destination; with
- * links = 0 none does. Where a destination has no place in the document, the `a` stays as it is, and the
- * status is TYPST_HTML_DEAD_LINKS in place of TYPST_HTML_DONE: the text is there all the same. Bodies may
- * stand `limit` deep, from 1 to 10,000. The lists of footnotes are numbered after those of the items.
+ *      "items": [item, ..], "footnotes": [item, ..], "head": [node, ..]}
+ * Each member may be left out, but for the "lang" of a "region"; another is bad input. Nodes and items are
+ * those of typst_html_write; an item may also be one of
+ *     ["el", tag, [[name, value], ..], [[property, value], ..], [item, ..]]   ["start", n, dest, label]
+ *     ["place", name]   ["link", name]   ["role", role, item]
+ * where dest and role may be null. What stands behind a place is the place of that name, and an `a` right
+ * behind a link leads there. A document has names or numbers of locations, not both.
+ *
+ * With links = 1 each `a` without `href` behind a link, or behind a start with a destination, gets the
+ * `href` of that place; with links = 0 none does. Where the document has no such place, the `a` stays as it
+ * is, and the status is TYPST_HTML_DEAD_LINKS in place of TYPST_HTML_DONE: the text is there all the same.
+ * Bodies may stand `limit` deep, from 1 to 10,000. The lists are numbered through the items, then the
+ * footnotes, then the head.
  */
 struct typst_html_reply typst_html_document(uint8_t layout, uint8_t links, uint32_t limit,
                                             const uint8_t *input, size_t length, uint8_t *output,
@@ -205,7 +213,8 @@ struct typst_html_reply typst_html_document(uint8_t layout, uint8_t links, uint3
 /*
  * The links that lead nowhere in that document with links = 1, as JSON, in document order:
  *     {"dead_links":[{"destination":n,"span":n},..]}
- * A destination is the number behind the start, and a span the number of the list of the `a`. Input, limit
+ * A destination is the number behind the start, or which of the document's names the link has, as they are
+ * first told, counted from 1; and a span the number of the list of the `a`. Input, limit
  * and refusals are those of typst_html_document; where all links lead the list is empty, with status 0.
  */
 struct typst_html_reply typst_html_dead_links(uint32_t limit, const uint8_t *input, size_t length,
@@ -215,7 +224,7 @@ struct typst_html_reply typst_html_dead_links(uint32_t limit, const uint8_t *inp
  * The members that tell what the text of that document does not show, as JSON: all that tell something, where
  * the items have an `html` of their own, whose head is theirs too, and else none.
  *     {"unused":["title","lang"]}
- * They stand in the order of the form above; a list of no texts tells nothing. Input and limit are those of
+ * They stand in the order of the form above, "head" last; an empty list tells nothing. Input and limit are those of
  * typst_html_document, which refuses whatever is refused here.
  */
 struct typst_html_reply typst_html_unused(uint32_t limit, const uint8_t *input, size_t length,

@@ -1,5 +1,5 @@
-"""What tools/measure counts on: items and trees in the program's form of JSON. Sizes are in megabytes, and one
-size always gives the same bytes.
+"""Inputs for tools/measure: items and trees in the program's form of JSON. Sizes are in megabytes, and one size always
+makes the same bytes.
 """
 
 import json
@@ -16,17 +16,17 @@ WORDS = (
 
 
 def dumped(value: Item) -> bytes:
-    """The JSON of items or of a tree."""
+    """Returns the JSON of items or of a tree."""
     return json.dumps(value, ensure_ascii=False, separators=(",", ":")).encode()
 
 
 def element(tag: str, children: list[Item], **attributes: str) -> Item:
-    """An element; an underscore ends the name of an attribute that is a word of Python."""
+    """Makes an element; an underscore ends the name of an attribute that is a word of Python."""
     return ["el", tag, [[name.rstrip("_"), value] for name, value in attributes.items()], children]
 
 
 class Writer:
-    """Writes paragraphs, lists, tables and code by chance; for a tree nothing that only items have."""
+    """Writes paragraphs, lists, tables and code at random; for a tree, nothing that only items have."""
 
     def __init__(self, of_tree: bool = False) -> None:
         self.random = Random(15)
@@ -34,16 +34,16 @@ class Writer:
         self.targets = 0
 
     def words(self, count: int) -> str:
-        """So many words."""
+        """Returns that many words."""
         return " ".join(self.random.choice(WORDS) for _ in range(count))
 
     def text(self, count: int) -> Item:
-        """A text of so many words; one of twenty has two spaces in a row."""
+        """Returns a text of that many words; one of twenty has two spaces in a row."""
         words = self.words(count)
         return ["text", words.replace(" ", "  ", 1) if self.random.random() < 0.05 else words]
 
     def part(self) -> Item:
-        """A text, an element with a text, or a link."""
+        """Returns a text, an element with a text, or a link."""
         chance, number = self.random.random(), self.random.randint
         if chance < 0.55:
             return self.text(number(4, 25))
@@ -55,14 +55,14 @@ class Writer:
         return element("span", [self.text(2)], class_="note")
 
     def line(self) -> list[Item]:
-        """What stands in a paragraph: parts, with a space between them."""
+        """Returns the content of a paragraph: parts, with a space between them."""
         parts = []
         for _ in range(self.random.randint(2, 7)):
             parts += [self.part(), ["text", " "] if self.of_tree else ["space"]]
         return parts[:-1]
 
     def block(self) -> list[Item]:
-        """A paragraph, a list, a table, lines of code, a block of paragraphs, or a heading that links lead to."""
+        """Returns a paragraph, a list, a table, lines of code, a block of paragraphs, or a heading that links lead to."""
         chance, number = self.random.random(), self.random.randint
         if chance < 0.6:
             return [element("p", self.line())]
@@ -80,7 +80,7 @@ class Writer:
         return [["start", self.targets, self.targets], element("h2", [self.text(4)]), ["end", self.targets]]
 
     def sections(self, size: float) -> list[Item]:
-        """Sections of twelve blocks each."""
+        """Returns sections of twelve blocks each."""
         written, found = 0, []
         while written < size * 1e6:
             found.append(element("section", [item for _ in range(12) for item in self.block()]))
@@ -89,17 +89,17 @@ class Writer:
 
 
 def items(size: float) -> list[Item]:
-    """Sections, for `doc`."""
+    """Returns sections, for `doc`."""
     return Writer().sections(size)
 
 
 def document(size: float) -> Item:
-    """The like as one element, for `tree`."""
+    """Returns the same as one element, for `tree`."""
     return element("html", [element("body", Writer(of_tree=True).sections(size))])
 
 
 def deep(size: float) -> Item:
-    """A text, sixty times put into a `div` with thousands of empty `p` behind it."""
+    """Returns a text, wrapped sixty times in a `div` with thousands of empty `p` behind it."""
     node: Item = ["text", "x"]
     for _ in range(60):
         node = element("div", [node, *(element("p", []) for _ in range(int(size * 1e6 / 60 / 16)))])
@@ -107,22 +107,22 @@ def deep(size: float) -> Item:
 
 
 def blocks(depth: int) -> list[Item]:
-    """Blocks in one another."""
+    """Returns nested blocks."""
     return [["block", [*blocks(depth - 1), ["text", "x"]]]] if depth else [["text", "y"]]
 
 
 def paragraph(text: str) -> list[Item]:
-    """A paragraph with one text."""
+    """Returns a paragraph with one text."""
     return [element("p", [["text", text]])]
 
 
 def of_many(length: int, make: Callable[[int], list[Item]]) -> Callable[[float], list[Item]]:
-    """As many items, made by number, as fit if each has that length."""
+    """Returns as many items, made by number, as fit if each has that length."""
     return lambda size: [item for number in range(int(size * 1e6 / length)) for item in make(number)]
 
 
 def labels(size: float) -> list[Item]:
-    """Elements with the names that places get, and as many places."""
+    """Returns elements with the names that places get, and as many places."""
     taken = of_many(40, lambda k: [element("p", [], id=f"loc-{k}")])(size)
     return taken[1:] + of_many(40, lambda k: [["start", k, k], ["text", "x"], ["break"]])(size)
 
@@ -139,7 +139,7 @@ SHAPES: dict[str, Callable[[float], list[Item]]] = {
     "texts and elements by turns": of_many(20, lambda k: [["text", "x"] if k % 2 else element("em", [["text", "y"]])]),
 }
 
-# Kinds of characters, each of so many bytes again and again, for `doc`.
+# Kinds of characters, each repeated as that many bytes, for `doc`.
 KINDS: dict[str, Callable[[float], list[Item]]] = {
     "words": lambda size: paragraph(Writer().words(int(size * 2.5e5))[: int(size * 1e6)]),
     "`<` and `&`": lambda size: paragraph("<&" * int(size * 5e5)),
@@ -150,9 +150,9 @@ KINDS: dict[str, Callable[[float], list[Item]]] = {
     "names of one's own": of_many(34, lambda k: [["el", f"x-{k % 1000}", [[f"data-{k % 1000}", ""]], []]]),
 }
 
-# Texts, for `doc`, that are repeated in one and of which each character becomes nodes; and the bytes of these by character:
-# 144 and, where it is a text, those of a string of one character. A blank before a line feed is kept: it stands in a `span`
-# of its own, with its list, css and a `style`.
+# Texts, for `doc`, that are repeated in one and whose characters each become nodes; and the bytes of these for each
+# character: 144 and, if it is a text, those of a string of one character. A blank before a line feed is preserved: it is in
+# a `span` of its own, with its list, css and a `style`.
 ALONE: dict[str, tuple[str, int]] = {
     "blanks": (" ", 176), "line feeds": ("\n", 144), "U+200B": ("\u200b", 176), "blanks and line feeds by turns": (" \n", 352),
 }  # fmt: skip

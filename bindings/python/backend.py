@@ -1,10 +1,10 @@
-"""The build backend of the package: it makes wheels and sdists by the standard library alone, so that `pip` needs no
+"""The build backend of the package: makes wheels and sdists with only the standard library, so that `pip` needs no
 network for it.
 
 A wheel holds the package and the shared library. Its tag is `py3-none-manylinux_2_N_x86_64`, with the least N such that
-glibc 2.N has all symbols that the library takes: the library takes nothing but glibc, so the wheel serves each Linux on
-x86-64 that has a glibc as new, and `pip` takes it for no other. (No tag can say that the processor must be of x86-64-v2.)
-An sdist holds no library, so a wheel is made of it only where TYPST_HTML_LIB names the folder of one.
+glibc 2.N has all symbols that the library needs: the library needs nothing but glibc, so the wheel fits each Linux on
+x86-64 with at least that glibc, and `pip` installs it on no other. (No tag can say that the processor must be
+x86-64-v2.) An sdist holds no library, so it makes a wheel only if TYPST_HTML_LIB names the folder of one.
 
 The same sources, library and Python make the same bytes.
 """
@@ -30,13 +30,13 @@ import tomllib
 HERE: Final = Path(__file__).resolve().parent
 PACKAGE: Final = "typst_html_proved"
 
-# the time of all that is packed
+# the time of all packed files
 DATE: Final = (1980, 1, 1, 0, 0, 0)
 SECONDS: Final = 315_532_800
 
 
 def _project() -> Mapping[str, Any]:
-    """The table `project` of pyproject.toml, with the version."""
+    """Returns the table `project` of pyproject.toml, with the version."""
     project = tomllib.loads((HERE / "pyproject.toml").read_text())["project"]
     found = re.search(r'^__version__: Final = "(.*)"$', (HERE / PACKAGE / "__init__.py").read_text(), re.M)
     if found is None:
@@ -45,7 +45,7 @@ def _project() -> Mapping[str, Any]:
 
 
 def _metadata(project: Mapping[str, Any]) -> bytes:
-    """What METADATA and PKG-INFO say."""
+    """Returns the content of METADATA and PKG-INFO."""
     lines = [
         "Metadata-Version: 2.1",
         f"Name: {project['name']}",
@@ -59,19 +59,19 @@ def _metadata(project: Mapping[str, Any]) -> bytes:
 
 
 def _licence() -> bytes:
-    """The licence, which an sdist has beside this file, and the repository at its top."""
+    """Returns the licence, which an sdist has beside this file, and the repository at its top."""
     beside = HERE / "LICENSE"
     return (beside if beside.exists() else HERE.parent.parent / "LICENSE").read_bytes()
 
 
 def _sources() -> dict[str, bytes]:
-    """The package without the library."""
+    """Returns the package without the library."""
     paths = [*(HERE / PACKAGE).glob("*.py"), HERE / PACKAGE / "py.typed"]
     return {f"{PACKAGE}/{path.name}": path.read_bytes() for path in paths}
 
 
 def _library() -> Path:
-    """The shared library. The package is imported, so it is one that it can call."""
+    """Returns the shared library. Imports the package, so that it is one that it can call."""
     sys.path.insert(0, str(HERE))
     sys.dont_write_bytecode = True
     try:
@@ -92,7 +92,7 @@ class _Elf:
         self.sections = [struct.unpack_from("<IIQQQQII", data, at + size * it) for it in range(count)]
 
     def _of(self, kind: int) -> Iterator[tuple[int, int, int]]:
-        """Of each section of a kind the offset, the length, and where its texts are."""
+        """Returns the offset, the length and the place of the texts of each section of a kind."""
         for _, found, _, _, offset, length, link, _ in self.sections:
             if found == kind:
                 yield offset, length, self.sections[link][4]
@@ -101,14 +101,14 @@ class _Elf:
         return self.data[at : self.data.index(b"\0", at)].decode()
 
     def needed(self) -> Iterator[str]:
-        """The libraries that it needs: the entries 1 of its section of type 6."""
+        """Returns the libraries that it needs: the entries 1 of its section of type 6."""
         for offset, length, texts in self._of(6):
             for tag, value in struct.iter_unpack("<QQ", self.data[offset : offset + length]):
                 if tag == 1:
                     yield self._word(texts + value)
 
     def versions(self) -> Iterator[str]:
-        """The versions of the symbols that it takes of them: lists in lists, linked by what to go on."""
+        """Returns the versions of the symbols that it needs from them: lists in lists, linked by the next one."""
         for at, _, texts in self._of(0x6FFFFFFE):
             more = True
             while more:
@@ -122,7 +122,7 @@ class _Elf:
 
 
 def tag_of(library: bytes) -> str:
-    """The tag of a wheel with this library."""
+    """Returns the tag of a wheel with this library."""
     elf = _Elf(library)
     if others := set(elf.needed()) - {"libc.so.6"}:
         sys.exit(f"the library needs others than glibc: {', '.join(sorted(others))}")
@@ -136,7 +136,7 @@ def tag_of(library: bytes) -> str:
 
 
 def _record(files: Mapping[str, bytes], itself: str) -> bytes:
-    """The list of the files of a wheel, with their hashes and lengths."""
+    """Returns the list of the files of a wheel, with their hashes and lengths."""
     lines = []
     for name, data in files.items():
         digest = base64.urlsafe_b64encode(hashlib.sha256(data).digest()).rstrip(b"=").decode()
@@ -171,7 +171,7 @@ def _written(folder: str, name: str, data: bytes) -> str:
 
 
 def build_wheel(wheel_directory: str, config_settings: object = None, metadata_directory: object = None) -> str:
-    """Makes the wheel in that folder, and gives its name."""
+    """Makes the wheel in that folder, and returns its name."""
     project, path = _project(), _library()
     library = path.read_bytes()
     tag, stem = tag_of(library), f"{PACKAGE}-{project['version']}"
@@ -188,7 +188,7 @@ def build_wheel(wheel_directory: str, config_settings: object = None, metadata_d
 
 
 def build_sdist(sdist_directory: str, config_settings: object = None) -> str:
-    """Makes the sdist in that folder, and gives its name."""
+    """Makes the sdist in that folder, and returns its name."""
     project = _project()
     stem = f"{PACKAGE}-{project['version']}"
     files = {name: (HERE / name).read_bytes() for name in ("pyproject.toml", "backend.py")}

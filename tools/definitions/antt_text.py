@@ -41,7 +41,7 @@ def tokens(text):
 
 
 def blocks(toks):
-    """The items of a block: each begins in the column of the first."""
+    """Returns the items of a block: each begins in the column of the first."""
     out = []
     for t in toks:
         if not out or t.first and t.column <= toks[0].column and t.text not in (")", "}", "]"):
@@ -51,7 +51,7 @@ def blocks(toks):
 
 
 def behind(toks, i):
-    """The place behind one word, or behind what stands in brackets."""
+    """Returns the index behind one word, or behind what is in brackets."""
     depth = 0
     while i < len(toks):
         depth += (toks[i].text in ("(", "{")) - (toks[i].text in (")", "}"))
@@ -62,7 +62,7 @@ def behind(toks, i):
 
 
 def split(toks, *words):
-    """The parts between these words, where they stand in no brackets."""
+    """Returns the parts between these words outside brackets."""
     out, i = [[]], 0
     while i < len(toks):
         j = behind(toks, i)
@@ -75,7 +75,7 @@ def split(toks, *words):
 
 
 def binders(toks):
-    """Of `(a b : A) {c : C}` the explicit ones, each with its type; None of something else."""
+    """Returns the explicit ones of `(a b : A) {c : C}`, each with its type; None for something else."""
     out, i = [], 0
     while i < len(toks):
         j = behind(toks, i)
@@ -89,14 +89,14 @@ def binders(toks):
 
 
 def arrows(toks):
-    """The types of a function's explicit arguments, and of its result."""
+    """Returns the types of a function's explicit arguments, and of its result."""
     *arguments, result = split(toks, "→")
     named = [[("_", tuple(part))] if (some := binders(part)) is None else some for part in arguments]
     return tuple(type_ for part in named for _, type_ in part), result
 
 
 def pattern(toks):
-    """A pattern as its head, `(` of a tuple or else the words of a name, and the patterns behind it."""
+    """Returns a pattern as its head, `(` of a tuple or else the words of a name, and the patterns behind it."""
     first, *rest = split(toks, "∷")
     if rest:
         return ["◌∷◌"], [pattern(first), pattern(toks[len(first) + 1:])]
@@ -115,7 +115,7 @@ def pattern(toks):
 
 
 def attribute(field):
-    """The name in Python of a field."""
+    """Returns the name of a field in Python."""
     name = re.sub(r"[^0-9A-Za-z_]", "_", field)
     return name + "_" if keyword.iskeyword(name) else name
 
@@ -129,7 +129,7 @@ class Types(dict):
 
 
 class Def:
-    """A definition: what its signature says, and the tokens of its clauses."""
+    """A definition: its signature, and the tokens of its clauses."""
 
     def __init__(self, module, name, type_, section, line):
         self.module, self.name, self.section, self.line, self.clauses = module, name, section, line, []
@@ -137,7 +137,7 @@ class Def:
 
 
 class Module:
-    """A file, and what its names stand for; `item` finds what a `use` line names."""
+    """A file, and the meanings of its names; `item` finds what a `use` line names."""
 
     def __init__(self, name, file, item):
         self.name, self.file, self.item, self.sections = name, file, item, 0
@@ -207,7 +207,7 @@ class Module:
             self.uses.setdefault(part[-1], []).append(path + [w for w in target if w != "."])
 
     def lookup(self, name, line=10**9):
-        """What a name stands for at that line; None where it is unknown."""
+        """Returns the meaning of a name at that line; None if it is unknown."""
         own = [f for f in self.own.get(name, []) if not isinstance(f, Maker) or f.line < line]
         if (name, len(own)) not in self.known:
             found = own + [self.item(path) for path in self.uses.get(name, [])]
@@ -220,7 +220,7 @@ class Module:
 
 
 def variants(file, name):
-    """The constructors of a Rust enum, by its text."""
+    """Returns the constructors of a Rust enum, by its text."""
     found = re.search(rf"^[^/\n]*\benum\s+{re.escape(name)}\b[^{{]*", file.read_text(), re.M) if file.exists() else None
     if found:
         text = re.sub(r'//[^\n]*|"(?:[^"\\]|\\.)*"', "", found.string[found.end():])
@@ -241,7 +241,7 @@ class Library:
         self.root, self.spaces = Path(root), {}
 
     def space(self, path):
-        """The module of that path, or the constructors of a Rust type; None where there is none."""
+        """Returns the module with that path, or the constructors of a Rust type; None if there is none."""
         key = ".".join(path)
         if key not in self.spaces:
             found = None
@@ -261,7 +261,7 @@ class Library:
         return self.spaces[key]
 
     def item(self, path):
-        """What a `use` line names; of a Rust type, its constructors."""
+        """Returns what a `use` line names; for a Rust type, its constructors."""
         space = self.space(path[:-1])
         found = space.lookup(path[-1]) if space else None
         if found is None and "declared" in path and path[-1] == path[-2]:

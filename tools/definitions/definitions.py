@@ -37,13 +37,13 @@ ESCAPE = re.compile(r"\\(?:x([0-9a-fA-F]{2})|u\{([0-9a-fA-F_]+)\}|(.))")
 
 
 def rest_of(text):
-    """Of the Python `xs[i:]` the list and the place."""
+    """Returns the list and the index of the Python `xs[i:]`."""
     found = re.fullmatch(r"(.*)\[([^\[\]]+):\]", text) if text.endswith(":]") else None
     return found and found.groups()
 
 
 def following(place):
-    """The place after a place in a list, as Python."""
+    """Returns the index after an index in a list, as Python."""
     start, plus, number = place.rpartition("+ ")
     return f"{start}{plus}{int(number) + 1}" if number.isdigit() else f"{place} + 1"
 
@@ -105,7 +105,7 @@ class Compiler:
         return self.toks[self.at - 1].text
 
     def until(self, word):
-        """The tokens before that word, which is taken."""
+        """Takes and returns the tokens before that word."""
         found = split(self.toks[self.at:], word)[0]
         self.at += len(found)
         self.take(word)
@@ -116,7 +116,7 @@ class Compiler:
         return f"x{self.names}"
 
     def find(self, word, fields):
-        """What a name stands for that is no variable; takes the fields that lead there."""
+        """Returns the meaning of a name that is no variable; takes the fields that lead there."""
         try:
             here = self.module.modules.get(word) if fields else None
             thing = self.ev.library.space(here) if here else self.module.lookup(word, self.d.line)
@@ -129,7 +129,7 @@ class Compiler:
     # -- patterns
 
     def match(self, pat, at, tests):
-        """Adds what must hold for the value to match, and to the variables what they are."""
+        """Adds the conditions for the value to match, and the meanings of the variables."""
         head, args = pat
         thing = self.find(head[0], head[1:]) if head and head != "(" else None
         if head == "(":
@@ -150,7 +150,7 @@ class Compiler:
             self.match(part, place, tests)
 
     def case(self, pats, body):
-        """What a case gives and when, with the variables of its patterns."""
+        """Returns the result and the condition of a case, with the variables of its patterns."""
         before, tests = self.env, []
         self.env = dict(before)
         for pat, at in pats:
@@ -160,7 +160,7 @@ class Compiler:
         return result, " and ".join(tests)
 
     def choice(self, cases, values):
-        """The Python of the first case that holds."""
+        """Returns the Python of the first case that holds."""
         out = ""
         for result, tests in cases:
             if not tests:
@@ -171,7 +171,7 @@ class Compiler:
     # -- expressions
 
     def nested(self, in_test=False):
-        """An expression with an end of its own; up to the `then` of an `if`, that word is no operator."""
+        """Reads an expression with an end of its own; up to the `then` of an `if`, that word is no operator."""
         before, self.in_test = self.in_test, in_test
         result = self.expr()
         self.in_test = before
@@ -180,7 +180,7 @@ class Compiler:
     def ends(self): return self.word in RESERVED or self.word == "then" and self.in_test
 
     def operator(self):
-        """The operator that comes next, with its fixity, which its home declares."""
+        """Returns the operator that comes next, with its fixity, which its home declares."""
         name, known = f"◌{self.word}◌", self.module
         if self.ends() or name not in known.own and name not in known.uses:
             return None
@@ -224,7 +224,7 @@ class Compiler:
         return result + "".join(f"({a})" for a in args) if thing is None else self.call(thing, args)
 
     def elim(self, word):
-        """What stands behind `elim` or `let`, which is an `elim` with one case."""
+        """Reads what is behind `elim` or `let`, which is an `elim` with one case."""
         name, cases = self.fresh(), []
         if word == "let":
             pat = pattern(split(self.until("="), ":")[0])
@@ -250,7 +250,7 @@ class Compiler:
         return result if thing is None else self.call(thing, [])
 
     def atom(self):
-        """What a name stands for, or else the Python of an atom."""
+        """Returns the meaning of a name, or else the Python of an atom."""
         word, thing, result, fields = self.take(), None, None, []
         if word == "(":
             inner = [self.nested()]
@@ -322,7 +322,7 @@ class Definitions:
             numbers.fixity = FIXITY
 
     def get(self, module, name):
-        """A definition or a constructor, as a function of all its arguments or as a value."""
+        """Returns a definition or a constructor, as a function of all its arguments or as a value."""
         path = module.split(".")
         space = self.library.space(path if path[0] in [*LIBRARIES, "Rattle"] else ["Rattle", *path])
         thing = space.lookup(name) if space else None
@@ -354,7 +354,7 @@ class Definitions:
         return self.records[key]
 
     def function(self, thing):
-        """How many arguments it takes at once, and the Python of it as a function or a value."""
+        """Returns the number of arguments it takes at once, and the Python of it as a function or a value."""
         if thing not in self.python and isinstance(thing, Def) and thing.full not in self.native:
             Compiler(self, thing).compile()
         elif thing not in self.python:
@@ -365,7 +365,7 @@ class Definitions:
         return self.python[thing]
 
     def make(self, thing, args):
-        """The Python of a value with all its arguments."""
+        """Returns the Python of a value with all its arguments."""
         if isinstance(thing, Def) and thing.full in self.native:
             return self.native[thing.full].format(*args)
         if isinstance(thing, Def):  # a list from a place on is not cut where the function takes the place too
@@ -383,7 +383,7 @@ class Definitions:
 
 
 def load(root, native={}, without=()):
-    """`native`: more for NATIVE, as its texts or as functions; `without`: what is taken out of it."""
+    """`native`: more for NATIVE, as its texts or as functions; `without`: what is removed from it."""
     sys.setrecursionlimit(10**6)
     soft, hard = resource.getrlimit(resource.RLIMIT_STACK)
     if 0 <= soft < 10**8 and (hard < 0 or hard >= 10**8):

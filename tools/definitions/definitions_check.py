@@ -12,7 +12,7 @@ from definitions import NATIVE, curry, load, show
 
 
 def sample(ev, toks, module, rng, depth=3):
-    """A small random value of a type; what is not known is a number."""
+    """Returns a small random value of a type; of an unknown one, a number."""
     while toks and toks[0].text == "(" and behind(toks, 0) == len(toks):
         toks = toks[1:-1]
     args, result = arrows(toks)
@@ -39,7 +39,7 @@ def sample(ev, toks, module, rng, depth=3):
 
 
 def check(root, full, native={}, samples=200):
-    """How the comparison of one definition goes; `native` as for `load`."""
+    """Returns how the comparison of one definition goes; `native` as for `load`."""
     path, _, name = full.rpartition(".")
     quick, plain, rng = load(root, native), load(root, native, {full}), Random(full)
     try:
@@ -55,7 +55,7 @@ def check(root, full, native={}, samples=200):
 
 
 def refused(root, module):
-    """What of a module is refused, with the reasons; a definition into a `Type` is left out."""
+    """Returns what is refused in a module, with the reasons, except definitions into a `Type`."""
     ev, found = load(root), {}
     for d in [d for some in ev.library.space(["Rattle", *module.split(".")]).own.values() for d in some]:
         try:

@@ -40,7 +40,7 @@ class Con(namedtuple("Con", "tag args", defaults=[()])):
 
 
 def show(v):
-    """A value to be read; a list of numbers that may be a text is shown as one."""
+    """Returns a readable text of a value; shows a list of numbers that may be a text as one."""
     if not isinstance(v, tuple) or isinstance(v, Con):
         return repr(v)
     if hasattr(v, "_fields"):
@@ -57,7 +57,7 @@ def get_or(xs, i, d): return xs[i] if i < len(xs) else d
 
 
 def curry(f, n, *got):
-    """A function of n arguments as one that takes those that are left one by one."""
+    """Returns a function of n arguments as one that takes the remaining ones one by one."""
     return f if n == 1 else lambda x: f(*got, x) if len(got) == n - 1 else curry(f, n, *got, x)
 
 

@@ -4,7 +4,7 @@ import ast
 
 
 def at_end(e, name, names, found):
-    """Statements that return the value of an expression, or begin the loop anew where it is a call of the function."""
+    """Returns statements that return the value of an expression, or restart the loop if it is such a call."""
     if isinstance(e, ast.IfExp):
         return [ast.If(e.test, at_end(e.body, name, names, found), at_end(e.orelse, name, names, found))]
     if isinstance(e, ast.BoolOp):
@@ -23,7 +23,7 @@ def at_end(e, name, names, found):
 
 
 def looped(text, name):
-    """The function of that name, whose text is that of a `lambda`, as a loop; None where that makes no difference."""
+    """Returns the function, whose text is that of a `lambda`, as a loop; None if that makes no difference."""
     function, found = ast.parse(text, mode="eval").body, []
     if any(isinstance(node, ast.Lambda) for node in ast.walk(function.body)):
         return None  # it may keep a variable that the loop changes

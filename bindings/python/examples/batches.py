@@ -1,7 +1,7 @@
 """Batches of work on all cores of this machine, or on the machines of a cluster, by dask.distributed.
 
 Each task is a batch. What fails in a batch is a row of its result; a batch that ends with an error all the same, or
-whose worker dies, is handed on with that error, and the others go on.
+whose worker dies, is returned with that error, and the others go on.
 """
 
 from __future__ import annotations
@@ -24,7 +24,7 @@ AHEAD = 3
 
 
 def parser(said: str | None) -> ArgumentParser:
-    """The words that say where the work is done."""
+    """Returns the arguments that say where the work is done."""
     words = ArgumentParser(description=said)
     words.add_argument("--workers", type=int, default=os.cpu_count(), help="how many processes of this machine, if not all cores")
     words.add_argument("--scheduler", metavar="ADDRESS", help="a cluster's, as tcp://10.0.0.1:8786, in place of this machine")
@@ -35,7 +35,7 @@ def parser(said: str | None) -> ArgumentParser:
 
 @contextmanager
 def engine(words: Namespace) -> Iterator[Client]:
-    """The cluster that the words name, or one of processes on this machine while it is wanted."""
+    """Starts the cluster that the arguments name, or one of processes on this machine."""
     if words.scheduler:
         with Client(words.scheduler) as client:
             yield client
@@ -47,7 +47,7 @@ def engine(words: Namespace) -> Iterator[Client]:
 
 
 def results(client: Client, task: Callable[[T], Any], batches: Iterable[T]) -> Iterator[tuple[T, Union[Any, BaseException]]]:
-    """Each batch with the result of the task, or with the error by which it failed, in the order in which they end."""
+    """Returns each batch with the result of the task, or with the error by which it failed, as they end."""
     more, given, ended = iter(batches), {}, as_completed()
 
     def submit(count: int) -> None:
@@ -65,12 +65,12 @@ def results(client: Client, task: Callable[[T], Any], batches: Iterable[T]) -> I
 
 
 def memory(client: Client) -> int:
-    """The sum of the most bytes that each worker had."""
+    """Returns the sum of the most bytes that each worker had."""
     return sum(client.run(lambda: resource.getrusage(resource.RUSAGE_SELF).ru_maxrss).values()) << 10
 
 
 class Progress:
-    """How far the work is, on standard error, each second."""
+    """Shows the progress of the work on standard error, each second."""
 
     def __init__(self, what: str, quiet: bool) -> None:
         self.what, self.quiet = what, quiet

@@ -1,9 +1,9 @@
 #!/usr/bin/env python3
 """Checks the links within pages, on all cores or on a cluster: check_pages.py FOLDER..
 
-Each file below the folders whose name ends with .html or .htm is a page. What is wrong goes to standard output, a line of
-JSON each: `{"page": t, "line": n, "column": n, "what": t}`, sorted by the pages. Line and column are 0 where a file can't
-be read. On a cluster all machines must have these folders, under the same names. The status is 1 where something is wrong.
+Each file below the folders whose name ends with .html or .htm is a page. Findings go to standard output, a line of JSON
+each: `{"page": t, "line": n, "column": n, "what": t}`, sorted by the pages. Line and column are 0 if a file can't be read.
+On a cluster all machines must have these folders, under the same names. The status is 1 if something is wrong.
 """
 
 from __future__ import annotations
@@ -21,7 +21,7 @@ Row = tuple[str, int, int, str]
 
 
 def rows_of(path: str) -> Iterator[Row]:
-    """What is wrong with a page."""
+    """Returns what is wrong with a page."""
     try:
         findings = check(Path(path).read_bytes(), limit=1000)
     except Failure as failure:
@@ -37,12 +37,12 @@ def rows_of(path: str) -> Iterator[Row]:
 
 
 def check_batch(paths: list[str]) -> list[Row]:
-    """What is wrong with the pages of a batch."""
+    """Returns what is wrong with the pages of a batch."""
     return [row for path in paths for row in rows_of(path)]
 
 
 def pages_in(folders: list[Path]) -> Iterator[str]:
-    """The pages below these folders."""
+    """Returns the pages below these folders."""
     for folder in folders:
         for path in sorted(folder.resolve().rglob("*")):
             if path.suffix.lower() in (".html", ".htm") and path.is_file():
@@ -50,7 +50,7 @@ def pages_in(folders: list[Path]) -> Iterator[str]:
 
 
 def batches_of(pages: Iterator[str], size: int) -> Iterator[list[str]]:
-    """The pages in batches."""
+    """Returns the pages in batches."""
     while part := list(islice(pages, size)):
         yield part
 

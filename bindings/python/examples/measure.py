@@ -1,7 +1,7 @@
 #!/usr/bin/env python3
-"""measure.py [MAILS [PAGES]]: how fast the other examples are with 1, 2 and 4 workers, by default of 1,000,000 mails and
-100,000 pages. Of each number of workers it prints how many are done in a second, what part of so many times that of one
-worker this is, and the sum of the most memory that each worker had. Seconds count from when the workers are there.
+"""measure.py [MAILS [PAGES]]: measures the other examples with 1, 2 and 4 workers, by default on 1,000,000 mails and
+100,000 pages. For each number of workers it prints how many are done in a second, that as a part of as many times the
+number of one worker, and the sum of the most memory that each worker had. Seconds count from when the workers are there.
 """
 
 from __future__ import annotations
@@ -20,7 +20,7 @@ PARAGRAPH = '<p id=p{0}>Salt &amp; vinegar are back, <em>at last</em>: see <a hr
 
 
 def make_pages(folder: Path, count: int) -> None:
-    """So many pages of some 4,000 bytes, in folders of 1,000."""
+    """Makes that many pages of some 4,000 bytes, in folders of 1,000."""
     body = "".join(PARAGRAPH.format(number) for number in range(40))
     for number in range(count):
         path = folder / f"{number // 1000}" / f"{number}.html"
@@ -29,7 +29,7 @@ def make_pages(folder: Path, count: int) -> None:
 
 
 def measured(*words: object) -> tuple[float, float]:
-    """How many a second an example says that it does, and how many megabytes its workers take."""
+    """Returns the number a second that an example reports, and the megabytes that its workers use."""
     told = subprocess.run([sys.executable, *map(str, words)], stdout=subprocess.DEVNULL, stderr=subprocess.PIPE, text=True).stderr
     done, failed, seconds, megabytes = re.findall(r"^(\d+) \w+, (\d+) failed: ([\d.]+) s, \d+ a second, (\d+) MB$", told, re.M)[-1]
     return (int(done) + int(failed)) / float(seconds), float(megabytes)

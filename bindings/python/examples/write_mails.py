@@ -1,10 +1,10 @@
 #!/usr/bin/env python3
 """Writes a mail for each record, on all cores or on a cluster: write_mails.py RECORDS FOLDER.
 
-RECORDS is a file with an object of JSON in each line, `{"to": t, "name": t, "text": t, "link": t}`, or a number: then so
-many records are made up. FOLDER gets a file for each batch, of a line for each mail, `{"to": t, "html": t}`, and
+RECORDS is a file with an object of JSON in each line, `{"to": t, "name": t, "text": t, "link": t}`, or a number: then
+that many records are made up. FOLDER gets a file for each batch, with a line for each mail, `{"to": t, "html": t}`, and
 `failures.jsonl` with a line for each record that makes no mail, `{"record": n, "failure": t}`, counted from 1. On a
-cluster all machines must have that folder. The status is 1 where a record makes no mail.
+cluster all machines must have that folder. The status is 1 if a record makes no mail.
 """
 
 from __future__ import annotations
@@ -26,7 +26,7 @@ Batch = tuple[int, list[bytes], str]
 
 
 def mail(line: bytes) -> dict[str, str]:
-    """The mail of a record."""
+    """Returns the mail of a record."""
     record = json.loads(line)
     body = [
         element("h1", f"Dear {record['name']}"),
@@ -37,10 +37,10 @@ def mail(line: bytes) -> dict[str, str]:
 
 
 def write_batch(batch: Batch) -> Failures:
-    """Writes the mails of a batch, and tells which records make none."""
+    """Writes the mails of a batch, and returns the records that make none, with the reasons."""
     first, lines, path = batch
     failures: Failures = []
-    # (a batch that is done a second time, since its worker died, takes the place of what was there)
+    # (a batch that is done a second time, since its worker died, replaces what was there)
     written = f"{path}.{os.getpid()}"
     with open(written, "w", encoding="utf-8") as file:
         for number, line in enumerate(lines, first):
@@ -53,7 +53,7 @@ def write_batch(batch: Batch) -> Failures:
 
 
 def made_up(count: int) -> Iterator[bytes]:
-    """So many records. Every thousandth has a character that HTML cannot hold."""
+    """Returns that many records. Every thousandth has a character that HTML cannot hold."""
     for number in range(1, count + 1):
         name = f"Ada {number}" if number % 1000 else "Ada \0"
         text = "Salt & vinegar are back.\n\nWrite  to us < soon > about it."
@@ -62,7 +62,7 @@ def made_up(count: int) -> Iterator[bytes]:
 
 
 def lines_of(records: str) -> Iterator[bytes]:
-    """The records, a line each."""
+    """Returns the records, a line each."""
     if records.isdigit():
         yield from made_up(int(records))
     else:
@@ -71,7 +71,7 @@ def lines_of(records: str) -> Iterator[bytes]:
 
 
 def batches_of(lines: Iterator[bytes], size: int, folder: Path) -> Iterator[Batch]:
-    """The lines in batches."""
+    """Returns the lines in batches."""
     first = 1
     while part := list(islice(lines, size)):
         yield first, part, str(folder / f"mails-{first:09}.jsonl")

@@ -1,5 +1,5 @@
-"""What is refused for its type: by the package where it is given, and by `mypy --strict`, which says of a line that it
-does not refuse that its `type: ignore` is of no use."""
+"""Arguments that are refused for their types: by the package, and by `mypy --strict`, which reports a `type: ignore` as
+unused in a line that it accepts."""
 
 from __future__ import annotations
 
@@ -9,11 +9,11 @@ from typing import Callable
 
 import typst_html_proved
 from typst_html_proved import (
-    BREAK, HOLE, SPACE, WORDS, DeadLink, Findings, Info, Node, Place, block, box, check, element, end, start, text, unused,
+    BREAK, HOLE, SPACE, WORDS, DeadLink, Findings, Info, Node, Place, block, box, check, element, end, link, place, role, start, text, unused,
     write, write_json, write_tree,
 )  # fmt: skip
 
-# The words that tell where and what is wrong, and the call.
+# The words that say where and what is wrong, and the call.
 REFUSED: list[tuple[str, str, Callable[[], object]]] = [
     ("element(body[0])", "an item is None", lambda: element("p", None)),  # type: ignore
     ("element(body[0])", "an item is of type int", lambda: element("p", 3)),  # type: ignore
@@ -43,7 +43,16 @@ REFUSED: list[tuple[str, str, Callable[[], object]]] = [
     ("box(body[1])", "an item is None", lambda: box(SPACE, None)),  # type: ignore
     ("start(location)", "a location is of type str, not an int", lambda: start("a")),  # type: ignore
     ("start(destination)", "a location is of type str, not an int", lambda: start(1, "a")),  # type: ignore
+    ("start(label)", "a label is of type int, not a str", lambda: start(1, label=2)),  # type: ignore
     ("end(location)", "a location is None, not an int", lambda: end(None)),  # type: ignore
+    ("place(name)", "a name is of type int, not a str", lambda: place(1)),  # type: ignore
+    ("link(name)", "a name is None, not a str", lambda: link(None)),  # type: ignore
+    ("role(of)", "a role is of type int, not a str", lambda: role(1, "a")),  # type: ignore
+    ("role(item)", "an item is None", lambda: role("a", None)),  # type: ignore
+    ("element(css[0])", "a property is of type str, not a pair of a name and a value",
+     lambda: element("p", css=["color"])),  # type: ignore
+    ("element(css)", "properties are None", lambda: element("p", css=None)),  # type: ignore
+    ("write(head)", "head are None", lambda: write([], head=None)),  # type: ignore
     ("write(items)", "items are None", lambda: write(None)),  # type: ignore
     ("write(items)", "items are of type int", lambda: write(3)),  # type: ignore
     ("write(items)", "items are one item, not a list of them", lambda: write(text("a"))),  # type: ignore
@@ -77,7 +86,7 @@ REFUSED: list[tuple[str, str, Callable[[], object]]] = [
     ("write_json(kind)", "[] is no kind: tree, items or document", lambda: write_json("[]", kind=[])),  # type: ignore
 ]
 
-# What is refused by its value.
+# Arguments that are refused for their values.
 REFUSED += [
     ("start(location)", "a location is -1, not from 0 to 18446744073709551615", lambda: start(-1)),
     ("end(location)", "a location is 18446744073709551616, not from 0 to 18446744073709551615", lambda: end(1 << 64)),
@@ -87,7 +96,7 @@ REFUSED += [
     ("unused(limit)", "the limit is 10001, not from 1 to 10000", lambda: unused([], limit=10_001)),
 ]
 
-# What of the package nothing changes: the error that comes of a change, and the change.
+# What nothing in the package changes: the error of a change, and the change.
 FIXED: list[tuple[type[Exception], Callable[[], object]]] = [
     (TypeError, lambda: setitem(WORDS, 1, "")),  # type: ignore
     (TypeError, lambda: delitem(WORDS, 1)),  # type: ignore
@@ -102,7 +111,7 @@ FIXED: list[tuple[type[Exception], Callable[[], object]]] = [
 
 
 def reassigned() -> None:
-    """Names and fields that types keep, some of which Python would let go. It is not called."""
+    """Names and fields that types keep, some of which Python would let change. It is not called."""
     typst_html_proved.SPACE = BREAK  # type: ignore
     typst_html_proved.WORDS = {}  # type: ignore
     typst_html_proved.VERSION = 7  # type: ignore
@@ -114,7 +123,7 @@ def reassigned() -> None:
 
 
 def taken() -> list[str]:
-    """What is taken, each with a `p` that has the id `x` and the text `a`."""
+    """Returns what is accepted, each with a `p` that has the id `x` and the text `a`."""
     attrs = {"id": "x"}
     paragraph = element("p", "a", attrs=attrs)
     return [

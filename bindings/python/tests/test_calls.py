@@ -1,4 +1,4 @@
-"""What a caller in Python sees of the library. The package that is installed is tested, or that in PYTHONPATH."""
+"""Tests of the library's calls from Python, with the installed package, or that in PYTHONPATH."""
 
 import contextlib
 import ctypes
@@ -22,16 +22,17 @@ import rows  # noqa: E402
 import typst_html_proved as html  # noqa: E402
 from typst_html_proved import Info, Refused, element  # noqa: E402
 from typst_html_proved._library import LIBRARY, Reply  # noqa: E402
+from typst_html_proved._places import left  # noqa: E402
 
 ROWS = rows.rows()
 KINDS = ("tree", "items", "document")
 
-# How rows end whose JSON is as deep as it is read, so that it can't stand in an object.
+# The ends of rows whose JSON is as deep as the reader accepts, so that it can't be inside an object.
 DEEPEST = b"]" * 127
 
 
 def outcome(call, *words, **more):
-    """The text, or the number and the span of a refusal, or what else was raised."""
+    """Returns the text, or the number and the span of a refusal, or what else was raised."""
     try:
         return call(*words, **more)
     except Refused as refused:
@@ -43,7 +44,7 @@ def outcome(call, *words, **more):
 
 
 def place(call, *words, **more):
-    """Where an input is bad, or else the outcome."""
+    """Returns the place of a bad input, or else the outcome."""
     try:
         return call(*words, **more)
     except html.BadInput as bad:
@@ -53,7 +54,7 @@ def place(call, *words, **more):
 
 
 def dead_links(row):
-    """The links that the library lists so."""
+    """Returns the links as the library lists them."""
     listed = json.loads(row.dead)["dead_links"]
     return tuple(html.DeadLink(it["span"], it["destination"]) for it in listed)
 
@@ -73,26 +74,26 @@ def of_row(row):
     if row.kind < 2:
         return place(html.write_json, row.input, kind=KINDS[row.kind], pretty=pretty)
     known = json.loads(row.input)
-    items, footnotes = known.pop("items", []), known.pop("footnotes", [])
+    items, footnotes, head = (known.pop(name, []) for name in ("items", "footnotes", "head"))
     settings = {"pretty": pretty, "links": bool(row.links), "limit": row.limit}
-    return outcome(html.write, items, info=Info(**known), footnotes=footnotes, **settings)
+    return outcome(html.write, items, info=Info(**known), footnotes=footnotes, head=head, **settings)
 
 
 def settings_of(row):
-    """The words of a call of `write_json` for a row."""
+    """Returns the arguments of `write_json` for a row."""
     links = {"links": bool(row.links), "limit": row.limit} if row.kind == 2 else {}
     return {"pretty": bool(row.layout), **links}
 
 
 def at(value, path):
-    """What stands there."""
+    """Returns the value at a path."""
     for step in path:
         value = value[step]
     return value
 
 
 def paths_of(kind, given):
-    """The paths of the lists of items, in the order of their opening brackets."""
+    """Returns the paths of the lists of items, in the order of their opening brackets."""
 
     def those(items, path):
         for index, item in enumerate(items if isinstance(items, list) else []):
@@ -103,9 +104,12 @@ def paths_of(kind, given):
     def inside(item, path):
         if item and item[0] in ("el", "block", "box"):
             yield from those(item[-1], (*path, len(item) - 1))
+        elif item and item[0] == "role" and kind == 2 and isinstance(item[-1], list):
+            yield (*path, 2)
+            yield from inside(item[-1], (*path, 2))
 
     if kind == 2:
-        for name in ("items", "footnotes"):
+        for name in ("items", "footnotes", "head"):
             yield from those(given.get(name, []) if isinstance(given, dict) else [], (name,))
     elif kind == 1:
         yield from those(given, ())
@@ -127,7 +131,15 @@ class Calls(unittest.TestCase):
                 with self.subTest(row.input):
                     data = b'{"items":' + row.input + b"}"
                     found = outcome(html.write_json, data, kind="document", pretty=bool(row.layout))
-                    self.assertEqual(found, wanted(row))
+                    if not (row.status == 2 and self.are_of_a_document(row.input)):
+                        self.assertEqual(found, wanted(row))
+
+    def are_of_a_document(self, items):
+        """Whether items have the forms that documents alone have."""
+        try:
+            return left("document", {"items": json.loads(items)}) is None
+        except (ValueError, RecursionError):
+            return False
 
     def test_documents_in_json_have_links_and_a_limit(self):
         for row in ROWS:
@@ -187,6 +199,39 @@ class Calls(unittest.TestCase):
     def test_every_item(self):
         body = ["a", html.SPACE, html.BREAK, html.HOLE]
         self.assertIn("<div>a", html.write([html.block(*body), html.box(*body)]))
+
+    def test_places_by_name(self):
+        items = [html.link("a b"), element("a", "b"), html.role("note", html.block(html.place("a b"), element("h2")))]
+        self.assertIn('<a href="#a%20b">b</a><h2 id="a b" role="note"></h2>', html.write(items, links=True))
+
+    def test_dead_links_have_names(self):
+        there = [html.link("b"), element("a"), html.link("a"), html.role(None, element("a")), html.place("b"), "c"]
+        with self.assertRaises(html.DeadLinks) as caught:
+            html.write(there, links=True)
+        (dead,) = caught.exception.links
+        self.assertEqual((dead.destination, dead.name, dead.path), (2, "a", ("items", 3, 2)))
+        self.assertIs(dead.item, there[3][2])
+
+    def test_css_labels_roles_and_a_head(self):
+        items = [html.role("note", element("em", css={"color": "red"})), html.start(1, 7), element("a"), html.start(7, label="q"), "x"]
+        text = html.write(items, head=["h", element("meta")], info=Info(title="T"), links=True)
+        self.assertIn("<title>T</title>h<meta></head>", text)
+        self.assertIn('<em role="note" style="color: red"></em><a href="#q"></a><span id="q">x</span>', text)
+        self.assertEqual(html.unused([element("html")], info=Info(title="T"), head=["h"]), ("title", "head"))
+        self.assertEqual(html.unused([element("html")], head=()), ())
+
+    def test_where_the_forms_of_documents_are_left(self):
+        for where, call in (
+            ("write(items[1])", lambda: html.write([html.place("a"), html.start(1)])),
+            ("write(head[0])", lambda: html.write(["a"], head=[html.SPACE])),
+            ("write(head[0][3][0])", lambda: html.write(["a"], head=[element("p", html.block())])),
+            ("write(items[0][2])", lambda: html.write([html.role("a", html.Node(["text"]))])),
+            ("write(items[0][4][0])", lambda: html.write([element("p", html.Node(["space", 1]), css={"a": "b"})])),
+            ("write_tree(root)", lambda: html.write_tree(element("p", css={"a": "b"}))),
+        ):
+            with self.subTest(where), self.assertRaises(html.BadInput) as caught:
+                call()
+            self.assertEqual(caught.exception.where, where)
 
     def test_refusals(self):
         with self.assertRaises(Refused) as caught:
@@ -298,7 +343,7 @@ class Calls(unittest.TestCase):
                 value = at(json.loads(row.input), bad.path)
                 is_item = len(bad.path) >= (0, 1, 2)[row.kind]
                 self.assertEqual(bad.item, value if is_item else None)
-                # Where a list leaves the form, it is the last that is opened; else the next value does.
+                # If a list leaves the form, it is the last that is opened; otherwise the next value does.
                 paths = [None, *paths_of(row.kind, json.loads(row.input))]
                 if isinstance(value, list) and is_item:
                     self.assertEqual(paths[bad.span], bad.path)

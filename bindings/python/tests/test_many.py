@@ -1,5 +1,5 @@
-"""The examples of many mails and pages, and what becomes of batches that fail, by dask.distributed (Debian's
-python3-distributed, so that it is run by Debian's Python)."""
+"""Tests of the examples of many mails and pages, and of batches that fail, with dask.distributed (Debian's
+python3-distributed, so Debian's Python runs it)."""
 
 import json
 import os
@@ -32,7 +32,7 @@ RECORDS = (
     (json.dumps({**RECORD, "name": "B"}), None),
 )  # fmt: skip
 
-# Pages, and what is told of each.
+# Pages, and their findings.
 PAGES = (
     ("a.html", b"<p id=x><a href=#x>up</a>", []),
     ("b/c.htm", b"<p>x\n<a href=#no>y</a>", [(2, 1, '"#no" leads nowhere')]),
@@ -44,7 +44,7 @@ PAGES = (
 
 
 def run(program, *words):
-    """The status, standard output and standard error of an example."""
+    """Returns the status, standard output and standard error of an example."""
     command = [sys.executable, EXAMPLES / program, "--workers", "1", *words]
     done = subprocess.run(command, stdout=subprocess.PIPE, stderr=subprocess.PIPE, text=True)
     return done.returncode, done.stdout, done.stderr
@@ -102,7 +102,7 @@ class Many(unittest.TestCase):
 
     def test_batches_that_fail(self):
         words = batches.parser(None).parse_args(["--workers", "2"])
-        # (what a worker held that died is asked for in vain)
+        # (a result of a worker that died is requested in vain)
         soon = {"distributed.comm.timeouts.connect": "2s"}
         with dask.config.set(soon), batches.engine(words) as client:
             found = dict(batches.results(client, ends, range(20)))

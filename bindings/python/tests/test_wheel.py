@@ -1,4 +1,4 @@
-"""The wheel and the sdist in dist/, by the Python in which the wheel is installed."""
+"""Tests of the wheel and the sdist in dist/, with the Python in which the wheel is installed."""
 
 import base64
 import hashlib
@@ -24,19 +24,19 @@ INSTALLED = metadata.distribution("typst-html-proved")
 
 
 def only(pattern):
-    """The one file of dist/ that has such a name."""
+    """Returns the only file of dist/ that has such a name."""
     (path,) = DIST.glob(pattern)
     return path
 
 
 def glibc(library):
-    """The newest glibc whose symbols a library takes, as objdump tells it."""
+    """Returns the newest glibc whose symbols a library uses, as objdump reports it."""
     told = subprocess.run(["objdump", "-T", library], stdout=subprocess.PIPE, check=True, text=True).stdout
     return max(int(found) for found in re.findall(r"GLIBC_2\.(\d+)", told))
 
 
 def made_of_the_sdist(folder, **more):
-    """How pip ends where it makes a wheel of the sdist in that folder, without a network."""
+    """Returns how pip ends when it makes a wheel from the sdist there, without a network."""
     kept = {name: value for name, value in os.environ.items() if not name.startswith(("PIP_", "TYPST_HTML_"))}
     words = ["wheel", "--no-index", "--no-deps", "--no-cache-dir", "--wheel-dir", folder, only("*.tar.gz")]
     how = {"stdout": subprocess.PIPE, "stderr": subprocess.STDOUT, "text": True}
@@ -69,7 +69,7 @@ class Wheel(unittest.TestCase):
 
 class Tags(unittest.TestCase):
     def tag(self, source, *words):
-        """The tag of a library that is made of C."""
+        """Returns the tag of a library that is made from C."""
         with tempfile.TemporaryDirectory() as folder:
             made = Path(folder, "library.so")
             command = ["cc", "-shared", "-fPIC", "-O0", "-Wl,--no-as-needed", "-x", "c", "-", "-o", made, *words]

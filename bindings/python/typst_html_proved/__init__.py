@@ -8,8 +8,8 @@
 ...     print(refused, refused.item)
 a void element has a child (refusal 12 at 2, items[1]) ['el', 'br', [], [['text', 'no']]]
 
-A document is a list of items. They are made by the functions `text`, `element`, `block`, `box`, `start` and
-`end` and the constants `SPACE`, `BREAK` and `HOLE`; a `str` where an item may stand is a text. Items are lists
+A document is a list of items. They are made by the functions `text`, `element`, `block`, `box`, `place`, `link`,
+`role`, `start` and `end` and the constants `SPACE`, `BREAK` and `HOLE`; a `str` where an item may stand is a text. Items are lists
 that JSON can hold, so others may make them, and `Node(["text", "a"])` is one for a checker of types. What is no item
 is refused where it is given, by `BadInput`, which has what is wrong and where:
 
@@ -47,14 +47,14 @@ from ._library import VERSION, Reply, Status, called
 from ._pages import (
     DeadFragment, Findings, Misnested, PageId, PageLink, PageLinks, PageName, Place, RepeatedId, findings_of, links_of,
 )  # fmt: skip
-from ._places import DEEPEST, ItemPath, is_too_deep, left, numbered, shown, value_of
+from ._places import DEEPEST, ITEMS_OF_DOCUMENTS, LISTS, ItemPath, is_too_deep, left, names, numbered, shown, value_of
 from ._words import WORDS
 
 __all__ = [
     "BREAK", "HOLE", "SPACE", "VERSION", "Attrs", "BadInput", "DeadFragment", "DeadLink", "DeadLinks", "Failure", "Findings",
     "Info", "Item", "ItemPath", "Items", "Kind", "Mark", "Misnested", "Node", "OtherLibrary", "OutOfMemory", "PageId", "PageLink",
-    "PageLinks", "PageName", "Place", "Refused", "RepeatedId", "Texts", "WORDS", "block", "box", "check", "element", "end", "links", "start",
-    "text", "unused", "write", "write_json", "write_tree",
+    "PageLinks", "PageName", "Place", "Refused", "RepeatedId", "Texts", "WORDS", "block", "box", "check", "element", "end", "link", "links",
+    "place", "role", "start", "text", "unused", "write", "write_json", "write_tree",
 ]  # fmt: skip
 
 __version__: Final = "0.1.0"
@@ -243,7 +243,9 @@ class DeadLink:
     span: int
     """The number of its list in the JSON, counted as that of a refusal."""
     destination: int
-    """The location that it would lead to."""
+    """The location that it would lead to: its number, or that of its name among those of the document, from 1 on."""
+    name: str | None = field(default=None, compare=False, repr=False)
+    """The name of the place, where it has one."""
     path: ItemPath = field(default=(), compare=False)
     """Where its `a` stands, as of a refusal."""
     item: Any = field(default=None, compare=False, repr=False)
@@ -296,7 +298,7 @@ class OtherLibrary(Failure):
     """The library replies as none of this version does. (One that tells another version is not imported.)
 
     >>> str(OtherLibrary())
-    'the library replies as none of version 6 does'
+    'the library replies as none of version 7 does'
     """
 
     def __str__(self) -> str:
@@ -333,8 +335,6 @@ class Info:
         }
         return {name: value for name, value in given.items() if value is not None}
 
-
-KINDS: Final = ("text", "space", "break", "hole", "el", "block", "box", "start", "end")
 
 
 # Checks of arguments. `where` is a place as `BadInput` tells it, in which `at` stands for `{}`.
@@ -393,7 +393,7 @@ def _item(item: object, where: str, at: int = 0) -> Sequence[object]:
         raise BadInput(f"an item is {_told(item)}", where=where.format(at))
     if not item or not isinstance(item[0], str):
         raise BadInput("an item is a list of items: give each of them", where=where.format(at))
-    if item[0] not in KINDS:
+    if item[0] not in ITEMS_OF_DOCUMENTS:
         words = f"an item is a list that begins with {item[0]!r}, which is no kind of item"
         raise BadInput(words, where=where.format(at))
     return list(item)
@@ -415,13 +415,20 @@ def _listed(call: str, what: str, items: Items) -> list[Sequence[object]]:
     return _items(_iterated(what, items, where), f"{call}({what}[{{}}])")
 
 
-def _pair(pair: object, at: int) -> list[str]:
-    """An attribute of an element."""
-    where = f"element(attrs[{at}])"
+def _pair(what: str, argument: str, pair: object, at: int) -> list[str]:
+    """An attribute or a property of an element."""
+    where = f"element({argument}[{at}])"
     if not isinstance(pair, (list, tuple)) or len(pair) != 2:
-        raise BadInput(f"an attribute is {_told(pair)}, not a pair of a name and a value", where=where)
+        raise BadInput(f"{what} is {_told(pair)}, not a pair of a name and a value", where=where)
     name, value = pair
-    return [_str("the name of an attribute", name, where), _str(f"the value of the attribute {name!r}", value, where)]
+    one = what.split()[-1]
+    return [_str(f"the name of {what}", name, where), _str(f"the value of the {one} {name!r}", value, where)]
+
+
+def _pairs(what: str, listed: str, argument: str, pairs: Attrs) -> list[list[str]]:
+    """The attributes or the properties of an element."""
+    each = pairs.items() if isinstance(pairs, Mapping) else _iterated(listed, pairs, f"element({argument})")
+    return [_pair(what, argument, pair, at) for at, pair in enumerate(each)]
 
 
 def text(of: str) -> Node:
@@ -433,19 +440,23 @@ def text(of: str) -> Node:
     return Node(["text", _str("a text", of, "text(of)")])
 
 
-def element(tag: str, *body: Item, attrs: Attrs = ()) -> Node:
-    """An element with that body. Attributes are a mapping, or pairs of a name and a value.
+def element(tag: str, *body: Item, attrs: Attrs = (), css: Attrs = ()) -> Node:
+    """An element with that body. Attributes are a mapping, or pairs of a name and a value; so are css properties, which
+    go into its `style`, and of which the last of a name counts. What `write_tree` writes has no css.
 
     >>> element("a", "Home", attrs={"href": "/"})
     ['el', 'a', [['href', '/']], [['text', 'Home']]]
+    >>> write([element("p", css={"color": "red"})]).split("<body>")[1]
+    '<p style="color: red"></p></body></html>'
     >>> element("p", attrs=["id"])
     Traceback (most recent call last):
         ...
     typst_html_proved.BadInput: bad input at element(attrs[0]): an attribute is of type str, not a pair of a name and a value
     """
-    pairs = attrs.items() if isinstance(attrs, Mapping) else _iterated("attributes", attrs, "element(attrs)")
-    listed = [_pair(pair, at) for at, pair in enumerate(pairs)]
-    return Node(["el", _str("a tag", tag, "element(tag)"), listed, _items(body, "element(body[{}])")])
+    listed = _pairs("an attribute", "attributes", "attrs", attrs)
+    styled = _pairs("a property", "properties", "css", css)
+    parts: list[object] = [_str("a tag", tag, "element(tag)"), listed, *([styled] if styled else [])]
+    return Node(["el", *parts, _items(body, "element(body[{}])")])
 
 
 def block(*body: Item) -> Node:
@@ -466,16 +477,55 @@ def box(*body: Item) -> Node:
     return Node(["box", _items(body, "box(body[{}])")])
 
 
-def start(location: int, destination: int | None = None) -> Node:
-    """A location begins, and perhaps leads to another: links get its `href` where `write` resolves them.
+def role(of: str | None, item: Item) -> Node:
+    """The item with that role, or with `None` without one; of two around an item the outer counts.
 
-    >>> link = [start(1, 7), element("a", "there"), end(1)]
-    >>> write([*link, start(7), element("h2", "Here"), end(7)], links=True).split("<body>")[1]
-    '<a href="#loc-1">there</a><h2 id="loc-1">Here</h2></body></html>'
+    >>> write([role("note", element("aside", "a"))]).split("<body>")[1]
+    '<aside role="note">a</aside></body></html>'
     """
-    given = [_location(location, "start(location)")]
-    if destination is not None:
-        given.append(_location(destination, "start(destination)"))
+    given = None if of is None else _str("a role", of, "role(of)")
+    return Node(["role", given, _item(item, "role(item)")])
+
+
+def place(name: str) -> Node:
+    """What stands next is the place of that name, to which links lead.
+
+    A document has places by name or locations by number (`start`, `end`), not both.
+
+    >>> page = write([link("moon"), element("a", "there"), place("moon"), element("h2", "Moon")], links=True)
+    >>> page.split("<body>")[1]
+    '<a href="#moon">there</a><h2 id="moon">Moon</h2></body></html>'
+    """
+    return Node(["place", _str("a name", name, "place(name)")])
+
+
+def link(name: str) -> Node:
+    """The `a` that stands next leads to the place of that name, wherever that is: see `place`.
+
+    >>> try:
+    ...     page = write([link("moon"), element("a", "there")], links=True)
+    ... except DeadLinks as dead:
+    ...     print(dead.links[0].name)
+    moon
+    """
+    return Node(["link", _str("a name", name, "link(name)")])
+
+
+def start(location: int, destination: int | None = None, label: str | None = None) -> Node:
+    """A location begins, and perhaps leads to another: links get its `href` where `write` resolves them. What stands
+    there gets the label as its `id`, if links lead to it and it has none.
+
+    >>> there = [start(1, 7), element("a", "there"), end(1)]
+    >>> write([*there, start(7), element("h2", "Here"), end(7)], links=True).split("<body>")[1]
+    '<a href="#loc-1">there</a><h2 id="loc-1">Here</h2></body></html>'
+    >>> start(7, label="here")
+    ['start', 7, None, 'here']
+    """
+    given: list[object] = [_location(location, "start(location)")]
+    if destination is not None or label is not None:
+        given.append(None if destination is None else _location(destination, "start(destination)"))
+    if label is not None:
+        given.append(_str("a label", label, "start(label)"))
     return Node(["start", *given])
 
 
@@ -517,7 +567,7 @@ class _Given:
 
     def _where(self, path: ItemPath) -> str:
         """How a place is told."""
-        if self.kind == "document" and not self.is_json and path and path[0] not in ("items", "footnotes"):
+        if self.kind == "document" and not self.is_json and path and path[0] not in LISTS:
             return f"Info({shown(path)})"
         return f"{self.call}({shown(self.argument + path)})"
 
@@ -560,8 +610,9 @@ class _Given:
     def dead_links(self, text: str, listed: list[dict[str, int]]) -> DeadLinks:
         """The links that lead nowhere in a text, which the library lists."""
         spots = numbered(self.kind, self.value, (it["span"] for it in listed))
-        found = ((it, spots[it["span"]]) for it in listed)
-        return DeadLinks(text, tuple(DeadLink(**it, path=spot.path, item=spot.value) for it, spot in found))
+        named = dict(enumerate(names(self.value), 1))
+        found = ((it, spots[it["span"]], named.get(it["destination"])) for it in listed)
+        return DeadLinks(text, tuple(DeadLink(**it, name=name, path=spot.path, item=spot.value) for it, spot, name in found))
 
     def text(self, call: str, **numbers: int) -> str:
         """The text that a call of the library makes of it."""
@@ -581,37 +632,42 @@ def _bytes(data: bytes | str, where: str) -> bytes:
         raise BadInput(error, where=where) from error
 
 
-def _document(call: str, items: Items, footnotes: Items, info: Info, limit: int) -> _Given:
+def _document(call: str, items: Items, footnotes: Items, head: Items, info: Info, limit: int) -> _Given:
     """A document that is given to that call."""
     _number("the limit", limit, 1, 10_000, f"{call}(limit)")
     if not isinstance(info, Info):
         raise BadInput(f"info is {_told(info)}, not an Info", where=f"{call}(info)")
-    listed = {"items": _listed(call, "items", items), "footnotes": _listed(call, "footnotes", footnotes)}
+    given = {"items": items, "footnotes": footnotes, "head": head}
+    listed = {name: _listed(call, name, of) for name, of in given.items()}
     return _Given(call, (), "document", value={**info.members(), **listed})
 
 
 def write(
-    items: Items, *, info: Info = Info(), footnotes: Items = (), pretty: bool = False, links: bool = False, limit: int = 50
-) -> str:
+    items: Items, *, info: Info = Info(), footnotes: Items = (), head: Items = (), pretty: bool = False, links: bool = False,
+    limit: int = 50,
+) -> str:  # fmt: skip
     """The text of a document of these items.
 
-    `pretty` lays it out in indented lines, where that can't be seen. `links` gives each `a` without `href`
-    behind a `start` with a destination the `href` of that destination, and raises `DeadLinks`, which has the
+    `head` has what stands at the end of its head: texts and elements, which hold such alone. `pretty` lays it out in indented lines, where that can't be seen. `links` gives each `a` without `href`
+    behind a `link`, or a `start` with a destination, the `href` of that place, and raises `DeadLinks`, which has the
     text, where the document has no such place. Bodies may stand `limit` deep, from 1 to 10,000; JSON is read
     127 levels deep, which are 63 elements in one another.
 
     >>> write(["a  b"], info=Info(title="T", lang="de", region="AT"))[:42]
     '<!DOCTYPE html><html lang="de-AT"><head><m'
+    >>> icon = element("link", attrs={"rel": "icon", "href": "i.png"})
+    >>> write([], head=[icon])[-57:]
+    '<link rel="icon" href="i.png"></head><body></body></html>'
 
     Raises `Refused`, `BadInput`, `OutOfMemory` or `DeadLinks`.
     """
-    given = _document("write", items, footnotes, info, limit)
+    given = _document("write", items, footnotes, head, info, limit)
     return given.text("typst_html_document", layout=int(bool(pretty)), links=int(bool(links)), limit=limit)
 
 
-def unused(items: Items, *, info: Info = Info(), limit: int = 50) -> tuple[str, ...]:
-    """The names of what is known of a document of these items that its text does not show: of all that is known,
-    where the items have an `html` of their own, whose head is theirs too, and else of nothing.
+def unused(items: Items, *, info: Info = Info(), head: Items = (), limit: int = 50) -> tuple[str, ...]:
+    """The names of what is known of a document of these items that its text does not show: of all that is known, and
+    `head`, where the items have an `html` of their own, whose head is theirs too, and else of nothing.
 
     >>> unused([element("html")], info=Info(title="T", lang="de"))
     ('title', 'lang')
@@ -620,12 +676,13 @@ def unused(items: Items, *, info: Info = Info(), limit: int = 50) -> tuple[str, 
 
     Raises `Refused`, `BadInput` or `OutOfMemory`.
     """
-    given = _document("unused", items, (), info, limit)
+    given = _document("unused", items, (), head, info, limit)
     return tuple(json.loads(given.text("typst_html_unused", limit=limit))["unused"])
 
 
 def write_tree(root: Item, *, pretty: bool = False) -> str:
-    """The text of a tree, given by its root, of which only texts, elements, starts and ends may be part.
+    """The text of a tree, given by its root, of which only texts, elements without css, starts and ends without labels may
+    be part.
 
     >>> write_tree(element("p", "a < b"))
     '<!DOCTYPE html><p>a &lt; b</p>'
@@ -650,7 +707,7 @@ def write_json(
     data: bytes | str, *, kind: Kind = "items", pretty: bool = False, links: bool = False, limit: int = 50
 ) -> str:
     """The text of what JSON spells: a `tree`, the `items` of a document, or a `document`, which is an object
-    with the members `title`, `description`, `authors`, `keywords`, `lang`, `region`, `items` and `footnotes`, of
+    with the members `title`, `description`, `authors`, `keywords`, `lang`, `region`, `items`, `footnotes` and `head`, of
     which each may be left out, but for the `lang` of a `region`.
 
     `links` and `limit` are for a `document`, and mean what they do for `write`. The bodies of `items` may stand 50 deep.

@@ -16,11 +16,8 @@ ItemPath = tuple[Union[str, int], ...]
 DEEPEST: Final = 127
 """How many lists and objects of JSON may stand in one another."""
 
-BODIES: Final[Mapping[str, int]] = {"el": 3, "block": 1, "box": 1}
-"""Which field of an item is its body, by the item's kind."""
-
-NODES: Final = ("text", "el", "start", "end")
-"""The kinds of items that may stand in a tree."""
+LISTS: Final = ("items", "footnotes", "head")
+"""The members of a document that hold items or nodes, in the order in which they are read."""
 
 
 class Spot(NamedTuple):
@@ -57,31 +54,49 @@ def _are_attributes(value: Any) -> bool:
     return _is_list(value) and all(_is_list(pair) and len(pair) == 2 and all(map(_is_text, pair)) for pair in value)
 
 
-FORMS: Final[Mapping[str, Sequence[Sequence[Callable[[Any], bool]]]]] = {
+def _or_null(fits: Callable[[Any], bool]) -> Callable[[Any], bool]:
+    return lambda value: value is None or fits(value)
+
+
+Forms = Mapping[str, Sequence[Sequence[Callable[[Any], bool]]]]
+"""What the fields behind an item's kind may be."""
+
+ITEMS: Final[Forms] = {
     "text": [[_is_text]], "space": [[]], "break": [[]], "hole": [[]], "start": [[_is_location], [_is_location] * 2],
     "end": [[_is_location]], "block": [[_is_list]], "box": [[_is_list]], "el": [[_is_text, _are_attributes, _is_list]],
 }  # fmt: skip
-"""What the fields behind an item's kind may be."""
+
+NODES: Final[Forms] = {kind: ITEMS[kind] for kind in ("text", "el", "start", "end")}
+
+ITEMS_OF_DOCUMENTS: Final[Forms] = {
+    **ITEMS, "start": [*ITEMS["start"], [_is_location, _or_null(_is_location), _is_text]],
+    "el": [*ITEMS["el"], [_is_text, _are_attributes, _are_attributes, _is_list]],
+    "place": [[_is_text]], "link": [[_is_text]], "role": [[_or_null(_is_text), lambda item: True]],
+}  # fmt: skip
 
 
-def _is_item(value: Any, kinds: Iterable[str]) -> bool:
-    """Whether a value is an item of one of these kinds, whatever stands in its body."""
-    if not _is_list(value) or not value or not _is_text(value[0]) or value[0] not in kinds:
+def _is_item(value: Any, forms: Forms) -> bool:
+    """Whether a value is an item of one of these forms, whatever stands in it."""
+    if not _is_list(value) or not value or not _is_text(value[0]) or value[0] not in forms:
         return False
     fields = value[1:]
-    return any(len(form) == len(fields) and all(fits(it) for fits, it in zip(form, fields)) for form in FORMS[value[0]])
-
-
-def _body(value: Any) -> Sequence[Any]:
-    """What stands in an item."""
-    at = BODIES.get(value[0], 0) if _is_list(value) and value and _is_text(value[0]) else 0
-    body: Sequence[Any] = value[at] if at and len(value) == at + 1 and _is_list(value[at]) else ()
-    return body
+    return any(len(form) == len(fields) and all(fits(it) for fits, it in zip(form, fields)) for form in forms[value[0]])
 
 
 def _inside(path: ItemPath, values: Sequence[Any]) -> Iterator[tuple[ItemPath, Any]]:
     """The values of a list, each with its path."""
     return ((path + (at,), value) for at, value in enumerate(values))
+
+
+def _body(path: ItemPath, value: Any) -> Iterator[tuple[ItemPath, Any]]:
+    """What stands in an item, each with its path."""
+    kind = value[0] if _is_list(value) and value and _is_text(value[0]) else ""
+    last = len(value) - 1 if kind else 0
+    if kind == "role" and last == 2:
+        return iter([(path + (2,), value[2])])
+    if last in {"el": (3, 4), "block": (1,), "box": (1,)}.get(kind, ()) and _is_list(value[last]):
+        return _inside(path + (last,), value[last])
+    return iter(())
 
 
 def _listed(path: ItemPath, items: Any) -> Iterator[tuple[ItemPath, Any]]:
@@ -95,7 +110,7 @@ def _outermost(kind: str, given: Any) -> Iterator[tuple[ItemPath, Any]]:
         return iter([((), given)])
     if kind == "items":
         return _listed((), given)
-    return chain.from_iterable(_listed((name,), given.get(name, [])) for name in ("items", "footnotes"))
+    return chain.from_iterable(_listed((name,), given.get(name, [])) for name in LISTS)
 
 
 def _spots(kind: str, given: Any) -> Iterator[Spot]:
@@ -105,9 +120,8 @@ def _spots(kind: str, given: Any) -> Iterator[Spot]:
         for path, value in levels[-1]:
             number += _is_list(value)
             yield Spot(path, value, number)
-            if body := _body(value):
-                levels.append(_inside(path + (BODIES[value[0]],), body))
-                break
+            levels.append(_body(path, value))
+            break
         else:
             levels.pop()
 
@@ -126,22 +140,39 @@ def numbered(kind: str, given: Any, numbers: Iterable[int]) -> dict[int, Spot]:
 
 def _levels(value: Any) -> int:
     """How many lists stand in one another in an item, apart from what its body holds."""
-    return 3 if value[0] == "el" and value[2] else 2 if value[0] in BODIES else 1
+    return 3 if value[0] == "el" and any(value[2:-1]) else 2 if value[0] in ("el", "block", "box") else 1
 
 
 def is_too_deep(spot: Spot) -> bool:
     """Whether an item stands deeper than JSON is read, itself or its attributes or its body."""
-    return _is_item(spot.value, FORMS) and len(spot.path) + _levels(spot.value) > DEEPEST
+    return _is_item(spot.value, ITEMS_OF_DOCUMENTS) and len(spot.path) + _levels(spot.value) > DEEPEST
 
 
 def _fits(name: str, document: Mapping[str, Any]) -> bool:
-    """Whether a document may have that member. Items and footnotes are looked at later."""
+    """Whether a document may have that member. Lists of items and nodes are looked at later."""
     value = document[name]
     if name in ("authors", "keywords"):
         return _is_list(value) and all(map(_is_text, value))
     if name in ("title", "description", "lang", "region"):
         return _is_text(value) and (name != "region" or "lang" in document)
-    return name in ("items", "footnotes")
+    return name in LISTS
+
+
+def names(given: Any) -> list[str]:
+    """The names of places in a document, in the order of their locations, which are counted from 1.
+
+    >>> names({"items": [["link", "b"], ["block", [["place", "a"], ["place", "b"]]]]})
+    ['b', 'a']
+    """
+    values = (spot.value for spot in _spots("document", given) if spot.path[0] != "head")
+    return list(dict.fromkeys(it[1] for it in values if it[0] in ("place", "link")))
+
+
+def _forms(kind: str, path: ItemPath) -> Forms:
+    """The forms of what stands there."""
+    if kind == "tree":
+        return NODES if path else {"el": NODES["el"]}
+    return ITEMS if kind == "items" else NODES if path[0] == "head" else ITEMS_OF_DOCUMENTS
 
 
 def left(kind: str, given: Any) -> Spot | None:
@@ -156,10 +187,15 @@ def left(kind: str, given: Any) -> Spot | None:
         for name in sorted(given):
             if not _fits(name, given):
                 return Spot((name,), given[name], 0)
-    kinds = NODES if kind == "tree" else tuple(FORMS)
+    tagged = ""
     for spot in _spots(kind, given):
-        if not _is_item(spot.value, ("el",) if kind == "tree" and not spot.path else kinds) or is_too_deep(spot):
+        if not _is_item(spot.value, _forms(kind, spot.path)) or is_too_deep(spot):
             return spot
+        # (tags have names or numbers, never both)
+        tags = {"start": "numbers", "end": "numbers", "place": "names", "link": "names"}.get(spot.value[0], tagged)
+        if tagged not in ("", tags):
+            return spot
+        tagged = tags
     return None
 
 

@@ -1,4 +1,4 @@
-//! A document: what is known of it, its items and its footnotes.
+//! A document: what is known of it, its items, its footnotes and nodes for its head.
 
 use crate::{IntoItems, Item};
 
@@ -20,7 +20,7 @@ pub struct Info {
     pub region: Option<String>,
 }
 
-/// A document: what is known of it, its items and its footnotes.
+/// A document: what is known of it, its items, its footnotes and nodes for its head.
 ///
 /// ```
 /// use typst_html_proved::{write, Document, Element, Options};
@@ -55,6 +55,8 @@ pub struct Document {
     pub items: Vec<Item>,
     /// Its footnotes, which stand at the end of the body.
     pub footnotes: Vec<Item>,
+    /// What stands at the end of its head: texts and elements, which hold such alone.
+    pub head: Vec<Item>,
 }
 
 impl Document {
@@ -110,6 +112,22 @@ impl Document {
     #[must_use]
     pub fn footnote(mut self, items: impl IntoItems) -> Document {
         items.add_to(&mut self.footnotes);
+        self
+    }
+
+    /// The document with an element, a text or other nodes more at the end of its head.
+    ///
+    /// ```
+    /// use typst_html_proved::{write, Document, Element, Options};
+    ///
+    /// let icon = Element::new("link").attr("rel", "icon").attr("href", "i.png");
+    /// let text = write(&Document::new().head(icon), Options::new())?;
+    /// assert!(text.contains(r#"<link rel="icon" href="i.png"></head>"#));
+    /// # Ok::<(), typst_html_proved::Refusal>(())
+    /// ```
+    #[must_use]
+    pub fn head(mut self, items: impl IntoItems) -> Document {
+        items.add_to(&mut self.head);
         self
     }
 }

@@ -10,17 +10,25 @@ use std::fmt;
 pub struct DeadLink {
     /// The number of its list in the JSON, counted as in [`Refusal::Refused`](crate::Refusal::Refused).
     pub span: u64,
-    /// The location that it would lead to.
+    /// The location that it would lead to: its number, or that of its name among those of the document,
+    /// from 1 on.
     pub destination: u64,
+    /// The name of the place that it would lead to, where that has one.
+    #[serde(default, skip_serializing_if = "Option::is_none")]
+    pub name: Option<String>,
     /// Where its `a` stands.
     pub path: ItemPath,
 }
 
 impl fmt::Display for DeadLink {
-    /// In a line: `items[1]: a link to location 7 leads nowhere`.
+    /// In a line: `items[1]: a link to location 7 leads nowhere`, or `a link to "moon"`.
     fn fmt(&self, f: &mut fmt::Formatter<'_>) -> fmt::Result {
-        let (path, destination) = (&self.path, self.destination);
-        write!(f, "{path}: a link to location {destination} leads nowhere")
+        write!(f, "{}: a link to ", self.path)?;
+        match &self.name {
+            Some(name) => write!(f, "{name:?}")?,
+            None => write!(f, "location {}", self.destination)?,
+        }
+        f.write_str(" leads nowhere")
     }
 }
 

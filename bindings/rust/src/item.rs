@@ -33,18 +33,64 @@ pub enum Item {
         location: u64,
         /// Where what stands here leads to.
         destination: Option<u64>,
+        /// What stands here gets it as its `id`, if links lead to it and it has none.
+        label: Option<String>,
     },
     /// The location ends.
     End(u64),
+    /// What stands next is the place of that name, to which links lead.
+    ///
+    /// A document has places by name or locations by number, not both.
+    ///
+    /// ```
+    /// use typst_html_proved::{write, Document, Element, Item, Options};
+    ///
+    /// let document = Document::new()
+    ///     .item(Item::Link("moon".into()))
+    ///     .item(Element::new("a").child("there"))
+    ///     .item(Item::Place("moon".into()))
+    ///     .item(Element::new("h2").child("Moon"));
+    /// let text = write(&document, Options::new().links(true))?;
+    /// assert!(text.contains(r##"<a href="#moon">there</a><h2 id="moon">Moon</h2>"##));
+    /// # Ok::<(), typst_html_proved::Refusal>(())
+    /// ```
+    Place(String),
+    /// The `a` that stands next leads to the place of that name, wherever that is.
+    Link(String),
+    /// An item with a role of its own, or without one.
+    Role {
+        /// The role. Of two around an item the outer counts.
+        role: Option<String>,
+        /// What has it.
+        item: std::boxed::Box<Item>,
+    },
 }
 
 impl Item {
+    /// The item with that role.
+    ///
+    /// ```
+    /// use typst_html_proved::{write, Document, Element, Item, Options};
+    ///
+    /// let note = Item::with_role("note", Element::new("aside").child("a"));
+    /// let text = write(&Document::new().item(note), Options::new())?;
+    /// assert!(text.contains(r#"<aside role="note">a</aside>"#));
+    /// # Ok::<(), typst_html_proved::Refusal>(())
+    /// ```
+    pub fn with_role(role: impl Into<String>, item: impl Into<Item>) -> Item {
+        Item::Role {
+            role: Some(role.into()),
+            item: Box::new(item.into()),
+        }
+    }
+
     /// The items that stand in it, which it then has no more.
     fn take_body(&mut self) -> Vec<Item> {
         match self {
             Item::Element(Element { body, .. }) | Item::Block(body) | Item::Box(body) => {
                 mem::take(body)
             }
+            Item::Role { item, .. } => vec![mem::replace(&mut **item, Item::Hole)],
             _ => Vec::new(),
         }
     }
@@ -74,15 +120,23 @@ impl fmt::Display for Item {
             Item::Start {
                 location,
                 destination: None,
+                ..
             } => write!(f, "the start of location {location}"),
             Item::Start {
                 location,
                 destination: Some(destination),
+                ..
             } => write!(
                 f,
                 "the start of location {location}, which leads to {destination}"
             ),
             Item::End(location) => write!(f, "the end of location {location}"),
+            Item::Place(name) => write!(f, "the place {name:?}"),
+            Item::Link(name) => write!(f, "a link to {name:?}"),
+            Item::Role { role: None, .. } => f.write_str("an item without a role"),
+            Item::Role {
+                role: Some(role), ..
+            } => write!(f, "an item with the role {role:?}"),
         }
     }
 }
@@ -167,7 +221,7 @@ impl<T: IntoItems, const N: usize> IntoItems for [T; N] {
     }
 }
 
-/// An element: a tag, attributes, and what stands in it.
+/// An element: a tag, attributes, css, and what stands in it.
 ///
 /// ```
 /// use typst_html_proved::{write_tree, Element};
@@ -184,6 +238,8 @@ pub struct Element {
     pub tag: String,
     /// Names and values, in order.
     pub attrs: Vec<(String, String)>,
+    /// Css properties, which go into its `style`; of one name the last counts. In a tree there are none.
+    pub css: Vec<(String, String)>,
     /// What stands in it.
     pub body: Vec<Item>,
 }
@@ -194,6 +250,7 @@ impl Element {
         Element {
             tag: tag.into(),
             attrs: Vec::new(),
+            css: Vec::new(),
             body: Vec::new(),
         }
     }
@@ -202,6 +259,22 @@ impl Element {
     #[must_use]
     pub fn attr(mut self, name: impl Into<String>, value: impl Into<String>) -> Element {
         self.attrs.push((name.into(), value.into()));
+        self
+    }
+
+    /// The element with one css property more.
+    ///
+    /// ```
+    /// use typst_html_proved::{write, Document, Element, Options};
+    ///
+    /// let warning = Element::new("p").css("color", "red").child("hot");
+    /// let text = write(&Document::new().item(warning), Options::new())?;
+    /// assert!(text.contains(r#"<p style="color: red">hot</p>"#));
+    /// # Ok::<(), typst_html_proved::Refusal>(())
+    /// ```
+    #[must_use]
+    pub fn css(mut self, name: impl Into<String>, value: impl Into<String>) -> Element {
+        self.css.push((name.into(), value.into()));
         self
     }
 

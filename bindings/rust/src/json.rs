@@ -1,34 +1,42 @@
 //! The JSON that spells documents, items and elements: as the library reads it, and read here as it is there.
 
 use crate::{Document, Element, Info, Item};
-use serde::de::{self, Deserialize, Deserializer, IgnoredAny, SeqAccess, Visitor};
+use serde::de::{self, Deserialize, Deserializer, SeqAccess, Visitor};
 use serde::ser::{self, Serialize, SerializeMap, Serializer};
 use std::fmt;
 use std::mem;
 
-/// How many bodies may stand in one another: JSON is read 127 lists deep, and each is two.
-const DEEPEST: usize = 63;
+/// How many lists may stand in one another, as JSON is read.
+const DEEPEST: usize = 127;
 
 /// The first words of the lists that spell items.
 const KINDS: &[&str] = &[
-    "text", "space", "break", "hole", "el", "block", "box", "start", "end",
+    "text", "space", "break", "hole", "el", "block", "box", "start", "end", "place", "link", "role",
 ];
 
-/// A part of a document, in which so many bodies may stand in one another.
+/// A part of a document, in which so many lists may stand in one another.
 struct Within<'a, T: ?Sized> {
     part: &'a T,
     room: usize,
 }
 
 impl<T: ?Sized> Within<'_, T> {
-    /// The body of this part, if it may have one.
-    fn body<'a, E: ser::Error>(&self, body: &'a [Item]) -> Result<Within<'a, [Item]>, E> {
-        match self.room.checked_sub(1) {
-            Some(room) => Ok(Within { part: body, room }),
+    /// What stands in this part, which takes so many lists, if it may hold something.
+    fn inside<'a, P: ?Sized, E>(&self, lists: usize, part: &'a P) -> Result<Within<'a, P>, E>
+    where
+        E: ser::Error,
+    {
+        match self.room.checked_sub(lists) {
+            Some(room) => Ok(Within { part, room }),
             None => Err(E::custom(format!(
-                "more than {DEEPEST} bodies stand in one another"
+                "more than {DEEPEST} lists stand in one another"
             ))),
         }
+    }
+
+    /// The body of this part, which is a list too, if it may have one.
+    fn body<'a, E: ser::Error>(&self, body: &'a [Item]) -> Result<Within<'a, [Item]>, E> {
+        self.inside(2, body)
     }
 }
 
@@ -41,8 +49,16 @@ impl Serialize for Within<'_, [Item]> {
 
 impl Serialize for Within<'_, Element> {
     fn serialize<S: Serializer>(&self, to: S) -> Result<S::Ok, S::Error> {
-        let Element { tag, attrs, body } = self.part;
-        ("el", tag, attrs, self.body(body)?).serialize(to)
+        let Element {
+            tag,
+            attrs,
+            css,
+            body,
+        } = self.part;
+        if css.is_empty() {
+            return ("el", tag, attrs, self.body(body)?).serialize(to);
+        }
+        ("el", tag, attrs, css, self.body(body)?).serialize(to)
     }
 }
 
@@ -59,13 +75,23 @@ impl Serialize for Within<'_, Item> {
             Item::Hole => ("hole",).serialize(to),
             Item::Start {
                 location,
+                destination,
+                label: Some(label),
+            } => ("start", location, destination, label).serialize(to),
+            Item::Start {
+                location,
                 destination: None,
+                ..
             } => ("start", location).serialize(to),
             Item::Start {
                 location,
                 destination: Some(destination),
+                ..
             } => ("start", location, destination).serialize(to),
             Item::End(location) => ("end", location).serialize(to),
+            Item::Place(name) => ("place", name).serialize(to),
+            Item::Link(name) => ("link", name).serialize(to),
+            Item::Role { role, item } => ("role", role, self.inside(1, &**item)?).serialize(to),
         }
     }
 }
@@ -114,57 +140,179 @@ impl Serialize for Document {
         tell(&self.info, &mut document)?;
         document.serialize_entry("items", &self.items)?;
         document.serialize_entry("footnotes", &self.footnotes)?;
+        if !self.head.is_empty() {
+            document.serialize_entry("head", &self.head)?;
+        }
         document.end()
     }
 }
 
-/// Reads the list of an item.
-struct ItemVisitor;
-
-/// The next field of a list.
-fn field<'de, T: Deserialize<'de>, A: SeqAccess<'de>>(list: &mut A) -> Result<T, A::Error> {
-    let missing = || de::Error::custom("the list of an item is too short");
-    list.next_element()?.ok_or_else(missing)
+/// What stands in the list of an item. (What it is shows only by how many fields the list has.)
+enum Field {
+    Null,
+    Number(u64),
+    Text(String),
+    List(Vec<Field>),
 }
 
-impl<'de> Visitor<'de> for ItemVisitor {
-    type Value = Item;
+struct FieldVisitor;
+
+impl<'de> Visitor<'de> for FieldVisitor {
+    type Value = Field;
 
     fn expecting(&self, f: &mut fmt::Formatter<'_>) -> fmt::Result {
-        f.write_str("the list of an item, which begins with its kind")
+        f.write_str("a text, a whole number, a list or null")
     }
 
-    fn visit_seq<A: SeqAccess<'de>>(self, mut list: A) -> Result<Item, A::Error> {
-        let kind: String = field(&mut list)?;
-        let item = match kind.as_str() {
-            "text" => Item::Text(field(&mut list)?),
-            "space" => Item::Space,
-            "break" => Item::Break,
-            "hole" => Item::Hole,
-            "el" => Item::Element(Element {
-                tag: field(&mut list)?,
-                attrs: field(&mut list)?,
-                body: field(&mut list)?,
-            }),
-            "block" => Item::Block(field(&mut list)?),
-            "box" => Item::Box(field(&mut list)?),
-            "start" => Item::Start {
-                location: field(&mut list)?,
-                destination: list.next_element()?,
-            },
-            "end" => Item::End(field(&mut list)?),
-            other => return Err(de::Error::unknown_variant(other, KINDS)),
-        };
-        match list.next_element::<IgnoredAny>()? {
-            None => Ok(item),
-            Some(_) => Err(de::Error::custom("the list of an item is too long")),
+    fn visit_unit<E: de::Error>(self) -> Result<Field, E> {
+        Ok(Field::Null)
+    }
+
+    fn visit_u64<E: de::Error>(self, number: u64) -> Result<Field, E> {
+        Ok(Field::Number(number))
+    }
+
+    fn visit_i64<E: de::Error>(self, number: i64) -> Result<Field, E> {
+        let unexpected = de::Unexpected::Signed(number);
+        u64::try_from(number)
+            .map(Field::Number)
+            .map_err(|_| E::invalid_value(unexpected, &self))
+    }
+
+    fn visit_str<E: de::Error>(self, text: &str) -> Result<Field, E> {
+        Ok(Field::Text(text.to_owned()))
+    }
+
+    fn visit_string<E: de::Error>(self, text: String) -> Result<Field, E> {
+        Ok(Field::Text(text))
+    }
+
+    fn visit_seq<A: SeqAccess<'de>>(self, mut list: A) -> Result<Field, A::Error> {
+        let mut fields = Vec::new();
+        while let Some(field) = list.next_element()? {
+            fields.push(field);
+        }
+        Ok(Field::List(fields))
+    }
+}
+
+impl<'de> Deserialize<'de> for Field {
+    fn deserialize<D: Deserializer<'de>>(from: D) -> Result<Field, D::Error> {
+        from.deserialize_any(FieldVisitor)
+    }
+}
+
+impl Field {
+    fn other<T, E: de::Error>(wanted: &str) -> Result<T, E> {
+        Err(E::custom(format!("a field of an item is not {wanted}")))
+    }
+
+    fn text<E: de::Error>(self) -> Result<String, E> {
+        match self {
+            Field::Text(text) => Ok(text),
+            _ => Field::other("a text"),
         }
     }
+
+    fn number<E: de::Error>(self) -> Result<u64, E> {
+        match self {
+            Field::Number(number) => Ok(number),
+            _ => Field::other("a whole number"),
+        }
+    }
+
+    /// What is made of it, or nothing of null.
+    fn or_null<T, E>(self, made: impl FnOnce(Field) -> Result<T, E>) -> Result<Option<T>, E> {
+        match self {
+            Field::Null => Ok(None),
+            field => made(field).map(Some),
+        }
+    }
+
+    fn list<T, E: de::Error>(self, made: impl FnMut(Field) -> Result<T, E>) -> Result<Vec<T>, E> {
+        match self {
+            Field::List(fields) => fields.into_iter().map(made).collect(),
+            _ => Field::other("a list"),
+        }
+    }
+
+    fn pair<E: de::Error>(self) -> Result<(String, String), E> {
+        match <[Field; 2]>::try_from(self.list(Ok)?) {
+            Ok([name, value]) => Ok((name.text()?, value.text()?)),
+            Err(_) => Field::other("a pair of a name and a value"),
+        }
+    }
+
+    fn body<E: de::Error>(self) -> Result<Vec<Item>, E> {
+        self.list(Field::item)
+    }
+
+    fn item<E: de::Error>(self) -> Result<Item, E> {
+        let mut fields = self.list(Ok)?;
+        if fields.is_empty() {
+            return Err(E::custom("the list of an item is empty"));
+        }
+        let kind: String = fields.remove(0).text()?;
+        if !KINDS.contains(&kind.as_str()) {
+            return Err(E::unknown_variant(&kind, KINDS));
+        }
+        item_of(&kind, fields)
+    }
+}
+
+/// The item of that kind with these fields.
+fn item_of<E: de::Error>(kind: &str, fields: Vec<Field>) -> Result<Item, E> {
+    let count = fields.len();
+    let mut fields = fields.into_iter();
+    let mut next = || fields.next().unwrap_or(Field::Null);
+    Ok(match (kind, count) {
+        ("text", 1) => Item::Text(next().text()?),
+        ("space", 0) => Item::Space,
+        ("break", 0) => Item::Break,
+        ("hole", 0) => Item::Hole,
+        ("el", 3 | 4) => Item::Element(Element {
+            tag: next().text()?,
+            attrs: next().list(Field::pair)?,
+            css: if count == 4 {
+                next().list(Field::pair)?
+            } else {
+                Vec::new()
+            },
+            body: next().body()?,
+        }),
+        ("block", 1) => Item::Block(next().body()?),
+        ("box", 1) => Item::Box(next().body()?),
+        ("start", 1 | 2) => Item::Start {
+            location: next().number()?,
+            destination: if count == 2 {
+                Some(next().number()?)
+            } else {
+                None
+            },
+            label: None,
+        },
+        ("start", 3) => Item::Start {
+            location: next().number()?,
+            destination: next().or_null(Field::number)?,
+            label: Some(next().text()?),
+        },
+        ("end", 1) => Item::End(next().number()?),
+        ("place", 1) => Item::Place(next().text()?),
+        ("link", 1) => Item::Link(next().text()?),
+        ("role", 2) => Item::Role {
+            role: next().or_null(Field::text)?,
+            item: Box::new(next().item()?),
+        },
+        _ => {
+            let told = format!("the list of an item of kind {kind} has {count} fields");
+            return Err(E::custom(told));
+        }
+    })
 }
 
 impl<'de> Deserialize<'de> for Item {
     fn deserialize<D: Deserializer<'de>>(from: D) -> Result<Item, D::Error> {
-        from.deserialize_seq(ItemVisitor)
+        Field::deserialize(from)?.item()
     }
 }
 
@@ -193,6 +341,7 @@ struct Members {
     region: Option<String>,
     items: Vec<Item>,
     footnotes: Vec<Item>,
+    head: Vec<Item>,
 }
 
 /// A member that is there.
@@ -217,6 +366,7 @@ impl<'de> Deserialize<'de> for Document {
             },
             items: told.items,
             footnotes: told.footnotes,
+            head: told.head,
         })
     }
 }

@@ -31,13 +31,13 @@
 //! use typst_html_proved::{write, Document, Element, Item, Options, Refusal};
 //!
 //! let document = Document::new()
-//!     .item(Item::Start { location: 1, destination: Some(7) }) // nothing starts 7
+//!     .item(Item::Link("moon".into())) // there is no such place
 //!     .item(Element::new("a").child("there"));
 //! match write(&document, Options::new().links(true)) {
 //!     Ok(text) => print!("{text}"),
 //!     Err(Refusal::DeadLinks(dead)) => {
 //!         let told = dead.links[0].to_string();
-//!         assert_eq!(told, "items[1]: a link to location 7 leads nowhere");
+//!         assert_eq!(told, r#"items[1]: a link to "moon" leads nowhere"#);
 //!         assert!(dead.text.ends_with("<body><a>there</a></body></html>"));
 //!     }
 //!     Err(refusal) => return Err(refusal),
@@ -81,7 +81,7 @@ pub use refusal::{DeadLinks, Place, Refusal};
 pub struct FirstPage;
 
 /// The version of the library's calls that this crate was made for.
-pub const VERSION: u32 = 6;
+pub const VERSION: u32 = 7;
 
 /// Why JSON of the library is what it is read as.
 const KNOWN_FORM: &str = "the library writes JSON of that form";
@@ -99,8 +99,8 @@ const KNOWN_FORM: &str = "the library writes JSON of that form";
 pub struct Options {
     /// Whether the text is laid out in indented lines, where that can't be seen.
     pub pretty: bool,
-    /// Whether each `a` without `href` behind a [`Item::Start`] with a destination gets the `href` of
-    /// that destination. Where one has no place in the document, the text is told as
+    /// Whether each `a` without `href` behind an [`Item::Link`], or an [`Item::Start`] with a destination,
+    /// gets the `href` of that place. Where the document has no such place, the text is told as
     /// [`Refusal::DeadLinks`].
     pub links: bool,
     /// How deep bodies may stand, from 1 to 10,000. JSON is read 127 levels deep, which are 63 elements
@@ -168,8 +168,8 @@ pub fn write(document: &Document, options: Options) -> Result<String, Refusal> {
     document_text(options, &spelled(document, given)?, given)
 }
 
-/// The text of a tree, of which only texts, elements, starts and ends may be part: another item is bad
-/// input.
+/// The text of a tree, of which only texts, elements without css, starts without labels and ends may be
+/// part: another item is bad input.
 pub fn write_tree(root: &Element, pretty: bool) -> Result<String, Refusal> {
     let given = Given::Tree(root);
     let json = spelled(root, given)?;
@@ -198,8 +198,8 @@ pub fn write_json(kind: Kind, json: &[u8], pretty: bool) -> Result<String, Refus
 }
 
 /// The text of a document with what is known of it and with footnotes, which a JSON object spells.
-/// Its members are `title`, `description`, `authors`, `keywords`, `lang`, `region`, `items` and
-/// `footnotes`, and each may be left out, but for the `lang` of a `region`.
+/// Its members are `title`, `description`, `authors`, `keywords`, `lang`, `region`, `items`, `footnotes`
+/// and `head`, and each may be left out, but for the `lang` of a `region`.
 ///
 /// ```
 /// use typst_html_proved::{write_document_json, Options, Refusal};
@@ -222,9 +222,12 @@ fn document_text(options: Options, json: &[u8], given: Given<'_>) -> Result<Stri
     let listed = raw::dead_links(options.limit, json).map_err(told)?;
     let ToldLinks { dead_links } = serde_json::from_str(&listed).expect(KNOWN_FORM);
     let mut paths = given.paths(dead_links.iter().map(|link| link.span));
+    let names = given.names();
+    let name = |number: u64| names.get(usize::try_from(number).ok()?.checked_sub(1)?);
     let links = dead_links.into_iter().map(|link| DeadLink {
         span: link.span,
         destination: link.destination,
+        name: name(link.destination).cloned(),
         path: paths.remove(&link.span).unwrap_or_default(),
     });
     Err(Refusal::DeadLinks(DeadLinks {
@@ -235,7 +238,7 @@ fn document_text(options: Options, json: &[u8], given: Given<'_>) -> Result<Stri
 
 /// The names of what is known of a document that its text does not show: of all that is known, where its
 /// items have an `html` of their own, whose head is theirs too, and else of nothing. They stand in the order
-/// `title`, `description`, `authors`, `keywords`, `lang`, `region`.
+/// `title`, `description`, `authors`, `keywords`, `lang`, `region`, `head`.
 ///
 /// ```
 /// use typst_html_proved::{unused, Document, Element, Refusal};

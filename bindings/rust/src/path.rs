@@ -3,7 +3,7 @@
 use crate::{Document, Element, Item};
 use serde::{Deserialize, Serialize};
 use serde_json::Value;
-use std::collections::BTreeMap;
+use std::collections::{BTreeMap, HashSet};
 use std::fmt;
 use std::ops::ControlFlow::{self, Break, Continue};
 
@@ -22,8 +22,8 @@ pub enum Step {
 
 /// The way to a value in JSON, from the outside in: to an item, mostly, of what is written.
 ///
-/// An element's body is the value 3 of its list, and the body of a block or a box is the value 1. So
-/// `items[2][3][0]` is the first child of an element, which is the third item. Of a [`Document`] or an
+/// An element's body is the last value of its list, 3 or, behind css, 4; the body of a block or a box is the
+/// value 1, and what has a role the value 2. So `items[2][3][0]` is the first child of an element, which is the third item. Of a [`Document`] or an
 /// [`Element`] it is the way in the JSON that spells it, which their `item_at` goes.
 #[derive(Clone, Debug, Default, PartialEq, Eq, Hash, Serialize, Deserialize)]
 #[serde(transparent)]
@@ -51,7 +51,7 @@ impl fmt::Display for ItemPath {
 }
 
 impl Document {
-    /// The item or the footnote to which a path leads that [`write`](crate::write) told.
+    /// The item, the footnote or the node of the head to which a path leads that [`write`](crate::write) told.
     ///
     /// ```
     /// use typst_html_proved::{write, Document, Element, Options};
@@ -63,9 +63,9 @@ impl Document {
     /// ```
     pub fn item_at(&self, path: &ItemPath) -> Option<&Item> {
         match path.steps() {
-            [Step::Name(name), steps @ ..] if name == "items" => item_in(&self.items, steps),
-            [Step::Name(name), steps @ ..] if name == "footnotes" => {
-                item_in(&self.footnotes, steps)
+            [Step::Name(name), steps @ ..] => {
+                let (_, items) = lists(self).into_iter().find(|(it, _)| it == name)?;
+                item_in(items, steps)
             }
             _ => None,
         }
@@ -77,22 +77,59 @@ impl Element {
     /// that path has no step, and so leads to the element itself.
     pub fn item_at(&self, path: &ItemPath) -> Option<&Item> {
         match path.steps() {
-            [Step::Index(3), steps @ ..] => item_in(&self.body, steps),
+            [Step::Index(field), steps @ ..] if *field == body_field(self) => {
+                item_in(&self.body, steps)
+            }
             _ => None,
         }
     }
 }
 
+/// The members of a document that hold items or nodes, in the order in which they are read.
+const LISTS: [&str; 3] = ["items", "footnotes", "head"];
+
+fn lists(document: &Document) -> [(&'static str, &[Item]); 3] {
+    let [items, footnotes, head] = LISTS;
+    [
+        (items, &document.items),
+        (footnotes, &document.footnotes),
+        (head, &document.head),
+    ]
+}
+
+/// The field of its list in which an element's body stands.
+fn body_field(element: &Element) -> usize {
+    3 + usize::from(!element.css.is_empty())
+}
+
 /// The item to which these steps lead.
 fn item_in<'a>(items: &'a [Item], steps: &[Step]) -> Option<&'a Item> {
     match steps {
-        [Step::Index(at)] => items.get(*at),
-        [Step::Index(at), Step::Index(field), more @ ..] => {
-            let (body_field, body) = items.get(*at)?.body()?;
-            (body_field == *field).then(|| item_in(body, more))?
+        [Step::Index(at), more @ ..] => part_in(items.get(*at)?, more),
+        _ => None,
+    }
+}
+
+/// The item to which these steps lead from an item.
+fn part_in<'a>(item: &'a Item, steps: &[Step]) -> Option<&'a Item> {
+    match (steps, item.inside()) {
+        ([], _) => Some(item),
+        ([Step::Index(field), more @ ..], Some((at, Inside::Body(body)))) if *field == at => {
+            item_in(body, more)
+        }
+        ([Step::Index(field), more @ ..], Some((at, Inside::One(part)))) if *field == at => {
+            part_in(part, more)
         }
         _ => None,
     }
+}
+
+/// What stands in an item.
+enum Inside<'a, P> {
+    /// A list of items.
+    Body(&'a [P]),
+    /// One item.
+    One(&'a P),
 }
 
 /// What stands where an item may.
@@ -100,8 +137,11 @@ trait Part: Sized {
     /// Whether a list spells it.
     fn is_list(&self) -> bool;
 
-    /// The field in which its body stands, and that body.
-    fn body(&self) -> Option<(usize, &[Self])>;
+    /// What stands in it, and in which field.
+    fn inside(&self) -> Option<(usize, Inside<'_, Self>)>;
+
+    /// The name of a place, if it has one.
+    fn name(&self) -> Option<&str>;
 }
 
 impl Part for Item {
@@ -109,10 +149,18 @@ impl Part for Item {
         true
     }
 
-    fn body(&self) -> Option<(usize, &[Item])> {
+    fn inside(&self) -> Option<(usize, Inside<'_, Item>)> {
         match self {
-            Item::Element(element) => Some((3, &element.body)),
-            Item::Block(body) | Item::Box(body) => Some((1, body)),
+            Item::Element(element) => Some((body_field(element), Inside::Body(&element.body))),
+            Item::Block(body) | Item::Box(body) => Some((1, Inside::Body(body))),
+            Item::Role { item, .. } => Some((2, Inside::One(item))),
+            _ => None,
+        }
+    }
+
+    fn name(&self) -> Option<&str> {
+        match self {
+            Item::Place(name) | Item::Link(name) => Some(name),
             _ => None,
         }
     }
@@ -121,7 +169,7 @@ impl Part for Item {
 /// How many lists stand in one another in an item, apart from what its body holds.
 fn levels(item: &Item) -> usize {
     match item {
-        Item::Element(element) if !element.attrs.is_empty() => 3,
+        Item::Element(element) if !(element.attrs.is_empty() && element.css.is_empty()) => 3,
         Item::Element(_) | Item::Block(_) | Item::Box(_) => 2,
         _ => 1,
     }
@@ -132,10 +180,21 @@ impl Part for Value {
         self.is_array()
     }
 
-    fn body(&self) -> Option<(usize, &[Value])> {
+    fn inside(&self) -> Option<(usize, Inside<'_, Value>)> {
         match self.as_array()?.as_slice() {
-            [kind, _, _, Value::Array(body)] if kind == "el" => Some((3, body)),
-            [kind, Value::Array(body)] if kind == "block" || kind == "box" => Some((1, body)),
+            [kind, _, _, Value::Array(body)] if kind == "el" => Some((3, Inside::Body(body))),
+            [kind, _, _, _, Value::Array(body)] if kind == "el" => Some((4, Inside::Body(body))),
+            [kind, Value::Array(body)] if kind == "block" || kind == "box" => {
+                Some((1, Inside::Body(body)))
+            }
+            [kind, _, item] if kind == "role" => Some((2, Inside::One(item))),
+            _ => None,
+        }
+    }
+
+    fn name(&self) -> Option<&str> {
+        match self.as_array()?.as_slice() {
+            [kind, name] if kind == "place" || kind == "link" => name.as_str(),
             _ => None,
         }
     }
@@ -165,8 +224,13 @@ impl<F> Walk<F> {
     {
         self.number += u64::from(part.is_list());
         (self.see)(part, &self.path, self.number)?;
-        match part.body() {
-            Some((field, body)) => self.behind(Step::Index(field), |walk| walk.parts(body)),
+        match part.inside() {
+            Some((field, Inside::Body(body))) => {
+                self.behind(Step::Index(field), |walk| walk.parts(body))
+            }
+            Some((field, Inside::One(part))) => {
+                self.behind(Step::Index(field), |walk| walk.part(part))
+            }
             None => Continue(()),
         }
     }
@@ -252,6 +316,31 @@ impl Given<'_> {
         found
     }
 
+    /// The names of places, in the order of their locations, which are counted from 1.
+    pub(crate) fn names(self) -> Vec<String> {
+        let mut found = Vec::new();
+        let mut known = HashSet::new();
+        let mut note = |name: Option<&str>, path: &[Step]| {
+            if let Some(name) = name.filter(|_| !is_in_head(path)) {
+                if known.insert(name.to_owned()) {
+                    found.push(name.to_owned());
+                }
+            }
+            Continue(())
+        };
+        let _ended = match self {
+            Given::Document(document) => {
+                items_of(document, |item: &Item, path, _| note(item.name(), path))
+            }
+            Given::Json(form, json) => {
+                let value = serde_json::from_slice(json).unwrap_or_default();
+                spots(form, &value, |value, path, _| note(value.name(), path))
+            }
+            Given::Tree(_) => Continue(()),
+        };
+        found
+    }
+
     /// Where the form is left: the last item whose list is opened, or the value behind it that is none.
     /// (The items of this crate leave it only by what a tree may not have.)
     pub(crate) fn left(self, number: u64) -> Option<ItemPath> {
@@ -286,8 +375,13 @@ where
     F: FnMut(&Item, &[Step], u64) -> ControlFlow<()>,
 {
     let mut walk = Walk::new(see);
-    walk.member("items", &document.items)?;
-    walk.member("footnotes", &document.footnotes)
+    let mut each = lists(document).into_iter();
+    each.try_for_each(|(name, items)| walk.member(name, items))
+}
+
+/// Whether a path leads to a node of a document's head.
+fn is_in_head(path: &[Step]) -> bool {
+    matches!(path, [Step::Name(name), ..] if name == "head")
 }
 
 /// All that stands in the root of a tree, whose own list is the first.
@@ -297,7 +391,7 @@ where
 {
     let mut walk = Walk::new(see);
     walk.number = 1;
-    walk.behind(Step::Index(3), |walk| walk.parts(&root.body))
+    walk.behind(Step::Index(body_field(root)), |walk| walk.parts(&root.body))
 }
 
 /// All that stands where items may in a value of JSON; and what stands where a list of them should, if it is none.
@@ -314,7 +408,7 @@ where
         Form::Tree => walk.part(value),
         Form::Items => listed(&mut walk, value),
         Form::Document => {
-            for name in ["items", "footnotes"] {
+            for name in LISTS {
                 if let Some(value) = value.get(name) {
                     walk.behind(Step::Name(name.to_owned()), |walk| listed(walk, value))?;
                 }
@@ -332,12 +426,16 @@ fn left_in(form: Form, value: &Value) -> Option<ItemPath> {
         }
     }
     let mut found = None;
+    let mut tagged = None;
     let _ended = spots(form, value, |value, path, _| {
         let fits = match form {
             Form::Tree => is_node(value, path.is_empty()),
-            Form::Items | Form::Document => is_item(value),
+            Form::Items => is_item(value),
+            Form::Document if is_in_head(path) => is_node(value, false),
+            Form::Document => is_item_of_document(value),
         };
-        if fits {
+        // Tags have names or numbers, never both.
+        if fits && is_named(value).map_or(true, |named| *tagged.get_or_insert(named) == named) {
             return Continue(());
         }
         found = Some(ItemPath(path.to_vec()));
@@ -362,7 +460,7 @@ fn wrong_member(document: &Value) -> Option<ItemPath> {
     wrong.first().map(|name| ItemPath::of(name))
 }
 
-/// Whether a document may have that member. Items and footnotes are looked at later.
+/// Whether a document may have that member. Lists of items and nodes are looked at later.
 fn is_member(name: &str, value: &Value) -> bool {
     match name {
         "title" | "description" | "lang" | "region" => value.is_string(),
@@ -370,16 +468,50 @@ fn is_member(name: &str, value: &Value) -> bool {
             let texts = value.as_array();
             texts.map_or(false, |texts| texts.iter().all(Value::is_string))
         }
-        _ => name == "items" || name == "footnotes",
+        _ => LISTS.contains(&name),
     }
 }
 
-/// Whether a value is an item, whatever stands in its body.
-fn is_item(value: &Value) -> bool {
-    let is_attribute = |pair: &Value| match pair.as_array().map(Vec::as_slice) {
+/// Whether an item is a tag with a name, if it is a tag.
+fn is_named(item: &Value) -> Option<bool> {
+    match item.get(0)?.as_str()? {
+        "place" | "link" => Some(true),
+        "start" | "end" => Some(false),
+        _ => None,
+    }
+}
+
+/// Whether a value is a pair of a name and a value.
+fn is_pair(pair: &Value) -> bool {
+    match pair.as_array().map(Vec::as_slice) {
         Some([name, value]) => name.is_string() && value.is_string(),
         _ => false,
-    };
+    }
+}
+
+/// Whether a value is an item of a document, whatever stands in it.
+fn is_item_of_document(value: &Value) -> bool {
+    let is_text = |value: &Value| value.is_string();
+    match value.as_array().map(Vec::as_slice) {
+        Some([Value::String(kind), fields @ ..]) => match (kind.as_str(), fields) {
+            ("start", [location, destination, label]) => {
+                location.is_u64()
+                    && (destination.is_u64() || destination.is_null())
+                    && is_text(label)
+            }
+            ("el", [tag, Value::Array(attrs), Value::Array(css), body]) => {
+                is_text(tag) && attrs.iter().chain(css).all(is_pair) && body.is_array()
+            }
+            ("place" | "link", [name]) => is_text(name),
+            ("role", [role, _]) => is_text(role) || role.is_null(),
+            _ => is_item(value),
+        },
+        _ => false,
+    }
+}
+
+/// Whether a value is an item of the program's form, whatever stands in its body.
+fn is_item(value: &Value) -> bool {
     let (kind, fields) = match value.as_array().map(Vec::as_slice) {
         Some([Value::String(kind), fields @ ..]) => (kind, fields),
         _ => return false,
@@ -391,7 +523,7 @@ fn is_item(value: &Value) -> bool {
         ("start", [location, destination]) => location.is_u64() && destination.is_u64(),
         ("block" | "box", [body]) => body.is_array(),
         ("el", [tag, Value::Array(attrs), body]) => {
-            tag.is_string() && attrs.iter().all(is_attribute) && body.is_array()
+            tag.is_string() && attrs.iter().all(is_pair) && body.is_array()
         }
         _ => false,
     }

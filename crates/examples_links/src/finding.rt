@@ -5,20 +5,20 @@ use std::alloc::{AllocError, Global};
 use std::fmt;
 use typst_html::{PageFault, Place};
 
-/// A page that is not read, or a folder that the system does not give.
+/// A page that is refused, or a page or folder that the system can't read.
 #[derive(Drop)]
 pub struct Unread {
     /// Its path.
     pub file: String,
-    /// From where on a page is not read.
+    /// The place from which on a page is not read.
     pub place: Option<Place>,
     /// The number of the refusal.
     pub number: Option<u8>,
-    /// Why.
+    /// The reason.
     pub reason: String,
 }
 
-/// What the system does not give.
+/// Turns a file or folder that the system can't read into one that is not read.
 impl From<NotGiven> for Unread {
     fn from(NotGiven { path, reason }: NotGiven) -> Unread {
         Unread {
@@ -31,7 +31,7 @@ impl From<NotGiven> for Unread {
 }
 
 impl Unread {
-    /// A page that is not read as a browser reads it.
+    /// Returns why a page is not read, or fails for want of memory.
     pub fn by_fault(alloc: Global, path: &str, fault: &PageFault) -> Result<Unread, AllocError> {
         let (place, reason) = match fault {
             PageFault::OutOfMemory => return Err(AllocError),
@@ -49,7 +49,7 @@ impl Unread {
     }
 }
 
-/// `file:line:column: not read: why`, or without the place where the system gives nothing.
+/// Writes `file:line:column: not read: why`, without the place if the system can't read the file.
 impl fmt::Display for Unread {
     fn fmt<W: fmt::Write>(&self, f: &mut fmt::Formatter<W>) -> fmt::Result {
         let (file, reason) = (&self.file, &self.reason);
@@ -60,23 +60,23 @@ impl fmt::Display for Unread {
     }
 }
 
-/// What is wrong with a link, an id or another node.
+/// A kind of finding in a link, an id or another node.
 #[derive(Clone, Copy)]
 pub enum Kind {
     /// A link to a fragment that leads to no place of its page.
     DeadFragment,
-    /// A link to where nothing is.
+    /// A link to a path that does not exist.
     MissingFile,
-    /// A link to where nothing is, but for something that differs in case alone.
+    /// A link to a path that does not exist, but differs only in case from one that does.
     OtherCase,
-    /// An id that an element before has.
+    /// An id that an earlier element has.
     RepeatedId,
-    /// What some browsers read otherwise.
+    /// An element that some browsers place otherwise, or fill.
     Misnested,
 }
 
 impl Kind {
-    /// What machines call it.
+    /// Returns its name in JSON.
     pub fn name(self) -> &'static str {
         match self {
             Kind::DeadFragment => "dead-fragment",
@@ -88,22 +88,22 @@ impl Kind {
     }
 }
 
-/// What is wrong in a page.
+/// A finding in a page.
 #[derive(Drop)]
 pub struct Finding<'a> {
     /// The path of the page.
     pub file: &'a str,
-    /// Where it begins.
+    /// Where its element begins.
     pub place: Place,
-    /// What is wrong.
+    /// The kind.
     pub kind: Kind,
-    /// The link, if it is one.
+    /// The link, if it is about one.
     pub link: Option<&'a str>,
-    /// Where it leads, the file in other case, the id, or what becomes of it.
+    /// The target of the link, the path in another case, the id, or what becomes of the element.
     pub target: String,
 }
 
-/// `file:line:column: what is wrong`.
+/// Writes `file:line:column: what is wrong`.
 impl fmt::Display for Finding<'_> {
     fn fmt<W: fmt::Write>(&self, f: &mut fmt::Formatter<W>) -> fmt::Result {
         let (file, place, target) = (self.file, &self.place, &self.target);

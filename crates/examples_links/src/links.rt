@@ -4,30 +4,30 @@ use examples_links_files::{cleaned, is_external, scheme_of};
 use std::alloc::{AllocError, Global};
 use typst_html::{HtmlElement, HtmlNode, Place, Places, attr};
 
-/// A link that leads to the site.
+/// A link within the site.
 #[derive(Drop)]
 pub struct Link {
-    /// Where its element begins.
+    /// The place of its element.
     pub place: Place,
-    /// Its address, without what counts for nothing.
+    /// Its address, without the characters that a URL drops.
     pub address: String,
     /// Whether users follow it, so that its fragment counts.
     pub is_followed: bool,
 }
 
-/// The links of a page, in its order.
+/// The links of a page, in document order.
 #[derive(Drop)]
 pub struct Links<'a> {
     alloc: Global,
     places: Places<'a>,
-    /// The links that lead to the site.
+    /// The links within the site.
     pub found: Vec<Link>,
-    /// The address from which relative ones lead, where it is not that of the page.
+    /// The base of relative links, if it is not the page itself.
     pub base: Option<String>,
 }
 
 impl<'a> Links<'a> {
-    /// The links of a page of that text.
+    /// Collects the links of a page with that text.
     pub fn of(alloc: Global, root: &HtmlElement, text: &'a str) -> Result<Links<'a>, AllocError> {
         let mut links = Links {
             alloc,
@@ -39,7 +39,7 @@ impl<'a> Links<'a> {
         Ok(links)
     }
 
-    /// Adds the link that an element is.
+    /// Adds the link of an element, if it is one.
     fn add(&mut self, element: &HtmlElement) -> Result<(), AllocError> {
         let Some(address) = address_of(element) else {
             return Ok(());
@@ -58,8 +58,8 @@ impl<'a> Links<'a> {
         Ok(())
     }
 
-    /// The first base counts. Where nothing can lead from it, links lead from the page (HTML Standard
-    /// 4.2.3).
+    /// The first base counts. If no link can lead from it, links are resolved against the page
+    /// (HTML Standard 4.2.3).
     fn set_base(&mut self, address: String) {
         if self.base.is_some() {
             return;
@@ -78,7 +78,7 @@ impl<'a> Links<'a> {
     }
 }
 
-/// The address in an element that is a link or a base.
+/// Returns the address in an element that is a link or a base.
 fn address_of(element: &HtmlElement) -> Option<&String> {
     match element.tag.resolve() {
         "a" | "area" | "base" | "link" => element.attrs.get(&attr::href),
@@ -90,7 +90,7 @@ fn address_of(element: &HtmlElement) -> Option<&String> {
     }
 }
 
-/// Whether elements right in one of that name are such of SVG or MathML.
+/// Returns whether the children of an element with that name are of SVG or MathML.
 fn holds_foreign(name: &str, is_foreign: bool) -> bool {
     match name {
         "svg" | "math" => true,
@@ -99,7 +99,7 @@ fn holds_foreign(name: &str, is_foreign: bool) -> bool {
     }
 }
 
-// Each node stands first among the parameters: its depth shows that the calls end.
+// The node comes first among the parameters: its depth proves that the recursion ends.
 
 #[cycle(links)]
 fn add_element(

@@ -1,5 +1,5 @@
-//! A link checker for written pages: it reads all pages of a site as browsers read them, and tells of
-//! each link that leads nowhere.
+//! A link checker for written pages: reads all pages of a site as browsers do, and reports each
+//! link that leads nowhere.
 //!
 //! ```text
 //! cd crates/examples_links && rt try -- "$PWD/data/site"
@@ -7,50 +7,52 @@
 //!
 //! # What is checked
 //!
-//! Each word is a page or a folder. Of a folder all files `*.html` and `*.htm` are pages, at any depth, in
-//! any case; its other files can be led to. Folders behind symbolic links are led to, and not gone into.
+//! Each argument is a page or a folder. In a folder, all files `*.html` and `*.htm`, in any case
+//! and at any depth, are pages, and links may lead to its other files. Links may lead into folders
+//! behind symbolic links, but these are not searched for pages.
 //!
-//! - `dead-fragment`: the `href` of an `a` or an `area` has a fragment that leads to no place of a page
-//!   that was read, this one or another: HTML Standard 7.4.6.3, with ids, names of `a`, percent-encoding
-//!   and `top`.
-//! - `missing-file`: nothing is where such an `href` leads, or the `href` of a `link`, the `src` of an
-//!   `img`, `script`, `iframe`, `embed`, `source`, `track`, `audio` or `video`, or the `data` of an
-//!   `object`. A folder stands for its `index.html` or `index.htm`.
-//! - `other-case`: the same, but a file of the folders that are named differs in case alone.
-//! - `repeated-id`: an element has an `id` that an element before it has.
-//! - `misnested`: an element stands more than 511 elements below `body`, where Chromium puts it beside its
-//!   parent, or is a `selectedcontent`, which browsers fill from the chosen `option`. All else is read as
-//!   browsers read it, so that no other rule of nesting can be broken.
+//! - `dead-fragment`: the `href` of an `a` or an `area` has a fragment that leads to no place of a
+//!   page that was read, this one or another (HTML Standard 7.4.6.3, with ids, names of `a`,
+//!   percent-encoding and `top`).
+//! - `missing-file`: the target of such an `href` does not exist, or that of the `href` of a
+//!   `link`, the `src` of an `img`, `script`, `iframe`, `embed`, `source`, `track`, `audio` or
+//!   `video`, or the `data` of an `object`. A folder stands for its `index.html` or `index.htm`.
+//! - `other-case`: the same, but a file of the given folders differs only in case.
+//! - `repeated-id`: an element has an `id` that an earlier element has.
+//! - `misnested`: an element stands more than 511 elements below `body`, where Chromium puts it
+//!   beside its parent, or is a `selectedcontent`, which browsers fill from the chosen `option`. A
+//!   tree that was read as browsers read it can break no other rule of nesting.
 //!
 //! # What is not
 //!
-//! Links out of the site: those with a scheme (`https:`, `mailto:`, `data:`) or a host (`//host/x`), and
-//! all relative ones of a page whose `base` leads out. Fragments of what is no page that was read. `srcset`,
-//! `poster`, the actions of forms, addresses in CSS and in scripts, and the elements of SVG and MathML.
+//! Links out of the site: with a scheme (`https:`, `mailto:`, `data:`) or a host (`//host/x`), and
+//! all relative ones if the page's `base` leads out. Fragments of anything but pages that were
+//! read. `srcset`, `poster`, the actions of forms, addresses in CSS and scripts, elements of SVG
+//! and MathML.
 //!
 //! # Where links lead
 //!
-//! Relative links are taken as the URL Standard takes them: from the page, or from its first `base` with an
-//! `href`; blanks around them count for nothing, and line breaks and tabs in them; `\` is `/`; a query is
-//! passed over; what is percent-encoded is decoded. A link that begins with `/` leads from the folder that
-//! `--root` names, or else from the folder that was named, in which the page was found; where the page itself
-//! was named, from the folder that it is in.
+//! Relative links are resolved as the URL Standard says: against the page, or its first `base` with
+//! an `href`. Blanks around them, and line breaks and tabs in them, are ignored; `\` is `/`; a
+//! query is skipped; percent-encoding is decoded. A link that begins with `/` starts from the
+//! folder that `--root` names, or else from the given folder in which the page was found; for a
+//! page that was given itself, from its folder.
 //!
 //! # What is written
 //!
-//! For people, each finding is a line on standard output, by file and place; pages that are not read come
-//! first, and a count last. Lines and columns are counted from 1, a column by characters.
+//! Each finding is a line on standard output, sorted by file and place; pages that are not read
+//! come first, and a count last. Lines and columns count from 1, columns in characters.
 //!
 //! ```text
 //! site/herbs.html:3:57: "#mint" leads nowhere: there is no place site/herbs.html#mint
 //! 5 pages: 1 finding
 //! ```
 //!
-//! With `--json` it is one object. `target` is the page and the fragment, the path that is missing, that of
-//! the file in other case, the id, or what becomes of what is misnested; `link` is the link as it stands
-//! there, and null for what is none. `number` is that of the refusal in the project's guide. Where the system
-//! does not give a file or a folder, it is null, as `line` and `column` are. `pages` counts those that are not
-//! read, too.
+//! With `--json`, the output is one object. `target` is the page and the fragment, the missing
+//! path, that of the file in another case, the id, or what becomes of a misnested element; `link`
+//! is the link as written, or null for other findings. `number` is that of the refusal in the
+//! project's guide. If the system can't read a file or a folder, `number`, `line` and `column` are
+//! null. `pages` counts those that are not read, too.
 //!
 //! ```text
 //! {"pages": 5,
@@ -58,9 +60,9 @@
 //!  "findings": [{"file", "line", "column", "kind", "link", "target"}]}
 //! ```
 //!
-//! Elements may stand at most 1,000 deep. At each 500th page standard error says how many are read. The
-//! status is 0 where nothing is found, 1 where something is, 2 where the words are wrong or name nothing
-//! that exists, and 3 where a page or a folder is not read, or the report cannot be written.
+//! Elements may nest at most 1,000 deep. Every 500 pages, standard error reports how many are read.
+//! Exits with 0 if nothing is found, 1 if something is, 2 if the arguments are wrong or name
+//! nothing that exists, and 3 if a page or a folder is not read, or the report can't be written.
 #![tactic(auto)]
 
 mod finding;
@@ -78,10 +80,10 @@ use site::{check_site, read_site};
 use std::process::ExitCode;
 use words::{command, given_words};
 
-/// The status where the words are wrong or name nothing that exists.
+/// The exit status if the arguments are wrong or name nothing that exists.
 const WRONG_WORDS: u8 = 2;
 
-/// The status where not all is read, or the report is not written.
+/// The exit status if something is not read, or the report is not written.
 const NOT_READ: u8 = 3;
 
 fn main(rt: HostRuntime) -> ExitCode {
@@ -94,7 +96,7 @@ fn main(rt: HostRuntime) -> ExitCode {
     }
 }
 
-/// Reads the words, and checks the site. Words that are no UTF-8 are wrong. The answer is the status.
+/// Parses the arguments (wrong if no UTF-8), checks the site, and returns the exit status.
 fn run(rt: &HostRuntime) -> Result<ExitCode> {
     let Some(words) = given_words(rt)? else {
         return Ok(ExitCode::from(WRONG_WORDS));
@@ -112,7 +114,7 @@ fn run(rt: &HostRuntime) -> Result<ExitCode> {
     }
 }
 
-/// Checks the pages at these paths, and writes what is found. The answer is the status.
+/// Checks the pages at these paths, writes the report, and returns the exit status.
 fn check(rt: &HostRuntime, paths: &[&str], root: Option<&str>, is_json: bool) -> Result<ExitCode> {
     let Some(inputs) = inputs_of(rt, paths, root)? else {
         return Ok(ExitCode::from(WRONG_WORDS));

@@ -1,4 +1,4 @@
-//! What is kept of a page.
+//! The part of a page that the check needs.
 
 use crate::links::{Link, Links};
 use std::alloc::{AllocError, Global};
@@ -9,7 +9,7 @@ use typst_html::{
     read_page_bytes, repeated_ids,
 };
 
-/// How deep elements may stand in one another.
+/// The greatest depth of elements.
 const DEEPEST: usize = 1000;
 
 /// A page that was read.
@@ -17,18 +17,18 @@ const DEEPEST: usize = 1000;
 pub struct Page {
     /// The names of its places.
     pub names: BTreeSet<String>,
-    /// Its links that lead to the site.
+    /// Its links within the site.
     pub links: Vec<Link>,
-    /// The address from which relative ones lead, where it is not that of the page.
+    /// The base of relative links, if it is not the page itself.
     pub base: Option<String>,
-    /// The ids that stand before, and where.
+    /// The repeated ids, with their places.
     pub repeated: Vec<(Place, String)>,
-    /// What some browsers read otherwise, and where.
+    /// The elements that some browsers place otherwise, or fill, with their places.
     pub misnested: Vec<(Place, Misnesting)>,
 }
 
 impl Page {
-    /// What is kept of a page.
+    /// Reads a page, and keeps what the check needs.
     pub fn read(alloc: Global, bytes: &[u8]) -> Result<Page, PageFault> {
         let (root, _) = read_page_bytes(alloc, bytes, DEEPEST)?;
         let text = str::from_utf8(bytes).unwrap_or("");
@@ -43,7 +43,7 @@ impl Page {
     }
 }
 
-/// The ids of a page that stand before; an empty one is none (DOM Standard 4.9).
+/// Returns the repeated ids of a page; an empty one is no id (DOM Standard 4.9).
 fn repeated(
     alloc: Global,
     root: &HtmlElement,
@@ -60,8 +60,8 @@ fn repeated(
     Ok(repeated)
 }
 
-/// What of a page some browsers read otherwise than it was read here. The other rules of nesting say how its
-/// tree would be read if it were written anew.
+/// Returns where some browsers depart from the tree that was read. The other rules of nesting say
+/// how that tree would be read if it were written again.
 fn misnested_in(
     alloc: Global,
     root: &HtmlElement,
@@ -77,7 +77,7 @@ fn misnested_in(
     Ok(found)
 }
 
-/// The element to which a path leads, as far as there are elements.
+/// Returns the last element on a path.
 fn element_at<'a>(root: &'a HtmlElement, path: &[usize]) -> &'a HtmlElement {
     let mut element = root;
     for index in path {

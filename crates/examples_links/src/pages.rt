@@ -1,4 +1,4 @@
-//! The pages of a site as they were read.
+//! The pages of a site that were read.
 
 use crate::finding::Unread;
 use crate::page::Page;
@@ -8,7 +8,7 @@ use std::alloc::{AllocError, Global};
 use std::collections::BTreeMap;
 use std::fs;
 
-/// After how many pages it is told how many are read.
+/// The number of pages between two reports of progress.
 const MANY: usize = 500;
 
 /// The pages of a site.
@@ -16,14 +16,14 @@ const MANY: usize = 500;
 pub struct Pages {
     /// Those that were read, by path.
     pub read: BTreeMap<String, Page>,
-    /// Those that were not, and the folders that were not.
+    /// The pages and folders that were not read.
     pub unread: Vec<Unread>,
-    /// How many there are.
+    /// The number of pages.
     pub count: usize,
 }
 
 impl Pages {
-    /// No pages, and the folders that the system does not give.
+    /// Creates an empty set of pages, with the folders that the system can't read.
     pub fn new(alloc: Global, not_given: Vec<NotGiven>) -> Result<Pages, AllocError> {
         let mut unread = Vec::new(alloc);
         for folder in not_given {
@@ -36,7 +36,7 @@ impl Pages {
         })
     }
 
-    /// Reads the page at a path. At each 500th it tells how many are read.
+    /// Reads the page at a path. Reports every 500 pages how many are read.
     pub fn add(&mut self, rt: &HostRuntime, path: &str) -> Result<()> {
         self.read_page(rt, path)?;
         self.count = self.count.saturating_add(1);
@@ -57,7 +57,7 @@ impl Pages {
     }
 }
 
-/// A page, or why it is not read.
+/// Returns a page, or why it is not read.
 fn read_page(rt: &HostRuntime, path: &str) -> Result<Result<Page, Unread>, AllocError> {
     let alloc = rt.alloc();
     let bytes = match fs::read(rt, system_path(path)) {

@@ -1,4 +1,4 @@
-//! What the program writes.
+//! The output of the program.
 
 use crate::finding::{Finding, Unread};
 use crate::pages::Pages;
@@ -8,7 +8,7 @@ use std::alloc::{AllocError, Global};
 use std::io;
 use std::io::{BufWriter, Write};
 
-/// Writes what was found in a site to standard output: as one JSON object, or as lines for people.
+/// Writes the findings to standard output: as one JSON object, or as lines for people.
 pub fn write_report(
     rt: &HostRuntime,
     pages: &Pages,
@@ -26,7 +26,7 @@ pub fn write_report(
     Ok(())
 }
 
-/// Writes a line for each page that is not read, each finding, and the whole.
+/// Writes a line for each page that is not read, for each finding, and for the counts.
 fn write_lines<W: Write>(
     output: &mut W,
     pages: &Pages,
@@ -41,7 +41,7 @@ fn write_lines<W: Write>(
     write_counts(output, pages.count, pages.unread.len(), findings.len())
 }
 
-/// Writes how many pages there are, how many of them are not read, and how much is found.
+/// Writes the number of pages, of those that are not read, and of findings.
 fn write_counts<W: Write>(
     output: &mut W,
     pages: usize,
@@ -60,7 +60,7 @@ fn write_counts<W: Write>(
     }
 }
 
-/// The JSON object of a report.
+/// Returns the JSON object of a report.
 fn object(alloc: Global, pages: &Pages, findings: &[Finding<'_>]) -> Result<Value, AllocError> {
     let unread = unread_objects(alloc, &pages.unread)?;
     let findings = finding_objects(alloc, findings)?;
@@ -109,7 +109,7 @@ fn finding_object(alloc: Global, finding: &Finding<'_>) -> Result<Value, AllocEr
     })
 }
 
-/// A text, or null.
+/// Returns a text, or null.
 fn optional_text(alloc: Global, text: Option<&str>) -> Result<Value, AllocError> {
     match text {
         Some(text) => Value::try_from_str(alloc, text),

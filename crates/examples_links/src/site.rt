@@ -20,8 +20,8 @@ pub struct Site<'a> {
     pub pages: Pages,
 }
 
-/// Reads the pages that are named, and those of the folders that are. At each 500th it tells how many
-/// are read.
+/// Reads the given pages, and those in the given folders. Reports every 500 pages how many are
+/// read.
 pub fn read_site<'a>(rt: &HostRuntime, inputs: &'a [Input]) -> Result<Site<'a>> {
     let alloc = rt.alloc();
     let Listing {
@@ -42,7 +42,7 @@ pub fn read_site<'a>(rt: &HostRuntime, inputs: &'a [Input]) -> Result<Site<'a>> 
     })
 }
 
-/// What is wrong in a site, by file and place.
+/// Returns what is wrong in a site, sorted by file and place.
 pub fn check_site<'a>(
     rt: &HostRuntime,
     site: &'a Site<'_>,
@@ -57,7 +57,7 @@ pub fn check_site<'a>(
 }
 
 impl Site<'_> {
-    /// What is wrong in a page, by place.
+    /// Returns what is wrong in a page, sorted by place.
     fn findings_in<'a>(
         &'a self,
         rt: &HostRuntime,
@@ -72,7 +72,7 @@ impl Site<'_> {
         Ok(findings)
     }
 
-    /// Adds the ids of a page that stand before.
+    /// Adds the repeated ids of a page.
     fn add_repeated<'a>(
         &'a self,
         file: &'a str,
@@ -91,7 +91,7 @@ impl Site<'_> {
         Ok(())
     }
 
-    /// Adds what some browsers read otherwise.
+    /// Adds the elements that some browsers place otherwise, or fill.
     fn add_misnested<'a>(
         &'a self,
         file: &'a str,
@@ -136,7 +136,7 @@ impl Site<'_> {
         Ok(())
     }
 
-    /// The folder from which links of a page lead that begin with `/`.
+    /// Returns the folder from which links of a page that begin with `/` start.
     fn root_of(&self, file: &str) -> &str {
         match self.files.entries().get(file) {
             Some(Entry::Page { root }) => root,
@@ -144,7 +144,7 @@ impl Site<'_> {
         }
     }
 
-    /// From where relative links of a page lead, if that is in the site.
+    /// Returns the base of a page's relative links, if it is in the site.
     fn base_of(&self, file: &str, root: &str, page: &Page) -> Result<Option<Spot>, AllocError> {
         let own = Spot {
             path: String::from_str(self.alloc, file)?,
@@ -157,7 +157,7 @@ impl Site<'_> {
         }
     }
 
-    /// What is wrong with a link, and its target.
+    /// Returns what is wrong with a link, and its target.
     fn fault(
         &self,
         rt: &HostRuntime,
@@ -175,7 +175,7 @@ impl Site<'_> {
         }
     }
 
-    /// The target of a link to a page, where its fragment leads to no place there.
+    /// Returns the target of a link to a page, if its fragment leads to no place there.
     fn dead_fragment(
         &self,
         mut path: String,

@@ -1,4 +1,4 @@
-//! The words of the command line.
+//! The arguments of the command line.
 
 use anyhow::Result;
 use clap::{Arg, ArgAction, Command};
@@ -6,7 +6,7 @@ use std::alloc::Global;
 use std::env;
 use std::io::ErrorKind;
 
-/// The words that are given, or nothing where one is no UTF-8, which is told.
+/// Returns the arguments, or reports that one is no UTF-8 and returns nothing.
 pub fn given_words(rt: &HostRuntime) -> Result<Option<Vec<String>>> {
     match env::args(rt) {
         Ok(words) => Ok(Some(words.collect(rt.alloc())?)),
@@ -18,10 +18,10 @@ pub fn given_words(rt: &HostRuntime) -> Result<Option<Vec<String>>> {
     }
 }
 
-/// The words that the program takes.
+/// Describes the command line.
 pub fn command<'a>(alloc: Global) -> Result<Command<'a>> {
     let command = Command::new(alloc, "examples_links")
-        .about("Tells of links in written pages that lead nowhere, and of ids that come twice")
+        .about("Reports links in written pages that lead nowhere, and repeated ids")
         .arg(paths(alloc))?
         .arg(root(alloc))?
         .arg(json(alloc))?;
@@ -40,12 +40,12 @@ fn root<'a>(alloc: Global) -> Arg<'a> {
     Arg::new(alloc, "root")
         .long("root")
         .value_name("FOLDER")
-        .help("The folder from which links lead that begin with /")
+        .help("The folder from which links that begin with / start")
 }
 
 fn json<'a>(alloc: Global) -> Arg<'a> {
     Arg::new(alloc, "json")
         .long("json")
         .action(ArgAction::SetTrue)
-        .help("Writes one JSON object in place of lines for people")
+        .help("Write one JSON object instead of lines for people")
 }

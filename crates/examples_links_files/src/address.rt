@@ -1,11 +1,11 @@
-//! The addresses of links: what the URL Standard reads in them.
+//! The addresses of links, as the URL Standard reads them.
 
 use crate::paths::{Spot, Way};
 use percent_encoding::percent_decode;
 use std::alloc::{AllocError, Global};
 
-/// An address without what counts for nothing in it: controls and spaces around it, and tabs and line
-/// breaks.
+/// Returns an address without the characters that a URL drops: controls and spaces around it, tabs
+/// and line breaks.
 pub fn cleaned(alloc: Global, address: &str) -> Result<String, AllocError> {
     let mut text = String::new(alloc);
     for c in address.trim_matches(|c: char| c <= ' ').chars() {
@@ -16,12 +16,12 @@ pub fn cleaned(alloc: Global, address: &str) -> Result<String, AllocError> {
     Ok(text)
 }
 
-/// Whether an address has a scheme or a host of its own.
+/// Returns whether an address has a scheme or a host of its own.
 pub fn is_external(address: &str) -> bool {
     scheme_of(address).is_some() || has_host(address)
 }
 
-/// The scheme of an address, if it has one.
+/// Returns the scheme of an address, if it has one.
 pub fn scheme_of(address: &str) -> Option<&str> {
     let (scheme, _) = address.split_once(':')?;
     if is_scheme(scheme) {
@@ -52,7 +52,7 @@ fn is_slash(c: Option<char>) -> bool {
     matches!(c, Some('/' | '\\'))
 }
 
-/// What stands behind the first `#`.
+/// Returns the text behind the first `#`.
 pub fn fragment_of(address: &str) -> Option<&str> {
     match address.split_once('#') {
         Some((_, fragment)) => Some(fragment),
@@ -60,7 +60,7 @@ pub fn fragment_of(address: &str) -> Option<&str> {
     }
 }
 
-/// What stands before a character, or all.
+/// Returns the text before the first such character, or all of it.
 fn front(text: &str, end: char) -> &str {
     match text.split_once(end) {
         Some((front, _)) => front,
@@ -68,7 +68,7 @@ fn front(text: &str, end: char) -> &str {
     }
 }
 
-/// The path of a relative address, decoded.
+/// Returns the decoded path of a relative address.
 fn path_of(alloc: Global, address: &str) -> Result<String, AllocError> {
     let path = front(front(address, '#'), '?');
     let path = path.replace(alloc, '\\', "/")?;
@@ -76,7 +76,7 @@ fn path_of(alloc: Global, address: &str) -> Result<String, AllocError> {
     decoded.into_owned(alloc)
 }
 
-/// Where a relative address leads from a spot, in a site whose folder is `root`.
+/// Resolves a relative address against a spot, in a site whose folder is `root`.
 pub fn spot_of(alloc: Global, base: &Spot, root: &str, address: &str) -> Result<Spot, AllocError> {
     let path = path_of(alloc, address)?;
     let path = path.as_str();
@@ -97,8 +97,7 @@ pub fn spot_of(alloc: Global, base: &Spot, root: &str, address: &str) -> Result<
     })
 }
 
-/// The path to which another leads from a folder. No `..` leads back from there where that other begins
-/// with `/`.
+/// Resolves a path against a folder. If the path begins with `/`, no `..` leads out of the folder.
 fn path_from<'a>(alloc: Global, folder: &'a str, path: &'a str) -> Result<String, AllocError> {
     let mut way = Way::new(alloc, folder)?;
     if path.starts_with('/') {

@@ -6,12 +6,12 @@ use std::collections::BTreeMap;
 use std::io::ErrorKind;
 use std::{fs, io};
 
-/// What is at a path.
+/// The kinds of entries at a path.
 #[derive(Clone, Copy)]
 pub enum Entry<'a> {
-    /// A page, and the folder from which its links lead that begin with `/`.
+    /// A page.
     Page {
-        /// That folder.
+        /// The folder from which its links that begin with `/` start.
         root: &'a str,
     },
     /// Another file.
@@ -20,16 +20,16 @@ pub enum Entry<'a> {
     Folder,
 }
 
-/// What is found where a link leads.
+/// The result of looking for the target of a link.
 #[derive(Drop)]
 pub enum Found {
     /// The page at that path.
     Page(String),
     /// A file that is no page.
     File,
-    /// Nothing, but something at that path, which differs in case alone.
+    /// Nothing; but this path exists, which differs only in case.
     OtherCase(String),
-    /// Nothing, and this path is missing.
+    /// Nothing: this path is missing.
     Nothing(String),
 }
 
@@ -38,12 +38,12 @@ pub enum Found {
 pub struct Files<'a> {
     alloc: Global,
     entries: BTreeMap<String, Entry<'a>>,
-    /// For each path in small letters, the first that is there.
+    /// The first path that exists for each path in lowercase.
     by_small: BTreeMap<String, String>,
 }
 
 impl<'a> Files<'a> {
-    /// No files.
+    /// Creates an empty set of files.
     pub(crate) fn new(alloc: Global) -> Files<'a> {
         Files {
             alloc,
@@ -52,12 +52,12 @@ impl<'a> Files<'a> {
         }
     }
 
-    /// All files, by path.
+    /// Returns all files, by path.
     pub fn entries(&self) -> &BTreeMap<String, Entry<'a>> {
         &self.entries
     }
 
-    /// Adds what is at a path. A page stays one.
+    /// Adds the entry at a path. A page stays one.
     pub(crate) fn put(&mut self, path: String, entry: Entry<'a>) -> Result<(), AllocError> {
         if matches!(self.entries.get(path.as_str()), Some(Entry::Page { .. })) {
             return Ok(());
@@ -67,7 +67,7 @@ impl<'a> Files<'a> {
         Ok(())
     }
 
-    /// Adds a path by its small letters, where no other that has them comes before it.
+    /// Adds a path under its lowercase form, unless an earlier one has that form.
     fn put_small(&mut self, path: &str) -> Result<(), AllocError> {
         let small = path.to_lowercase(self.alloc)?;
         let is_first = match self.by_small.get(small.as_str()) {
@@ -81,7 +81,7 @@ impl<'a> Files<'a> {
         Ok(())
     }
 
-    /// What is found where a link leads.
+    /// Finds the target of a link.
     pub fn find(&self, rt: &HostRuntime, spot: Spot) -> Result<Found, AllocError> {
         let Spot { path, is_folder } = spot;
         match self.entry(rt, path.as_str())? {
@@ -93,7 +93,7 @@ impl<'a> Files<'a> {
         }
     }
 
-    /// The page that stands for a folder.
+    /// Finds the page that stands for a folder.
     fn find_index(&self, rt: &HostRuntime, folder: &str) -> Result<Found, AllocError> {
         for name in ["index.html", "index.htm"] {
             let path = path_in(self.alloc, folder, name)?;
@@ -106,13 +106,13 @@ impl<'a> Files<'a> {
         self.in_other_case(path_in(self.alloc, folder, "index.html")?)
     }
 
-    /// What is at a path, in the folders that are named or elsewhere.
+    /// Returns the entry at a path, in the given folders or elsewhere.
     fn entry(&self, rt: &HostRuntime, path: &str) -> Result<Option<Entry<'a>>, AllocError> {
         if let Some(entry) = self.entries.get(path) {
             return Ok(Some(*entry));
         }
         if self.other_case(path)?.is_some() {
-            return Ok(None); // where the system does not tell cases apart, it would say that it is there
+            return Ok(None); // a file system that ignores case would find it
         }
         Ok(entry_elsewhere(fs::metadata(rt, system_path(path))))
     }
@@ -130,7 +130,7 @@ impl<'a> Files<'a> {
     }
 }
 
-/// What is at a path by its metadata. Where the system refuses them, a file may be there.
+/// Returns the entry for the metadata of a path. If the system denies access, there may be a file.
 fn entry_elsewhere<'a>(metadata: io::Result<fs::Metadata>) -> Option<Entry<'a>> {
     match metadata {
         Ok(metadata) if metadata.is_dir() => Some(Entry::Folder),

@@ -1,23 +1,23 @@
-//! What is named: pages, and folders of pages.
+//! The given pages, and folders of pages.
 
 use crate::paths::{Way, folder_of};
 use anyhow::Result;
 use std::alloc::{AllocError, Global};
 use std::fs;
 
-/// A page or a folder that is named.
+/// A given page or folder.
 #[derive(Drop)]
 pub struct Input {
     /// Its path.
     pub path: String,
     /// Whether it is a folder.
     pub is_folder: bool,
-    /// The folder from which links lead that begin with `/`.
+    /// The folder from which links that begin with `/` start.
     pub root: String,
 }
 
-/// What is named, or nothing where some of it does not exist, which is told. `root` is the folder from
-/// which links lead that begin with `/`, where one is named.
+/// Returns the given pages and folders, or reports those that do not exist and returns nothing.
+/// `root` is the folder from which links that begin with `/` start, if one is given.
 pub fn inputs_of(
     rt: &HostRuntime,
     words: &[&str],
@@ -37,7 +37,7 @@ pub fn inputs_of(
     Ok(if all_exist { Some(inputs) } else { None })
 }
 
-/// Whether a folder is at a path; nothing where it does not exist, which is told.
+/// Returns whether a folder is at a path, or reports that nothing is there.
 fn kind_of(rt: &HostRuntime, word: &str) -> Result<Option<bool>> {
     match fs::metadata(rt, word) {
         Ok(metadata) => Ok(Some(metadata.is_dir())),

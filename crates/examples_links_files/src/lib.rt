@@ -1,5 +1,5 @@
-//! For `examples_links`: the files of a site, and where the addresses of links lead among them. Calls fail
-//! where an allocation does, and [`inputs_of`] also where it can't tell what does not exist.
+//! For `examples_links`: the files of a site, and the targets of links among them. Calls fail if an
+//! allocation fails, and [`inputs_of`] also if it can't report what does not exist.
 #![tactic(auto)]
 
 mod address;

@@ -1,4 +1,4 @@
-//! How the files of a site are listed.
+//! Listing of the files of a site.
 
 use crate::files::{Entry, Files};
 use crate::inputs::Input;
@@ -8,17 +8,17 @@ use std::collections::BTreeSet;
 use std::fs::{DirEntry, ReadDir};
 use std::{fs, io};
 
-/// What the system does not give.
+/// A file or folder that the system can't read.
 #[derive(Drop)]
 pub struct NotGiven {
     /// Its path.
     pub path: String,
-    /// Why.
+    /// The reason.
     pub reason: String,
 }
 
 impl NotGiven {
-    /// What is at a path, by the system's error.
+    /// Creates it from a path and the system's error.
     pub fn new(alloc: Global, path: &str, error: &io::Error) -> Result<NotGiven, AllocError> {
         Ok(NotGiven {
             path: String::from_str(alloc, path)?,
@@ -27,22 +27,22 @@ impl NotGiven {
     }
 }
 
-/// What the folders hold that are named, or in which pages are that are named.
+/// The content of the given folders, and of the folders of given pages.
 #[derive(Drop)]
 pub struct Listing<'a> {
     alloc: Global,
     /// The files.
     pub files: Files<'a>,
-    /// The folders that the system does not give, of those whose pages are wanted.
+    /// The folders that the system can't read and whose pages are needed.
     pub not_given: Vec<NotGiven>,
-    /// The folders of pages that are named, which are listed.
+    /// The folders of given pages that are listed.
     listed: BTreeSet<&'a str>,
-    /// The folders that are still to be listed.
+    /// The folders that must still be listed.
     left: Vec<String>,
 }
 
 impl<'a> Listing<'a> {
-    /// What is named: a page, with the files beside it, or all that is in a folder.
+    /// Lists the files of the inputs: those beside a page, or all in a folder.
     pub fn of(rt: &HostRuntime, inputs: &'a [Input]) -> Result<Listing<'a>, AllocError> {
         let alloc = rt.alloc();
         let mut listing = Listing {
@@ -69,7 +69,7 @@ impl<'a> Listing<'a> {
         }
     }
 
-    /// Adds the files beside a page, in a folder that may be listed.
+    /// Adds the files beside a page, unless its folder is listed already.
     fn add_beside(&mut self, rt: &HostRuntime, folder: &'a str) -> Result<(), AllocError> {
         if self.listed.insert(folder)? {
             self.add_folder(rt, folder, None)?;
@@ -77,7 +77,7 @@ impl<'a> Listing<'a> {
         Ok(())
     }
 
-    /// Adds the folders that are left, and all that is in them, at any depth.
+    /// Adds the folders that are left, and everything in them, at any depth.
     fn add_left(&mut self, rt: &HostRuntime, root: &'a str) -> Result<(), AllocError> {
         for _ in 0..u64::MAX {
             let Some(folder) = self.left.pop() else {
@@ -89,8 +89,8 @@ impl<'a> Listing<'a> {
         Ok(())
     }
 
-    /// Adds what is right in a folder. Where a root is given, files are pages by their names, and folders
-    /// are to be listed.
+    /// Adds the entries of a folder. If a root is given, the names of files tell which are pages,
+    /// and subfolders are listed later.
     fn add_folder(
         &mut self,
         rt: &HostRuntime,
@@ -119,7 +119,7 @@ impl<'a> Listing<'a> {
         Ok(())
     }
 
-    /// Keeps that the system does not give a folder, or a name in it, where its pages are wanted.
+    /// Stores that the system can't read a folder, or a name in it, if its pages are needed.
     fn keep_error(
         &mut self,
         folder: &str,
@@ -133,7 +133,7 @@ impl<'a> Listing<'a> {
         Ok(())
     }
 
-    /// Adds what an entry of a folder is. What is behind a symbolic link is no folder to be listed.
+    /// Adds an entry of a folder. A folder behind a symbolic link is not listed.
     fn add_entry(
         &mut self,
         rt: &HostRuntime,
@@ -156,7 +156,7 @@ impl<'a> Listing<'a> {
     }
 }
 
-/// What an entry of a folder is, by its name and what is behind it.
+/// Returns the kind of a folder's entry, by its name and the metadata of its target.
 fn entry_of<'a>(name: &str, behind: &fs::Metadata, root: Option<&'a str>) -> Entry<'a> {
     match root {
         _ if behind.is_dir() => Entry::Folder,
@@ -165,7 +165,7 @@ fn entry_of<'a>(name: &str, behind: &fs::Metadata, root: Option<&'a str>) -> Ent
     }
 }
 
-/// Whether a file of that name is a page.
+/// Returns whether a file with that name is a page.
 fn is_page_name(name: &str) -> bool {
     match name.rsplit_once('.') {
         Some((_, end)) => end.eq_ignore_ascii_case("html") || end.eq_ignore_ascii_case("htm"),

@@ -2,17 +2,17 @@
 
 use std::alloc::{AllocError, Global};
 
-/// Where a link leads.
+/// The target of a link.
 #[derive(Drop)]
 pub struct Spot {
-    /// The path, without a `/` at its end.
+    /// The path, without a trailing `/`.
     pub path: String,
-    /// Whether the link says that a folder is there.
+    /// Whether the link requires a folder there.
     pub is_folder: bool,
 }
 
 impl Spot {
-    /// The folder from which relative links lead that stand there.
+    /// Returns the folder against which relative links there are resolved.
     pub fn folder(&self) -> &str {
         if self.is_folder {
             self.path.as_str()
@@ -22,7 +22,7 @@ impl Spot {
     }
 }
 
-/// The folder in which a file stands.
+/// Returns the folder of a file.
 pub fn folder_of(path: &str) -> &str {
     match path.rsplit_once('/') {
         Some(("", _)) => "/",
@@ -31,7 +31,7 @@ pub fn folder_of(path: &str) -> &str {
     }
 }
 
-/// The path of what has that name in a folder.
+/// Returns the path of an entry with that name in a folder.
 pub fn path_in(alloc: Global, folder: &str, name: &str) -> Result<String, AllocError> {
     match folder {
         "" => String::from_str(alloc, name),
@@ -40,22 +40,22 @@ pub fn path_in(alloc: Global, folder: &str, name: &str) -> Result<String, AllocE
     }
 }
 
-/// The path as the system takes it.
+/// Returns the path in the form that the system takes.
 pub fn system_path(path: &str) -> &str {
     if path.is_empty() { "." } else { path }
 }
 
-/// The parts of a path, without `.` and, where it can be, without `..`.
+/// The parts of a path, without `.` and, as far as possible, without `..`.
 #[derive(Drop)]
 pub struct Way<'a> {
     parts: Vec<&'a str>,
     is_absolute: bool,
-    /// How many parts stay, whatever `..` follow; none where the way may leave its beginning.
+    /// How many parts no `..` removes; none if the path may lead out of its start.
     kept: Option<usize>,
 }
 
 impl<'a> Way<'a> {
-    /// The way to a path of the system.
+    /// Creates it from a path of the system.
     pub fn new(alloc: Global, path: &'a str) -> Result<Way<'a>, AllocError> {
         let mut way = Way {
             parts: Vec::new(alloc),
@@ -70,12 +70,12 @@ impl<'a> Way<'a> {
         Ok(way)
     }
 
-    /// Lets no `..` lead back from where the way is now.
+    /// Lets no `..` remove the parts that are there now.
     pub fn keep(&mut self) {
         self.kept = Some(self.parts.len());
     }
 
-    /// Goes on by the parts of an address. An empty part counts, for a `..` behind it.
+    /// Appends the parts of an address. An empty part counts, for a `..` behind it.
     pub fn follow(&mut self, path: &'a str) -> Result<(), AllocError> {
         for part in path.strip_prefix('/').unwrap_or(path).split('/') {
             self.go(part)?;
@@ -104,7 +104,7 @@ impl<'a> Way<'a> {
         Ok(())
     }
 
-    /// The path, without empty parts.
+    /// Returns the path, without empty parts.
     pub fn into_path(self, alloc: Global) -> Result<String, AllocError> {
         let mut path = String::new(alloc);
         if self.is_absolute {

@@ -9,7 +9,7 @@ use typst_html::{
     Rgba, Span, attr, export, tag,
 };
 
-/// How deep items may stand in one another. In a mail they are three deep.
+/// The greatest depth of items. In a mail they are three deep.
 const DEPTH_LIMIT: usize = 50;
 
 const INK: Rgba = Rgba {
@@ -26,13 +26,13 @@ const PAPER: Rgba = Rgba {
     a: 255,
 };
 
-/// What comes in the place of holes, by their names.
+/// The texts that fill holes, by the names of these.
 type Fields = Map<String, Value>;
 
-/// The mail that the template and a record in JSON make, on one line.
+/// Makes the mail of a record in JSON from the template, on one line.
 ///
-/// A line break in a field becomes a `br` in paragraphs and on buttons. In the subject and in an
-/// address it would be written as it is, and would break the line: such a record has no mail.
+/// A line break in a field becomes a `br` in paragraphs and on buttons. In the subject or in an
+/// address it would be written as it is, and would break the line, so such a record is an error.
 pub(crate) fn mail(alloc: Global, template: &str, record: &[u8], lang: &str) -> Result<String> {
     let record = Value::from_slice(alloc, record).context("no JSON")?;
     let fields = record.as_object().context("no JSON object")?;
@@ -44,7 +44,7 @@ pub(crate) fn mail(alloc: Global, template: &str, record: &[u8], lang: &str) -> 
     Ok(html)
 }
 
-/// The HTML text of a mail, which a line break in the subject or in an address breaks.
+/// Returns the HTML text of a mail, which a line break in the subject or in an address breaks.
 fn html(alloc: Global, template: &str, fields: &Fields, lang: &str) -> Result<String> {
     let info = info(alloc, template, fields, lang)?;
     let items = vec![in alloc; Pair::from(card(alloc, template, fields)?)]?;
@@ -52,7 +52,7 @@ fn html(alloc: Global, template: &str, fields: &Fields, lang: &str) -> Result<St
     export(alloc, &items, &info, &[], DEPTH_LIMIT, &options, &()).map_err(with_line)
 }
 
-/// What is known of a mail besides: its subject, and its language.
+/// Returns the information about a mail: its subject and its language.
 fn info(alloc: Global, template: &str, fields: &Fields, lang: &str) -> Result<DocumentInfo> {
     let subject = template.lines().next().context("no subject")?;
     let title = fill(alloc, subject, fields).context("subject")?;
@@ -64,7 +64,7 @@ fn info(alloc: Global, template: &str, fields: &Fields, lang: &str) -> Result<Do
     })
 }
 
-/// All that is seen of a mail: dark letters on light ground, with some room around.
+/// Makes the visible part of a mail: dark letters on a light ground, with some room around.
 fn card(alloc: Global, template: &str, fields: &Fields) -> Result<HtmlElem> {
     let mut body = Vec::new(alloc);
     let mut number = 1u64;
@@ -91,7 +91,7 @@ fn card_css(alloc: Global) -> Result<Properties> {
     Ok(css.finish())
 }
 
-/// What stands in the paragraph that a line of the template makes.
+/// Makes the content of the paragraph for a line of the template.
 fn content(alloc: Global, line: &str, fields: &Fields, span: Span) -> Result<Pair> {
     match line.strip_prefix("> ") {
         Some(line) => Ok(Pair::from(button(alloc, line, fields, span)?)),
@@ -99,7 +99,7 @@ fn content(alloc: Global, line: &str, fields: &Fields, span: Span) -> Result<Pai
     }
 }
 
-/// A link that looks like a button: its last word is where it leads, all before it the label.
+/// Makes a link that looks like a button: the last word is its address, the rest its label.
 fn button(alloc: Global, line: &str, fields: &Fields, span: Span) -> Result<HtmlElem> {
     let (label, address) = line
         .rsplit_once(' ')
@@ -125,7 +125,7 @@ fn button_css(alloc: Global) -> Result<Properties> {
     Ok(css.finish())
 }
 
-/// A text of the template with fields in place of its holes.
+/// Fills the holes in a text of the template with fields.
 fn fill(alloc: Global, text: &str, fields: &Fields) -> Result<String> {
     let mut parts = text.split('{');
     let mut filled = String::from_str(alloc, parts.next().unwrap_or_default())?;
@@ -138,7 +138,7 @@ fn fill(alloc: Global, text: &str, fields: &Fields) -> Result<String> {
     Ok(filled)
 }
 
-/// The fault, and the line of the template in which it lies.
+/// Adds to a fault the line of the template that it is in.
 fn with_line(fault: ExportFault) -> Error {
     match (fault.number(), fault.span()) {
         (0, _) => Error::from(fault),

@@ -1,17 +1,17 @@
-//! Mails: a template and records in JSON become HTML mails, one on each line of standard output.
+//! Turns a template and records in JSON into HTML mails, one on each line of standard output.
 //!
 //! ```text
 //! cd crates/examples_mail && rt try -- data/template.txt < stdin
 //! ```
 //!
-//! The first line of a template is the subject, each other that is not blank a paragraph. A paragraph
-//! that begins with `> ` is a button; its last word is the address to which it leads. Anywhere in a
-//! template `{name}` is a hole, in whose place the field of that name comes. It is escaped; but where
-//! an address leads is not looked at.
+//! The first line of a template is the subject; each other line that is not blank is a paragraph. A
+//! paragraph that begins with `> ` is a button, whose last word is the address that it leads to.
+//! Anywhere in a template, `{name}` is a hole that the field of that name fills. Fields are
+//! escaped, but addresses are not checked.
 //!
-//! Each line of standard input is a record, an object whose fields are texts. A record without a mail
-//! is told on standard error with its line, and the mails of the others are written. The status is 0
-//! where all were, 2 where the words are wrong, and else 1.
+//! Each line of standard input is a record, an object whose fields are texts. Reports a record
+//! without a mail on standard error, with its line, and writes the mails of the others. Exits with
+//! 0 if all are written, with 2 if the arguments are wrong, and with 1 otherwise.
 #![tactic(auto)]
 
 mod mail;
@@ -34,7 +34,7 @@ fn main(rt: HostRuntime) -> ExitCode {
     }
 }
 
-/// Reads the words, and writes the mails. The answer is the status.
+/// Parses the arguments, writes the mails, and returns the exit status.
 fn run(rt: &HostRuntime) -> Result<ExitCode> {
     let words: Vec<String> = env::args(rt)?.collect(rt.alloc())?;
     match command(rt.alloc())?.try_get_matches_from(&words) {
@@ -46,7 +46,7 @@ fn run(rt: &HostRuntime) -> Result<ExitCode> {
     }
 }
 
-/// The words that the program takes.
+/// Describes the command line.
 fn command<'a>(alloc: Global) -> Result<Command<'a>> {
     let template = Arg::new(alloc, "TEMPLATE")
         .required(true)
@@ -63,7 +63,7 @@ fn command<'a>(alloc: Global) -> Result<Command<'a>> {
     Ok(command)
 }
 
-/// Reads the template, and writes the mails. The answer is the status.
+/// Reads the template, writes the mails, and returns the exit status.
 fn write_mails(rt: &HostRuntime, matches: &ArgMatches<'_>) -> Result<ExitCode> {
     let path = matches.get_str("TEMPLATE").context("no template")?;
     let lang = matches.get_str("lang").context("no language")?;
@@ -71,7 +71,7 @@ fn write_mails(rt: &HostRuntime, matches: &ArgMatches<'_>) -> Result<ExitCode> {
     write_mails_of(rt, &template, lang)
 }
 
-/// Writes the mail of each record on standard input. The answer is the status.
+/// Writes the mail of each record on standard input, and returns the exit status.
 fn write_mails_of(rt: &HostRuntime, template: &str, lang: &str) -> Result<ExitCode> {
     let mut code = ExitCode::SUCCESS;
     let mut number = 0u64;
@@ -86,7 +86,7 @@ fn write_mails_of(rt: &HostRuntime, template: &str, lang: &str) -> Result<ExitCo
     Ok(code)
 }
 
-/// Writes the mail of a line, or tells why there is none. The answer is whether there is one.
+/// Writes the mail of a line, or reports why there is none. Returns whether there is one.
 fn is_written(rt: &HostRuntime, line: u64, mail: Result<String>) -> Result<bool> {
     match mail {
         Ok(html) => {

@@ -1,4 +1,4 @@
-//! The page of a document: what is seen of it, and what is known of it besides.
+//! The page of a document: its visible part, and the information about it.
 
 use anyhow::{Context, Error, Result, bail};
 use examples_pandoc_nodes::{Level, values};
@@ -12,11 +12,11 @@ use typst_html::{
     element_at, html, html_document, misnested, resolve_links, tag,
 };
 
-/// How deep blocks, inlines or items may stand in one another. JSON of 127 levels holds fewer.
+/// The greatest depth of blocks, inlines or items. JSON of 127 levels holds fewer.
 const DEPTH_LIMIT: usize = 200;
 
-/// The page of a document of pandoc, and what of the document can't be written as it is, or is read
-/// otherwise. Raw HTML is shown as a text, or dropped. A value that is no document is refused.
+/// Returns the page of a document of pandoc, with warnings of what can't be written as it is, or
+/// would be moved. Raw HTML is shown as a text, or dropped. Fails for a value that is no document.
 pub fn page(
     alloc: Global,
     document: &Value,
@@ -34,7 +34,7 @@ pub fn page(
     Ok((html, warnings))
 }
 
-/// The writer with what is seen of a document. The span of what stands in a block is its number.
+/// Writes the visible part of a document. The span of everything in a block is its number.
 fn written(mut to: Writer, meta: &Map<String, Value>, blocks: &[Value]) -> Result<Writer> {
     title_block(&mut to, meta).context("no document of pandoc: `meta`")?;
     for (block, number) in blocks.iter().zip(1u64..) {
@@ -45,7 +45,7 @@ fn written(mut to: Writer, meta: &Map<String, Value>, blocks: &[Value]) -> Resul
     Ok(to)
 }
 
-/// What stands in the head of the page.
+/// Returns the information for the head of the page.
 fn info(alloc: Global, meta: &Map<String, Value>) -> Result<DocumentInfo> {
     let mut info = DocumentInfo::new(alloc);
     for (name, value) in meta {
@@ -61,7 +61,7 @@ fn info(alloc: Global, meta: &Map<String, Value>) -> Result<DocumentInfo> {
     Ok(info)
 }
 
-/// The values of a list, or the one that is none.
+/// Returns the values of a list, or else the value itself.
 fn several(value: &Value) -> Result<&[Value]> {
     match tag_and_content(value)? {
         ("MetaList", values) => array(values),
@@ -77,7 +77,7 @@ fn all_plain(alloc: Global, value: &Value) -> Result<Vec<String>> {
     Ok(texts)
 }
 
-/// The text of a value.
+/// Returns the text of a value.
 fn plain(alloc: Global, value: &Value) -> Result<String> {
     let mut to = Writer::new(alloc, false);
     to.begin_plain()?;
@@ -85,7 +85,7 @@ fn plain(alloc: Global, value: &Value) -> Result<String> {
     to.end_plain()
 }
 
-/// Adds a value of what is known of a document, if it has a text.
+/// Adds a value of the metadata, if it has a text.
 fn known(to: &mut Writer, value: &Value) -> Result<()> {
     match tag_and_content(value)? {
         ("MetaInlines", words) => values(to, DEPTH_LIMIT, Level::Inline, array(words)?),
@@ -110,7 +110,7 @@ fn title_block(to: &mut Writer, meta: &Map<String, Value>) -> Result<()> {
     to.end_unless_empty(tag::header, None)
 }
 
-/// Adds titles of that name. As pandoc does it, an abstract has one of its own.
+/// Adds titles with that name. Like pandoc, gives an abstract a title of its own.
 fn titling(to: &mut Writer, name: &str, titles: &[Value], above: Option<&Value>) -> Result<()> {
     for title in titles {
         let list = title.get("c").and_then(Value::as_array);
@@ -137,7 +137,7 @@ fn titling(to: &mut Writer, name: &str, titles: &[Value], above: Option<&Value>)
     Ok(())
 }
 
-/// The document of what was written, all of whose links lead, but for those of which it is told.
+/// Returns the document of what was written, with links resolved, and warnings of dead ones.
 fn linked(writer: Writer, info: &DocumentInfo) -> Result<(HtmlDocument, Vec<String>)> {
     let (alloc, places, mut warnings) = (writer.alloc, writer.places, writer.warnings);
     let notes = writer.notes.section()?;
@@ -152,7 +152,7 @@ fn linked(writer: Writer, info: &DocumentInfo) -> Result<(HtmlDocument, Vec<Stri
     Ok((made, warnings))
 }
 
-/// Adds what of a page browsers read otherwise.
+/// Adds warnings of what browsers would move.
 fn add_misnested(alloc: Global, root: &HtmlElement, warnings: &mut Vec<String>) -> Result<()> {
     for node in &misnested(alloc, root)? {
         let (block, why) = (node.span.0, node.why);
@@ -164,7 +164,7 @@ fn add_misnested(alloc: Global, root: &HtmlElement, warnings: &mut Vec<String>) 
     Ok(())
 }
 
-/// The fault, and the block in which it lies.
+/// Adds to a fault the block that it is in.
 fn with_block(fault: ExportFault) -> Error {
     match (fault.number(), fault.span()) {
         (0, _) => Error::from(fault),

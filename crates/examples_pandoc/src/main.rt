@@ -1,16 +1,16 @@
-//! A writer for pandoc: its document tree in JSON, on standard input, becomes an HTML page on standard
-//! output, all of whose inner links lead.
+//! A writer for pandoc: reads its document tree in JSON from standard input, and writes an HTML
+//! page to standard output, in which all inner links lead.
 //!
 //! ```text
 //! pandoc -t json README.md | (cd crates/examples_pandoc && rt try)
 //! ```
 //!
-//! What can't be written as it is, is told on standard error with the number of the block in which it
-//! stands: a link to no place, raw HTML (dropped, or shown as a text by `--raw-text`), an `id` that an
-//! earlier element has, an attribute without a name, a script as an address, what a browser reads otherwise
-//! than it is written (a link in a link, as a note in a link is one). Raw comments are dropped, and
-//! a raw `<br>` is a line break. Attributes that may do harm get `data-` in front. The status is 0 where a
-//! page was written, 2 where the words are wrong, and else 1.
+//! Reports what can't be written as it is on standard error, with the number of its block: a link
+//! to no place, raw HTML (dropped, or shown as a text with `--raw-text`), an `id` that an earlier
+//! element has, an attribute without a name, a script as an address, and what browsers would move
+//! (such as a link in a link, which a note in a link is). Drops raw comments, and turns a raw
+//! `<br>` into a line break. Adds `data-` in front of attributes that may do harm. Exits with 0 if
+//! a page is written, with 2 if the arguments are wrong, and with 1 otherwise.
 #![tactic(auto)]
 
 mod document;
@@ -34,7 +34,7 @@ fn main(rt: HostRuntime) -> ExitCode {
     }
 }
 
-/// Reads the words, and writes the page. The answer is the status.
+/// Parses the arguments, writes the page, and returns the exit status.
 fn run(rt: &HostRuntime) -> Result<ExitCode> {
     let words: Vec<String> = env::args(rt)?.collect(rt.alloc())?;
     match command(rt.alloc())?.try_get_matches_from(&words) {
@@ -46,16 +46,16 @@ fn run(rt: &HostRuntime) -> Result<ExitCode> {
     }
 }
 
-/// The words that the program takes.
+/// Describes the command line.
 fn command<'a>(alloc: Global) -> Result<Command<'a>> {
     let command = Command::new(alloc, "examples_pandoc")
         .about("Makes an HTML page of pandoc's JSON on standard input")
         .arg(arg!(in alloc; --pretty "Lay the text out with indents"))?
-        .arg(arg!(in alloc; --"raw-text" "Show raw HTML as a text, in place of dropping it"))?;
+        .arg(arg!(in alloc; --"raw-text" "Show raw HTML as a text instead of dropping it"))?;
     Ok(command)
 }
 
-/// Reads the tree, and writes the page and what is told of it. The answer is the status.
+/// Reads the tree, writes the page and its warnings, and returns the exit status.
 fn write_page(rt: &HostRuntime, matches: &ArgMatches<'_>) -> Result<ExitCode> {
     let mut input = Vec::new(rt.alloc());
     let _ = rt.stdin().read_to_end(&mut input)?;

@@ -1,4 +1,4 @@
-//! For `examples_pandoc`: blocks and inlines of pandoc's tree, in JSON, as items of a page.
+//! For `examples_pandoc`: turns blocks and inlines of pandoc's tree, in JSON, into items of a page.
 #![tactic(auto)]
 
 mod nodes;

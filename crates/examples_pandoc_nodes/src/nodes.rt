@@ -1,4 +1,4 @@
-//! Blocks and inlines, which hold others. How deep these may still go is told by `depth`.
+//! Blocks and inlines, which hold others. `depth` is how much deeper they may nest.
 
 use crate::table::{end_cell, place, widths};
 use anyhow::{Context, Result, bail};
@@ -8,21 +8,20 @@ use html_names::{HtmlTag, tag};
 use serde_json::Value;
 use std::alloc::Global;
 
-/// What the values of a list are.
+/// The kind of the values of a list.
 #[derive(Clone, Copy)]
 pub enum Level {
     Block,
     Inline,
-    /// Blocks, in an entry of a list.
+    /// The blocks of an entry of a list.
     Entry,
-    /// A term and its meanings, each of which is blocks.
+    /// A term and its meanings, each of which is a list of blocks.
     Definition,
     Meaning,
-    /// Inlines that are not to be joined with those of other lines.
+    /// Inlines that are not joined with those of other lines.
     Line,
 }
 
-/// Adds the values of a list.
 #[cycle(write)]
 pub fn values(to: &mut Writer, depth: usize, level: Level, list: &[Value]) -> Result<()> {
     let depth = depth.checked_sub(1).context("too deep")?;
@@ -60,14 +59,14 @@ pub fn values(to: &mut Writer, depth: usize, level: Level, list: &[Value]) -> Re
     Ok(())
 }
 
-/// Begins a list, and adds values to it. Who calls it ends the list.
+/// Begins a list, and adds values to it. The caller ends the list.
 #[cycle(write)]
 fn inside(to: &mut Writer, depth: usize, level: Level, list: &Value) -> Result<()> {
     to.begin()?;
     values(to, depth, level, array(list)?)
 }
 
-/// Adds a block. `Figure` is of pandoc 3, `Null` of those before.
+/// Adds a block. `Figure` is of pandoc 3, `Null` of earlier versions.
 #[cycle(write)]
 fn block(to: &mut Writer, depth: usize, kind: &str, content: &Value) -> Result<()> {
     match kind {
@@ -110,7 +109,7 @@ fn end_block(to: &mut Writer, kind: &str, content: &[Value]) -> Result<()> {
     }
 }
 
-/// Adds a line that is no paragraph: a space parts it from the next.
+/// Adds a line that is no paragraph: a space separates it from the next.
 #[cycle(write)]
 fn plain(to: &mut Writer, depth: usize, words: &[Value]) -> Result<()> {
     to.begin_line()?;
@@ -127,7 +126,7 @@ fn figure(to: &mut Writer, depth: usize, [attr, caption, blocks]: &[Value; 3]) -
     to.end(tag::figure, "", Some(attr))
 }
 
-/// Adds a figure as pandoc 2 tells it: an image alone, whose words are the caption too.
+/// Adds a figure of pandoc 2: an image alone, whose words are the caption too.
 #[cycle(write)]
 fn image_figure(to: &mut Writer, depth: usize, image: &Value) -> Result<()> {
     let words = image.pointer("/0/c/1").context("no image")?;
@@ -164,7 +163,7 @@ fn table(to: &mut Writer, depth: usize, table: &[Value; 6]) -> Result<()> {
     to.end(tag::table, "", Some(attr))
 }
 
-/// Adds rows, of which the first columns, as many as `heads`, head the others.
+/// Adds rows, in which the first `heads` columns are heads.
 #[cycle(write)]
 fn rows(
     to: &mut Writer,
@@ -173,7 +172,7 @@ fn rows(
     rows: &Value,
     heads: usize,
 ) -> Result<()> {
-    // (for each column how many rows, the current one too, its last cell takes yet)
+    // (for each column, the number of rows, with the current one, that its last cell still takes)
     let mut taken: Vec<usize> = Vec::new(to.alloc);
     taken.resize(columns.len(), 0)?;
     for row in array(rows)? {
@@ -196,21 +195,21 @@ fn rows(
     Ok(())
 }
 
-/// Whether an inline is an image that pandoc 2 tells to be a figure, by its title.
+/// Returns whether an inline is an image that its title makes a figure in pandoc 2.
 fn is_figure(inline: &Value) -> bool {
     let kind = inline.get("t").and_then(Value::as_str);
     let title = inline.pointer("/c/2/1").and_then(Value::as_str);
     matches!(kind, Some("Image")) && title.is_some_and(|title| title.starts_with("fig:"))
 }
 
-/// Whether an entry of a list is a task: it begins with a box and a space.
+/// Returns whether an entry of a list is a task: it begins with a box and a space.
 fn is_task(entry: &Value) -> bool {
     let first = entry.pointer("/0/c/0/c").and_then(Value::as_str);
     let next = entry.pointer("/0/c/1/t").and_then(Value::as_str);
     matches!(first, Some("☐" | "☒")) && matches!(next, Some("Space"))
 }
 
-/// The element of a heading of that level. HTML has six.
+/// Returns the tag of a heading of that level. HTML has six.
 fn heading(alloc: Global, level: &Value) -> Result<HtmlTag> {
     match level.as_u64().context("no number")? {
         level @ 1..=6 => Ok(HtmlTag::intern(alloc, &format!(in alloc; "h{level}")?)?),
@@ -218,7 +217,6 @@ fn heading(alloc: Global, level: &Value) -> Result<HtmlTag> {
     }
 }
 
-/// Adds an inline.
 #[cycle(write)]
 fn inline(to: &mut Writer, depth: usize, kind: &str, content: &Value) -> Result<()> {
     match kind {

@@ -6,8 +6,8 @@ use examples_pandoc_writer::{Writer, with_number};
 use html_names::{attr, tag};
 use serde_json::Value;
 
-/// The column of a cell: the first from that one on that no cell above takes. Now this one takes it, and
-/// those behind it, as many as `across`.
+/// Returns the column of a cell: the first from `from` on that no cell above takes. Marks it and
+/// those behind it, `across` in all, as taken for `rows` rows.
 pub fn place(taken: &mut [usize], from: usize, rows: usize, across: usize) -> usize {
     let above = taken.iter().skip(from).take_while(|rows| **rows > 0);
     let column = from.saturating_add(above.count());
@@ -17,7 +17,7 @@ pub fn place(taken: &mut [usize], from: usize, rows: usize, across: usize) -> us
     column
 }
 
-/// Ends a cell. Its text stands on the side that it tells, or else its column.
+/// Ends a cell. Its text is aligned as the cell says, or else its column.
 pub fn end_cell(
     to: &mut Writer,
     [attr, own, rows, across, _]: &[Value; 5],
@@ -36,7 +36,7 @@ pub fn end_cell(
     to.end_with(with_number(elem, attr::colspan, across)?, Some(attr))
 }
 
-/// The side of an alignment, if it tells one.
+/// Returns the side of an alignment, or an empty text if it has none.
 fn side(alignment: &Value) -> Result<&'static str> {
     match tag_and_content(alignment)?.0 {
         "AlignLeft" => Ok("left"),
@@ -47,7 +47,7 @@ fn side(alignment: &Value) -> Result<&'static str> {
     }
 }
 
-/// Adds how wide columns are, as parts of the line, if it is told of some.
+/// Adds the widths of columns, as parts of the line, if any is given.
 pub fn widths(to: &mut Writer, columns: &[Value]) -> Result<()> {
     let mut are_told = false;
     to.begin()?;

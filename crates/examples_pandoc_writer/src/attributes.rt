@@ -1,4 +1,4 @@
-//! The attributes of elements, and what is told of them.
+//! The attributes of elements, and warnings about them.
 
 use crate::json::{array, fields, joined, text, two_texts};
 use crate::writer::Writer;
@@ -8,17 +8,17 @@ use html_names::{HtmlAttr, attr};
 use serde_json::Value;
 use std::alloc::Global;
 
-/// The value that tells attributes, if one does: an `id`, classes, and others by their names.
+/// The value with the attributes, if there is one: an `id`, classes, and others by their names.
 pub type Attr<'a> = Option<&'a Value>;
 
-/// Known attributes that get `data-` in front like unknown ones: an `id` and classes stand apart,
-/// addresses are looked at before they are written, and `ping` tells a stranger of each click. The
-/// others run nothing on the elements that are written here (`action`, `srcdoc` ..).
+/// Known attributes that get `data-` in front like unknown ones: an `id` and classes are written by
+/// themselves, addresses are checked before they are written, and `ping` reports each click to a
+/// stranger. The others run nothing on the elements that are written here (`action`, `srcdoc` ..).
 const APART: [&str; 6] = ["class", "href", "id", "ping", "src", "srcset"];
 
 impl Writer {
-    /// Adds an element with attributes: a place if it has an `id`, and a link if it has a place to lead
-    /// to, of that name.
+    /// Adds an element with attributes: as a place if it has an `id`, and as a link if it leads to
+    /// a place, of that name.
     pub fn push(&mut self, elem: HtmlElem, attr: Attr<'_>, dest: Option<&str>) -> Result<()> {
         let (0, Some(attr)) = (self.plain, attr) else {
             return Ok(self.list.element(elem)?);
@@ -36,7 +36,7 @@ impl Writer {
         }
     }
 
-    /// The `id`, if there is one and no earlier element has it.
+    /// Returns the `id`, if there is one and no earlier element has it.
     fn new_id<'a>(&mut self, id: &'a str) -> Result<Option<&'a str>> {
         if id.is_empty() {
             return Ok(None);
@@ -67,7 +67,7 @@ impl Writer {
         Ok(elem)
     }
 
-    /// The element with one attribute more. A width or height with a unit is a property of its style.
+    /// Adds an attribute to the element. A width or height with a unit becomes a css property.
     fn with_other(&mut self, mut elem: HtmlElem, name: &str, value: &str) -> Result<HtmlElem> {
         if matches!(name, "width" | "height") && !value.ends_with(char::is_numeric) {
             elem.css.push(name, value.to_string(self.alloc)?)?;
@@ -91,7 +91,7 @@ fn with_classes(alloc: Global, elem: HtmlElem, classes: &Value) -> Result<HtmlEl
     with_words(elem, attr::class, &classes)
 }
 
-/// The name under which an attribute is written. One that is not known, and so each that is to come,
+/// Returns the name under which an attribute is written. An unknown one, and so any future one,
 /// gets `data-` in front, so that no document brings a script of its own.
 fn name_of(alloc: Global, name: &str) -> Result<String> {
     let attr = HtmlAttr::intern(alloc, name);
@@ -101,7 +101,7 @@ fn name_of(alloc: Global, name: &str) -> Result<String> {
     Ok(format!(in alloc; "{prefix}{name}")?)
 }
 
-/// The element with a text as an attribute, unless the text is empty.
+/// Adds a text as an attribute to the element, unless the text is empty.
 pub fn with_words(elem: HtmlElem, attr: HtmlAttr, words: &str) -> Result<HtmlElem> {
     match words {
         "" => Ok(elem),
@@ -109,7 +109,7 @@ pub fn with_words(elem: HtmlElem, attr: HtmlAttr, words: &str) -> Result<HtmlEle
     }
 }
 
-/// The element with a number as an attribute, unless it is 1, which HTML takes where none is said.
+/// Adds a number as an attribute to the element, unless it is 1, HTML's default.
 pub fn with_number(elem: HtmlElem, attr: HtmlAttr, number: &Value) -> Result<HtmlElem> {
     let alloc = *elem.attrs.0.allocator();
     match number.as_i64().context("no number")? {

@@ -1,4 +1,4 @@
-//! Texts and raw HTML, and what ends lists of inlines and of blocks.
+//! Texts and raw HTML, and the ends of lists of inlines and of blocks.
 
 use crate::attributes::{Attr, with_number, with_words};
 use crate::json::{fields, joined, tag_and_content, two_texts};
@@ -27,7 +27,7 @@ impl Writer {
         Ok(self.list.element(task)?)
     }
 
-    /// Adds a space, but behind a line break, as raw HTML may have made.
+    /// Adds a space, except behind a line break, which raw HTML may have made.
     pub fn space(&mut self) -> Result<()> {
         match self.list.items().last().map(|pair| &pair.item) {
             Some(Item::LineBreak(_)) => Ok(()),
@@ -35,8 +35,8 @@ impl Writer {
         }
     }
 
-    /// Adds raw HTML as a text, or drops it: it would have to pass unescaped. What is raw in another
-    /// format is for other writers.
+    /// Adds raw HTML as a text, or drops it, since it would not be escaped. Ignores other raw
+    /// formats, which are for other writers.
     pub fn raw(&mut self, raw: &Value) -> Result<()> {
         let (format, html) = two_texts(raw)?;
         let trimmed = html.trim();
@@ -68,7 +68,7 @@ impl Writer {
         self.end(tag::pre, "", Some(attr))
     }
 
-    /// Ends a citation. What stands around the works is repeated in its text.
+    /// Ends a citation. Its text repeats what stands around the works.
     pub fn end_citation(&mut self, works: &Value) -> Result<()> {
         let works = joined(self.alloc, works, "/citationId")?;
         let cites = HtmlAttr::intern(self.alloc, "data-cites")?;
@@ -78,8 +78,8 @@ impl Writer {
         self.end_with(span.with_attr(cites, works)?, None)
     }
 
-    /// Ends a list with numbers: the first, their style, and what stands around them, for which HTML has
-    /// nothing.
+    /// Ends a list with numbers: their first and their style. HTML has nothing for what stands
+    /// around them.
     pub fn end_ordered_list(&mut self, numbering: &Value) -> Result<()> {
         let [first, style, _] = fields::<3>(numbering)?;
         let style = match tag_and_content(style)?.0 {
@@ -95,7 +95,7 @@ impl Writer {
         self.end_with(with_words(list, attr::type_, style)?, None)
     }
 
-    /// Ends a footnote, keeps it, and adds its mark.
+    /// Ends a footnote, stores it, and adds its mark.
     pub fn end_note(&mut self) -> Result<()> {
         let content = self.end_list();
         if self.plain == 0 {
@@ -131,7 +131,7 @@ impl Writer {
     }
 }
 
-/// The name of the place to which an address leads, if it is in this document. The top needs none.
+/// Returns the name of the place in this document that an address leads to. The top needs none.
 fn name_in(alloc: Global, address: &str) -> Result<Option<String>> {
     match fragment_in(alloc, address)? {
         Some(fragment) if !fragment.eq_ignore_ascii_case("top") => {

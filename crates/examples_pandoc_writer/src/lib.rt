@@ -1,5 +1,5 @@
-//! For `examples_pandoc`: what is kept while a page is written, the attributes of its elements, and how
-//! links, images, footnotes and raw HTML are added to it.
+//! For `examples_pandoc`: the state of writing a page, the attributes of its elements, and the
+//! calls that add links, images, footnotes and raw HTML to it.
 #![tactic(auto)]
 
 mod attributes;

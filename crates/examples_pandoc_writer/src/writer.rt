@@ -1,4 +1,4 @@
-//! What is kept while a page is written.
+//! The state of writing a page.
 
 use crate::attributes::{Attr, with_words};
 use anyhow::Result;
@@ -8,31 +8,31 @@ use std::alloc::Global;
 use std::collections::BTreeSet;
 use std::mem;
 
-/// What is kept while a page is written.
+/// The state of writing a page.
 #[derive(Drop)]
 pub struct Writer {
     pub alloc: Global,
-    /// Whether raw HTML is shown as a text. Else it is dropped.
+    /// Whether raw HTML is shown as a text; otherwise it is dropped.
     pub raw_as_text: bool,
-    /// The list to which is added, whose span is the number of the block.
+    /// The current list, whose span is the number of the block.
     pub list: ItemList,
     /// The lists around it.
     outer: Vec<ItemList>,
-    /// Of how many of these only the text is wanted, without attributes, notes and warnings.
+    /// How many of these lists need only their text, without attributes, notes and warnings.
     pub plain: usize,
-    /// How many items stood in the list where a line ended, if one did.
+    /// The number of items in the list when a line ended, if one did.
     line_end: Option<usize>,
     /// Whether the next text is the box of a task.
     pub is_task: bool,
     pub places: NamedPlaces,
     pub ids: BTreeSet<String>,
     pub notes: Notes,
-    /// What could not be written as it is.
+    /// Warnings of what could not be written as it is.
     pub warnings: Vec<String>,
 }
 
 impl Writer {
-    /// At the beginning of a page.
+    /// Starts a page.
     pub fn new(alloc: Global, raw_as_text: bool) -> Self {
         Writer {
             alloc,
@@ -49,7 +49,7 @@ impl Writer {
         }
     }
 
-    /// Keeps a warning of the block.
+    /// Stores a warning about the current block.
     pub fn warn(&mut self, what: &str, which: &str) -> Result<()> {
         if self.plain == 0 {
             let block = self.list.span().0;
@@ -59,12 +59,12 @@ impl Writer {
         Ok(())
     }
 
-    /// An element with nothing else.
+    /// Creates an element with nothing else.
     pub fn empty(&self, tag: HtmlTag) -> HtmlElem {
         self.list.new_element(tag)
     }
 
-    /// Begins a line that is no paragraph, with a space behind another such line.
+    /// Begins a line that is no paragraph, after a space if another such line stands before it.
     pub fn begin_line(&mut self) -> Result<()> {
         if self.line_end == Some(self.list.items().len()) {
             self.list.space()?;
@@ -77,7 +77,7 @@ impl Writer {
         self.line_end = Some(self.list.items().len());
     }
 
-    /// Begins a line of several, behind a line break unless it is the first.
+    /// Begins one of several lines, after a line break unless it is the first.
     pub fn begin_next_line(&mut self) -> Result<()> {
         if !self.list.is_empty() {
             self.list.line_break()?;
@@ -85,14 +85,14 @@ impl Writer {
         Ok(())
     }
 
-    /// Begins the list of what stands in an element, a link, an image or a note.
+    /// Begins the list for the content of an element, a link, an image or a note.
     pub fn begin(&mut self) -> Result<()> {
         let inside = self.list.new_list();
         self.line_end = None;
         Ok(self.outer.push(mem::replace(&mut self.list, inside))?)
     }
 
-    /// Ends that list.
+    /// Ends that list, and returns its items.
     pub fn end_list(&mut self) -> Vec<Pair> {
         let around = self.outer.pop().unwrap_or(self.list.new_list());
         self.line_end = None;
@@ -120,13 +120,13 @@ impl Writer {
         self.end(tag, "", attr)
     }
 
-    /// Begins a list of which only the text is wanted.
+    /// Begins a list that needs only its text.
     pub fn begin_plain(&mut self) -> Result<()> {
         self.plain = self.plain.saturating_add(1);
         self.begin()
     }
 
-    /// Ends that list. The answer is its text.
+    /// Ends that list, and returns its text.
     pub fn end_plain(&mut self) -> Result<String> {
         self.plain = self.plain.saturating_sub(1);
         let mut text = String::new(self.alloc);

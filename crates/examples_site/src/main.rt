@@ -1,6 +1,6 @@
-//! A site maker: of each page `NAME.txt` of a folder, in the text form that `examples_site_pages` tells in
-//! `page.rt`, it makes a page `NAME.html`. Where a link leads nowhere, it says where, and writes none. Where
-//! a browser would read a page otherwise than it is meant, it says so, and writes all.
+//! A site maker: turns each page `NAME.txt` of a folder, in the text form that `page.rt` of
+//! `examples_site_pages` describes, into a page `NAME.html`. Reports a link that leads nowhere, and
+//! then writes no page. Reports what a browser would move, and writes all pages.
 #![tactic(auto)]
 
 use anyhow::{Context, Result, ensure};
@@ -23,7 +23,7 @@ fn main(rt: HostRuntime) -> ExitCode {
     }
 }
 
-/// Reads the words, and makes the site. The answer is the status.
+/// Parses the arguments, makes the site, and returns the exit status.
 fn run(rt: &HostRuntime) -> Result<ExitCode> {
     let words: Vec<String> = env::args(rt)?.collect(rt.alloc())?;
     match command(rt.alloc())?.try_get_matches_from(&words) {
@@ -35,7 +35,7 @@ fn run(rt: &HostRuntime) -> Result<ExitCode> {
     }
 }
 
-/// What the program is asked for.
+/// Describes the command line.
 fn command<'a>(alloc: Global) -> Result<Command<'a>> {
     let command = with_options(alloc, Command::new(alloc, "examples_site"))?
         .arg(folder(alloc, "PAGES", "The folder with the pages, NAME.txt"))?
@@ -54,7 +54,7 @@ fn folder<'a>(alloc: Global, name: &'a str, help: &'a str) -> Arg<'a> {
     Arg::new(alloc, name).required(true).help(help)
 }
 
-/// Makes all pages, and then writes them. The answer is the status.
+/// Makes all pages, then writes them, and returns the exit status.
 fn make_site(rt: &HostRuntime, matches: &ArgMatches<'_>) -> Result<ExitCode> {
     let folder = matches.get_str("PAGES").context("no PAGES")?;
     let output = matches.get_str("OUTPUT").context("no OUTPUT")?;
@@ -80,7 +80,7 @@ fn read_page(rt: &HostRuntime, site: &mut Site<'_>, folder: &str, name: String) 
     site.add_page(name, path, &text)
 }
 
-/// The names of the pages of a folder, in order.
+/// Returns the names of the pages of a folder, in order.
 fn page_names(rt: &HostRuntime, folder: &str) -> Result<Vec<String>> {
     let mut names = names_in(rt, folder)?;
     ensure!(!names.is_empty(), "{folder}: no page NAME.txt");
@@ -96,7 +96,7 @@ fn names_in(rt: &HostRuntime, folder: &str) -> Result<Vec<String>> {
     Ok(names)
 }
 
-/// Adds the name of the page that a file is, if it is one.
+/// Adds the name of the page in a file, if it is one.
 fn add_name(alloc: Global, entry: &DirEntry, names: &mut Vec<String>) -> Result<(), AllocError> {
     if let Some(name) = entry.file_name().strip_suffix(".txt") {
         names.push(name.to_string(alloc)?)?;
@@ -104,7 +104,7 @@ fn add_name(alloc: Global, entry: &DirEntry, names: &mut Vec<String>) -> Result<
     Ok(())
 }
 
-/// The HTML text of each page.
+/// Returns the HTML text of each page.
 fn texts(rt: &HostRuntime, site: &Site<'_>, options: &HtmlOptions) -> Result<Vec<String>> {
     let mut hrefs = BTreeMap::new(site.alloc);
     let documents = documents(rt, site, &mut hrefs)?;
@@ -119,7 +119,7 @@ fn texts(rt: &HostRuntime, site: &Site<'_>, options: &HtmlOptions) -> Result<Vec
     Ok(texts)
 }
 
-/// The document of each page, whose place and headings are added to the others.
+/// Makes the document of each page, and collects the addresses of pages and headings.
 fn documents(rt: &HostRuntime, site: &Site<'_>, hrefs: &mut Hrefs) -> Result<Vec<HtmlDocument>> {
     let mut documents = Vec::new(site.alloc);
     for page in &site.pages {
@@ -148,7 +148,7 @@ fn write_page(rt: &HostRuntime, page: &Page, text: &str, folder: &str) -> Result
     fs::write(rt, &path, text).context(&path)
 }
 
-/// Says at each hundredth page how many are done.
+/// Reports every hundred pages how many are done.
 fn progress(rt: &HostRuntime, done: usize, what: &str) -> Result<()> {
     if done % 100 == 0 {
         eprintln!(rt; "{done} pages {what}")?;

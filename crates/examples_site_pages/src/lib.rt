@@ -1,7 +1,7 @@
-//! For `examples_site`: pages in a small text form, and the HTML text of each, with a navigation and with
-//! links that lead. No file is read or written here. Besides out of memory, what is refused in a page is
-//! told with its file and line: another form, what HTML can't hold, a link that leads nowhere. What browsers
-//! read otherwise is told so too, and not refused.
+//! For `examples_site`: pages in a small text form, and the HTML text of each, with a navigation
+//! and with links that lead. Reads and writes no files. Besides out of memory, a page is refused,
+//! with its file and line, if it has another form, holds what HTML can't hold, or has a link that
+//! leads nowhere. What browsers would move is reported in the same way, but not refused.
 #![tactic(auto)]
 
 mod page;

@@ -18,7 +18,7 @@ use typst_html::{
     HtmlElem, HtmlTag, Item, ItemList, Location, Pair, Span, attr, charsets, push_located, tag,
 };
 
-/// A page. What stands in a line has its number as its span.
+/// A page. The span of everything in a line is the line's number.
 #[derive(Drop)]
 pub struct Page {
     /// Its name.
@@ -31,19 +31,19 @@ pub struct Page {
     pub location: Location,
     /// The locations of its headings.
     pub headings: BTreeSet<Location>,
-    /// What its lines say.
+    /// Its content.
     pub items: Vec<Pair>,
 }
 
 impl Page {
-    /// The file and the line of a span.
+    /// Returns the file and the line of a span.
     pub fn place(&self, alloc: Global, span: Span) -> Result<String, AllocError> {
         format!(in alloc; "{}:{}", self.path, span.0)
     }
 }
 
 impl Site<'_> {
-    /// Adds the page of that name with that text.
+    /// Adds a page with that name and text.
     pub fn add_page(&mut self, name: String, path: String, text: &str) -> Result<()> {
         ensure!(
             !name.as_str().contains('#'),
@@ -71,7 +71,7 @@ impl Site<'_> {
         })
     }
 
-    /// Adds what a line says to a page.
+    /// Adds the content of a line to a page.
     fn read_line(&mut self, page: &mut Page, line: &str, span: Span) -> Result<()> {
         if span == Span(1) {
             self.read_title(page, line, span)
@@ -117,13 +117,13 @@ impl Site<'_> {
         Ok(page.items.push(Pair::from(image.spanned(span)))?)
     }
 
-    /// An element with that text.
+    /// Makes an element with that text.
     fn element(&self, tag: HtmlTag, text: &str, span: Span) -> Result<HtmlElem> {
         let element = HtmlElem::new(self.alloc, tag).spanned(span);
         Ok(element.with_text(self.alloc, text)?)
     }
 
-    /// A text of the page of that name, in which `[words](target)` is a link.
+    /// Makes the items of a text in the page of that name, in which `[words](target)` is a link.
     fn text_with_links(&mut self, page: &str, text: &str, span: Span) -> Result<Vec<Pair>> {
         let mut list = ItemList::new(self.alloc).spanned(span);
         let mut parts = text.split('[');
@@ -134,7 +134,7 @@ impl Site<'_> {
         Ok(list.into_items())
     }
 
-    /// Adds what stands behind a `[`, up to the next one.
+    /// Adds the part of a text behind a `[`, up to the next one.
     fn push_part(&mut self, list: &mut ItemList, page: &str, part: &str) -> Result<()> {
         let Some((words, target, behind)) = link_in(part) else {
             list.text("[")?;
@@ -148,7 +148,7 @@ impl Site<'_> {
     }
 }
 
-/// The title that a line says.
+/// Returns the title in a line.
 fn title_in(line: &str) -> Result<&str> {
     let title = line.strip_prefix("title ").unwrap_or_default().trim();
     ensure!(!title.is_empty(), "no `title text`");
@@ -157,20 +157,20 @@ fn title_in(line: &str) -> Result<&str> {
     Ok(title)
 }
 
-/// A word, and the text behind it.
+/// Splits a text into a word and the text behind it.
 fn word_and_text(text: &str) -> Option<(&str, &str)> {
     let (word, rest) = text.trim().split_once(char::is_whitespace)?;
     Some((word, rest.trim_start()))
 }
 
-/// The words and the target of a link behind its `[`, and what stands behind the link.
+/// Splits what follows a `[` into the words and the target of a link, and the text behind it.
 fn link_in(part: &str) -> Option<(&str, &str, &str)> {
     let (words, rest) = part.split_once("](")?;
     let (target, behind) = rest.split_once(')')?;
     Some((words, target, behind))
 }
 
-/// Adds an entry to the list that stands last, or to a new one.
+/// Adds an entry to the list that is the last item, or to a new one.
 fn push_entry(alloc: Global, items: &mut Vec<Pair>, entry: HtmlElem) -> Result<()> {
     if let Some(last) = items.last_mut()
         && let Item::Element(list) = &mut last.item

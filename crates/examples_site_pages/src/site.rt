@@ -1,4 +1,4 @@
-//! The pages of a site as HTML: each with a navigation, and with links that lead.
+//! The pages of a site as HTML, each with a navigation and with links that lead.
 
 use crate::page::Page;
 use anyhow::{Context, Result, anyhow};
@@ -12,10 +12,10 @@ use typst_html::{
     href_to, html, html_document_for_bundle, misnested, push_located, resolve_links, tag,
 };
 
-/// How deep elements may stand in one another.
+/// The greatest depth of items.
 const DEEPEST: usize = 50;
 
-/// What is percent-encoded in the names of pages.
+/// The characters that are percent-encoded in the names of pages.
 const RESERVED: AsciiSet = ascii_set!(
     NON_ALPHANUMERIC
         .remove(b'-')
@@ -24,24 +24,24 @@ const RESERVED: AsciiSet = ascii_set!(
         .remove(b'~')
 );
 
-/// Where locations are, as links in other pages name them.
+/// The addresses of locations, for links in other pages.
 pub type Hrefs = BTreeMap<Location, String>;
 
 /// A site.
 #[derive(Drop)]
 pub struct Site<'a> {
-    /// What memory is taken from.
+    /// The allocator.
     pub alloc: Global,
     /// Its title.
     pub title: Option<&'a str>,
-    /// Its pages, by their names in order.
+    /// Its pages, in the order of their names.
     pub pages: Vec<Page>,
-    /// The locations of what links name, `page#label` or `page`.
+    /// The locations of link targets, `page#label` or `page`.
     pub places: NamedPlaces,
 }
 
 impl<'a> Site<'a> {
-    /// A site of that title, without pages.
+    /// Creates a site with that title, without pages.
     pub fn new(alloc: Global, title: Option<&'a str>) -> Site<'a> {
         Site {
             alloc,
@@ -53,7 +53,7 @@ impl<'a> Site<'a> {
 }
 
 impl Site<'_> {
-    /// The document of a page, whose headings have anchors.
+    /// Makes the document of a page, with anchors for its headings.
     pub fn document(&self, page: &Page) -> Result<HtmlDocument> {
         let mut document = self.document_without_anchors(page)?;
         let anchors = create_link_anchors(self.alloc, &mut document, &page.headings)?;
@@ -66,7 +66,7 @@ impl Site<'_> {
         Ok(html_document_for_bundle(self.alloc, &items, &info, &[], DEEPEST)?)
     }
 
-    /// All that is seen of a page.
+    /// Makes everything visible in a page.
     fn items(&self, page: &Page) -> Result<Vec<Pair>> {
         let items = page.items.iter().map(|item| item.try_clone());
         let items = items.try_collect(self.alloc)?;
@@ -75,7 +75,7 @@ impl Site<'_> {
         Ok(vec![in self.alloc; Pair::from(navigation), Pair::from(main)]?)
     }
 
-    /// What is known of a page besides.
+    /// Returns the information about a page.
     fn info(&self, page: &Page) -> Result<DocumentInfo> {
         let title = match self.title {
             Some(title) => format!(in self.alloc; "{} - {title}", page.title)?,
@@ -87,7 +87,7 @@ impl Site<'_> {
         })
     }
 
-    /// Links to all pages, that to the current one marked.
+    /// Makes the links to all pages, and marks that to the current one.
     fn navigation(&self, current: &Page) -> Result<HtmlElem> {
         let mut entries = Vec::new(self.alloc);
         for page in &self.pages {
@@ -98,7 +98,7 @@ impl Site<'_> {
         Ok(HtmlElem::new(self.alloc, tag::nav).with_item(self.alloc, Pair::from(list))?)
     }
 
-    /// Adds where a page is, and where its headings are, by their anchors in its document.
+    /// Adds the address of a page, and those of its headings, by their anchors in its document.
     pub fn add_hrefs(&self, hrefs: &mut Hrefs, page: &Page, document: &HtmlDocument) -> Result<()> {
         let name = utf8_percent_encode(&page.name, RESERVED);
         let file = format!(in self.alloc; "{name}.html")?;
@@ -111,7 +111,7 @@ impl Site<'_> {
         Ok(())
     }
 
-    /// Where a heading is, if it has an anchor in the document of that file.
+    /// Returns the address of a heading, if it has an anchor in the document of that file.
     fn heading_href(
         &self,
         file: &str,
@@ -125,7 +125,7 @@ impl Site<'_> {
         Ok(Some(format!(in self.alloc; "{file}{fragment}")?))
     }
 
-    /// What of the document of a page browsers read otherwise, with the file and the line of each.
+    /// Returns what browsers would move in the document of a page, each with its file and line.
     pub fn misnested(&self, page: &Page, document: &HtmlDocument) -> Result<Vec<String>> {
         let (root, mut told) = (document.root(), Vec::new(self.alloc));
         for node in &misnested(self.alloc, root)? {
@@ -139,7 +139,7 @@ impl Site<'_> {
         Ok(told)
     }
 
-    /// The HTML text of the document of a page, all of whose links lead.
+    /// Returns the HTML text of the document of a page, in which all links must lead.
     pub fn text(
         &self,
         page: &Page,
@@ -166,7 +166,7 @@ impl Site<'_> {
     }
 }
 
-/// An entry of a list, with a link to a page.
+/// Makes an entry of a list, with a link to a page.
 fn entry(alloc: Global, page: &Page, is_current: bool) -> Result<HtmlElem> {
     let mut link = HtmlElem::new(alloc, tag::a).with_text(alloc, &page.title)?;
     if is_current {
@@ -177,14 +177,14 @@ fn entry(alloc: Global, page: &Page, is_current: bool) -> Result<HtmlElem> {
     Ok(HtmlElem::new(alloc, tag::li).with_body(items))
 }
 
-/// Gives each link below a root that has no `href` that of its destination.
+/// Gives each link below a root that has no `href` the one of its destination.
 fn set_hrefs(alloc: Global, root: &mut HtmlElement, hrefs: &Hrefs) -> Result<()> {
     let children = mem::replace(&mut root.children, Vec::new(alloc));
     root.children = nodes_with_hrefs(alloc, children, hrefs)?;
     Ok(())
 }
 
-/// The nodes, in which each link that has no `href` gets that of its destination.
+/// Gives each link in the nodes that has no `href` the one of its destination.
 #[cycle(hrefs)]
 fn nodes_with_hrefs(alloc: Global, nodes: Vec<HtmlNode>, hrefs: &Hrefs) -> Result<Vec<HtmlNode>> {
     let mut made = Vec::with_capacity(alloc, nodes.len())?;
@@ -197,7 +197,7 @@ fn nodes_with_hrefs(alloc: Global, nodes: Vec<HtmlNode>, hrefs: &Hrefs) -> Resul
     Ok(made)
 }
 
-/// A node behind a start tag with that destination, if there is one.
+/// Does so in a node behind a start tag with that destination, if there is one.
 #[cycle(hrefs)]
 fn node_with_href(
     alloc: Global,
@@ -215,7 +215,7 @@ fn node_with_href(
     }
 }
 
-/// The attributes of an element behind such a tag, the first of which is an `href` where there was none.
+/// Adds an `href` in front of the attributes of an element behind such a tag, unless it has one.
 fn attrs_with_href(
     mut attrs: HtmlAttrs,
     dest: Option<Location>,
@@ -229,7 +229,7 @@ fn attrs_with_href(
     Ok(attrs)
 }
 
-/// The destination of the nearest start tag before what follows this node, with tags alone between.
+/// Returns the destination that counts right behind a node, given that right before it.
 fn dest_behind(dest: Option<Location>, node: &HtmlNode) -> Option<Location> {
     match node {
         HtmlNode::Tag(Tag::Start { dest: Some(to), .. }) => Some(*to),

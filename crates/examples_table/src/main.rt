@@ -1,11 +1,11 @@
-//! A table: CSV from standard input becomes an HTML page with a table on standard output.
+//! Turns CSV on standard input into an HTML page with a table on standard output.
 //!
 //! ```text
 //! cd crates/examples_table && rt try -- --title Pantry --pretty < stdin
 //! ```
 //!
-//! The status is 0 where the page was written, 2 where the words are wrong, and 1 for all else. What
-//! was wrong then stands on standard error, with the row that it lies in.
+//! Exits with 0 if the page is written, with 2 if the arguments are wrong, and with 1 otherwise.
+//! Reports errors on standard error, with the row.
 #![tactic(auto)]
 
 mod table;
@@ -27,7 +27,7 @@ fn main(rt: HostRuntime) -> ExitCode {
     }
 }
 
-/// Reads the words, and writes the page. The answer is the status.
+/// Parses the arguments, writes the page, and returns the exit status.
 fn run(rt: &HostRuntime) -> Result<ExitCode> {
     let words: Vec<String> = env::args(rt)?.collect(rt.alloc())?;
     match command(rt.alloc())?.try_get_matches_from(&words) {
@@ -39,20 +39,20 @@ fn run(rt: &HostRuntime) -> Result<ExitCode> {
     }
 }
 
-/// Writes the page of the records on standard input. The answer is the status.
+/// Writes the page of the records on standard input, and returns the exit status.
 fn write_page(rt: &HostRuntime, matches: &ArgMatches<'_>) -> Result<ExitCode> {
     let html = page(rt.alloc(), rt.stdin(), &settings(matches)?)?;
     print!(rt; "{html}").context("standard output")?;
     Ok(ExitCode::SUCCESS)
 }
 
-/// The words that the program takes.
+/// Describes the command line.
 fn command<'a>(alloc: Global) -> Result<Command<'a>> {
     let title = Arg::new(alloc, "title")
         .long("title")
         .value_name("TEXT")
         .required(true)
-        .help("The page's title, which is the table's caption too");
+        .help("The title of the page, and the caption of the table");
     let lang = Arg::new(alloc, "lang")
         .long("lang")
         .value_name("TAG")
@@ -70,7 +70,7 @@ fn command<'a>(alloc: Global) -> Result<Command<'a>> {
     Ok(command)
 }
 
-/// What the words say of the page.
+/// Returns the settings that the arguments give.
 fn settings<'a>(matches: &ArgMatches<'a>) -> Result<Settings<'a>> {
     Ok(Settings {
         title: matches.get_str("title").context("no title")?,

@@ -1,4 +1,4 @@
-//! The page of a table, from the records of its rows.
+//! The page with a table, from the records of its rows.
 
 use anyhow::{Error, Result, ensure};
 use csv::{Reader, StringRecord};
@@ -9,24 +9,24 @@ use typst_html::{
     export, tag,
 };
 
-/// How deep items may stand in one another. In a table they are four deep.
+/// The greatest depth of items. In a table they are four deep.
 const DEPTH_LIMIT: usize = 50;
 
 /// The span of a text that is in no row. A text in a row has the row's number: the head is row 1.
 const NO_ROW: Span = Span(0);
 
-/// What is known of the page besides its records.
+/// The settings of the page, besides its records.
 #[derive(Clone, Copy)]
 pub(crate) struct Settings<'a> {
     /// The title of the page, and the caption of the table.
     pub(crate) title: &'a str,
     /// The language of all texts.
     pub(crate) lang: &'a str,
-    /// Whether the HTML text is pretty.
+    /// Whether to lay the HTML text out.
     pub(crate) pretty: bool,
 }
 
-/// The HTML text of a page with a table: its head is the first record, its body all others.
+/// Returns the HTML text of a page with a table: the first record is its head, all others its body.
 pub(crate) fn page<R: Read + Drop>(
     alloc: Global,
     input: R,
@@ -41,7 +41,7 @@ pub(crate) fn page<R: Read + Drop>(
     export(alloc, &items, &info, &[], DEPTH_LIMIT, &options, &()).map_err(with_row)
 }
 
-/// What is known of the page besides its table.
+/// Returns the information about the page.
 fn info(alloc: Global, settings: &Settings<'_>) -> Result<DocumentInfo> {
     let title = String::from_str(alloc, settings.title)?;
     let lang = String::from_str(alloc, settings.lang)?;
@@ -52,7 +52,7 @@ fn info(alloc: Global, settings: &Settings<'_>) -> Result<DocumentInfo> {
     })
 }
 
-/// The table with its caption, its head and its body.
+/// Makes the table with its caption, head and body.
 fn table<R: Read + Drop>(alloc: Global, mut reader: Reader<R>, title: &str) -> Result<HtmlElem> {
     let mut parts = Vec::new(alloc);
     let caption = HtmlElem::new(alloc, tag::caption).with_text(alloc, title)?;
@@ -62,7 +62,7 @@ fn table<R: Read + Drop>(alloc: Global, mut reader: Reader<R>, title: &str) -> R
     Ok(HtmlElem::new(alloc, tag::table).with_body(parts))
 }
 
-/// The head of the table, which is its first row.
+/// Makes the head of the table from the first record.
 fn head(alloc: Global, record: &StringRecord) -> Result<HtmlElem> {
     ensure!(
         !record.is_empty(),
@@ -72,7 +72,7 @@ fn head(alloc: Global, record: &StringRecord) -> Result<HtmlElem> {
     Ok(HtmlElem::new(alloc, tag::thead).with_item(alloc, Pair::from(row))?)
 }
 
-/// The body of the table, all rows behind the first.
+/// Makes the body of the table from all other records.
 fn body<R: Read>(alloc: Global, reader: &mut Reader<R>) -> Result<HtmlElem> {
     let mut rows = Vec::new(alloc);
     for record in reader.records() {
@@ -81,7 +81,7 @@ fn body<R: Read>(alloc: Global, reader: &mut Reader<R>) -> Result<HtmlElem> {
     Ok(HtmlElem::new(alloc, tag::tbody).with_body(rows))
 }
 
-/// A row, whose cells are elements of that name.
+/// Makes a row, whose cells are elements with that name.
 fn row(alloc: Global, record: &StringRecord, name: &HtmlTag) -> Result<HtmlElem> {
     let position = record.position();
     let row = position.map_or(NO_ROW, |at| Span(at.record.saturating_add(1)));
@@ -94,7 +94,7 @@ fn row(alloc: Global, record: &StringRecord, name: &HtmlTag) -> Result<HtmlElem>
     Ok(HtmlElem::new(alloc, tag::tr).with_body(cells))
 }
 
-/// Where a field stands in its cell: a number at the right, all else as the browser has it.
+/// Aligns a field in its cell: a number on the right, anything else as the browser does.
 fn alignment(alloc: Global, field: &str) -> Result<Properties> {
     let mut css = Properties::build(alloc, ());
     if field.parse::<f64>().is_ok_and(f64::is_finite) {
@@ -103,7 +103,7 @@ fn alignment(alloc: Global, field: &str) -> Result<Properties> {
     Ok(css.finish())
 }
 
-/// The fault, and the row in which it lies.
+/// Adds to a fault the row that it is in.
 fn with_row(fault: ExportFault) -> Error {
     match (fault.number(), fault.span()) {
         (0, _) => Error::from(fault),

@@ -1,4 +1,4 @@
--- The words of its parts, which the contracts of what it passes on are in.
+-- The definitions of its parts that the contracts of its re-exports use.
 pub use Rattle.html_dom_tree.specs.Attributes
 pub use Rattle.html_dom_tree.specs.FrameFree
 pub use Rattle.html_dom_tree.specs.FrameViews

@@ -1,4 +1,4 @@
-//! Laws of trees, documents, positions and anchors, each the contract of a function.
+//! Laws of trees, documents, positions and anchors, as contracts of functions.
 
 pub use html_dom_check::laws as check;
 pub use html_dom_document::laws::{document, introspect};

@@ -1,9 +1,9 @@
-//! The tree of an HTML document: elements, texts, frames and tags, the document around them, where its
-//! located elements stand, the anchors that links lead to, what browsers would not leave where it is, and
-//! the tree as one list.
+//! The tree of an HTML document: elements, texts, frames and tags, the document around them, the
+//! positions of its located elements, the anchors of links, the nodes that browsers would not leave
+//! in place, and the tree as one list.
 //!
-//! Each name is of one of the parts `html_dom_tree`, `html_dom_document`, `html_dom_link`,
-//! `html_dom_check`, `html_dom_nest` and `html_dom_flat`; users find them here.
+//! Re-exports the public names of its parts `html_dom_tree`, `html_dom_document`, `html_dom_link`,
+//! `html_dom_check`, `html_dom_nest` and `html_dom_flat` that users need.
 //!
 //! ```
 //! use html_dom::{HtmlElement, HtmlNode, Span};

@@ -1,157 +1,81 @@
 -- The path of what is found in elements leads to its element.
-use Rattle.std.proofs.Common.{◌≡◌, ℕ, suc, ◌+◌, Bool, true, false, List, [], ◌∷◌, ◌++◌, Some, refl, ap, ◌∙◌, append_assoc, arith}
+use Rattle.std.proofs.Common.{◌≡◌, ℕ, suc, ◌+◌, Bool, true, false, List, [], ◌∷◌, ◌++◌, Some, refl, sym, append_assoc, subst, arith}
 use Rattle.std.specs.List.{All, Contains}
 use Rattle.std.specs.Prelude.{not, if◌then◌else◌, option_and_then}
 use Rattle.std.proofs.lemmas.List.Elements.{All-append, All-cons, All-contains_itself, All-filter, All-head, All-map, All-nil, All-tail, All-weaker}
 use Rattle.html_names.specs.Names.{stands_in}
 use Rattle.html_dom_document.specs.Documents as documents
-use Rattle.html_dom_document.specs.Documents.{node_of}
 use Rattle.html_dom_link.specs.Indicated.{element_places, leads}
 use Rattle.html_dom_link.specs.NewNames.{Name, with_used_name}
-use Rattle.html_dom_tree.specs.FrameFree.{NodeIsFrameFree, NodesAreFrameFree}
-use Rattle.html_dom_tree.specs.Tree.{NodeView, tag_node, text_node, element_node, frame_node, NodesView, none, node, ElementView}
+use Rattle.html_dom_tree.specs.FrameFree.{ElementIsFrameFree}
+use Rattle.html_dom_tree.specs.Tree.{TextPair, Head, NodeView, tag_node, text_node, element_node, frame_node, NodesView, none, node, ElementView}
 use Rattle.html_dom_check.specs.CheckLaws.{AllFindingsStand, StandsAt}
 use Rattle.html_dom_check.specs.ElementPaths.{element_at}
-use Rattle.html_dom_check.specs.Fragments.{fragments_at, fragment_links}
-use Rattle.html_dom_check.specs.PlacedTexts.{Placed, element_placed, placed_at, node_placed, nodes_placed}
-use Rattle.html_dom_check.specs.RepeatedIds.{ids_at, placed_ids, repeated}
+use Rattle.html_dom_check.specs.Fragments.{fragments, fragment_links}
+use Rattle.html_dom_check.specs.PlacedTexts.{Placed, element_placed, node_placed, nodes_placed, of_elements, placed_at}
+use Rattle.html_dom_check.specs.RepeatedIds.{ids, placed_ids, repeated}
+use Rattle.html_dom_check.proofs.TreeTexts.{without_frames}
 
--- the texts that nodes have, of which none stands elsewhere than in an element
-module _ (texts : NodeView → List (List ℕ)) where
-  abbrev AreOfElements : NodesView → Type 0
-  AreOfElements none = Unit {0}
-  AreOfElements (node (tag_node t) ns) = (texts (tag_node t) ≡ []) × AreOfElements ns
-  AreOfElements (node (text_node s span) ns) = (texts (text_node s span) ≡ []) × AreOfElements ns
-  AreOfElements (node (element_node h kids) ns) = AreOfElements kids × AreOfElements ns
-  AreOfElements (node (frame_node f) ns) = (texts (frame_node f) ≡ []) × AreOfElements ns
-
-  -- it stands at one of these nodes, which are children from an index on, or below it
-  record IsBelow (parent : List ℕ) (i : ℕ) (ns : NodesView) (p : Placed) : Type 0 where
-    child : ℕ
-    index : ℕ
-    rest : List ℕ
-    element : ElementView
-    is : index ≡ i + child
-    path : p.0 ≡ parent ++ index ∷ rest
-    found : option_and_then (element_at rest) (documents.element_at ns child) ≡ Some element
-    told : Contains (texts (node_of element)) p.1
+-- the texts that elements have
+module _ (own : List ℕ → List TextPair → List (List ℕ)) where
+  -- it holds of the texts of each element at or below nodes, which are children from an index on
+  abbrev HoldsBelow : (P : Placed → Type 0) (parent : List ℕ) (i : ℕ) (ns : NodesView) → Type 0
+  HoldsBelow P parent i ns = (index child : ℕ) → index ≡ i + child → (rest : List ℕ) (a : ElementView)
+      → option_and_then (element_at rest) (documents.element_at ns child) ≡ Some a
+      → (text : List ℕ) → Contains (own a.0.name a.0.attrs) text → P (parent ++ index ∷ rest, text)
 
   -- one node further on
-  further : (parent : List ℕ) (i : ℕ) (n : NodeView) (ns : NodesView) (p : Placed) →
-      IsBelow parent (suc i) ns p → IsBelow parent i (node n ns) p
-  further parent i n ns p b = record {
-    child = suc b.child;
-    index = b.index;
-    rest = b.rest;
-    element = b.element;
-    is = omega (arith, b.is);
-    path = b.path;
-    found = b.found;
-    told = b.told;
-  }
+  behind : (P : Placed → Type 0) (parent : List ℕ) (i : ℕ) (n : NodeView) (ns : NodesView) →
+      HoldsBelow P parent i (node n ns) → HoldsBelow P parent (suc i) ns
+  behind P parent i n ns holds index child is = holds index (suc child) (omega (arith, is))
 
   -- one level further down
-  deeper : (parent : List ℕ) (i : ℕ) (e : ElementView) (ns : NodesView) (p : Placed) →
-      IsBelow (parent ++ i ∷ []) 0 e.1 p → IsBelow parent i (node (node_of e) ns) p
-  deeper parent i e ns p b =
-      let same : b.index ≡ b.child = omega (arith, b.is) in
-      record {
-        child = 0;
-        index = i;
-        rest = b.index ∷ b.rest;
-        element = b.element;
-        is = omega arith;
-        path = b.path ∙ append_assoc parent (i ∷ []) (b.index ∷ b.rest);
-        found = ap (λ k. option_and_then (element_at b.rest) (documents.element_at e.1 k)) same
-            ∙ b.found;
-        told = b.told;
-      }
+  inside : (P : Placed → Type 0) (parent : List ℕ) (i : ℕ) (h : Head) (kids ns : NodesView) →
+      HoldsBelow P parent i (node (element_node h kids) ns) → HoldsBelow P (parent ++ i ∷ []) 0 kids
+  inside P parent i h kids ns holds index child is rest a found text has =
+      let same : index ≡ child = omega (arith, is) in
+      subst (λ path. P (path, text)) (sym (append_assoc parent (i ∷ []) (index ∷ rest)))
+      (holds i 0 (omega arith) (index ∷ rest) a (rw same found) text has)
 
-  -- the element itself
-  own : (parent : List ℕ) (i : ℕ) (e : ElementView) (ns : NodesView) →
-      All (IsBelow parent i (node (node_of e) ns)) (placed_at (parent ++ i ∷ []) (texts (node_of e)))
-  own parent i e ns =
-      let ts = texts (node_of e) in
-      let at : List ℕ → Placed = λ t. (parent ++ i ∷ [], t) in
-      All-map (IsBelow parent i (node (node_of e) ns)) at ts
-      (All-weaker (Contains ts) (λ t. IsBelow parent i (node (node_of e) ns) (at t)) (λ t is. record {
-        child = 0;
-        index = i;
-        rest = [];
-        element = e;
-        is = omega arith;
-        path = refl;
-        found = refl;
-        told = is;
-      }) ts (All-contains_itself ts))
+  own_hold : (P : Placed → Type 0) (path : List ℕ) (ts : List (List ℕ)) →
+      ((text : List ℕ) → Contains ts text → P (path, text)) → All P (placed_at path ts)
+  own_hold P path ts holds =
+      All-map P (λ t. (path, t)) ts
+      (All-weaker (Contains ts) (λ t. P (path, t)) holds ts (All-contains_itself ts))
 
-  none_here : (parent : List ℕ) (i : ℕ) (n : NodeView) (ns : NodesView) → texts n ≡ [] →
-      All (IsBelow parent (suc i) ns) (nodes_placed texts parent (suc i) ns) →
-      All (IsBelow parent i (node n ns))
-      (placed_at (parent ++ i ∷ []) (texts n) ++ nodes_placed texts parent (suc i) ns)
-  none_here parent i n ns empty all =
-      rw empty (All-weaker (IsBelow parent (suc i) ns) _ (further parent i n ns)
-      (nodes_placed texts parent (suc i) ns) all)
-
-  all_below : (parent : List ℕ) (i : ℕ) (ns : NodesView) → AreOfElements ns →
-      All (IsBelow parent i ns) (nodes_placed texts parent i ns)
+  all_below : (P : Placed → Type 0) (parent : List ℕ) (i : ℕ) (ns : NodesView) →
+      HoldsBelow P parent i ns → All P (nodes_placed (of_elements own) parent i ns)
   unfolding nodes_placed node_placed
-  all_below parent i none of = All-nil (IsBelow parent i none)
-  all_below parent i (node (tag_node t) ns) of =
-      none_here parent i (tag_node t) ns of.0 (all_below parent (suc i) ns of.1)
-  all_below parent i (node (text_node s span) ns) of =
-      none_here parent i (text_node s span) ns of.0 (all_below parent (suc i) ns of.1)
-  all_below parent i (node (frame_node f) ns) of =
-      none_here parent i (frame_node f) ns of.0 (all_below parent (suc i) ns of.1)
-  all_below parent i (node (element_node h kids) ns) of =
+  all_below P parent i none holds = All-nil P
+  all_below P parent i (node (tag_node t) ns) holds =
+      all_below P parent (suc i) ns (behind P parent i (tag_node t) ns holds)
+  all_below P parent i (node (text_node s span) ns) holds =
+      all_below P parent (suc i) ns (behind P parent i (text_node s span) ns holds)
+  all_below P parent i (node (frame_node f) ns) holds =
+      all_below P parent (suc i) ns (behind P parent i (frame_node f) ns holds)
+  all_below P parent i (node (element_node h kids) ns) holds =
       let here = parent ++ i ∷ [] in
-      let all = IsBelow parent i (node (element_node h kids) ns) in
-      let ts = placed_at here (texts (element_node h kids)) in
-      let below = nodes_placed texts here 0 kids in
-      let behind = nodes_placed texts parent (suc i) ns in
-      All-append all (ts ++ below) behind
-      (All-append all ts below (own parent i (h, kids) ns)
-      (All-weaker _ all (deeper parent i (h, kids) ns) below (all_below here 0 kids of.0)))
-      (All-weaker _ all (further parent i (element_node h kids) ns) behind
-      (all_below parent (suc i) ns of.1))
-
-  stands : (e : ElementView) (p : Placed) → IsBelow [] 0 e.1 p → StandsAt texts e p
-  stands e p b =
-      let same : b.index ≡ b.child = omega (arith, b.is) in (
-        b.element,
-        ap (λ path. element_at path e) b.path
-            ∙ (ap (λ k. option_and_then (element_at b.rest) (documents.element_at e.1 k)) same
-            ∙ b.found),
-        b.told,
-      )
+      All-append P _ _
+      (All-append P _ _
+      (own_hold P here (own h.name h.attrs) (holds i 0 (omega arith) [] (h, kids) refl))
+      (all_below P here 0 kids (inside P parent i h kids ns holds)))
+      (all_below P parent (suc i) ns (behind P parent i (element_node h kids) ns holds))
 
   -- all stand in the elements to which their paths lead
-  all_stand : (e : ElementView) → AreOfElements e.1 → All (StandsAt texts e) (element_placed texts e)
+  all_stand : (e : ElementView) →
+      All (StandsAt (of_elements own) e) (element_placed (of_elements own) e)
   unfolding node_placed
-  all_stand e of =
-      let ts = texts (node_of e) in
-      let at : List ℕ → Placed = λ t. ([], t) in
-      All-append (StandsAt texts e) (placed_at [] ts) (nodes_placed texts [] 0 e.1)
-      (All-map (StandsAt texts e) at ts
-      (All-weaker (Contains ts) (λ t. StandsAt texts e (at t)) (λ t is. (e, refl, is)) ts
-      (All-contains_itself ts)))
-      (All-weaker (IsBelow [] 0 e.1) (StandsAt texts e) (stands e) (nodes_placed texts [] 0 e.1)
-      (all_below [] 0 e.1 of))
+  all_stand e =
+      let P = StandsAt (of_elements own) e in
+      All-append P _ _ (own_hold P [] (own e.0.name e.0.attrs) (λ text has. (e, refl, has)))
+      (all_below P [] 0 e.1 (λ index child is rest a found text has.
+      let same : index ≡ child = omega (arith, is) in
+      (a, rw same found, has)))
 
-fragments_are : (ns : NodesView) → AreOfElements fragments_at ns
-fragments_are none = tt
-fragments_are (node (tag_node t) ns) = (refl, fragments_are ns)
-fragments_are (node (text_node s span) ns) = (refl, fragments_are ns)
-fragments_are (node (element_node h kids) ns) = (fragments_are kids, fragments_are ns)
-fragments_are (node (frame_node f) ns) = (refl, fragments_are ns)
-
-ids_are : (ns : NodesView) → NodesAreFrameFree ns → AreOfElements ids_at ns
-unfolding NodesAreFrameFree NodeIsFrameFree
-ids_are none free = tt
-ids_are (node (tag_node t) ns) free = (refl, ids_are ns free.1)
-ids_are (node (text_node s span) ns) free = (refl, ids_are ns free.1)
-ids_are (node (element_node h kids) ns) free = (ids_are kids free.0, ids_are ns free.1)
-ids_are (node (frame_node f) ns) free = absurd free.0
+-- in a tree without frames all ids are those of elements
+ids_stand : (e : ElementView) → ElementIsFrameFree e → All (StandsAt ids e) (placed_ids e)
+unfolding node_placed
+ids_stand e free = rw (without_frames ids [] 0 e.1 free) (all_stand ids.own e)
 
 All-repeated : (P : Placed → Type 0) (used : Name → Bool) (ps : List Placed) → All P ps →
     All P (repeated used ps)
@@ -167,8 +91,7 @@ All-repeated P used (p ∷ ps) all =
 
 pub all_findings_stand : AllFindingsStand
 all_findings_stand e = record {
-  dead = All-filter (λ link. not (leads (stands_in (element_places e)) link.1))
-      (StandsAt fragments_at e) (fragment_links e) (all_stand fragments_at e (fragments_are e.1));
-  repeated = λ free. All-repeated (StandsAt ids_at e) (stands_in []) (placed_ids e)
-      (all_stand ids_at e (ids_are e.1 free));
+  dead = All-filter (λ link. not (leads (stands_in (element_places e)) link.1)) (StandsAt fragments e)
+      (fragment_links e) (all_stand fragments.own e);
+  repeated = λ free. All-repeated (StandsAt ids e) (stands_in []) (placed_ids e) (ids_stand e free);
 }

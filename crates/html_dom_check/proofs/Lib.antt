@@ -5,3 +5,4 @@ pub mod Finds
 pub mod Hyperlinks
 pub mod LinkedChecks
 pub mod NormalForms
+pub mod TreeTexts

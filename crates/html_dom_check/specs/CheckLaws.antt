@@ -4,18 +4,18 @@ use Rattle.std.specs.Prelude.{◌≡◌, ℕ, true, List, [], map, Some}
 use Rattle.html_names.specs.Names.{stands_in}
 use Rattle.html_dom_tree.specs.FrameFree.{ElementIsFrameFree}
 use Rattle.html_dom_tree.specs.PlainTree.{element_normal}
-use Rattle.html_dom_tree.specs.Tree.{NodeView, ElementView}
-use Rattle.html_dom_document.specs.Documents.{DocumentView, document_root, node_of}
+use Rattle.html_dom_tree.specs.Tree.{ElementView}
+use Rattle.html_dom_document.specs.Documents.{DocumentView, document_root}
 use Rattle.html_dom_link.specs.Distinct.{IdsAreDistinct, are_distinct}
 use Rattle.html_dom_link.specs.GivenLinks.{AnchorsAreTexts, KnownAnchorsAreShown, LeadsTo}
 use Rattle.html_dom_link.specs.Indicated.{element_places}
 use Rattle.html_dom_link.specs.Links.{Hrefs, document_with_links, root_with_links}
 use Rattle.html_dom_link.specs.NewNames.{Name, element_names}
 use Rattle.html_dom_check.specs.ElementPaths.{element_at}
-use Rattle.html_dom_check.specs.Fragments.{dead_fragments, fragments_at}
+use Rattle.html_dom_check.specs.Fragments.{dead_fragments, fragments}
 use Rattle.html_dom_check.specs.Hyperlinks.{ElementHasNoHyperlink}
-use Rattle.html_dom_check.specs.PlacedTexts.{Placed}
-use Rattle.html_dom_check.specs.RepeatedIds.{ids_at, placed_ids, repeated_ids, tree_ids}
+use Rattle.html_dom_check.specs.PlacedTexts.{Placed, TextKind, head_texts}
+use Rattle.html_dom_check.specs.RepeatedIds.{ids, placed_ids, repeated_ids, tree_ids}
 
 -- what is found, wherever it stands
 abbrev pub texts_of : List Placed → List Name
@@ -36,15 +36,15 @@ HrefsLead hrefs e = (location : ℕ) (href : List ℕ) → hrefs location ≡ So
     (name : Name) × LeadsTo (stands_in (element_places e)) href name
 
 -- an element stands at the path, and what is found is one of its texts
-abbrev pub StandsAt : (texts : NodeView → List (List ℕ)) → ElementView → Placed → Type 0
-StandsAt texts e p =
-    (a : ElementView) × (element_at p.0 e ≡ Some a) × Contains (texts (node_of a)) p.1
+abbrev pub StandsAt : TextKind → ElementView → Placed → Type 0
+StandsAt kind e p =
+    (a : ElementView) × (element_at p.0 e ≡ Some a) × Contains (head_texts kind a.0) p.1
 
 -- the path of each dead fragment leads to its `a`, and in a tree without frames that of each repeated id
 -- to an element with that id
 pub record FindingsStand (e : ElementView) : Type 0 where
-  pub dead : All (StandsAt fragments_at e) (dead_fragments e)
-  pub repeated : ElementIsFrameFree e → All (StandsAt ids_at e) (repeated_ids e)
+  pub dead : All (StandsAt fragments e) (dead_fragments e)
+  pub repeated : ElementIsFrameFree e → All (StandsAt ids e) (repeated_ids e)
 
 abbrev pub AllFindingsStand : Type 0
 AllFindingsStand = (e : ElementView) → FindingsStand e

@@ -1,7 +1,8 @@
 -- What stands at the places of a tree, in document order. A place is a path of indices of children,
 -- from the root on; that of the root is empty.
 use Rattle.std.specs.Prelude.{◌≡◌, ℕ, suc, List, [], ◌∷◌, ◌++◌, map}
-use Rattle.html_dom_tree.specs.Tree.{NodeView, tag_node, text_node, element_node, frame_node, NodesView, none, node, ElementView}
+use Rattle.html_dom_tree.specs.Frames.{HtmlFrameView}
+use Rattle.html_dom_tree.specs.Tree.{TextPair, Head, NodeView, tag_node, text_node, element_node, frame_node, NodesView, none, node, ElementView}
 
 -- a path, and a text that stands there
 abbrev pub Placed : Type 0
@@ -10,25 +11,35 @@ Placed = List ℕ × List ℕ
 abbrev pub placed_at : (path : List ℕ) → List (List ℕ) → List Placed
 placed_at path = map (λ text. (path, text))
 
--- the texts that each node has apart from its children, at its place; children stand behind the path
--- of their parent, from an index on
-unfoldable mutual
-  pub node_placed : (texts : NodeView → List (List ℕ)) → (path : List ℕ) → NodeView → List Placed
-  node_placed texts path (tag_node t) = placed_at path (texts (tag_node t))
-  node_placed texts path (text_node s span) = placed_at path (texts (text_node s span))
-  node_placed texts path (element_node h kids) =
-      placed_at path (texts (element_node h kids)) ++ nodes_placed texts path 0 kids
-  node_placed texts path (frame_node f) = placed_at path (texts (frame_node f))
+-- texts of one kind: those that an element has by its name and its attributes, and those of a frame
+pub record TextKind : Type 0 where
+  pub own : (name : List ℕ) (attrs : List TextPair) → List (List ℕ)
+  pub framed : HtmlFrameView → List (List ℕ)
 
-  pub nodes_placed : (texts : NodeView → List (List ℕ)) → (parent : List ℕ) → (index : ℕ) →
-      NodesView → List Placed
-  nodes_placed texts parent index none = []
-  nodes_placed texts parent index (node n ns) =
-      node_placed texts (parent ++ index ∷ []) n ++ nodes_placed texts parent (suc index) ns
+abbrev pub of_elements : (own : (name : List ℕ) (attrs : List TextPair) → List (List ℕ)) → TextKind
+of_elements own = record { own = own; framed = λ f. [] }
+
+abbrev pub head_texts : TextKind → Head → List (List ℕ)
+head_texts kind h = kind.own h.name h.attrs
+
+-- the texts of each node at its place; children stand behind the path of their parent, from an index
+-- on
+unfoldable mutual
+  pub node_placed : TextKind → (path : List ℕ) → NodeView → List Placed
+  node_placed kind path (tag_node t) = []
+  node_placed kind path (text_node s span) = []
+  node_placed kind path (element_node h kids) =
+      placed_at path (head_texts kind h) ++ nodes_placed kind path 0 kids
+  node_placed kind path (frame_node f) = placed_at path (kind.framed f)
+
+  pub nodes_placed : TextKind → (parent : List ℕ) → (index : ℕ) → NodesView → List Placed
+  nodes_placed kind parent index none = []
+  nodes_placed kind parent index (node n ns) =
+      node_placed kind (parent ++ index ∷ []) n ++ nodes_placed kind parent (suc index) ns
 
 -- those of a whole tree
-abbrev pub element_placed : (texts : NodeView → List (List ℕ)) → ElementView → List Placed
-element_placed texts e = node_placed texts [] (element_node e.0 e.1)
+abbrev pub element_placed : TextKind → ElementView → List Placed
+element_placed kind e = node_placed kind [] (element_node e.0 e.1)
 
 -- once these are taken, what is made of those that follow is what was made of these and them before
 abbrev pub Takes : {Made : Type 0} → (before after : List Placed → Made) → List Placed → Type 0

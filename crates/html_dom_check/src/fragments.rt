@@ -8,7 +8,7 @@ ghost use Rattle.html_dom_check.specs.Fragments.{dead_among, dead_fragments};
 ghost use Rattle.html_dom_check.specs.PlacedTexts.{Placed};
 
 use crate::text_sink::TextSink;
-use crate::walk::texts_taken;
+use crate::walk::tell_texts;
 use crate::wanted::Wanted;
 use html_dom_link::{fragment_leads, place_names};
 use html_dom_tree::HtmlElement;
@@ -50,7 +50,8 @@ pub struct DeadFragment {
 pub fn dead_fragments(alloc: Global, root: &HtmlElement) -> Result<Vec<DeadFragment>, AllocError>
     ensures { IfOk result (λ dead. dead_view dead.items ≡ dead_fragments (element_view root.now)) }
 {
-    tell_dead_fragments(alloc, root, Vec::new(alloc))
+    let dead = tell_dead_fragments(alloc, root, Vec::new(alloc))?;
+    Ok(dead)
 }
 
 /// Tells a sink the same links as it finds them, by their fragments, and gives it back.
@@ -64,7 +65,7 @@ pub fn tell_dead_fragments<S: TextSink>(
 {
     let places = place_names(alloc, root)?;
     let links = Links { places, dead: sink };
-    let Links { dead, .. } = texts_taken(alloc, root, Wanted::Fragments, links)?;
+    let Links { dead, .. } = tell_texts(alloc, root, Wanted::Fragments, links)?;
     Ok(dead)
 }
 

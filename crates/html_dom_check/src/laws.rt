@@ -7,7 +7,7 @@ use html_dom_document::HtmlDocument;
 
 /// The ids that are looked at for repeats are those of the tree. Where all names of a tree differ, as
 /// `ids_are_distinct` tells of a document's, none is repeated.
-#[tactic(auto, using(crate::proofs::LinkedChecks::placed_ids_are_ids, crate::proofs::LinkedChecks::distinct_are_not_repeated))]
+#[tactic(auto, using(crate::proofs::TreeTexts::placed_ids_are_ids, crate::proofs::LinkedChecks::distinct_are_not_repeated))]
 pub fn repeated()
     ensures ids { PlacedIdsAreIds }
     ensures distinct { DistinctAreNotRepeated }
@@ -35,7 +35,6 @@ pub fn given_links_lead()
 {}
 
 /// So it is of documents as pure values, whose links are resolved.
-#[tactic(auto, using(crate::proofs::LinkedChecks::resolved_stay_sound))]
 pub fn resolved_links_lead()
     ensures { ResolvedStaySound }
 {}

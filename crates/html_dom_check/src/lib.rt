@@ -1,5 +1,5 @@
-//! What is wrong with the links of a tree: fragments that lead nowhere, and ids that come twice; and
-//! what stands there.
+//! The texts of a tree by their places; what is wrong with its links: fragments that lead nowhere, and
+//! ids that come twice; and what stands there.
 #![tactic(auto)]
 
 mod fragments;
@@ -14,3 +14,5 @@ pub use fragments::{DeadFragment, dead_fragments, tell_dead_fragments};
 pub use path::element_at;
 pub use repeated::{RepeatedId, repeated_ids, tell_repeated_ids};
 pub use text_sink::TextSink;
+pub use walk::tell_texts;
+pub use wanted::Wanted;

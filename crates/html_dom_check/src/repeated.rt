@@ -1,16 +1,16 @@
 //! Ids that come twice.
 
-ghost use Rattle.std.specs.Prelude.{◌≡◌, List, [], ◌++◌, chars, IfOk, OnOk};
-ghost use Rattle.html_dom_tree.specs.Views.{element_view, text_view};
-ghost use Rattle.html_dom_link.specs.NewNames.{with_used_name};
+ghost use Rattle.std.specs.Prelude.{◌≡◌, List, [], ◌++◌, IfOk};
+ghost use Rattle.html_dom_tree.specs.Views.{element_view};
 ghost use Rattle.html_dom_link.specs.UsedNames.{used_in};
 ghost use Rattle.html_dom_check.specs.Findings.{repeated_view};
 ghost use Rattle.html_dom_check.specs.PlacedTexts.{Placed};
 ghost use Rattle.html_dom_check.specs.RepeatedIds.{repeated, repeated_ids};
 
 use crate::text_sink::TextSink;
-use crate::walk::texts_taken;
+use crate::walk::tell_texts;
 use crate::wanted::Wanted;
+use html_dom_link::{is_used, put_in_use};
 use html_dom_tree::HtmlElement;
 use std::alloc::{AllocError, Global};
 use std::collections::BTreeSet;
@@ -51,7 +51,8 @@ pub fn repeated_ids(alloc: Global, root: &HtmlElement) -> Result<Vec<RepeatedId>
     ensures { IfOk result (λ repeated.
         repeated_view repeated.items ≡ repeated_ids (element_view root.now)) }
 {
-    tell_repeated_ids(alloc, root, Vec::new(alloc))
+    let repeated = tell_repeated_ids(alloc, root, Vec::new(alloc))?;
+    Ok(repeated)
 }
 
 /// Tells a sink the same ids as it finds them, and gives it back.
@@ -67,7 +68,7 @@ pub fn tell_repeated_ids<S: TextSink>(
         passed: BTreeSet::new(alloc),
         repeated: sink,
     };
-    let Ids { repeated, .. } = texts_taken(alloc, root, Wanted::Ids, ids)?;
+    let Ids { repeated, .. } = tell_texts(alloc, root, Wanted::Ids, ids)?;
     Ok(repeated)
 }
 
@@ -96,24 +97,11 @@ impl<S: TextSink> TextSink for Ids<S> {
     ghost made_with = { λ ids ps. S.made_with ids.repeated (repeated (used_in ids.passed) ps) };
 
     fn take(&mut self, alloc: Global, path: &[usize], text: String) -> Result<(), AllocError> {
-        if contains(&self.passed, text.as_str()) {
+        if is_used(&self.passed, &text) {
             self.repeated.take(alloc, path, text)?;
         } else {
-            put(&mut self.passed, text)?;
+            put_in_use(&mut self.passed, text)?;
         }
         Ok(())
     }
-}
-
-fn contains(ids: &BTreeSet<String>, name: &str) -> bool
-    ensures { result ≡ used_in ids.now (chars name.now) }
-{
-    ids.contains(name)
-}
-
-fn put(ids: &mut BTreeSet<String>, id: String) -> Result<(), AllocError>
-    ensures { OnOk result (used_in ids.new ≡ with_used_name (text_view id) (used_in ids.old)) }
-{
-    ids.insert(id)?;
-    Ok(())
 }

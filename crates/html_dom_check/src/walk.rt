@@ -2,11 +2,11 @@
 
 ghost use Rattle.std.specs.Prelude.{◌≡◌, ◌++◌, [], ◌∷◌, ℕ, List, IfOk, OnOk, option_map, option_to_list};
 ghost use Rattle.html_dom_tree.specs.FrameViews.{anchors_view, html_frame_view};
-ghost use Rattle.html_dom_tree.specs.Tree.{element_node, frame_node};
+ghost use Rattle.html_dom_tree.specs.Tree.{element_node};
 ghost use Rattle.html_dom_tree.specs.Views.{element_view, node_view, nodes_view, text_view};
 ghost use Rattle.html_dom_link.specs.NewNames.{anchor_names};
-ghost use Rattle.html_dom_check.specs.PlacedTexts.{Takes, element_placed, node_placed, nodes_placed, placed_at};
-ghost use Rattle.html_dom_check.specs.WantedTexts.{texts_at};
+ghost use Rattle.html_dom_check.specs.PlacedTexts.{Takes, element_placed, head_texts, node_placed, nodes_placed, placed_at};
+ghost use Rattle.html_dom_check.specs.WantedTexts.{kind_of};
 
 use crate::text_sink::TextSink;
 use crate::wanted::{Wanted, copy_of, own_text};
@@ -20,15 +20,16 @@ struct Walk<S> {
     sink: S,
 }
 
-/// Gives the texts of a tree to a sink, the root's among them, and the sink back.
-pub(crate) fn texts_taken<S: TextSink>(
+/// Reports the wanted texts of a tree to a sink, the root's among them, in document order, and returns
+/// the sink. It fails only where an allocation does, or the sink.
+pub fn tell_texts<S: TextSink>(
     alloc: Global,
     root: &HtmlElement,
     wanted: Wanted,
     sink: S,
 ) -> Result<S, AllocError>
-    ensures { IfOk result (λ taken. Takes (S.made_with sink) (S.made_with taken)
-        (element_placed (texts_at wanted) (element_view root.now))) }
+    ensures { IfOk result (λ told. S.made_with told []
+        ≡ S.made_with sink (element_placed (kind_of wanted) (element_view root.now))) }
 {
     let mut walk = Walk {
         alloc,
@@ -87,15 +88,15 @@ fn pass_frame<S: TextSink>(
 ) -> Result<(), AllocError>
     ensures path { OnOk result (walk.new.path.items ≡ walk.old.path.items) }
     ensures taken { OnOk result (Takes (S.made_with walk.old.sink) (S.made_with walk.new.sink)
-        (placed_at walk.old.path.items (texts_at wanted (frame_node (html_frame_view frame.now))))) }
+        (placed_at walk.old.path.items ((kind_of wanted).framed (html_frame_view frame.now)))) }
 {
     match wanted {
-        Wanted::Fragments => Ok(()),
         Wanted::Ids => {
             pass_optional(copy_of(frame.id.as_ref())?, walk)?;
             pass_anchors(&frame.anchors, walk)?;
             Ok(())
         }
+        Wanted::Fragments | Wanted::LinkedIds | Wanted::LinkedNames | Wanted::Hrefs => Ok(()),
     }
 }
 
@@ -110,7 +111,7 @@ fn pass_own<S: TextSink>(
     ensures path { OnOk result (walk.new.path.items ≡ walk.old.path.items) }
     ensures taken { let e = element_view element.now in
         OnOk result (Takes (S.made_with walk.old.sink) (S.made_with walk.new.sink)
-        (placed_at walk.old.path.items (texts_at wanted (element_node e.0 e.1)))) }
+        (placed_at walk.old.path.items (head_texts (kind_of wanted) e.0))) }
 {
     pass_optional(own_text(walk.alloc, element, wanted)?, walk)
 }
@@ -126,7 +127,7 @@ fn pass_element<S: TextSink>(
     ensures path { OnOk result (walk.new.path.items ≡ walk.old.path.items) }
     ensures taken { let e = element_view element.now in
         OnOk result (Takes (S.made_with walk.old.sink) (S.made_with walk.new.sink)
-        (node_placed (texts_at wanted) walk.old.path.items (element_node e.0 e.1))) }
+        (node_placed (kind_of wanted) walk.old.path.items (element_node e.0 e.1))) }
 {
     pass_own(element, wanted, walk)?;
     pass_nodes(&element.children, wanted, walk)?;
@@ -142,11 +143,10 @@ fn pass_node<S: TextSink>(
 ) -> Result<(), AllocError>
     ensures path { OnOk result (walk.new.path.items ≡ walk.old.path.items) }
     ensures taken { OnOk result (Takes (S.made_with walk.old.sink) (S.made_with walk.new.sink)
-        (node_placed (texts_at wanted) walk.old.path.items (node_view child.now))) }
+        (node_placed (kind_of wanted) walk.old.path.items (node_view child.now))) }
 {
     match child {
-        HtmlNode::Tag(_) => Ok(()),
-        HtmlNode::Text(_, _) => Ok(()),
+        HtmlNode::Tag(_) | HtmlNode::Text(_, _) => Ok(()),
         HtmlNode::Element(element) => pass_element(element, wanted, walk),
         HtmlNode::Frame(frame) => pass_frame(frame, wanted, walk),
     }
@@ -160,7 +160,7 @@ fn pass_nodes<S: TextSink>(
 ) -> Result<(), AllocError>
     ensures path { OnOk result (walk.new.path.items ≡ walk.old.path.items) }
     ensures taken { OnOk result (Takes (S.made_with walk.old.sink) (S.made_with walk.new.sink)
-        (nodes_placed (texts_at wanted) walk.old.path.items 0 (nodes_view nodes.now))) }
+        (nodes_placed (kind_of wanted) walk.old.path.items 0 (nodes_view nodes.now))) }
 {
     for (index, child) in nodes.iter().enumerate() {
         walk.path.push(index)?;

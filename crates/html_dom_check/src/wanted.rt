@@ -1,24 +1,30 @@
-//! The texts of a node that are looked for.
+//! The texts of an element that are looked for.
 
 ghost use Rattle.std.specs.Prelude.{◌≡◌, IfOk, option_map, option_to_list};
-ghost use Rattle.html_dom_tree.specs.Tree.{element_node};
 ghost use Rattle.html_dom_tree.specs.Views.{element_view, text_view};
-ghost use Rattle.html_dom_link.specs.NewNames.{first_id};
-ghost use Rattle.html_dom_check.specs.Fragments.{fragments_at};
-ghost use Rattle.html_dom_check.specs.WantedTexts.{texts_at};
+ghost use Rattle.html_dom_link.specs.Indicated.{unless_empty};
+ghost use Rattle.html_dom_check.specs.Fragments.{fragments};
+ghost use Rattle.html_dom_check.specs.PlacedTexts.{head_texts};
+ghost use Rattle.html_dom_check.specs.WantedTexts.{filled, hrefs, kind_of, may_link};
 
-use html_dom_link::fragment_in;
+use html_dom_link::{first_id, fragment_in, link_name};
 use html_dom_tree::HtmlElement;
 use html_names::{attr, tag};
 use std::alloc::{AllocError, Global};
 
-/// Which texts are looked for.
+/// Which texts are looked for. Of two attributes of one name the first counts.
 #[derive(Clone, Copy)]
-pub(crate) enum Wanted {
-    /// The fragments to which links lead.
+pub enum Wanted {
+    /// The fragments of their page to which `a` elements lead.
     Fragments,
-    /// The ids.
+    /// The ids of elements, and the ids and anchors of frames, empty ones too.
     Ids,
+    /// The ids of elements to which links may lead: all but empty ones.
+    LinkedIds,
+    /// The names of `a` elements to which links may lead: all but empty ones.
+    LinkedNames,
+    /// The addresses (`href`) of `a` and `area` elements, as they are written.
+    Hrefs,
 }
 
 /// The text of an element.
@@ -27,20 +33,23 @@ pub(crate) fn own_text(
     element: &HtmlElement,
     wanted: Wanted,
 ) -> Result<Option<String>, AllocError>
-    ensures { let e = element_view element.now in IfOk result (λ text.
-        option_to_list (option_map text_view text) ≡ texts_at wanted (element_node e.0 e.1)) }
+    ensures { IfOk result (λ text. option_to_list (option_map text_view text)
+        ≡ head_texts (kind_of wanted) (element_view element.now).0) }
 {
     match wanted {
-        Wanted::Fragments => fragment_at(alloc, element),
+        Wanted::Fragments => fragment(alloc, element),
         Wanted::Ids => copy_of(first_id(element)),
+        Wanted::LinkedIds => copy_of(filled(first_id(element))),
+        Wanted::LinkedNames => copy_of(filled(link_name(element))),
+        Wanted::Hrefs => copy_of(link_href(element)),
     }
 }
 
 /// The fragment to which an `a` leads, by its first `href`.
 #[tactic(auto, unfolding(html_names::specs::Tables::known_tags, html_names::specs::Tables::known_attrs))]
-fn fragment_at(alloc: Global, element: &HtmlElement) -> Result<Option<String>, AllocError>
-    ensures { let e = element_view element.now in IfOk result (λ fragment.
-        option_to_list (option_map text_view fragment) ≡ fragments_at (element_node e.0 e.1)) }
+fn fragment(alloc: Global, element: &HtmlElement) -> Result<Option<String>, AllocError>
+    ensures { IfOk result (λ fragment. option_to_list (option_map text_view fragment)
+        ≡ head_texts fragments (element_view element.now).0) }
 {
     if element.tag != tag::a {
         return Ok(None);
@@ -52,10 +61,41 @@ fn fragment_at(alloc: Global, element: &HtmlElement) -> Result<Option<String>, A
 }
 
 #[tactic(auto, unfolding(html_names::specs::Tables::known_attrs))]
-fn first_id(element: &HtmlElement) -> Option<&String>
-    ensures { option_map (λ id. text_view id.now) result ≡ first_id (element_view element.now).0 }
+fn link_href(element: &HtmlElement) -> Option<&String>
+    ensures { option_to_list (option_map (λ href. text_view href.now) result)
+        ≡ head_texts hrefs (element_view element.now).0 }
 {
-    element.attrs.get(&attr::id)
+    if may_link(element) {
+        element.attrs.get(&attr::href)
+    } else {
+        None
+    }
+}
+
+/// Whether an `href` would make it a link.
+#[tactic(auto, unfolding(html_names::specs::Tables::known_tags))]
+fn may_link(element: &HtmlElement) -> bool
+    ensures { result ≡ may_link (element_view element.now).0.name }
+{
+    element.tag == tag::a || element.tag == tag::area
+}
+
+/// The value, unless it is empty.
+fn filled(value: Option<&String>) -> Option<&String>
+    ensures { option_to_list (option_map (λ value. text_view value.now) result)
+        ≡ filled (option_map (λ value. text_view value.now) value.entry) }
+{
+    match value {
+        Some(value) => unless_empty(value),
+        None => None,
+    }
+}
+
+fn unless_empty(value: &String) -> Option<&String>
+    ensures { option_to_list (option_map (λ value. text_view value.now) result)
+        ≡ unless_empty (text_view value.now) }
+{
+    if value.is_empty() { None } else { Some(value) }
 }
 
 pub(crate) fn copy_of(text: Option<&String>) -> Result<Option<String>, AllocError>

@@ -1,10 +1,10 @@
--- Documents as pure values: nodes with a root element among them, what is known of the whole, and
--- what is known of its locations.
+-- Documents as pure values: nodes with a root element among them, information about the whole, and
+-- its locations.
 use Rattle.std.specs.Prelude.{ℕ, zero, suc, List, [], Bool, Option, Some, None, is_some}
 use Rattle.html_dom_tree.specs.Tree.{NodeView, tag_node, text_node, element_node, frame_node, NodesView, none, node, ElementView, new_element}
 use Rattle.html_dom_document.specs.Introspectors.{IntrospectorView, recorded_view}
 
--- a language, and perhaps the region in which it is spoken
+-- a language, and optionally the region in which it is spoken
 pub record LocaleView : Type 0 where
   pub lang : List ℕ
   pub region : Option (List ℕ)
@@ -13,7 +13,7 @@ pub record LocaleView : Type 0 where
 abbrev pub locale_of : List ℕ → LocaleView
 locale_of lang = record { lang = lang; region = None }
 
--- what is known of a document
+-- information about a document
 pub record InfoView : Type 0 where
   pub title : Option (List ℕ)
   pub description : Option (List ℕ)
@@ -21,7 +21,7 @@ pub record InfoView : Type 0 where
   pub keywords : List (List ℕ)
   pub locale : Option LocaleView
 
--- nodes, and the place of the root among them
+-- nodes, and the index of the root among them
 pub record OutputView : Type 0 where
   pub nodes : NodesView
   pub root : ℕ
@@ -31,22 +31,22 @@ pub record DocumentView : Type 0 where
   pub info : InfoView
   pub introspector : IntrospectorView
 
--- of an output and information, with the positions and the links of its nodes as recorded
+-- made from an output and information, with the positions and links of its nodes as recorded
 abbrev pub new_document : OutputView → InfoView → DocumentView
 new_document output info =
     record { output = output; info = info; introspector = recorded_view output.nodes }
 
--- where nothing is known
+-- empty information
 abbrev pub no_info : InfoView
 no_info = record { title = None; description = None; author = []; keywords = []; locale = None }
 
--- the node at a place of a list
+-- the node at an index of a list
 abbrev pub node_at : NodesView → ℕ → Option NodeView
 node_at none i = None
 node_at (node n ns) zero = Some n
 node_at (node n ns) (suc i) = node_at ns i
 
--- the nodes before a place of a list
+-- the nodes before an index of a list
 abbrev pub nodes_before : NodesView → ℕ → NodesView
 nodes_before none i = none
 nodes_before (node n ns) zero = none
@@ -64,15 +64,15 @@ as_element (Some (text_node s span)) = None
 as_element (Some (element_node h ns)) = Some (h, ns)
 as_element (Some (frame_node f)) = None
 
--- the element at a place of a list, if one stands there
+-- the element at an index of a list, if there is one
 abbrev pub element_at : NodesView → ℕ → Option ElementView
 element_at ns i = as_element (node_at ns i)
 
--- whether an element stands at a place of a list
+-- whether an element is at an index of a list
 abbrev pub is_element_at : NodesView → ℕ → Bool
 is_element_at ns i = is_some (element_at ns i)
 
--- the list with that element at a place
+-- the list with that element at an index
 abbrev pub with_element : NodesView → ℕ → ElementView → NodesView
 with_element none i e = none
 with_element (node n ns) zero e = node (node_of e) ns
@@ -82,11 +82,11 @@ with_element (node n ns) (suc i) e = node n (with_element ns i e)
 abbrev pub root_of : OutputView → Option ElementView
 root_of o = element_at o.nodes o.root
 
--- the output with that root in place of its own
+-- the output with that root instead of its own
 abbrev pub with_root : OutputView → ElementView → OutputView
 with_root o e = record o { nodes = with_element o.nodes o.root e }
 
--- an output has a root, so the other case does not come
+-- an output has a root, so the other case does not occur
 abbrev pub given_root : Option ElementView → ElementView
 given_root None = new_element []
 given_root (Some root) = root

@@ -1,5 +1,5 @@
--- The numbers that nodes have among their siblings in a browser's tree (DOM), in which neighbouring
--- texts are one node and tags are none. A frame is written as one element.
+-- The indices of nodes among their siblings in a browser's tree (DOM), in which neighbouring texts
+-- are one node and tags are none. A frame is written as one element.
 use Rattle.std.specs.Prelude.{ℕ, suc, ◌+◌, List, [], ◌∷◌, Bool, true, false, if◌then◌else◌}
 use Rattle.html_dom_tree.specs.Tree.{NodeView, tag_node, text_node, element_node, frame_node, NodesView, none, node}
 
@@ -9,7 +9,7 @@ abbrev pub ◌then◌ : NodesView → NodesView → NodesView
 none then others = others
 (node n ns) then others = node n (ns then others)
 
--- how many elements, frames among them
+-- the number of elements, frames among them
 abbrev pub element_count : NodesView → ℕ
 element_count none = 0
 element_count (node (tag_node t) ns) = element_count ns
@@ -17,7 +17,7 @@ element_count (node (text_node s span) ns) = element_count ns
 element_count (node (element_node h children) ns) = suc (element_count ns)
 element_count (node (frame_node f) ns) = suc (element_count ns)
 
--- how many runs of texts begin, after a text or not; tags cut no run, and empty texts count
+-- how many runs of texts begin, after a text or not; tags split no run, and empty texts count
 abbrev pub run_count : (after_text : Bool) → NodesView → ℕ
 run_count after_text none = 0
 run_count after_text (node (tag_node t) ns) = run_count after_text ns
@@ -26,7 +26,7 @@ run_count after_text (node (text_node s span) ns) =
 run_count after_text (node (element_node h children) ns) = run_count false ns
 run_count after_text (node (frame_node f) ns) = run_count false ns
 
--- how many runs of texts an element or a frame has ended
+-- the number of runs of texts that an element or a frame has ended
 abbrev pub ended_run_count : (after_text : Bool) → NodesView → ℕ
 ended_run_count after_text none = 0
 ended_run_count after_text (node (tag_node t) ns) = ended_run_count after_text ns
@@ -36,8 +36,8 @@ ended_run_count after_text (node (element_node h children) ns) =
 ended_run_count after_text (node (frame_node f) ns) =
     (if after_text then 1 else 0) + ended_run_count false ns
 
--- the index of a node after others: of an element or a frame, the elements and runs before it; of a
--- tag or a text, the elements before it and the runs that have ended
+-- the index of a node after others: for an element or a frame, the elements and runs before it; for
+-- a tag or a text, the elements before it and the runs that have ended
 abbrev pub dom_index : (before : NodesView) → NodeView → ℕ
 dom_index before (tag_node t) = element_count before + ended_run_count false before
 dom_index before (text_node s span) = element_count before + ended_run_count false before

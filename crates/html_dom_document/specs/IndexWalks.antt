@@ -1,4 +1,4 @@
--- What a walk along a list of nodes has left.
+-- The rest of a walk along a list of nodes.
 use Rattle.std.specs.Prelude.{ℕ, List}
 use Rattle.html_dom_tree.specs.declared.node.HtmlNode.{HtmlNode}
 use Rattle.html_dom_document.specs.Cursor.{nodes_with_indices}

@@ -1,4 +1,4 @@
--- What is known of a document's locations, as functions of a location.
+-- The data of a document's locations, as functions of a location.
 use Rattle.std.specs.Prelude.{ℕ, List, Bool, ◌||◌, Option, None, option_map, String}
 use Rattle.std.specs.Ordering.{nat_cmp}
 use Rattle.std.specs.declared.cmp.Ordering.{Ordering}
@@ -20,7 +20,7 @@ pub record IntrospectorView : Type 0 where
   pub is_frame_target : ℕ → Bool
   pub anchor : ℕ → Option (List ℕ)
 
--- what is recorded of the nodes of a document
+-- the data recorded from the nodes of a document
 abbrev pub recorded_view : NodesView → IntrospectorView
 recorded_view ns = record {
   position = first_position (document_places ns);

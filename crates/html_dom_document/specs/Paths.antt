@@ -4,7 +4,7 @@ use Rattle.html_dom_tree.specs.PlainTree.{Plain, words, branch, Plains, no_plain
 use Rattle.html_dom_tree.specs.Tree.{starts, ends, Head, tag_node, text_node, element_node, frame_node, NodesView, none, node, ElementView}
 use Rattle.html_dom_document.specs.Places.{PlaceView, is_html, node_places}
 
--- the child of a number
+-- the child at an index
 abbrev pub nth : Plains → ℕ → Option Plain
 nth no_plains i = None
 nth (plain p ps) zero = Some p
@@ -14,7 +14,7 @@ abbrev pub child : ℕ → Plain → Option Plain
 child i (words s) = None
 child i (branch name attrs children) = nth children i
 
--- down by child numbers
+-- down by child indices
 abbrev pub follow : List ℕ → Plain → Option Plain
 follow [] p = Some p
 follow (i ∷ path) p = option_and_then (follow path) (child i p)
@@ -35,7 +35,7 @@ without_last [] = []
 without_last (x ∷ []) = []
 without_last (x ∷ y ∷ ys) = x ∷ without_last (y ∷ ys)
 
--- for each start tag, in document order, the element that holds it, of which these are children
+-- for each start tag, in document order, the element that holds it, whose children these are
 unfoldable pub holders : ElementView → NodesView → List ElementView
 holders e none = []
 holders e (node (tag_node (starts location label dest)) ns) = e ∷ holders e ns
@@ -44,7 +44,7 @@ holders e (node (text_node s span) ns) = holders e ns
 holders e (node (element_node h children) ns) = holders (h, children) children ++ holders e ns
 holders e (node (frame_node f) ns) = holders e ns
 
--- each path, without its last number, leads to the normal form of the element beside it
+-- each path, without its last index, leads to the normal form of the element beside it
 abbrev pub Lead : Plain → List PlaceView → List ElementView → Type 0
 Lead root [] [] = Unit {0}
 Lead root [] (e ∷ es) = ⊥

@@ -1,16 +1,16 @@
--- Where start tags stand in a tree, and where links lead (this project's rules, after typst-html).
+-- Positions of start tags, and destinations of links (this project's rules, after typst-html).
 use Rattle.std.specs.Prelude.{ℕ, List, [], ◌∷◌, ◌++◌, Bool, false, ◌==◌, ◌||◌, if◌then◌else◌, codes, bytes_eq, Option, Some, None}
 use Rattle.std.specs.List.{list_any}
 use Rattle.html_dom_tree.specs.Frames.{PointView, FrameView, frame, FrameItemsView, no_items, item, FrameItemView, tag_item, group_item, link_item, other_item}
 use Rattle.html_dom_tree.specs.Tree.{TagView, starts, ends, Head, NodeView, tag_node, text_node, element_node, frame_node, NodesView, none, node}
 use Rattle.html_dom_document.specs.DomIndices.{◌then◌, dom_index}
 
--- a path of child numbers, and a point where the path leads to a frame
+-- a path of child indices, and a point if the path leads to a frame
 pub record PositionView : Type 0 where
   pub path : List ℕ
   pub point : Option PointView
 
--- a start tag, and where it stands
+-- a start tag and its position
 pub record PlaceView : Type 0 where
   pub location : ℕ
   pub dest : Option ℕ
@@ -19,7 +19,7 @@ pub record PlaceView : Type 0 where
 abbrev pub is_html : Head → Bool
 is_html h = bytes_eq h.name (codes "html")
 
--- the path of an element's children; `html` elements are left out
+-- the path of an element's children, without `html` elements
 abbrev pub children_path : Head → (path : List ℕ) → (index : ℕ) → List ℕ
 children_path h path index = if is_html h then path else path ++ index ∷ []
 
@@ -29,7 +29,7 @@ tag_places (starts location label dest) position =
     record { location = location; dest = dest; position = position } ∷ []
 tag_places (ends location) position = []
 
--- the start tags in a frame of that path, in groups too, each with its own point
+-- the start tags in a frame with that path, in groups too, each with its own point
 unfoldable mutual
   pub frame_places : (path : List ℕ) → FrameView → List PlaceView
   frame_places path (frame picture items) = items_places path items
@@ -44,7 +44,7 @@ unfoldable mutual
   item_places path point (link_item link) = []
   item_places path point other_item = []
 
--- the start tags in a node of that index, under that path, in document order
+-- the start tags in a node with that index, under that path, in document order
 unfoldable mutual
   pub node_places : (path : List ℕ) → (index : ℕ) → NodeView → List PlaceView
   node_places path index (tag_node t) =
@@ -64,7 +64,7 @@ unfoldable mutual
 abbrev pub document_places : NodesView → List PlaceView
 document_places ns = nodes_places [] none ns
 
--- a location has the position that is recorded first
+-- the first recorded position of a location
 abbrev pub first_position : List PlaceView → (location : ℕ) → Option PositionView
 first_position [] location = None
 first_position (p ∷ ps) location =
@@ -83,7 +83,7 @@ abbrev pub link_targets : Option ℕ → List ℕ
 link_targets None = []
 link_targets (Some dest) = dest ∷ []
 
--- the locations to which links in a frame lead
+-- the destinations of links in a frame
 unfoldable mutual
   pub frame_links : FrameView → List ℕ
   frame_links (frame picture items) = items_links items
@@ -98,7 +98,7 @@ unfoldable mutual
   item_links (link_item link) = link_targets link
   item_links other_item = []
 
--- the locations to which links in frames of a tree lead
+-- the destinations of links in frames of a tree
 unfoldable mutual
   pub node_links : NodeView → List ℕ
   node_links (tag_node t) = []

@@ -6,7 +6,7 @@ use Rattle.html_dom_document.specs.Places.{PositionView, PlaceView, is_html, doc
 use Rattle.html_dom_document.specs.Paths.{follow, ArePlain, without_last, holders}
 use Rattle.html_dom_document.specs.Documents.{OutputView, DocumentView, nodes_before, root_of}
 
--- of start tags, each with the element that holds it, the element of a location's first one
+-- the element that holds a location's first start tag, from tags and their elements
 abbrev pub first_holder : List PlaceView → List ElementView → (location : ℕ) → Option ElementView
 first_holder [] es location = None
 first_holder (p ∷ ps) [] location = None
@@ -22,12 +22,12 @@ abbrev pub NotBeforeRoot : OutputView → (location : ℕ) → Type 0
 NotBeforeRoot o location =
     first_position (document_places (nodes_before o.nodes o.root)) location ≡ None
 
--- where a position leads by child numbers: its path without the last number, which is the tag's own
+-- where a position leads by child indices: its path without the last index, which is the tag's own
 abbrev pub led_to : Plain → PositionView → Option Plain
 led_to root position = follow (without_last position.path) root
 
--- where the root is the only `html` element of a tree with no frame and no empty text, the position
--- of each location that starts below it and not before it leads to the element that holds the tag
+-- if the root is the only `html` element of a tree with no frame and no empty text, the position of
+-- each location that starts below it and not before it leads to the element that holds the tag
 abbrev pub PositionsLead : DocumentView → Type 0
 PositionsLead d = (root : ElementView) (location : ℕ) (holder : ElementView) →
     root_of d.output ≡ Some root → is_html root.0 ≡ true → ArePlain root.1 →

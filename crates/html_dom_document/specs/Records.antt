@@ -1,4 +1,4 @@
--- What is kept while a tree is gone through, and how a call that records ends.
+-- The state of a walk over a tree, and how a call that records ends.
 use Rattle.std.specs.Prelude.{◌≡◌, ℕ, List, ◌++◌, map, option_map, Result, OnOk}
 use Rattle.std.specs.declared.alloc.AllocError.{AllocError}
 use Rattle.html_dom_tree.specs.declared.introspection.Location.{Location}
@@ -23,7 +23,7 @@ location_view l = l.0
 abbrev pub locations_view : List Location → List ℕ
 locations_view = map location_view
 
--- the path is as it was, and these places and links are added
+-- the path is unchanged, and these places and links are added
 pub record Records
     (r : Result (Unit {0}) AllocError) (old new : Recorder)
     (places : List PlaceView) (links : List ℕ) : Type 0 where

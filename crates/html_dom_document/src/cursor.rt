@@ -4,10 +4,10 @@ ghost use Rattle.html_dom_document.specs.Cursor.{element_index, index_at, cursor
 
 use html_dom_tree::HtmlNode;
 
-/// Goes along a list of nodes and numbers them.
+/// Walks along a list of nodes and numbers them.
 #[derive(Clone, Copy)]
 pub(crate) struct Cursor {
-    /// The elements, the frames and the ended runs of texts so far.
+    /// The number of elements, frames and ended runs of texts so far.
     pub(crate) passed: usize,
     pub(crate) after_text: bool,
 }

@@ -5,8 +5,8 @@ use html_dom_tree::{HtmlElement, HtmlNode};
 use html_names::Refused;
 use std::alloc::{AllocError, Global};
 
-/// A document: its nodes with the root among them, what is known of it, and where its located
-/// elements stood when it was made.
+/// A document: its nodes with the root among them, information about it, and the positions that its
+/// located elements had when it was made.
 #[derive(Debug, Drop)]
 pub struct HtmlDocument {
     output: HtmlOutput,
@@ -25,14 +25,14 @@ impl HtmlDocument {
     ghost use Rattle.html_dom_document.specs.DocumentLending.{LendsInfo, LendsIntrospector, with_document_root, LendsDocumentRoot};
     ghost use Rattle.std.specs.Borrow.{sem};
 
-    /// A document of that output, with that information. It records where the start tags of all
-    /// nodes stand, and where links lead; there are no anchors yet. Where an allocation fails, both
-    /// come back.
+    /// Creates a document from this output and information. Records the positions of all start tags
+    /// and the destinations of links; there are no anchors yet. If an allocation fails, the error
+    /// holds both arguments.
     ///
-    /// Where the root is an `html` element with no frame, empty text or further `html` element
-    /// below it, the position of each location that starts below it and not before it leads to the
-    /// element that holds its first start tag: by the path without its last number, which is the
-    /// tag's own, from child to child of the root's normal form.
+    /// If the root is an `html` element with no frame, empty text or further `html` element below
+    /// it, the position of each location that starts below it and not before it leads to the
+    /// element that holds its first start tag: the path without its last index, which is the tag's
+    /// own, goes from child to child of the root's normal form.
     pub fn new(
         alloc: Global,
         output: HtmlOutput,
@@ -56,22 +56,22 @@ impl HtmlDocument {
         }
     }
 
-    /// All nodes, in order.
+    /// Returns all nodes, in order.
     pub fn nodes(&self) -> &[HtmlNode]
         ensures { nodes_view result.now ≡ (document_view self.now).output.nodes }
     {
         self.output.nodes()
     }
 
-    /// The root.
+    /// Returns the root.
     pub fn root(&self) -> &HtmlElement
         ensures { root_of (document_view self.now).output ≡ Some (element_view result.now) }
     {
         self.output.root()
     }
 
-    /// The root, to be changed. All else stays, also what is recorded: positions and links are
-    /// those of the nodes that the document was made of.
+    /// Returns a mutable reference to the root. Everything else stays, including what is recorded:
+    /// positions and links are those of the nodes from which the document was made.
     pub fn root_mut(&mut self) -> &mut HtmlElement
         ensures* writes_back { sem 𝓛 (LendsDocumentRoot self.entry result) }
         ensures value { root_of (document_view self.old).output ≡ Some (element_view result.now) }
@@ -82,7 +82,7 @@ impl HtmlDocument {
         self.output.root_mut()
     }
 
-    /// The root, as a node.
+    /// Returns the root as a node.
     pub fn root_node(&self) -> &HtmlNode
         ensures { let output = (document_view self.now).output in
             node_at output.nodes output.root ≡ Some (node_view result.now) }
@@ -90,14 +90,14 @@ impl HtmlDocument {
         self.output.root_node()
     }
 
-    /// What is known of the document.
+    /// Returns the information about the document.
     pub fn info(&self) -> &DocumentInfo
         ensures { info_view result.now ≡ (document_view self.now).info }
     {
         &self.info
     }
 
-    /// What is known of the document, to be changed. All else stays.
+    /// Returns a mutable reference to the information. Everything else stays.
     pub fn info_mut(&mut self) -> &mut DocumentInfo
         ensures* writes_back { sem 𝓛 (LendsInfo self.entry result) }
         ensures value { info_view result.now ≡ (document_view self.old).info }
@@ -105,14 +105,14 @@ impl HtmlDocument {
         &mut self.info
     }
 
-    /// Where the located elements stand, where links lead, and the anchors of locations.
+    /// Returns the positions of located elements, the destinations of links, and the anchors.
     pub fn introspector(&self) -> &HtmlIntrospector
         ensures { introspector_view result.now ≡ (document_view self.now).introspector }
     {
         &self.introspector
     }
 
-    /// What is known of locations, to be changed. All else stays.
+    /// Returns a mutable reference to the introspector. Everything else stays.
     pub fn introspector_mut(&mut self) -> &mut HtmlIntrospector
         ensures* writes_back { sem 𝓛 (LendsIntrospector self.entry result) }
         ensures value { introspector_view result.now ≡ (document_view self.old).introspector }
@@ -120,7 +120,7 @@ impl HtmlDocument {
         &mut self.introspector
     }
 
-    /// A copy of the document. It fails only where an allocation does.
+    /// Returns a copy of the document. Fails only if an allocation fails.
     pub fn try_clone(&self) -> Result<HtmlDocument, AllocError>
         ensures { IfOk result (λ copy. document_view copy ≡ document_view self.now) }
     {

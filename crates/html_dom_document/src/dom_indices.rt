@@ -4,9 +4,9 @@ ghost use Rattle.html_dom_document.specs.Cursor.{element_index};
 use crate::cursor::Cursor;
 use html_dom_tree::HtmlNode;
 
-/// Nodes of one list with their DOM indices: the numbers that they have among their siblings in a
-/// browser's tree (DOM), in which neighbouring texts are one node and tags are none. An empty text
-/// counts as a text here, and is none there.
+/// Iterates over a list of nodes with their DOM indices: the index of each among its siblings in a
+/// browser's tree (DOM), where neighbouring texts are one node and tags are none. An empty text
+/// counts as a text here, but not there.
 pub trait HtmlSliceExt<'a> {
     ghost use Rattle.std.specs.Prelude.{◌≡◌, List};
     ghost use Rattle.std.specs.List.{zip};
@@ -18,12 +18,11 @@ pub trait HtmlSliceExt<'a> {
     /// The list whose nodes are numbered.
     ghost listed: { Self → List HtmlNode };
 
-    /// The nodes of the list, in order, each with its DOM index. It takes no memory.
+    /// Iterates over the nodes of the list, in order, each with its DOM index, without allocating.
     ///
-    /// An element or a frame has as its index the number of the elements and frames before it plus
-    /// that of the runs of texts before it. Tags cut no run, and empty texts count. A tag or a text
-    /// has the number of the elements and frames before it plus that of the runs that an element or
-    /// a frame has ended.
+    /// The index of an element or frame is the number of elements, frames and runs of texts before
+    /// it. Tags do not split a run, and empty texts count. The index of a tag or text is the number
+    /// of elements and frames before it plus that of the runs that these have ended.
     ///
     /// ```
     /// use html_dom::{HtmlElement, HtmlNode, HtmlSliceExt, Span};
@@ -56,8 +55,8 @@ impl<'a> HtmlSliceExt<'a> for &'a [HtmlNode] {
     }
 }
 
-/// What `iter_with_dom_indices` answers: a walk along the list, which ends after as many items as
-/// the list has nodes.
+/// The iterator that `iter_with_dom_indices` returns. Ends after as many items as the list has
+/// nodes.
 #[derive(Clone, Copy)]
 pub struct DomIndices<'a> {
     nodes: &'a [HtmlNode],

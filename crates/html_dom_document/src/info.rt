@@ -6,8 +6,8 @@ ghost use Rattle.html_dom_document.specs.Views.{locale_view, info_view};
 
 use std::alloc::{AllocError, Global};
 
-/// A language and perhaps the region in which it is spoken, as `en` and `GB`. The texts are not
-/// checked. Two are equal where both fields are.
+/// A language and optionally the region in which it is spoken, such as `en` and `GB`. The texts are
+/// not checked. Two locales are equal if both fields are.
 #[derive(Debug, Drop, PartialEq, Eq)]
 pub struct Locale {
     /// The language.
@@ -16,30 +16,30 @@ pub struct Locale {
     pub region: Option<String>,
 }
 
-/// What is known of a document, for its head. Two are equal where all fields are.
+/// Information about a document, for its head. Two values are equal if all fields are.
 #[derive(Debug, Drop, PartialEq, Eq)]
 pub struct DocumentInfo {
     /// The title.
     pub title: Option<String>,
-    /// What the document is about.
+    /// The description: what the document is about.
     pub description: Option<String>,
-    /// Who wrote it.
+    /// The authors.
     pub author: Vec<String>,
-    /// What one may look for to find it.
+    /// The keywords by which to find it.
     pub keywords: Vec<String>,
     /// The language in which it is written.
     pub locale: Option<Locale>,
 }
 
 impl Locale {
-    /// That language, and no region.
+    /// Creates a locale with that language and no region.
     pub fn new(lang: String) -> Locale
         ensures { locale_view result ≡ locale_of (text_view lang) }
     {
         Locale { lang, region: None }
     }
 
-    /// A copy. It fails only where an allocation does.
+    /// Returns a copy. Fails only if an allocation fails.
     pub fn try_clone(&self) -> Result<Locale, AllocError>
         ensures { IfOk result (λ copy. locale_view copy ≡ locale_view self.now) }
     {
@@ -51,7 +51,7 @@ impl Locale {
 }
 
 impl DocumentInfo {
-    /// Nothing is known: no text and no locale.
+    /// Creates empty information: no texts and no locale.
     pub fn new(alloc: Global) -> DocumentInfo
         ensures { info_view result ≡ no_info }
     {
@@ -64,7 +64,7 @@ impl DocumentInfo {
         }
     }
 
-    /// A copy. It fails only where an allocation does.
+    /// Returns a copy. Fails only if an allocation fails.
     pub fn try_clone(&self) -> Result<DocumentInfo, AllocError>
         ensures { IfOk result (λ copy. info_view copy ≡ info_view self.now) }
     {

@@ -12,8 +12,8 @@ use std::alloc::{AllocError, Global};
 use std::collections::{BTreeMap, BTreeSet};
 use std::fmt;
 
-/// Knows where the located elements of a document stand, where links lead, and which anchors the
-/// document has for them.
+/// The positions of the located elements of a document, the destinations of its links, and its
+/// anchors for them.
 ///
 /// ```
 /// use html_dom::{HtmlElement, HtmlIntrospector, HtmlNode, Location, Tag};
@@ -41,8 +41,8 @@ pub struct HtmlIntrospector {
 }
 
 impl HtmlIntrospector {
-    /// Records the start tags and the links of the nodes of a document. There are no anchors yet.
-    /// It fails only where an allocation does.
+    /// Records the start tags and links of a document's nodes. There are no anchors yet. Fails only
+    /// if an allocation fails.
     pub fn new(alloc: Global, nodes: &[HtmlNode]) -> Result<HtmlIntrospector, AllocError>
         ensures { IfOk result (λ introspector.
             introspector_view introspector ≡ recorded_view (nodes_view nodes.now)) }
@@ -59,7 +59,7 @@ impl HtmlIntrospector {
         })
     }
 
-    /// Where a location's first start tag stands, in document order, if it has one.
+    /// Returns the position of a location's first start tag in document order, if it has one.
     pub fn position(&self, location: Location) -> Option<&HtmlPosition>
         ensures { option_map (λ position. position_view position.now) result
             ≡ (introspector_view self.now).position location.0 }
@@ -67,8 +67,8 @@ impl HtmlIntrospector {
         self.positions.get(&location)
     }
 
-    /// The locations to which start tags, those in frames too, and links in frames lead. It fails
-    /// only where an allocation does.
+    /// Returns the destinations of start tags, including those in frames, and of links in frames.
+    /// Fails only if an allocation fails.
     pub fn link_targets(&self) -> Result<BTreeSet<Location>, AllocError>
         ensures { IfOk result (λ targets.
             has_location targets ≡ (introspector_view self.now).is_link_target) }
@@ -78,14 +78,14 @@ impl HtmlIntrospector {
         Ok(targets)
     }
 
-    /// The locations to which links in frames lead.
+    /// Returns the destinations of links in frames.
     pub fn frame_link_targets(&self) -> &BTreeSet<Location>
         ensures { has_location result.now ≡ (introspector_view self.now).is_frame_target }
     {
         &self.frame_link_targets
     }
 
-    /// Puts these anchors in place of all that were there.
+    /// Replaces all anchors with these.
     pub fn set_anchors(&mut self, anchors: BTreeMap<Location, String>)
         ensures { introspector_view self.new
             ≡ record (introspector_view self.old) { anchor = location_text anchors } }
@@ -93,7 +93,7 @@ impl HtmlIntrospector {
         self.anchors = anchors;
     }
 
-    /// The anchor of a location, if it has one.
+    /// Returns the anchor of a location, if it has one.
     pub fn anchor(&self, location: Location) -> Option<&String>
         ensures { option_map (λ anchor. text_view anchor.now) result
             ≡ (introspector_view self.now).anchor location.0 }
@@ -101,7 +101,7 @@ impl HtmlIntrospector {
         self.anchors.get(&location)
     }
 
-    /// A copy. It fails only where an allocation does.
+    /// Returns a copy. Fails only if an allocation fails.
     pub fn try_clone(&self) -> Result<HtmlIntrospector, AllocError>
         ensures { IfOk result (λ copy. introspector_view copy ≡ introspector_view self.now) }
     {

@@ -1,4 +1,4 @@
-//! Laws of this crate's types and definitions, each the contract of a function.
+//! Laws of this crate's types and definitions, as contracts of functions.
 
 pub mod document;
 pub mod introspect;

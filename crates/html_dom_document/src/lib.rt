@@ -1,7 +1,7 @@
-//! Documents of HTML: the nodes with a root element among them, what is known of the whole, where its
-//! located elements stand, and where links lead.
+//! HTML documents: the nodes with a root element among them, information about the whole, the
+//! positions of its located elements, and the destinations of its links.
 //!
-//! A contract sees what an introspector knows as functions of a location: its position, whether
+//! In contracts, the data of an introspector are functions of a location: its position, whether
 //! links lead to it, and its anchor.
 //!
 //! ```

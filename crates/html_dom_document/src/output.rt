@@ -6,7 +6,7 @@ use crate::element::{element, element_mut, is_element};
 use html_dom_tree::{HtmlElement, HtmlNode};
 use std::alloc::AllocError;
 
-/// The nodes of a document with the root among them, which is always an element.
+/// The nodes of a document with the root, always an element, among them.
 #[derive(Debug, Drop)]
 pub struct HtmlOutput {
     nodes: Vec<HtmlNode>,
@@ -23,7 +23,7 @@ impl HtmlOutput {
     ghost use Rattle.html_dom_document.specs.Lending.{with_root_element, LendsRoot};
     ghost use Rattle.std.specs.Borrow.{sem};
 
-    /// These nodes, with the root at that place, where an element stands.
+    /// Creates an output with the root at that index, where an element must stand.
     pub fn new(nodes: Vec<HtmlNode>, root_index: usize) -> HtmlOutput
         requires { is_element_at (nodes_view nodes.items) root_index ≡ true }
         ensures { output_view result
@@ -32,7 +32,7 @@ impl HtmlOutput {
         HtmlOutput { nodes, root_index }
     }
 
-    /// Whether an element stands at that place of the nodes, which so can be the root.
+    /// Returns whether the node at that index is an element, and so can be the root.
     ///
     /// ```
     /// use html_dom::{HtmlElement, HtmlNode, HtmlOutput};
@@ -55,21 +55,21 @@ impl HtmlOutput {
         }
     }
 
-    /// All nodes, in order.
+    /// Returns all nodes, in order.
     pub fn nodes(&self) -> &[HtmlNode]
         ensures { nodes_view result.now ≡ (output_view self.now).nodes }
     {
         &self.nodes
     }
 
-    /// The root.
+    /// Returns the root.
     pub fn root(&self) -> &HtmlElement
         ensures { root_of (output_view self.now) ≡ Some (element_view result.now) }
     {
         element(self.root_node())
     }
 
-    /// The root, to be changed. The other nodes stay, and the root stays at its place.
+    /// Returns a mutable reference to the root. The other nodes stay, and the root keeps its index.
     pub fn root_mut(&mut self) -> &mut HtmlElement
         ensures* writes_back { sem 𝓛 (LendsRoot self.entry result) }
         ensures value { root_of (output_view self.old) ≡ Some (element_view result.now) }
@@ -81,7 +81,7 @@ impl HtmlOutput {
         element_mut(root)
     }
 
-    /// The root, as a node.
+    /// Returns the root as a node.
     pub fn root_node(&self) -> &HtmlNode
         ensures { let output = output_view self.now in
             node_at output.nodes output.root ≡ Some (node_view result.now) }
@@ -89,7 +89,7 @@ impl HtmlOutput {
         &self.nodes[self.root_index]
     }
 
-    /// A copy of all nodes. It fails only where an allocation does.
+    /// Returns a copy of all nodes. Fails only if an allocation fails.
     pub fn try_clone(&self) -> Result<HtmlOutput, AllocError>
         ensures { IfOk result (λ copy. output_view copy ≡ output_view self.now) }
     {

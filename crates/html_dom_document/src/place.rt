@@ -1,10 +1,10 @@
 use crate::position::HtmlPosition;
 use html_dom_tree::Location;
 
-/// A start tag, and where it stands.
+/// A start tag and its position.
 #[derive(Drop)]
 pub(crate) struct Place {
-    /// Which element starts there.
+    /// The element that starts there.
     pub(crate) location: Location,
     /// The location to which that element links.
     pub(crate) dest: Option<Location>,

@@ -4,7 +4,7 @@ ghost use Rattle.html_dom_document.specs.Introspectors.{position_view};
 use html_dom_tree::Point;
 use std::alloc::AllocError;
 
-/// Where a start tag stands: a path of DOM indices, and a point where the path leads to a frame.
+/// The position of a start tag: a path of DOM indices, and a point if the path leads to a frame.
 #[derive(Debug, Drop)]
 pub struct HtmlPosition {
     pub(crate) path: Vec<usize>,
@@ -20,15 +20,15 @@ pub(crate) fn copy_path(path: &Vec<usize>) -> Result<Vec<usize>, AllocError>
 impl HtmlPosition {
     ghost use Rattle.html_dom_tree.specs.FrameViews.{point_view};
 
-    /// The DOM indices of the elements around the tag, from the outermost on, `html` elements left
-    /// out, and then that of the tag itself; of a tag in a frame, the path of the frame.
+    /// Returns the DOM indices of the elements around the tag, outermost first, without `html`
+    /// elements, and then that of the tag itself; for a tag in a frame, the path of the frame.
     pub fn path(&self) -> &[usize]
         ensures { result.now ≡ (position_view self.now).path }
     {
         &self.path
     }
 
-    /// The point of a tag in a frame; a tag that stands elsewhere has none.
+    /// Returns the point of a tag in a frame, or nothing for a tag elsewhere.
     pub fn point(&self) -> Option<Point>
         ensures { option_map point_view result ≡ (position_view self.now).point }
     {

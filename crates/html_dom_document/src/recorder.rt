@@ -1,4 +1,4 @@
-//! Going through a tree.
+//! A walk over a tree.
 
 ghost use Rattle.std.specs.Prelude.{◌≡◌, ◌++◌, [], ◌∷◌, option_map, None};
 ghost use Rattle.html_dom_tree.specs.FrameViews.{point_view, tag_view, frame_view, frame_item_view};
@@ -15,10 +15,10 @@ use html_dom_tree::{Frame, FrameItem, HtmlElement, HtmlNode, Location, Point, Ta
 use html_names::tag;
 use std::alloc::{AllocError, Global};
 
-/// What was found of a tree so far: start tags and links of frames, in document order.
+/// The start tags and links of frames found so far, in document order.
 #[derive(Drop)]
 pub(crate) struct Recorder {
-    /// The path of the node that is gone through.
+    /// The path of the current node.
     pub(crate) path: Vec<usize>,
     pub(crate) places: Vec<Place>,
     pub(crate) links: Vec<Location>,

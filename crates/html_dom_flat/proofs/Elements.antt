@@ -14,10 +14,6 @@ module _ (names : NamesView) (nodes : List FlatNode) (i : ℕ)
   all_given : AllPass (is_node_given names) nodes
   all_given = AllPass-from_list_all (is_node_given names) nodes given
 
-  pub node_given_at : (d : FlatNode) → i < length nodes →
-      is_node_given names (get_or nodes i d) ≡ true
-  node_given_at d below = all_given i d below
-
   pub given_drop : are_given names (drop i nodes) ≡ true
   given_drop =
       list_all-from_AllPass (is_node_given names) (drop i nodes)

@@ -38,36 +38,36 @@ back_joined (node n ns) ms (suc count) e =
 mutual
   unfolding node_flat spelled_nodes node_count
 
-  pub spelled_one : (place : ℕ) (n : NodeView) (fs : List FlatNodeView) →
-      spelled_nodes place (node_flat place n ++ fs)
-      ≡ node n (spelled_nodes (place + node_count n) fs)
-  spelled_one place (tag_node t) fs = refl
-  spelled_one place (text_node s span) fs = refl
-  spelled_one place (element_node h ns) fs =
-      let after = spelled_nodes (place + 1 + nodes_count ns) fs in
-      let inside : spelled_nodes (place + 1) (nodes_flat (place + 1) ns ++ fs) ≡ joined ns after
-      = spelled_more (place + 1) ns fs in
-      let count : (place + 1 + nodes_count ns) - (place + 1) ≡ nodes_count ns = omega arith in
-      let same : place + 1 + nodes_count ns ≡ place + (1 + nodes_count ns) = omega arith in
+  pub spelled_one : (index : ℕ) (n : NodeView) (fs : List FlatNodeView) →
+      spelled_nodes index (node_flat index n ++ fs)
+      ≡ node n (spelled_nodes (index + node_count n) fs)
+  spelled_one index (tag_node t) fs = refl
+  spelled_one index (text_node s span) fs = refl
+  spelled_one index (element_node h ns) fs =
+      let after = spelled_nodes (index + 1 + nodes_count ns) fs in
+      let inside : spelled_nodes (index + 1) (nodes_flat (index + 1) ns ++ fs) ≡ joined ns after
+      = spelled_more (index + 1) ns fs in
+      let count : (index + 1 + nodes_count ns) - (index + 1) ≡ nodes_count ns = omega arith in
+      let same : index + 1 + nodes_count ns ≡ index + (1 + nodes_count ns) = omega arith in
       rw (inside, front_joined ns after _ count, back_joined ns after _ count, same) refl
-  spelled_one place (frame_node f) fs = refl
+  spelled_one index (frame_node f) fs = refl
 
-  pub spelled_more : (place : ℕ) (ns : NodesView) (fs : List FlatNodeView) →
-      spelled_nodes place (nodes_flat place ns ++ fs)
-      ≡ joined ns (spelled_nodes (place + nodes_count ns) fs)
-  spelled_more place none fs = rw add-zero refl
-  spelled_more place (node n ns) fs =
+  pub spelled_more : (index : ℕ) (ns : NodesView) (fs : List FlatNodeView) →
+      spelled_nodes index (nodes_flat index ns ++ fs)
+      ≡ joined ns (spelled_nodes (index + nodes_count ns) fs)
+  spelled_more index none fs = rw add-zero refl
+  spelled_more index (node n ns) fs =
       rw (
         append_assoc,
-        spelled_one place n (nodes_flat (place + node_count n) ns ++ fs),
-        spelled_more (place + node_count n) ns fs,
+        spelled_one index n (nodes_flat (index + node_count n) ns ++ fs),
+        spelled_more (index + node_count n) ns fs,
         add_assoc,
       ) refl
 
-pub spelled_flat : (place : ℕ) (ns : NodesView) → spelled_nodes place (nodes_flat place ns) ≡ ns
+pub spelled_flat : (index : ℕ) (ns : NodesView) → spelled_nodes index (nodes_flat index ns) ≡ ns
 unfolding node_flat spelled_nodes
-spelled_flat place ns =
-    rw (← append-nil (nodes_flat place ns)) (spelled_more place ns [] ∙ joined_none ns)
+spelled_flat index ns =
+    rw (← append-nil (nodes_flat index ns)) (spelled_more index ns [] ∙ joined_none ns)
 
 pub list_spelled : (list : List FlatNodeView) (ns : NodesView) → list ≡ nodes_flat 0 ns →
     spelled_nodes 0 list ≡ ns
@@ -77,23 +77,23 @@ pub list_spells : (list : List FlatNodeView) (ns : NodesView) → list ≡ nodes
     nodes_flat 0 (spelled_nodes 0 list) ≡ list
 list_spells list ns made = ap (nodes_flat 0) (list_spelled list ns made) ∙ sym made
 
-pub element_list : (place : ℕ) (e : ElementView) →
-    nodes_flat place (node (element_node e.0 e.1) none) ≡ element_flat place e
+pub element_list : (index : ℕ) (e : ElementView) →
+    nodes_flat index (node (element_node e.0 e.1) none) ≡ element_flat index e
 unfolding node_flat
-element_list place e = append-nil (element_flat place e)
+element_list index e = append-nil (element_flat index e)
 
 mutual
   unfolding node_flat node_count
 
-  pub length_one : (place : ℕ) (n : NodeView) → length (node_flat place n) ≡ node_count n
-  length_one place (element_node h ns) =
-      let inside = length_all (place + 1) ns in omega (arith, inside)
-  length_one place x = refl
+  pub length_one : (index : ℕ) (n : NodeView) → length (node_flat index n) ≡ node_count n
+  length_one index (element_node h ns) =
+      let inside = length_all (index + 1) ns in omega (arith, inside)
+  length_one index x = refl
 
-  pub length_all : (place : ℕ) (ns : NodesView) → length (nodes_flat place ns) ≡ nodes_count ns
-  length_all place none = refl
-  length_all place (node n ns) =
-      let one = length_one place n in
-      let others = length_all (place + node_count n) ns in
-      length-append (node_flat place n) (nodes_flat (place + node_count n) ns)
+  pub length_all : (index : ℕ) (ns : NodesView) → length (nodes_flat index ns) ≡ nodes_count ns
+  length_all index none = refl
+  length_all index (node n ns) =
+      let one = length_one index n in
+      let others = length_all (index + node_count n) ns in
+      length-append (node_flat index n) (nodes_flat (index + node_count n) ns)
       ∙ omega (arith, one, others)

@@ -1,5 +1,6 @@
 pub mod Flats
 pub mod Elements
+pub mod FirstSiblings
 pub mod Growth
 pub mod Closings
 pub mod Reversed

@@ -9,8 +9,8 @@ with_past past (flat_text s span) = flat_text s span
 with_past past (flat_frame f) = flat_frame f
 with_past past (flat_element h old) = flat_element h past
 
--- the list with that end for the element at a place
-unfoldable pub closed_at : (place past : ℕ) → List FlatNodeView → List FlatNodeView
-closed_at place past [] = []
+-- the list with that end for the element at an index
+unfoldable pub closed_at : (index past : ℕ) → List FlatNodeView → List FlatNodeView
+closed_at index past [] = []
 closed_at zero past (f ∷ fs) = with_past past f ∷ fs
-closed_at (suc place) past (f ∷ fs) = f ∷ closed_at place past fs
+closed_at (suc index) past (f ∷ fs) = f ∷ closed_at index past fs

@@ -1,6 +1,7 @@
 pub mod Flat
 pub mod FlatViews
 pub mod Sets
+pub mod Siblings
 pub mod FlatTrees
 pub mod Builders
 pub mod ClosedElements

@@ -32,8 +32,8 @@ pub record AreNumbersOf
   pub pairs_are : ArePairsOf names pairs attrs
 
 -- with that end, if it is an element
-abbrev pub with_end : (past : ℕ) → FlatNode → FlatNode
-with_end past (Tag t) = Tag t
-with_end past (Text s span) = Text s span
-with_end past (Frame f) = Frame f
-with_end past (Element e) = Element (record e { past = past })
+abbrev pub node_with_past : (past : ℕ) → FlatNode → FlatNode
+node_with_past past (Tag t) = Tag t
+node_with_past past (Text s span) = Text s span
+node_with_past past (Frame f) = Frame f
+node_with_past past (Element e) = Element (record e { past = past })

@@ -10,7 +10,7 @@ use html_dom_tree::{HtmlAttrs, HtmlElement, HtmlFrame, HtmlNode, Span, Tag};
 use html_names::{HtmlTag, NameTable};
 use std::alloc::{AllocError, Global};
 
-/// A tree's list while it is made: each element that is not closed yet ends at the place 0.
+/// A tree's list while it is made: each element that is not closed yet ends at index 0.
 #[derive(Drop)]
 pub(crate) struct Builder {
     pub(crate) nodes: Vec<FlatNode>,
@@ -66,14 +66,14 @@ impl Builder {
         Ok((number, pairs))
     }
 
-    fn close_element(&mut self, place: usize)
-        requires { place < vec_len self.old.nodes }
+    fn close_element(&mut self, index: usize)
+        requires { index < vec_len self.old.nodes }
         ensures list { builder_view self.new
-            ≡ closed_at place (vec_len self.old.nodes) (builder_view self.old) }
+            ≡ closed_at index (vec_len self.old.nodes) (builder_view self.old) }
         ensures count { vec_len self.new.nodes ≡ vec_len self.old.nodes }
     {
         let past = self.nodes.len();
-        set_past(&mut self.nodes[place], past);
+        set_past(&mut self.nodes[index], past);
     }
 
     // A tree is moved by a call for each level. What moves one node alone is kept out of it, so that a
@@ -167,10 +167,10 @@ impl Builder {
         ensures count { OnOk result (vec_len self.new.nodes
             ≡ vec_len self.old.nodes + 1 + nodes_count (element_view element).1) }
     {
-        let place = self.nodes.len();
+        let index = self.nodes.len();
         let children = self.open_element(alloc, element)?;
         self.move_nodes(alloc, children)?;
-        self.close_element(place);
+        self.close_element(index);
         Ok(())
     }
 

@@ -30,6 +30,6 @@ pub struct FlatElement {
     /// Whether each character of the texts directly in this element is written as a character
     /// reference.
     pub pre_span: bool,
-    /// The place after the last node in it: the nodes in it stand between it and that place.
+    /// The index after the last node inside it. These nodes stand before it, behind the element.
     pub past: usize,
 }

@@ -1,6 +1,6 @@
 ghost use Rattle.std.specs.Prelude.{◌≡◌, true};
 ghost use Rattle.std.proofs.Props.{props};
-ghost use Rattle.html_dom_flat.specs.Flat.{nodes_flat, spelled_nodes};
+ghost use Rattle.html_dom_flat.specs.Flat.{IsSpelling};
 ghost use Rattle.html_dom_flat.specs.FlatViews.{flat_nodes_view, are_given};
 ghost use Rattle.html_dom_flat.specs.Sets.{flat_node_is_set};
 
@@ -14,7 +14,7 @@ use std::alloc::{AllocError, Global};
 use std::fmt;
 
 /// A tree as one list: its nodes, at all depths, in the order in which they are written. An element
-/// says up to which place the nodes in it stand.
+/// has the index up to which the nodes inside it stand.
 ///
 /// ```
 /// use html_dom::{FlatNode, FlatTree, HtmlElement, HtmlNode, Span};
@@ -38,7 +38,7 @@ pub struct FlatTree {
     pub(crate) names: NameTable,
     ghost given: { are_given names nodes.items ≡ true },
     ghost spells: { let list = flat_nodes_view names nodes.items in
-        nodes_flat 0 (spelled_nodes 0 list) ≡ list } by { Prim.hlevel (props, flat_node_is_set) },
+        IsSpelling 0 list } by { Prim.hlevel (props, flat_node_is_set) },
 }
 
 impl FlatTree {

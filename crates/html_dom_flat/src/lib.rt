@@ -9,8 +9,10 @@ mod flat_node;
 mod flat_tree;
 mod moving;
 mod numbering;
+mod siblings;
 mod spelling;
 
 pub use flat_node::{FlatElement, FlatNode};
 pub use flat_tree::FlatTree;
 pub use moving::{flat_tree_of, give_back};
+pub use siblings::{Element, Node, Siblings};

@@ -2,7 +2,7 @@
 
 ghost use Rattle.std.specs.Prelude.{◌≡◌, IfOk};
 ghost use Rattle.html_dom_tree.specs.Views.{attrs_view};
-ghost use Rattle.html_dom_flat.specs.Numbering.{Grows, ArePairsOf, with_end};
+ghost use Rattle.html_dom_flat.specs.Numbering.{Grows, ArePairsOf, node_with_past};
 
 use crate::flat_node::FlatNode;
 use html_dom_tree::HtmlAttrs;
@@ -28,7 +28,7 @@ pub(crate) fn numbered_attrs(
 }
 
 pub(crate) fn set_past(node: &mut FlatNode, past: usize)
-    ensures { node.new ≡ with_end past node.old }
+    ensures { node.new ≡ node_with_past past node.old }
 {
     match node {
         FlatNode::Element(element) => element.past = past,

@@ -117,11 +117,11 @@ fn stacked(
         stack_view stack.items ≡ list_stack 0 (flat_nodes_view names.now nodes.now)) }
 {
     let mut stack = Vec::new(alloc);
-    let mut place = nodes.len();
-    while place > 0 {
-        place -= 1;
-        let node = made_node(alloc, names, &nodes[place], &mut stack)?;
-        stack.push((place, node))?;
+    let mut index = nodes.len();
+    while index > 0 {
+        index -= 1;
+        let node = made_node(alloc, names, &nodes[index], &mut stack)?;
+        stack.push((index, node))?;
     }
     Ok(stack)
 }

@@ -3,10 +3,9 @@ use Rattle.std.proofs.Common.{◌≡◌, ◌<◌, ℕ, List, [], ◌∷◌, ◌+
 use Rattle.std.proofs.lemmas.List.{append-nil}
 use Rattle.std.proofs.lemmas.Str.{chars-nil, encodes-chars}
 use lib.Utf8.{encodes}
-use Rattle.html_dom_tree.specs.Tree.{TextPair, Head, NodeView, element_node, NodesView, none, node, ElementView}
+use Rattle.html_dom_tree.specs.Tree.{TextPair, Head, NodeView, element_node, NodesView, none, node}
 use Rattle.html_dom_tree.specs.Views.{nodes_of}
-use Rattle.html_dom_document.specs.Documents.{DocumentView, document_root, given_root, root_of, with_root}
-use Rattle.html_dom_link.specs.Links.{Anchors, DeadLinkView, Hrefs, attrs_with_href, dead_link, dest_before, document_hrefs, document_with_links, href_of, name_of, node_dead_links, node_with_links, nodes_dead_links, nodes_with_links, open_dest, root_with_links, some_name}
+use Rattle.html_dom_link.specs.Links.{Anchors, DeadLinkView, Hrefs, attrs_with_href, dead_link, dest_before, href_of, name_of, node_dead_links, node_with_links, nodes_dead_links, nodes_with_links, open_dest, some_name}
 
 pub no_name : (bytes : List ℕ) → length bytes ≡ 0 → some_name (Some (chars bytes)) ≡ None
 no_name [] empty = rw chars-nil refl
@@ -60,24 +59,6 @@ one_more_with_links hrefs dest before made n m left rest whole behind is left_is
     ∙ (ap (λ k. made ++ k ∷ list_with_links hrefs (n ∷ before) rest)
     (is ∙ ap (λ d. node_with_links hrefs d n) behind)
     ∙ (ap (λ l. made ++ list_with_links hrefs before l) (sym left_is) ∙ told))
-
--- the document whose root has the new children
-pub links_written : (d new : DocumentView) (hrefs : Hrefs) (root again last : ElementView)
-    (kids : NodesView) → root_of d.output ≡ Some root → root_of d.output ≡ Some again →
-    hrefs ≡ document_hrefs d → kids ≡ nodes_with_links hrefs [] root.1 →
-    last ≡ (again.0, kids) → new ≡ record d { output = with_root d.output last } →
-    new ≡ document_with_links d
-links_written d new hrefs root again last kids root_is again_is known made last_is new_is =
-    let top = document_root d in
-    let root_top : top ≡ root = ap given_root root_is in
-    let again_top : top ≡ again = ap given_root again_is in
-    let whole : last ≡ root_with_links (document_hrefs d) top =
-    last_is
-    ∙ (ap (λ (e : ElementView). (e.0, kids)) (sym again_top)
-    ∙ (ap (λ k. (top.0, k)) (made
-    ∙ (ap (λ a. nodes_with_links a [] root.1) known
-    ∙ ap (λ (e : ElementView). nodes_with_links (document_hrefs d) [] e.1) (sym root_top))))) in
-    new_is ∙ ap (λ e. record d { output = with_root d.output e }) whole
 
 -- the dead links of an element are its own and those below it
 pub element_dead : (hrefs : Hrefs) (dest own : Option ℕ) (h : Head) (kids : NodesView)

@@ -1,18 +1,19 @@
 -- Elements and lists of nodes in the walk, as the program makes them, and the walk over a document.
-use Rattle.std.proofs.Common.{◌≡◌, ℕ, ◌+◌, ◌<◌, ◌≤◌, Bool, true, false, ◌||◌, List, [], ◌∷◌, length, get_or, set, take, drop, Option, Some, refl, ap, sym, ◌∙◌, true≢false, arith}
+use Rattle.std.proofs.Common.{◌≡◌, ℕ, ◌+◌, ◌<◌, ◌≤◌, Bool, true, false, ◌||◌, List, [], ◌∷◌, length, get_or, set, take, drop, Option, refl, ap, sym, ◌∙◌, true≢false, arith}
 use Rattle.std.proofs.lemmas.List.{drop_all, drop_more, drop-set-lt, take_all, take_more_set}
 use Rattle.std.proofs.Math.Path.{fun_ext}
 use Rattle.std.specs.List.{list_any}
-use Rattle.html_dom_tree.specs.Tree.{starts, ends, Head, NodeView, tag_node, text_node, element_node, frame_node, NodesView, none, node, ElementView}
+use Rattle.html_dom_tree.specs.Tree.{starts, ends, Head, NodeView, tag_node, text_node, element_node, frame_node, NodesView, none, node}
 use Rattle.html_dom_tree.specs.Views.{node_view, nodes_view}
 use Rattle.html_dom_tree.specs.declared.node.HtmlNode.{HtmlNode}
 use Rattle.html_names.specs.Names.{stands_in}
 use Rattle.html_dom_document.specs.Introspectors.{IntrospectorView}
-use Rattle.html_dom_document.specs.Documents.{DocumentView, root_of, with_root, given_root, document_root}
+use Rattle.html_dom_document.specs.Documents.{DocumentView, with_root, document_root}
 use Rattle.html_dom_link.specs.NewNames.{Name, first_id, element_names}
 use Rattle.html_dom_link.specs.Events.{Targets}
 use Rattle.html_dom_link.specs.Anchors.{with_id}
 use Rattle.html_dom_link.specs.LinkAnchors.{targets_in, document_targets, document_with_new_anchors, document_anchor}
+use Rattle.html_dom_link.specs.MadeDocuments.{with_children}
 use Rattle.html_dom_link.specs.AnchorWalk.{WalkState, first_waiting, Serves, after_server, at_first, Walked, walk, element_walk}
 use Rattle.html_dom_document.specs.DomIndices.{◌then◌}
 use Rattle.html_dom_document.proofs.Leading.{then_assoc}
@@ -132,36 +133,22 @@ nodes_kept x ns i st all h so_far =
 
 -- the walk over the root of a document
 pub root_walked : (is_target : ℕ → Bool) (d : DocumentView) (known : IntrospectorView)
-    (named root : ElementView) (used : Name → Bool) (w : Walked) →
-    known ≡ d.introspector → root_of d.output ≡ Some named → root_of d.output ≡ Some root →
-    used ≡ stands_in (element_names named) →
-    w ≡ walk (targets_in known is_target) root.1 (at_first used) →
+    (kids : NodesView) (used : Name → Bool) (w : Walked) →
+    known ≡ d.introspector → kids ≡ (document_root d).1 →
+    used ≡ stands_in (element_names (document_root d)) →
+    w ≡ walk (targets_in known is_target) kids (at_first used) →
     w ≡ element_walk (document_targets is_target d) (document_root d)
-root_walked is_target d known named root used w known_is named_is root_is used_is is =
-    let x = document_targets is_target d in
-    let top = document_root d in
-    let named_top : top ≡ named = ap given_root named_is in
-    let root_top : top ≡ root = ap given_root root_is in
-    is
-    ∙ (ap (λ k. walk (targets_in k is_target) root.1 (at_first used)) known_is
-    ∙ (ap (λ (e : ElementView). walk x e.1 (at_first used)) (sym root_top)
-    ∙ (ap (λ u. walk x top.1 (at_first u)) used_is
-    ∙ ap (λ e. walk x top.1 (at_first (stands_in (element_names e)))) (sym named_top))))
+root_walked is_target d known kids used w known_is kids_are used_is is =
+    rw (known_is, kids_are, used_is) at is
 
-pub root_written : (is_target : ℕ → Bool) (d new : DocumentView) (root last : ElementView)
-    (w : Walked) → w ≡ element_walk (document_targets is_target d) (document_root d) →
-    root_of d.output ≡ Some root → last ≡ (root.0, w.0) →
-    new ≡ record d { output = with_root d.output last } → new ≡ document_with_new_anchors is_target d
-root_written is_target d new root last w whole root_is last_is new_is =
-    let x = document_targets is_target d in
-    let top = document_root d in
-    let root_top : top ≡ root = ap given_root root_is in
-    let last_anchored =
-    last_is
-    ∙ (ap (λ (v : Walked). (root.0, v.0)) whole
-    ∙ (ap (λ (e : ElementView). (e.0, (element_walk x top).0)) (sym root_top)
-    ∙ (one_walk_serves x top).0)) in
-    new_is ∙ ap (λ e. record d { output = with_root d.output e }) last_anchored
+pub root_written : (is_target : ℕ → Bool) (d : DocumentView) (w : Walked) →
+    w ≡ element_walk (document_targets is_target d) (document_root d) →
+    with_children w.0 d ≡ document_with_new_anchors is_target d
+root_written is_target d w whole =
+    let root = document_root d in
+    ap (λ e. record d { output = with_root d.output e })
+    (ap (λ (v : Walked). (root.0, v.0)) whole
+    ∙ (one_walk_serves (document_targets is_target d) root).0)
 
 pub answers_are : (is_target : ℕ → Bool) (d : DocumentView) (w : Walked) →
     w ≡ element_walk (document_targets is_target d) (document_root d) →

@@ -1,6 +1,6 @@
--- The tree with anchors in one walk, which carries what waits for a server: the locations of the
--- start tags and, for each location, the label of its first one. Proved to be the definition by
--- groups (`OneWalkServes`).
+-- The tree with anchors in one walk, whose state has what waits for a server: the locations of the
+-- start tags and, for each location, the label of its first one. It equals the definition by groups
+-- (`OneWalkServes`, proved).
 use Rattle.std.specs.Prelude.{◌≡◌, ℕ, Bool, ◌==◌, if◌then◌else◌, List, ◌++◌, [], ◌∷◌, Option, Some, None}
 use Rattle.html_dom_tree.specs.Attributes.{or_else}
 use Rattle.html_dom_tree.specs.Tree.{starts, ends, NodeView, tag_node, text_node, element_node, frame_node, NodesView, none, node, ElementView}
@@ -32,7 +32,7 @@ with_waiting l label st = record st {
 abbrev pub after_tag_start : (is_target : Bool) → ℕ → Option Name → WalkState → WalkState
 after_tag_start is_target l label st = if is_target then with_waiting l label st else st
 
--- the label of the first start tag that waits, where one does
+-- the label of the first start tag that waits, if one does
 abbrev pub label_at : (ℕ → Option (Option Name)) → List ℕ → Option (Option Name)
 label_at labels [] = None
 label_at labels (l ∷ ls) = labels l
@@ -52,7 +52,7 @@ with_answers n st = record st {
   answers = put_each n st.waiting st.answers;
 }
 
--- the name that is made for a server, by the label that waits and by its own name
+-- the name that is made for a server, from the label that waits and its own name
 abbrev pub made_now :
     Option (Option Name) → (own : Option Name) → (used : Name → Bool) → Option Name
 made_now None own used = None
@@ -69,7 +69,7 @@ after_server (Some label) (Some n) st = with_answers n st
 after_server (Some label) None st =
     let n = new_name label st.used in with_answers n (with_used (with_used_name n st.used) st)
 
--- what a server does by the label that waits, and by its own name
+-- the effect of a server, from the label that waits and its own name
 pub record Serves (old new : WalkState) (waiting : Option (Option Name)) (own made : Option Name) :
     Type 0 where
   pub state : new ≡ after_server waiting own old
@@ -125,7 +125,7 @@ at_first used = record { waiting = []; labels = λ l. None; used = used; answers
 abbrev pub element_walk : Targets → ElementView → Walked
 element_walk x e = walk x e.1 (at_first (stands_in (element_names e)))
 
--- one walk gives the tree and the names that the groups give
+-- one walk yields the tree and the names of the groups
 abbrev pub OneWalkServes : Type 0
 OneWalkServes = (x : Targets) (e : ElementView) → ((e.0, (element_walk x e).0) ≡ element_with_anchors x e)
     × ((l : ℕ) → (element_walk x e).1.answers l ≡ anchor_of x e l)

@@ -1,5 +1,5 @@
 -- The tree with anchors, and the names of the locations (this project's rule): the old tree with
--- just these changes.
+-- only these changes.
 use Rattle.std.specs.Prelude.{ℕ, suc, ◌+◌, List, [], ◌∷◌, ◌++◌, drop, codes, Option, Some, None}
 use Rattle.html_dom_tree.specs.Attributes.{or_else}
 use Rattle.html_dom_tree.specs.Frames.{PointView, HtmlFrameView}
@@ -37,7 +37,7 @@ abbrev pub named_frame :
     Option Name → (pairs : List (PointView × Name)) → HtmlFrameView → HtmlFrameView
 named_frame made pairs f = record f { id = or_else f.id made; anchors = f.anchors ++ pairs }
 
--- how many nodes there are at all depths
+-- the number of nodes at all depths
 unfoldable pub nodes_size : NodesView → ℕ
 nodes_size none = 0
 nodes_size (node (tag_node t) ns) = suc (nodes_size ns)
@@ -45,7 +45,7 @@ nodes_size (node (text_node s span) ns) = suc (nodes_size ns)
 nodes_size (node (element_node h kids) ns) = suc (nodes_size kids + nodes_size ns)
 nodes_size (node (frame_node f) ns) = suc (nodes_size ns)
 
--- the changes, by one naming for each node in document order
+-- the changes, with one naming for each node in document order
 unfoldable pub nodes_with_anchors : List Naming → NodesView → NodesView
 nodes_with_anchors cs none = none
 nodes_with_anchors [] (node n ns) = node n ns

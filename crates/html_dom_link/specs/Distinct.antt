@@ -17,16 +17,16 @@ use Rattle.html_dom_link.specs.Indicated.{element_places}
 use Rattle.html_dom_link.specs.Links.{Anchors, Hrefs, root_with_links}
 use Rattle.html_dom_link.specs.NewNames.{Name, element_names}
 
--- no name comes twice
+-- no name is repeated
 unfoldable pub are_distinct : List Name → Bool
 are_distinct [] = true
 are_distinct (n ∷ ns) = not (stands_in ns n) && are_distinct ns
 
--- how often a name comes
+-- how often a name occurs
 unfoldable pub occurrences : List Name → Name → ℕ
 occurrences names n = count_by (λ m. bytes_eq m n) names
 
--- the names that references lead to
+-- the names behind references
 abbrev pub names_view : List (Bor (String Global)) → List Name
 names_view = map (λ name. text_view name.now)
 
@@ -34,7 +34,7 @@ names_view = map (λ name. text_view name.now)
 abbrev pub IdsAreDistinct : DocumentView → Type 0
 IdsAreDistinct d = are_distinct (element_names (document_root d)) ≡ true
 
--- a link leads to a name that comes once among all
+-- a link leads to a name that occurs once among all
 pub record LeadsToOne (anchor : Anchors) (places shown names : List Name) (link : GivenLink) : Type 0
   where
     pub among : LeadsAmong anchor places shown link
@@ -46,7 +46,7 @@ GivenLinksLeadToOne old new = let root = document_root new in
     All (LeadsToOne new.introspector.anchor (element_places root) (shown_names root.1)
     (element_names root)) (document_given_links old new)
 
--- a tree whose names differ has such names with anchors too, where those that are made are new
+-- a tree with distinct names has distinct names with anchors too, if the added ones are new
 abbrev pub AnchorsStayDistinct : Type 0
 AnchorsStayDistinct = (x : Targets) (e : ElementView) → MadeAreNew x e →
     are_distinct (element_names e) ≡ true →

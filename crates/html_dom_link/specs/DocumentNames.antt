@@ -1,5 +1,5 @@
--- The names of a document's anchors: those that are made are new, and those that are answered are
--- shown.
+-- The names of a document's anchors: new ones differ from all others, and returned ones are
+-- visible.
 use Rattle.std.specs.Prelude.{◌≡◌, ℕ, Bool, true, Option, Some}
 use Rattle.html_names.specs.Names.{stands_in}
 use Rattle.html_dom_document.specs.Documents.{DocumentView, document_root}
@@ -8,8 +8,7 @@ use Rattle.html_dom_link.specs.Fresh.{MadeAreNew}
 use Rattle.html_dom_link.specs.Answered.{shown_names}
 use Rattle.html_dom_link.specs.LinkAnchors.{document_targets}
 
--- each name that is made for an anchor is none of those in use in the tree, nor of those made
--- before it
+-- each name made for an anchor differs from those in use in the tree, and from those made before it
 abbrev pub AnchorsAreNew : (is_target : ℕ → Bool) → DocumentView → Type 0
 AnchorsAreNew is_target d = MadeAreNew (document_targets is_target d) (document_root d)
 

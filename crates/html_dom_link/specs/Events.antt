@@ -1,4 +1,4 @@
--- What stands below the root, in document order: one event for each node.
+-- The nodes below the root, in document order: one event for each.
 use Rattle.std.specs.Prelude.{ℕ, Bool, if◌then◌else◌, List, [], ◌∷◌, ◌++◌, Option, Some, None}
 use Rattle.html_dom_tree.specs.Frames.{PointView, FrameView, frame, FrameItemsView, no_items, item, tag_item, group_item, link_item, other_item}
 use Rattle.html_dom_tree.specs.Tree.{starts, ends, tag_node, text_node, element_node, frame_node, NodesView, none, node}
@@ -15,7 +15,7 @@ pub record Start : Type 0 where
   pub location : ℕ
   pub label : Option Name
 
--- a start tag of a target that stands in a frame, where the target was recorded in a frame
+-- a start tag of a target inside a frame, if the target was recorded in a frame
 pub record FrameStart : Type 0 where
   pub location : ℕ
   pub label : Option Name

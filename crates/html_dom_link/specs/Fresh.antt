@@ -8,7 +8,7 @@ use Rattle.html_dom_link.specs.Namings.{Naming}
 use Rattle.html_dom_link.specs.UsedNames.{with_names, IsBounded}
 use Rattle.html_dom_link.specs.Anchors.{element_namings}
 
--- each name is none of those in use, nor of those made before it
+-- each name differs from those in use, and from those made before it
 abbrev pub AreNew : (used : Name → Bool) → List Name → Type 0
 AreNew used [] = Unit {0}
 AreNew used (n ∷ ns) = (used n ≡ false) × AreNew (with_used_name n used) ns
@@ -20,19 +20,19 @@ abbrev pub all_made : List Naming → List Name
 all_made [] = []
 all_made (c ∷ cs) = names_made c ++ all_made cs
 
--- each name that is made for a tree is none of those that it has, nor of those made before it
+-- each name made for a tree differs from those that it has, and from those made before it
 abbrev pub MadeAreNew : Targets → ElementView → Type 0
 MadeAreNew x e = AreNew (stands_in (element_names e)) (all_made (element_namings x e))
 
--- the names in use when all are made
+-- the names in use after all are made
 abbrev pub used_at_last : Targets → ElementView → Name → Bool
 used_at_last x e = with_names (all_made (element_namings x e)) (stands_in (element_names e))
 
--- so it is where these are at most 2 ^ 63, as in each call that succeeds
+-- this holds if these are at most 2 ^ 63, as in each call that succeeds
 abbrev pub NamesAreNew : Type 0
 NamesAreNew = (x : Targets) (e : ElementView) → IsBounded (used_at_last x e) → MadeAreNew x e
 
--- and where those in use are, the number in a new name is the first one that is free
+-- if those in use are, the number in a new name is the first free one
 abbrev pub IsFirstFree : Type 0
 IsFirstFree = (label : Name) (used : Name → Bool) → IsBounded used →
     let stem = stem_of label in

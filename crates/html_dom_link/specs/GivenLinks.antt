@@ -1,4 +1,4 @@
--- Where links lead: each link that was given an `href` leads to a name that stands in the tree.
+-- Where links lead: each link that got an `href` leads to a name that stands in the tree.
 use Rattle.std.specs.Prelude.{◌≡◌, ℕ, Bool, true, List, [], ◌∷◌, ◌++◌, All, codes, Option, Some, None, if◌then◌else◌}
 use lib.Utf8.{scalars}
 use Rattle.html_names.specs.Names.{stands_in}
@@ -11,7 +11,7 @@ use Rattle.html_dom_link.specs.Indicated.{element_places, fragments_in, indicate
 use Rattle.html_dom_link.specs.Links.{Anchors, DeadLinkView, dest_before, document_with_links, is_open, nodes_dead_links}
 use Rattle.html_dom_link.specs.NewNames.{Name}
 
--- a link that was given an `href`: its destination, and that `href`
+-- a link that got an `href`: its destination, and that `href`
 abbrev pub GivenLink : Type 0
 GivenLink = ℕ × List ℕ
 
@@ -25,7 +25,7 @@ given_link None old new = []
 given_link (Some dest) old new =
     if is_open old then given_by dest (first new.attrs (codes "href")) else []
 
--- of two trees of one shape: the links that had no `href` in the old one and have one in the new
+-- from two trees of one shape: the links without an `href` in the old one that have one in the new
 -- one, in document order
 unfoldable mutual
   pub node_given_links : (dest : Option ℕ) → (old new : NodeView) → List GivenLink
@@ -47,15 +47,15 @@ unfoldable mutual
 abbrev pub document_given_links : (old new : DocumentView) → List GivenLink
 document_given_links old new = nodes_given_links [] (document_root old).1 (document_root new).1
 
--- an `href` leads to a name where these are the names of places: a browser takes a fragment from it
--- which indicates the place of that name
+-- an `href` leads to a name, given the names of places: the fragment that a browser takes from it
+-- indicates the place with that name
 pub record LeadsTo (is_place : Name → Bool) (href : List ℕ) (name : Name) : Type 0 where
   pub fragment : List ℕ
   pub taken : fragments_in href ≡ fragment ∷ []
   pub indicates : indicated_name is_place fragment ≡ Some name
 
--- among places of these names, a link leads to the anchor of its destination, which is one of these
--- ids
+-- among places with these names, a link leads to the anchor of its destination, which is one of
+-- these ids
 pub record LeadsAmong (anchor : Anchors) (places ids : List Name) (link : GivenLink) : Type 0 where
   pub name : Name
   pub leads : LeadsTo (stands_in places) link.1 name
@@ -80,8 +80,8 @@ GivenLinksLead old new = let root = document_root new in
 abbrev pub links_without : NodesView → List DeadLinkView
 links_without = nodes_dead_links (λ dest. None) []
 
--- once links are resolved, none behind a start tag with a destination is without an `href`, and each
--- that got one leads, where the anchors that are known stand in the tree
+-- once links are resolved, none behind a start tag with a destination is without an `href`, and
+-- each that got one leads, if the known anchors stand in the tree
 pub record EveryLinkLeads (d : DocumentView) : Type 0 where
   pub none_left : links_without (document_root (document_with_links d)).1 ≡ []
   pub given : KnownAnchorsAreShown d → GivenLinksLead d (document_with_links d)

@@ -5,7 +5,7 @@ use Rattle.std.specs.Prelude.{ℕ, Bool, true, false, ◌||◌, ◌==◌, if◌t
 use Rattle.html_dom_link.specs.NewNames.{Name}
 use Rattle.html_dom_link.specs.Events.{Start, Event, other_start, target_start, end_tag, element, text, html_frame}
 
--- a start tag of the group is of that location
+-- a start tag of the group has that location
 abbrev pub is_in_group : ℕ → List Start → Bool
 is_in_group l [] = false
 is_in_group l (s ∷ ss) = (s.location == l) || is_in_group l ss
@@ -24,7 +24,7 @@ abbrev pub waiting_after : List Start → Event → List Start
 waiting_after group (target_start s) = group ++ s ∷ []
 waiting_after group e = if serves group e then [] else group
 
--- an event, and the group that it serves: an empty one where it serves none
+-- an event, and the group that it serves, which is empty if it serves none
 pub record Cut : Type 0 where
   pub event : Event
   pub group : List Start
@@ -36,7 +36,7 @@ abbrev pub cuts : (waiting : List Start) → List Event → List Cut
 cuts waiting [] = []
 cuts waiting (e ∷ es) = cut_at waiting e ∷ cuts (waiting_after waiting e) es
 
--- the name that a server has already: an element's first `id`, a frame's `id`
+-- the name that a server already has: an element's first `id`, a frame's `id`
 abbrev pub own_name : Event → Option Name
 own_name (element id) = id
 own_name (html_frame id inside) = id
@@ -51,7 +51,7 @@ abbrev pub label_of : ℕ → List Start → Option Name
 label_of l [] = None
 label_of l (s ∷ ss) = if s.location == l then s.label else label_of l ss
 
--- the label that the name of a group is made from
+-- the label from which the name of a group is made
 abbrev pub label_for : Event → List Start → Option Name
 label_for (end_tag l) group = label_of l group
 label_for e group = first_label group

@@ -1,4 +1,4 @@
--- What an `href` to a fragment of its own page leads to in a browser: the URL Standard takes it apart
+-- Where an `href` to a fragment of its own page leads in a browser: the URL Standard parses it
 -- (4.4, URL parsing), and the HTML Standard finds the place (7.4.6.3, scrolling to a fragment).
 use Rattle.std.specs.Char.{to_ascii_lowercase}
 use Rattle.std.specs.List.{filter}
@@ -36,11 +36,11 @@ element_places e = place_names e.0.name e.0.attrs ++ nodes_places e.1
 
 -- the fragment of an `href`
 
--- a control or a space: it counts for nothing at the ends of a URL
+-- a control or a space, which a URL drops at its ends
 abbrev pub is_blank : ℕ → Bool
 is_blank c = nat_lt c 33
 
--- a tab, a line feed or a carriage return: it counts for nothing in a URL
+-- a tab, a line feed or a carriage return, which a URL drops
 abbrev pub is_dropped : ℕ → Bool
 is_dropped c = (c == 9) || (c == 10) || (c == 13)
 
@@ -59,12 +59,12 @@ abbrev pub unless_empty : List ℕ → List (List ℕ)
 unless_empty [] = []
 unless_empty (c ∷ cs) = (c ∷ cs) ∷ []
 
--- what stands behind the `#` with which an `href` begins, past blanks
+-- the text behind the `#` with which an `href` begins, past blanks
 abbrev pub behind_hash : (href : List ℕ) → Option (List ℕ)
 behind_hash [] = None
 behind_hash (c ∷ cs) = if c == 35 then Some cs else (if is_blank c then behind_hash cs else None)
 
--- the end of a URL as it is taken
+-- the end of a URL as it is parsed
 abbrev pub url_end : List ℕ → List ℕ
 url_end cs = without_end_blanks (filter is_kept cs)
 
@@ -79,7 +79,7 @@ fragments_in href = fragments_behind (behind_hash href)
 
 -- the place that it leads to
 
--- a fragment as a URL has it
+-- a fragment as the URL has it
 abbrev pub url_fragment : (fragment : List ℕ) → List ℕ
 url_fragment fragment = encoding is_in_fragment_set fragment
 

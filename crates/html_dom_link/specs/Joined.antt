@@ -1,4 +1,4 @@
--- Parts of the walk: one list of nodes and then another, one start tag of a frame, and several.
+-- Parts of the walk: one list of nodes after another, one start tag of a frame, and several.
 use Rattle.html_dom_tree.specs.Frames.{PointView}
 use Rattle.html_dom_tree.specs.Tree.{starts, ends, NodeView, tag_node, text_node, element_node, frame_node, NodesView}
 use Rattle.std.specs.Prelude.{ℕ, Bool, true, false, List, ◌++◌}
@@ -8,7 +8,7 @@ use Rattle.html_dom_link.specs.Namings.{start_pairs}
 use Rattle.html_dom_link.specs.NewNames.{Name, with_used_name}
 use Rattle.html_dom_link.specs.AnchorWalk.{with_entry, WalkState, after_starts, Walked}
 
--- nodes that are made already, before those of a walk
+-- nodes that are already made, before those of a walk
 abbrev pub walked_behind : NodesView → Walked → Walked
 walked_behind made w = (made then w.0, w.1)
 

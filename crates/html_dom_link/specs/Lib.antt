@@ -14,6 +14,7 @@ pub mod LinkLaws
 pub mod Links
 pub mod LinkTargets
 pub mod LocationMaps
+pub mod MadeDocuments
 pub mod Namings
 pub mod NewNames
 pub mod Scripts

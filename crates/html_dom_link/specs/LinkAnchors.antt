@@ -1,5 +1,4 @@
--- The anchors of a document: those of its root, for the locations that are asked for, by the points
--- that are recorded.
+-- The anchors of a document: those of its root for the requested locations, by the recorded points.
 use Rattle.std.specs.Prelude.{ℕ, List, Bool, Option, Some, None}
 use Rattle.html_dom_tree.specs.Frames.{PointView}
 use Rattle.html_dom_document.specs.Places.{PositionView}
@@ -8,7 +7,7 @@ use Rattle.html_dom_document.specs.Documents.{DocumentView, document_root, with_
 use Rattle.html_dom_link.specs.Anchors.{element_with_anchors, anchor_of}
 use Rattle.html_dom_link.specs.Events.{Targets}
 
--- the point at which a location was recorded, if that was in a frame
+-- the point at which a location was recorded, if it was in a frame
 abbrev pub recorded_point : Option PositionView → Option PointView
 recorded_point None = None
 recorded_point (Some position) = position.point

@@ -1,4 +1,4 @@
--- What holds of links that lead.
+-- Laws of links that lead.
 use Rattle.std.specs.Prelude.{◌≡◌, ℕ, Bool, true, List, [], None, Some}
 use lib.Utf8.{scalars}
 use Rattle.html_dom_tree.specs.Tree.{NodeView, NodesView}
@@ -9,13 +9,13 @@ use Rattle.html_dom_link.specs.Links.{Hrefs, nodes_dead_links, nodes_with_links,
 use Rattle.html_dom_link.specs.NewNames.{Name}
 use Rattle.html_dom_link.specs.Spellings.{href_to, leading_href, plain_spelling}
 
--- the `href` that is chosen for the name of a place leads to it
+-- the `href` chosen for the name of a place leads to it
 abbrev pub LeadingHrefsLead : Type 0
 LeadingHrefsLead = (is_place : Name → Bool) (name : Name) (href : List ℕ) → scalars name ≡ true →
     some_name (Some name) ≡ Some name → is_place name ≡ true →
     leading_href is_place (Some name) ≡ Some href → LeadsTo is_place href name
 
--- the plain one does wherever no other place has its spelling as its own name
+-- the plain one does unless another place has its spelling as its own name
 abbrev pub PlainHrefsLead : Type 0
 PlainHrefsLead = (is_place : Name → Bool) (name : Name) → scalars name ≡ true →
     some_name (Some name) ≡ Some name → is_place name ≡ true →
@@ -32,7 +32,7 @@ abbrev pub NamesStay : Type 0
 NamesStay = (hrefs : Hrefs) (before : List NodeView) (ns : NodesView) →
     NamesStayIn ns (nodes_with_links hrefs before ns)
 
--- the links that have no `href` then are exactly those to whose destination none leads
+-- the links left without an `href` are exactly those to whose destination none leads
 abbrev pub LeftAreDead : Type 0
 LeftAreDead = (hrefs : Hrefs) (ns : NodesView) →
     nodes_dead_links (λ dest. None) [] (nodes_with_links hrefs [] ns)

@@ -1,4 +1,4 @@
--- The `href` of each location, by what is held in a walk.
+-- The `href` of each location, from the data of a walk.
 use Rattle.html_dom_document.specs.Introspectors.{introspector_view}
 use Rattle.html_dom_link.specs.Links.{Hrefs, anchor_hrefs}
 use Rattle.html_dom_link.specs.UsedNames.{used_in}

@@ -1,6 +1,5 @@
--- Links that lead: an `a` without an `href` that stands directly behind a start tag with a
--- destination gets the `href` that leads to that destination's anchor, if one does (this project's
--- rule).
+-- Links that lead: an `a` without an `href` directly behind a start tag with a destination gets the
+-- `href` that leads to that destination's anchor, if one does (this project's rule).
 use Rattle.std.specs.Prelude.{ℕ, List, [], ◌∷◌, ◌++◌, Bool, not, ◌&&◌, Option, Some, None, bytes_eq, codes, if◌then◌else◌}
 use Rattle.html_dom_tree.specs.Attributes.{has_name}
 use Rattle.html_dom_tree.specs.Tags.{starts, ends}
@@ -10,7 +9,7 @@ use Rattle.html_names.specs.Names.{stands_in}
 use Rattle.html_dom_link.specs.Indicated.{element_places}
 use Rattle.html_dom_link.specs.Spellings.{leading_href}
 
--- the name that a location has as its anchor, if it has one
+-- the name of a location's anchor, if it has one
 abbrev pub Anchors : Type 0
 Anchors = ℕ → Option (List ℕ)
 
@@ -18,8 +17,8 @@ Anchors = ℕ → Option (List ℕ)
 abbrev pub Hrefs : Type 0
 Hrefs = ℕ → Option (List ℕ)
 
--- of the nodes before a place, the nearest first, with only tags between: the destination of the
--- nearest start tag that has one
+-- the destination of the nearest start tag that has one, from the nodes before a point, the nearest
+-- first, with only tags between
 abbrev pub dest_before : List NodeView → Option ℕ
 dest_before [] = None
 dest_before (tag_node (starts location label None) ∷ before) = dest_before before
@@ -37,7 +36,7 @@ is_open h = bytes_eq h.name (codes "a") && not (has_name h.attrs (codes "href"))
 abbrev pub open_dest : Head → Option ℕ → Option ℕ
 open_dest h dest = if is_open h then dest else None
 
--- an empty name is none: nothing leads to it
+-- an empty name is no name: nothing leads to it
 abbrev pub some_name : Option (List ℕ) → Option (List ℕ)
 some_name None = None
 some_name (Some []) = None
@@ -60,8 +59,8 @@ abbrev pub head_with_link : Hrefs → Option ℕ → Head → Head
 head_with_link hrefs dest h =
     record h { attrs = attrs_with_href (href_of hrefs (open_dest h dest)) h.attrs }
 
--- each link at any depth, and nothing else, is changed; a list is looked at with the nodes before
--- each node, the nearest first
+-- changes each link at any depth, and nothing else; a list is processed with the nodes before each
+-- node, the nearest first
 unfoldable mutual
   pub node_with_links : Hrefs → (dest : Option ℕ) → NodeView → NodeView
   node_with_links hrefs dest (tag_node t) = tag_node t
@@ -78,11 +77,11 @@ unfoldable mutual
 abbrev pub root_with_links : Hrefs → ElementView → ElementView
 root_with_links hrefs root = (root.0, nodes_with_links hrefs [] root.1)
 
--- by the names of the locations, where these are the names of places
+-- from the names of the locations, given the names of places
 abbrev pub anchor_hrefs : (is_place : List ℕ → Bool) → Anchors → Hrefs
 anchor_hrefs is_place anchor = λ location. leading_href is_place (some_name (anchor location))
 
--- in a document, by the anchors that its introspector knows and the places of its tree
+-- in a document, from the anchors that its introspector knows and the places of its tree
 abbrev pub document_hrefs : DocumentView → Hrefs
 document_hrefs d = anchor_hrefs (stands_in (element_places (document_root d))) d.introspector.anchor
 

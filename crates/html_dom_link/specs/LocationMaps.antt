@@ -8,7 +8,7 @@ use Rattle.html_dom_document.specs.Introspectors.{location_cmp}
 use Rattle.html_names.specs.Texts.{text_view}
 use Rattle.html_dom_link.specs.NewNames.{Name}
 
--- what a map has at a location
+-- the value of a map at a location
 abbrev pub at_location : {X : Type 0} → BTreeMap Location X → ℕ → Option X
 at_location m l = get location_cmp m (record { 0 = l })
 

@@ -1,4 +1,4 @@
--- What is named at each event, by the names in use: those of the tree, and all that were made.
+-- The names given at each event, by the names in use: those of the tree, and all that were made.
 use Rattle.std.specs.Prelude.{ℕ, Bool, List, [], ◌∷◌, ◌++◌, ◌==◌, if◌then◌else◌, Option, Some, None}
 use Rattle.html_dom_tree.specs.Attributes.{or_else}
 use Rattle.html_dom_tree.specs.Frames.{PointView}
@@ -9,7 +9,7 @@ use Rattle.html_dom_link.specs.Groups.{Cut, own_name, label_for}
 pub record Naming : Type 0 where
   -- the new name of a server that has none
   pub made : Option Name
-  -- what is added to the anchors of a frame
+  -- the pairs added to the anchors of a frame
   pub pairs : List (PointView × Name)
   -- the names that locations get
   pub answers : List (ℕ × Name)

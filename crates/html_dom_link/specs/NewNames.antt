@@ -43,13 +43,13 @@ element_names e = all_ids e.0.attrs ++ nodes_names e.1
 abbrev pub name_with_number : Name → ℕ → Name
 name_with_number stem n = stem ++ (codes "-" ++ decimal n)
 
--- the first number from `n` on whose name is free, among so many
+-- the first number from `n` on whose name is free, after at most so many tries
 unfoldable pub first_free : (stem : Name) (used : Name → Bool) (tries n : ℕ) → ℕ
 first_free stem used zero n = n
 first_free stem used (suc tries) n = elim (used (name_with_number stem n)) as (λ b. ℕ)
     [ true ↦ first_free stem used tries (suc n) | false ↦ n ]
 
--- what stands before a number, and the first number
+-- the text before a number, and the first number
 abbrev pub stem_of : (label : Name) → Name
 stem_of [] = codes "loc"
 stem_of (c ∷ cs) = c ∷ cs
@@ -63,12 +63,12 @@ abbrev pub free_name : (label : Name) (used : Name → Bool) → Name
 free_name label used =
     name_with_number (stem_of label) (first_free (stem_of label) used (2 ^ 63) (first_number label))
 
--- no label is as an empty one
+-- no label is like an empty one
 abbrev pub text_of_label : Option Name → Name
 text_of_label None = []
 text_of_label (Some n) = n
 
--- the label where it is not empty and not in use; else the label with the first free number from 2;
+-- the label if it is not empty and not in use; else the label with the first free number from 2;
 -- without a label, or with an empty one, `loc` with the first free number from 1
 abbrev pub name_for : (label : Name) (used : Name → Bool) → Name
 name_for [] used = free_name [] used

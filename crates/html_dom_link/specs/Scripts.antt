@@ -1,16 +1,16 @@
--- Addresses that a browser runs, in place of going there.
+-- Addresses that a browser runs instead of opening them.
 use Rattle.std.specs.Char.{to_ascii_lowercase}
 use Rattle.std.specs.List.{filter}
 use Rattle.std.specs.Prelude.{ℕ, Bool, true, false, ◌&&◌, ◌||◌, ◌==◌, List, [], ◌∷◌, codes, if◌then◌else◌}
 use Rattle.html_dom_link.specs.Indicated.{is_blank, is_kept}
 
--- what stands behind the blanks at the beginning
+-- the text behind leading blanks
 abbrev pub past_blanks : List ℕ → List ℕ
 past_blanks [] = []
 past_blanks (c ∷ cs) = if is_blank c then past_blanks cs else c ∷ cs
 
--- the beginning of a URL as it is taken (URL Standard 4.4): controls and spaces before it count for
--- nothing, nor do tabs, line feeds and carriage returns in it
+-- the beginning of a URL as it is parsed (URL Standard 4.4): controls and spaces before it are
+-- dropped, and tabs, line feeds and carriage returns in it
 abbrev pub url_begin : (href : List ℕ) → List ℕ
 url_begin href = filter is_kept (past_blanks href)
 

@@ -1,4 +1,4 @@
--- What is seen of a tree stays, whoever looks who sees neither an `id` nor a `span` as such.
+-- Anchors are invisible to any view of a tree that shows neither an `id` nor a `span` as such.
 use Rattle.std.specs.Prelude.{◌≡◌, ℕ, Bool, false, ◌||◌, List, [], ◌∷◌, ◌++◌, codes}
 use Rattle.html_dom_tree.specs.PlainTree.{words, branch, Plains, no_plains, plain, nodes_normal}
 use Rattle.html_dom_tree.specs.Tree.{TextPair, ElementView}
@@ -6,8 +6,8 @@ use Rattle.html_dom_link.specs.NewNames.{Name}
 use Rattle.html_dom_link.specs.Events.{Targets}
 use Rattle.html_dom_link.specs.Anchors.{element_with_anchors}
 
--- a way to see plain trees as lists: characters one by one, by whether blanks are preserved there;
--- which elements preserve the blanks in them; elements, by what is seen of their children
+-- a view of plain trees as lists: characters one by one, by whether blanks are preserved there;
+-- which elements preserve the blanks in them; elements, by the view of their children
 pub record Sight (A : Type 0) : Type 0 where
   pub char : (preserved : Bool) → ℕ → A
   pub preserves : (name : List ℕ) (attrs : List TextPair) → Bool
@@ -25,8 +25,8 @@ module _ {A : Type 0} where
       s.branch_seen name attrs (plains_sights s (k || s.preserves name attrs) kids)
       ++ plains_sights s k ps
 
-  -- an `id` in front of other attributes isn't seen, and of a `span` with nothing but an `id` only
-  -- the children are
+  -- an `id` in front of other attributes is invisible, and a `span` with only an `id` shows its
+  -- children
   pub record SeesNoAnchors (s : Sight A) : Type 0 where
     pub id_preserves : (n : Name) (name : List ℕ) (attrs : List TextPair) →
         s.preserves name ((codes "id", n) ∷ attrs) ≡ s.preserves name attrs
@@ -35,7 +35,7 @@ module _ {A : Type 0} where
     pub span_preserves : s.preserves (codes "span") [] ≡ false
     pub span_seen : (inner : List A) → s.branch_seen (codes "span") [] inner ≡ inner
 
--- the normal form of the new tree is seen as that of the old one
+-- the view of the new tree's normal form is that of the old one's
 abbrev pub StaysSeen : (A : Type 0) → Type 0
 StaysSeen A = (s : Sight A) → SeesNoAnchors s →
     (x : Targets) (e : ElementView) (preserved : Bool) →

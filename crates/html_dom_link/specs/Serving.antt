@@ -1,5 +1,5 @@
--- What serves a location, as it is seen in a tree with anchors: a start tag is named after the next
--- element or frame, with tags alone between, and a start tag in a frame by an anchor of that frame.
+-- What serves a location, in a tree with anchors: a start tag has the name of the next element or
+-- frame, with only tags between, and a start tag in a frame that of an anchor of the frame.
 use Rattle.std.specs.Prelude.{◌≡◌, ℕ, ◌-◌, Bool, List, [], ◌∷◌, ◌++◌, length, drop, Option, Some, None, if◌then◌else◌}
 use Rattle.html_dom_tree.specs.Frames.{PointView}
 use Rattle.html_dom_tree.specs.Tree.{starts, ends, tag_node, text_node, element_node, frame_node, NodesView, none, node, ElementView}
@@ -13,7 +13,7 @@ use Rattle.html_dom_link.specs.NewNames.{Name, first_id}
 pub data Mark : Type 0 where
   -- a start tag of a target
   start_mark : (location : ℕ) → Mark
-  -- an element, text or frame, and its name where it has one: the first `id`, the frame's `id`
+  -- an element, text or frame, and its name if it has one: the first `id`, the frame's `id`
   place_mark : Option Name → Mark
   -- a start tag of a target in a frame, and its anchor
   inner_mark : (location : ℕ) → Name → Mark
@@ -27,11 +27,11 @@ paired_marks [] anchors = []
 paired_marks (s ∷ ss) [] = []
 paired_marks (s ∷ ss) (a ∷ anchors) = inner_mark s.location a.1 ∷ paired_marks ss anchors
 
--- as many of the last anchors as there are start tags are theirs
+-- the last anchors, as many as there are start tags, are theirs
 abbrev pub inner_marks : List FrameStart → List (PointView × Name) → List Mark
 inner_marks ss anchors = paired_marks ss (drop (length anchors - length ss) anchors)
 
--- what stands below the root, in document order, end tags left out
+-- the marks below the root, in document order, without end tags
 unfoldable pub marks : Targets → NodesView → List Mark
 marks x none = []
 marks x (node (tag_node (starts l label dest)) ns) = start_marks (x.is_target l) l ++ marks x ns
@@ -59,7 +59,7 @@ served_names (start_mark l ∷ ms) = name_entries l (next_name ms) ++ served_nam
 served_names (place_mark name ∷ ms) = served_names ms
 served_names (inner_mark l n ∷ ms) = (l, n) ∷ served_names ms
 
--- the name of a location: that of its last start tag which has one
+-- the name of a location: that of its last start tag that has one
 abbrev pub serving_name : Targets → NodesView → ℕ → Option Name
 serving_name x ns = last_name (served_names (marks x ns))
 
@@ -68,7 +68,7 @@ abbrev pub AnchorsServe : Type 0
 AnchorsServe = (x : Targets) (e : ElementView) (location : ℕ) →
     anchor_of x e location ≡ serving_name x (element_with_anchors x e).1 location
 
--- so it is in a document with these anchors of these locations
+-- this holds in a document with these anchors of these locations
 abbrev pub AreServing : (is_target : ℕ → Bool) → (anchor : ℕ → Option Name) → DocumentView → Type 0
 AreServing is_target anchor d = let x = document_targets is_target d in
     (location : ℕ) → anchor location ≡ serving_name x (document_root d).1 location

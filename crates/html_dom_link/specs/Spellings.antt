@@ -6,8 +6,8 @@ use lib.Utf8.{encodes}
 use Rattle.percent_encoding.specs.Percent.{percent_encode_byte}
 use Rattle.html_dom_link.specs.NewNames.{Name}
 
--- the fragment percent-encode set, of bytes as of characters: controls and the space, `"`, `<`, `>`,
--- the backquote, and all from U+007F on
+-- the fragment percent-encode set, of bytes as of characters: controls and the space, `"`, `<`,
+-- `>`, the backquote, and all from U+007F on
 abbrev pub is_in_fragment_set : ℕ → Bool
 is_in_fragment_set c =
     nat_lt 126 c || nat_lt c 33 || (c == 34) || (c == 60) || (c == 62) || (c == 96)
@@ -39,9 +39,8 @@ abbrev pub unless_place :
     (is_place : Name → Bool) → (spelling : List ℕ) → (other : Option (List ℕ)) → Option (List ℕ)
 unless_place is_place spelling other = if is_place spelling then other else Some spelling
 
--- the spelling that leads to a name where these are the names of places: the name, if it is left as
--- it is; else the plainest encoding that no place has as its name, of the two in which decoding gives
--- the name
+-- the spelling that leads to a name, given the names of places: the name, if it is left as it is;
+-- else the plainest encoding that no place has as its name, of the two whose decoding is the name
 unfoldable pub leading_spelling : (is_place : Name → Bool) → Name → Option (List ℕ)
 leading_spelling is_place name = if is_left name then Some name
     else unless_place is_place (encoding is_in_name_set name)
@@ -50,11 +49,11 @@ leading_spelling is_place name = if is_left name then Some name
 abbrev pub href_with : (fragment : List ℕ) → List ℕ
 href_with fragment = codes "#" ++ fragment
 
--- the `href` that leads to a name wherever no place has another spelling of it as its own name
+-- the `href` that leads to a name unless a place has another spelling of it as its own name
 abbrev pub href_to : Name → List ℕ
 href_to name = href_with (plain_spelling name)
 
--- the `href` that leads to a name where these are the names of places, if one does
+-- the `href` that leads to a name, given the names of places, if one does
 abbrev pub leading_href : (is_place : Name → Bool) → Option Name → Option (List ℕ)
 leading_href is_place None = None
 leading_href is_place (Some name) = option_map href_with (leading_spelling is_place name)

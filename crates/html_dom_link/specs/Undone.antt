@@ -1,4 +1,4 @@
--- What was added taken off again, at the nodes that the events and namings tell of.
+-- The removal of what was added, at the nodes that the events and namings name.
 use Rattle.std.specs.Prelude.{◌≡◌, List, [], ◌∷◌, ◌-◌, Bool, true, false, length, take, drop, Option, Some, None, is_some}
 use Rattle.html_dom_tree.specs.Frames.{HtmlFrameView}
 use Rattle.html_dom_tree.specs.Tree.{Head, NodeView, tag_node, text_node, element_node, frame_node, NodesView, none, node, ElementView}
@@ -7,7 +7,7 @@ use Rattle.html_dom_link.specs.Events.{Targets, Event, text, events}
 use Rattle.html_dom_link.specs.Namings.{Naming}
 use Rattle.html_dom_link.specs.Anchors.{nodes_size, element_namings, element_with_anchors}
 
--- the attributes of an element without the `id` that was put in front of them
+-- the attributes of an element without the `id` that was added in front
 abbrev pub without_id : (made : Option Name) → Head → Head
 without_id None h = h
 without_id (Some n) h = record h { attrs = drop 1 h.attrs }
@@ -28,7 +28,7 @@ abbrev pub inner_node : NodeView → NodesView → NodeView
 inner_node n none = n
 inner_node n (node m ms) = m
 
--- `added`: an element stands first that was put after an end tag
+-- `added`: the first node is an element that was added after an end tag
 unfoldable pub nodes_undone : (added : Bool) → List Event → List Naming → NodesView → NodesView
 nodes_undone added es cs none = none
 nodes_undone true es cs (node n ns) = nodes_undone false es cs ns
@@ -47,7 +47,7 @@ nodes_undone false (e ∷ es) (c ∷ cs) (node (element_node h kids) ns) =
 nodes_undone false (e ∷ es) (c ∷ cs) (node (frame_node f) ns) =
     node (frame_node (unnamed_frame c f)) (nodes_undone false es cs ns)
 
--- what was added taken off again gives the old tree
+-- removing what was added restores the old tree
 abbrev pub ComesBack : Type 0
 ComesBack = (x : Targets) (e : ElementView) →
     nodes_undone false (events x e.1) (element_namings x e) (element_with_anchors x e).1 ≡ e.1

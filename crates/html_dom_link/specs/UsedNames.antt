@@ -1,4 +1,4 @@
--- The names in use as they are held: a set of texts, and for each label the next number to try.
+-- The names in use as they are stored: a set of texts, and for each label the next number to try.
 use Rattle.std.specs.Prelude.{◌≡◌, ℕ, ◌+◌, ◌≤◌, ◌<◌, ◌^◌, Bool, true, false, ◌||◌, List, [], ◌∷◌, length, map, chars, String, Some}
 use Rattle.std.specs.declared.alloc.Global.{Global}
 use Rattle.std.specs.BTreeMap.{BTreeMap, get_by_text}
@@ -30,7 +30,7 @@ IsCounted used next =
 abbrev pub with_names : List Name → (used : Name → Bool) → Name → Bool
 with_names names used n = stands_in names n || used n
 
--- a list of at most 2 ^ 63 names has all that are in use
+-- a list of at most 2 ^ 63 names contains all that are in use
 pub record IsBounded (used : Name → Bool) : Type 0 where
   pub names : List Name
   pub few : length names ≤ 2 ^ 63

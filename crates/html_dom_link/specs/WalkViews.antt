@@ -1,4 +1,4 @@
--- The state of the walk, the targets and the points, as they are held.
+-- The state of the walk, the targets and the points, as they are stored.
 use Rattle.html_dom_document.specs.Introspectors.{has_location, introspector_view}
 use Rattle.html_dom_link.specs.Events.{Targets}
 use Rattle.html_dom_link.specs.LinkAnchors.{targets_in}

@@ -1,11 +1,8 @@
-ghost use Rattle.std.specs.Prelude.{◌≡◌, IfOk, OnOk, OnErr};
+ghost use Rattle.std.specs.Prelude.{◌≡◌, IfOk, OnErr};
 ghost use Rattle.html_dom_tree.specs.Views.{nodes_view};
 ghost use Rattle.html_dom_document.specs.Views.{document_view};
 ghost use Rattle.html_dom_document.specs.Introspectors.{has_location, location_text};
-ghost use Rattle.html_dom_link.specs.Distinct.{IdsAreDistinct};
-ghost use Rattle.html_dom_link.specs.DocumentNames.{AnchorsAreNew, AnchorsAreShown};
-ghost use Rattle.html_dom_link.specs.LinkAnchors.{document_anchor, document_with_new_anchors};
-ghost use Rattle.html_dom_link.specs.Serving.{AreServing};
+ghost use Rattle.html_dom_link.specs.MadeDocuments.{HasNewAnchors};
 ghost use Rattle.html_dom_link.specs.UsedNames.{used_in, IsBounded};
 ghost use Rattle.html_dom_link.specs.AnchorWalk.{at_first, walk};
 ghost use Rattle.html_dom_link.specs.WalkViews.{walk_view, targets_view};
@@ -13,28 +10,27 @@ ghost use Rattle.html_dom_link.specs.WalkViews.{walk_view, targets_view};
 use crate::elements::anchor_nodes;
 use crate::names::AnchorNames;
 use crate::names_in_tree::element_names;
+use crate::root_children::{put_children, take_children};
 use crate::sought::Sought;
 use crate::state::Walk;
 use html_dom_document::HtmlDocument;
-use html_dom_tree::{HtmlElement, HtmlNode, Location};
+use html_dom_tree::{HtmlNode, Location};
 use std::alloc::{AllocError, Global};
 use std::collections::{BTreeMap, BTreeSet};
-use std::mem;
 
-/// Gives the tree of a document anchors for these locations, and answers the anchor of each.
+/// Adds anchors for these locations to the tree of a document, and returns the anchor of each.
 ///
-/// A start tag of one of them waits for the next element, text or frame, which serves all that
-/// wait: with its `id`, or with a new one, made of the first label that waits. A text is put in a
-/// new `span`; at an end tag of a location that waits a new empty `span` stands, with a name made
-/// of the first label of that location. Where a location was recorded in a frame, each of its start
-/// tags in frames gets an anchor of its own, at the recorded point. New names differ from each
-/// other and from all that the tree has, and each name that is answered is that of what serves the
-/// location in the new tree. Where all values of `id` differed, they still do
-/// ([`ids_are_distinct`](crate::ids_are_distinct)). It fails only where an allocation does, and then
-/// the document is as it was.
+/// The next element, text or frame behind a start tag serves its location, by its `id` or by a new
+/// one made from the tag's label, as docs/RULES.md (Anchors) says. Adds a `span` around a text that
+/// serves, and an empty `span` at an end tag whose location still waits. A location recorded in a
+/// frame gets an anchor at its point for each of its start tags in frames. New names differ from
+/// each other and from all in the tree, and each returned name is that of what serves the location
+/// in the new tree. If all values of `id` differed, they still do
+/// ([`ids_are_distinct`](crate::ids_are_distinct)). Fails only if an allocation fails, and then the
+/// document is unchanged.
 ///
-/// The new tree is made beside the old one. [`with_link_anchors`] takes a document, and copies
-/// nothing.
+/// Changes a copy, which then takes the document's place. [`with_link_anchors`] consumes a document,
+/// and copies nothing.
 ///
 /// ```
 /// use std::collections::BTreeSet;
@@ -58,58 +54,35 @@ pub fn create_link_anchors(
     document: &mut HtmlDocument,
     targets: &BTreeSet<Location>,
 ) -> Result<BTreeMap<Location, String>, AllocError>
-    ensures tree { OnOk result (document_view document.new
-        ≡ document_with_new_anchors (has_location targets.now) (document_view document.old)) }
-    ensures anchors { IfOk result (λ anchors.
-        location_text anchors ≡ document_anchor (has_location targets.now) (document_view document.old)) }
-    ensures fresh { OnOk result (AnchorsAreNew (has_location targets.now) (document_view document.old)) }
-    ensures shown { IfOk result (λ anchors.
-        AnchorsAreShown (location_text anchors) (document_view document.new)) }
-    ensures serves { IfOk result (λ anchors.
-        AreServing (has_location targets.now) (location_text anchors) (document_view document.new)) }
-    ensures distinct { IdsAreDistinct (document_view document.old) →
-        OnOk result (IdsAreDistinct (document_view document.new)) }
+    ensures made { IfOk result (λ anchors. HasNewAnchors (has_location targets.now)
+        (document_view document.old) (document_view document.new) (location_text anchors)) }
     ensures kept { OnErr result (document.new ≡ document.old) }
 {
-    let names = element_names(alloc, document.root())?;
-    let HtmlElement { children, .. } = document.root().try_clone()?;
-    let sought = Sought {
-        targets,
-        known: document.introspector(),
-    };
-    let (children, state) = walk_over(alloc, names, sought, children)?;
-    document.root_mut().children = children;
-    Ok(state.answers)
+    let copy = document.try_clone()?;
+    let (made, anchors) = with_link_anchors(alloc, copy, targets)?;
+    *document = made;
+    Ok(anchors)
 }
 
-/// The document with anchors in its tree for these locations, as [`create_link_anchors`] makes
-/// them, and the anchor of each. No node is copied. It fails only where an allocation does, and then
-/// the document is gone.
+/// Consumes a document and returns it with anchors for these locations in its tree, as
+/// [`create_link_anchors`] makes them, and the anchor of each. Copies no node. Fails only if an
+/// allocation fails, and then drops the document.
 pub fn with_link_anchors(
     alloc: Global,
     mut document: HtmlDocument,
     targets: &BTreeSet<Location>,
 ) -> Result<(HtmlDocument, BTreeMap<Location, String>), AllocError>
-    ensures tree { IfOk result (λ made. document_view made.0
-        ≡ document_with_new_anchors (has_location targets.now) (document_view document)) }
-    ensures anchors { IfOk result (λ made.
-        location_text made.1 ≡ document_anchor (has_location targets.now) (document_view document)) }
-    ensures fresh { OnOk result (AnchorsAreNew (has_location targets.now) (document_view document)) }
-    ensures shown { IfOk result (λ made.
-        AnchorsAreShown (location_text made.1) (document_view made.0)) }
-    ensures serves { IfOk result (λ made.
-        AreServing (has_location targets.now) (location_text made.1) (document_view made.0)) }
-    ensures distinct { IdsAreDistinct (document_view document) →
-        IfOk result (λ made. IdsAreDistinct (document_view made.0)) }
+    ensures { IfOk result (λ made. HasNewAnchors (has_location targets.now)
+        (document_view document) (document_view made.0) (location_text made.1)) }
 {
     let names = element_names(alloc, document.root())?;
-    let children = mem::replace(&mut document.root_mut().children, Vec::new(alloc));
+    let children = take_children(alloc, &mut document);
     let sought = Sought {
         targets,
         known: document.introspector(),
     };
     let (children, state) = walk_over(alloc, names, sought, children)?;
-    document.root_mut().children = children;
+    put_children(&mut document, children);
     Ok((document, state.answers))
 }
 

@@ -1,4 +1,4 @@
-//! What anchors change in nodes.
+//! Changes that anchors make to nodes.
 
 ghost use Rattle.std.specs.Prelude.{◌≡◌, ℕ, List, Some, IfOk, OnOk};
 ghost use Rattle.html_dom_tree.specs.Tree.{text_node};
@@ -27,7 +27,7 @@ pub(crate) fn named_span(
     Ok(element)
 }
 
-/// Attributes get a new `id` in front where one was made.
+/// Prepends a new `id`, if one was made.
 #[tactic(auto, unfolding(html_names::specs::Tables::known_attrs))]
 pub(crate) fn name_attrs(attrs: &mut HtmlAttrs, made: Option<String>) -> Result<(), AllocError>
     ensures { OnOk result (attrs_view attrs.new

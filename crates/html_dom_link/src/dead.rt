@@ -18,18 +18,17 @@ use std::alloc::{AllocError, Global};
 /// A link of a document that leads nowhere.
 #[derive(Clone, Copy, Debug, PartialEq, Eq, Hash)]
 pub struct DeadLink {
-    /// Where the link comes from.
+    /// The place of the link in the source.
     pub span: Span,
-    /// The location that it would lead to.
+    /// The location that it should lead to.
     pub dest: Location,
 }
 
-/// The links of a document that have no `href` and to whose destination none leads, since it has no
-/// anchor, or an empty one, or other places have both encodings of its name as their names
-/// ([`resolve_links`](crate::resolve_links)), in document order: those that `resolve_links` leaves as
-/// they are. Where
-/// there is none, each link that stands behind a start tag with a destination leads, once links are
-/// resolved. It fails only where an allocation does.
+/// Returns the links of a document that have no `href` and lead nowhere, in document order: their
+/// destination has no anchor or an empty one, or other places have both encodings of its name as
+/// their names ([`resolve_links`](crate::resolve_links)). `resolve_links` leaves exactly these as
+/// they are. If there are none, each link behind a start tag with a destination leads once links
+/// are resolved. Fails only if an allocation fails.
 ///
 /// ```
 /// use typst_html::{DocumentInfo, HtmlElem, Item, Location, Span};
@@ -81,7 +80,7 @@ fn add_link(
     Ok(())
 }
 
-// Each node stands first among the parameters: its depth shows that the calls end.
+// The node comes first among the parameters: its depth proves that the recursion ends.
 
 /// Adds the element's link, if it is dead behind tags with that destination, and those below it.
 #[cycle(dead)]

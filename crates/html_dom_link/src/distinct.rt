@@ -12,11 +12,11 @@ use html_dom_document::HtmlDocument;
 use std::alloc::{AllocError, Global};
 use std::collections::BTreeSet;
 
-/// Whether all values of `id` in a document's tree differ from each other, those of frames and of
-/// frames' anchors among them: the HTML Standard (3.2.6) wants each `id` unique in its tree, and a tree
-/// may hold one twice. Where they differ, each link that [`resolve_links`](crate::resolve_links) gives
-/// an `href` leads to one place. It takes time for each name by the logarithm of how many there are,
-/// and fails only where an allocation does.
+/// Returns whether all values of `id` in a document's tree differ, including those of frames and of
+/// frames' anchors: the HTML Standard (3.2.6) requires each `id` to be unique in its tree, but a
+/// tree may hold one twice. If they differ, each link to which
+/// [`resolve_links`](crate::resolve_links) gives an `href` leads to one place. Takes logarithmic
+/// time for each name. Fails only if an allocation fails.
 ///
 /// ```
 /// use typst_html::{DocumentInfo, HtmlElem, Item, Pair, attr, html_document};

@@ -1,4 +1,4 @@
-//! Anchors in elements, and in all nodes of a list.
+//! Anchors in elements and in lists of nodes.
 
 ghost use Rattle.std.specs.Prelude.{◌≡◌, false, OnOk, IfOk};
 ghost use Rattle.std.specs.List.{list_any};
@@ -19,9 +19,9 @@ use html_names::attr;
 use std::alloc::{AllocError, Global};
 use std::mem;
 
-// Each node stands first among the parameters: its depth shows that the calls end.
+// The node comes first among the parameters: its depth proves that the recursion ends.
 
-/// An element serves all that wait, and then what stands in it is anchored.
+/// Serves all waiting locations, then adds anchors in the element.
 #[cycle(nodes)]
 fn anchor_element(
     element: &mut HtmlElement,
@@ -39,7 +39,7 @@ fn anchor_element(
     anchor_nodes(&mut element.children, state, alloc, sought)
 }
 
-/// Answers the name of the new `span` that is to follow the node.
+/// Returns the name of the new `span` that must follow the node, if any.
 #[cycle(nodes)]
 fn anchor_node(
     child: &mut HtmlNode,
@@ -72,13 +72,13 @@ fn anchor_in_place(
         ≡ walk (targets_view sought.entry) (nodes_view nodes.old) (walk_view state.old)) }
 {
     for child in nodes.iter_mut() {
-        // No end tag is among them, so no `span` follows any.
+        // The nodes hold no end tag, so no `span` follows any of them.
         let _ = anchor_node(child, state, alloc, sought)?;
     }
     Ok(())
 }
 
-/// Nodes with anchors, and with the new `span`s that follow end tags.
+/// Adds anchors to the nodes, and the new `span`s that follow end tags.
 #[cycle(nodes)]
 fn with_spans(
     mut nodes: Vec<HtmlNode>,

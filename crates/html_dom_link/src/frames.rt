@@ -12,7 +12,7 @@ use crate::state::Walk;
 use html_dom_tree::{Frame, FrameItem, Point, Tag};
 use std::alloc::{AllocError, Global};
 
-/// A start tag of a target at its point in a frame gets a name.
+/// Names the start tag of a target at its point in a frame.
 fn name_start(
     walk: &mut Walk,
     anchors: &mut Vec<(Point, String)>,

@@ -1,4 +1,4 @@
-//! What an `href` to a fragment of its own page leads to in a browser.
+//! Where an `href` to a fragment of its own page leads in a browser.
 
 ghost use Rattle.std.specs.Prelude.{◌≡◌, chars, option_map, option_to_list, IfOk};
 ghost use Rattle.html_names.specs.Texts.{text_view};
@@ -11,10 +11,10 @@ use percent_encoding::percent_decode;
 use std::alloc::{AllocError, Global};
 use std::collections::BTreeSet;
 
-/// The fragment of an `href` to its own page, as a browser takes it (URL Standard 4.4): what stands
-/// behind the `#` with which it begins. Controls and spaces at both ends count for nothing, nor do
-/// tabs, line feeds and carriage returns anywhere. `#` alone, which leads to the top of the page, has
-/// none. It fails only where an allocation does.
+/// Returns the fragment of an `href` to its own page, as a browser takes it (URL Standard 4.4): the
+/// text behind the `#` with which it begins. Ignores controls and spaces at both ends, and tabs,
+/// line feeds and carriage returns anywhere. `#` alone, which leads to the top of the page, has
+/// none. Fails only if an allocation fails.
 ///
 /// ```
 /// use html_dom::fragment_in;
@@ -34,11 +34,11 @@ pub fn fragment_in(alloc: Global, href: &str) -> Result<Option<String>, AllocErr
     Ok(unless_empty(url_end(alloc, fragment)?))
 }
 
-/// Whether a fragment leads to a place of its page or to the top, as a browser finds it (HTML Standard
-/// 7.4.6.3), where these are the names of the places. The URL encodes the fragment by the fragment
-/// percent-encode set; then a place is looked for whose name is that text as it is, or else the text
-/// to which it decodes, with U+FFFD for what is no UTF-8. `top`, in any ASCII case, leads to the top
-/// of the page where no place has that name. It fails only where an allocation does.
+/// Returns whether a fragment leads to a place of its page, or to the top, in a browser (HTML
+/// Standard 7.4.6.3), given the names of the places. The URL encodes the fragment by the fragment
+/// percent-encode set; the browser then looks for a place with that text as its name, or else with
+/// the text to which it decodes, with U+FFFD for what is no UTF-8. `top`, in any ASCII case, leads
+/// to the top of the page if no place has that name. Fails only if an allocation fails.
 ///
 /// ```
 /// use typst_html::{HtmlElement, attr, fragment_leads, place_names, tag};
@@ -64,21 +64,21 @@ pub fn fragment_leads(
     leads_decoded(alloc, places, as_it_is.as_str())
 }
 
-/// A control or a space.
+/// Returns whether a character is a control or a space.
 pub(crate) fn is_blank(c: char) -> bool
     ensures { result ≡ is_blank c }
 {
     c <= ' '
 }
 
-/// What counts for nothing in a URL.
+/// Returns whether a URL drops a character.
 pub(crate) fn is_dropped(c: char) -> bool
     ensures { result ≡ is_dropped c }
 {
     matches!(c, '\t' | '\n' | '\r')
 }
 
-/// What stands behind the `#` with which a text begins, past blanks.
+/// Returns the text behind the `#` with which an `href` begins, past blanks.
 fn behind_hash(href: &str) -> Option<&str>
     ensures { option_map (λ text. chars text.now) result ≡ behind_hash (chars href.now) }
 {
@@ -139,7 +139,7 @@ fn leads_decoded(
     Ok(text_leads(places, &decoded))
 }
 
-/// Whether a text is the name of a place, or leads to the top of the page.
+/// Returns whether a text is the name of a place, or leads to the top of the page.
 fn text_leads(places: &BTreeSet<String>, text: &str) -> bool
     ensures { result ≡ text_leads (used_in places.now) text.now }
 {

@@ -1,4 +1,4 @@
-//! Anchors of links: the targets of links that stand in the tree get names there.
+//! Anchors of links: names for the places in the tree that links lead to.
 #![tactic(auto)]
 
 mod anchors;
@@ -15,6 +15,7 @@ mod names;
 mod names_in_tree;
 mod nodes;
 mod places;
+mod root_children;
 mod scripts;
 mod sought;
 mod spellings;
@@ -25,6 +26,7 @@ pub use dead::{DeadLink, dead_links};
 pub use distinct::ids_are_distinct;
 pub use indicated::{fragment_in, fragment_leads};
 pub use links::{document_with_links, resolve_links, with_resolved_links};
-pub use places::place_names;
+pub use names::{is_used, put_in_use};
+pub use places::{first_id, link_name, place_names};
 pub use scripts::href_is_script;
 pub use spellings::href_to;

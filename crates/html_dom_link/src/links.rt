@@ -1,18 +1,16 @@
 //! The `href` of links that have none.
 
 ghost use Rattle.std.specs.Prelude.{◌≡◌, ◌∷◌, [], List, option_map, IfErr, IfOk, OnErr, OnOk};
-ghost use Rattle.html_dom_document.specs.Documents.{document_root};
 ghost use Rattle.html_dom_document.specs.Views.{document_view};
 ghost use Rattle.html_dom_tree.specs.Tree.{NodeView, element_node};
 ghost use Rattle.html_dom_tree.specs.Views.{attrs_view, element_view, node_view, nodes_view, text_view};
 ghost use Rattle.html_dom_document.specs.Introspectors.{introspector_view};
-ghost use Rattle.html_dom_link.specs.Distinct.{IdsAreDistinct, GivenLinksLeadToOne};
-ghost use Rattle.html_dom_link.specs.GivenLinks.{KnownAnchorsAreShown, GivenLinksLead, links_without};
 ghost use Rattle.html_dom_link.specs.LinkTargets.{hrefs_view};
-ghost use Rattle.html_dom_link.specs.Links.{attrs_with_href, dest_before, document_dead_links, document_with_links, href_of, is_open, name_of, node_with_links, nodes_with_links, open_dest};
-ghost use Rattle.html_dom_link.specs.Serving.{KnownAnchorsServe};
+ghost use Rattle.html_dom_link.specs.Links.{attrs_with_href, dest_before, href_of, is_open, name_of, node_with_links, nodes_with_links, open_dest};
+ghost use Rattle.html_dom_link.specs.MadeDocuments.{HasItsLinks};
 
 use crate::places::place_names;
+use crate::root_children::{put_children, take_children};
 use crate::spellings::leading_href;
 use html_dom_document::{HtmlDocument, HtmlIntrospector};
 use html_dom_flat::give_back;
@@ -20,9 +18,8 @@ use html_dom_tree::{HtmlAttrs, HtmlElement, HtmlNode, Location, Tag};
 use html_names::{Refused, attr, tag};
 use std::alloc::{AllocError, Global};
 use std::collections::BTreeSet;
-use std::mem;
 
-/// What links lead to: the anchors that are known, and the names of all places.
+/// The known anchors and the names of all places, to which links lead.
 #[derive(Clone, Copy)]
 pub(crate) struct LinkTargets<'a> {
     pub(crate) known: &'a HtmlIntrospector,
@@ -45,33 +42,33 @@ impl LinkTargets<'_> {
     }
 }
 
-/// Gives each link of a document that has no `href` one that leads.
+/// Gives each link of a document that has no `href` one that leads to its destination.
 ///
-/// A link is an `a` at any depth below the root that stands directly behind a start tag with a
-/// destination, with only tags between; of several such tags the nearest counts. Where the
-/// document's introspector knows an anchor of that destination, and it is not empty, the link's first
-/// attribute becomes `href`, with `#` and a spelling of the anchor's name that leads to it. Links that
-/// have an `href`, and all else, stay. What is left without is told by [`dead_links`].
+/// A link is an `a` at any depth below the root directly behind a start tag with a destination,
+/// with only tags between; of several such tags the nearest counts. If the document's introspector
+/// knows an anchor of that destination, and it is not empty, the link's first attribute becomes
+/// `href`: `#` and a spelling of the anchor's name that leads to it. Links that have an `href`, and
+/// everything else, stay. [`dead_links`] reports the links that are left without one.
 ///
-/// A browser looks for a place whose name is the fragment as it is, and only then for one whose name
-/// is what it decodes to (HTML Standard 7.4.6.3). So the name is spelled as it is, if the fragment
-/// percent-encode set (URL Standard 1.3) leaves it so; else that set and `%` are percent-encoded; else,
-/// where another place of the tree has that text as its name, each byte is. Where one has that text
-/// too, nothing leads to the place, and the link stays without an `href`. A place is an element with
-/// that first `id`, an `a` with that first `name`, a frame, or an anchor of one.
+/// A browser looks for a place named as the fragment is, and only then for one whose name is what
+/// it decodes to (HTML Standard 7.4.6.3). So the name is spelled as it is, if the fragment
+/// percent-encode set (URL Standard 1.3) leaves it so; else with that set and `%` percent-encoded;
+/// else, if another place of the tree has that text as its name, with each byte encoded. If a place
+/// has that text too, the link stays without an `href`. A place is an element with that first `id`,
+/// an `a` with that first `name`, a frame, or an anchor of one.
 ///
-/// Each `href` that is given leads: where the anchors that the introspector knows stand in the tree,
-/// as they do in a document of `html_document`, a browser takes from it a fragment that indicates the
-/// anchor's name, which is the first `id` of an element below the root, the `id` of a frame, or one of
-/// a frame's anchors; it stays the name of what serves the destination there. Where all values of `id`
-/// differ ([`ids_are_distinct`](crate::ids_are_distinct)), they still do, and one of them alone is that
-/// name.
+/// Each new `href` leads: if the anchors that the introspector knows stand in the tree, as they do
+/// in a document of `html_document`, the fragment that a browser takes from it indicates the
+/// anchor's name, which is the first `id` of an element below the root, the `id` of a frame, or one
+/// of a frame's anchors; it stays the name of what serves the destination there. If all values of
+/// `id` differ ([`ids_are_distinct`](crate::ids_are_distinct)), they still do, and exactly one of
+/// them is that name.
 ///
-/// Cost: grows with the size of the tree, and for each place and each link with the logarithm of how
-/// many places there are.
+/// Takes time linear in the size of the tree, and for each place and each link logarithmic in the
+/// number of places.
 ///
-/// It fails only where an allocation does, and then the document is as it was. The new tree is made
-/// beside the old one.
+/// Fails only if an allocation fails, and then the document is unchanged. Changes a copy, which then
+/// takes the document's place.
 ///
 /// ```
 /// use typst_html::{DocumentInfo, HtmlElem, HtmlOptions, Item, Location};
@@ -90,80 +87,42 @@ impl LinkTargets<'_> {
 /// assert!(rt; text.as_str().ends_with(body));
 /// ```
 pub fn resolve_links(alloc: Global, document: &mut HtmlDocument) -> Result<(), AllocError>
-    ensures ok { OnOk result
-        (document_view document.new ≡ document_with_links (document_view document.old)) }
-    ensures leads { KnownAnchorsAreShown (document_view document.old) → OnOk result
-        (GivenLinksLead (document_view document.old) (document_view document.new)) }
-    ensures left { OnOk result (links_without (document_root (document_view document.new)).1
-        ≡ document_dead_links (document_view document.old)) }
-    ensures serves { KnownAnchorsServe (document_view document.old) →
-        OnOk result (KnownAnchorsServe (document_view document.new)) }
-    ensures distinct { IdsAreDistinct (document_view document.old) →
-        OnOk result (IdsAreDistinct (document_view document.new)) }
-    ensures one { KnownAnchorsAreShown (document_view document.old) →
-        IdsAreDistinct (document_view document.old) → OnOk result
-        (GivenLinksLeadToOne (document_view document.old) (document_view document.new)) }
+    ensures links { OnOk result
+        (HasItsLinks (document_view document.old) (document_view document.new)) }
     ensures kept { OnErr result (document.new ≡ document.old) }
 {
-    let HtmlElement { children, .. } = document.root().try_clone()?;
-    let places = place_names(alloc, document.root())?;
-    let targets = LinkTargets {
-        known: document.introspector(),
-        places: &places,
-    };
-    let children = nodes_with_links(children, alloc, targets)?;
-    document.root_mut().children = children;
+    let copy = document.try_clone()?;
+    *document = document_with_links(alloc, copy)?;
     Ok(())
 }
 
-/// The document whose links lead, as [`resolve_links`] makes it, for whoever does not need the one
-/// without: its nodes are moved, where that call copies them. Where an allocation fails, it is gone.
+/// Consumes a document and returns it with its links resolved as by [`resolve_links`], but moves
+/// the nodes that that call copies. If an allocation fails, drops the document.
 pub fn document_with_links(
     alloc: Global,
     mut document: HtmlDocument,
 ) -> Result<HtmlDocument, AllocError>
-    ensures ok { IfOk result (λ made.
-        document_view made ≡ document_with_links (document_view document)) }
-    ensures leads { KnownAnchorsAreShown (document_view document) → IfOk result (λ made.
-        GivenLinksLead (document_view document) (document_view made)) }
-    ensures left { IfOk result (λ made. links_without (document_root (document_view made)).1
-        ≡ document_dead_links (document_view document)) }
-    ensures distinct { IdsAreDistinct (document_view document) →
-        IfOk result (λ made. IdsAreDistinct (document_view made)) }
-    ensures one { KnownAnchorsAreShown (document_view document) →
-        IdsAreDistinct (document_view document) → IfOk result (λ made.
-        GivenLinksLeadToOne (document_view document) (document_view made)) }
+    ensures { IfOk result (λ made. HasItsLinks (document_view document) (document_view made)) }
 {
     let places = place_names(alloc, document.root())?;
-    let children = mem::replace(&mut document.root_mut().children, Vec::new(alloc));
+    let children = take_children(alloc, &mut document);
     let targets = LinkTargets {
         known: document.introspector(),
         places: &places,
     };
     let children = nodes_with_links(children, alloc, targets)?;
-    document.root_mut().children = children;
+    put_children(&mut document, children);
     Ok(document)
 }
 
-/// The document whose links lead, as [`resolve_links`] makes it. Where an allocation fails, the
-/// document comes back as it was.
+/// Consumes a document and returns it with its links resolved as by [`resolve_links`]. If an
+/// allocation fails, the error holds the document unchanged.
 pub fn with_resolved_links(
     alloc: Global,
     mut document: HtmlDocument,
 ) -> Result<HtmlDocument, Refused<HtmlDocument>>
-    ensures ok { IfOk result (λ made.
-        document_view made ≡ document_with_links (document_view document)) }
-    ensures leads { KnownAnchorsAreShown (document_view document) → IfOk result (λ made.
-        GivenLinksLead (document_view document) (document_view made)) }
-    ensures left { IfOk result (λ made. links_without (document_root (document_view made)).1
-        ≡ document_dead_links (document_view document)) }
-    ensures serves { KnownAnchorsServe (document_view document) →
-        IfOk result (λ made. KnownAnchorsServe (document_view made)) }
-    ensures distinct { IdsAreDistinct (document_view document) →
-        IfOk result (λ made. IdsAreDistinct (document_view made)) }
-    ensures one { KnownAnchorsAreShown (document_view document) →
-        IdsAreDistinct (document_view document) → IfOk result (λ made.
-        GivenLinksLeadToOne (document_view document) (document_view made)) }
+    ensures links { IfOk result (λ made.
+        HasItsLinks (document_view document) (document_view made)) }
     ensures back { IfErr result (λ refused. refused.back ≡ document) }
 {
     match resolve_links(alloc, &mut document) {
@@ -172,7 +131,7 @@ pub fn with_resolved_links(
     }
 }
 
-/// The destination of the nearest start tag that has one, with only tags between, behind a node.
+/// Returns the destination that counts right behind a node, given that right before it.
 pub(crate) fn dest_past(dest: Option<Location>, node: &HtmlNode) -> Option<Location>
     ensures { (before : List NodeView) → option_map (λ l. l.0) dest ≡ dest_before before →
         option_map (λ l. l.0) result ≡ dest_before (node_view node.now ∷ before) }
@@ -189,7 +148,7 @@ pub(crate) fn dest_past(dest: Option<Location>, node: &HtmlNode) -> Option<Locat
     }
 }
 
-/// Whether the element is an `a` without an `href`.
+/// Returns whether the element is an `a` without an `href`.
 #[tactic(auto, unfolding(html_names::specs::Tables::known_tags, html_names::specs::Tables::known_attrs))]
 fn is_open(element: &HtmlElement) -> bool
     ensures { result ≡ is_open (element_view element.now).0 }
@@ -204,7 +163,7 @@ pub(crate) fn open_dest(element: &HtmlElement, dest: Option<Location>) -> Option
     if is_open(element) { dest } else { None }
 }
 
-/// The name of a destination's anchor, unless it is empty.
+/// Returns the name of a destination's anchor, unless it is empty.
 pub(crate) fn name_of(known: &HtmlIntrospector, dest: Option<Location>) -> Option<&String>
     ensures { option_map (λ name. text_view name.now) result
         ≡ name_of (introspector_view known.now).anchor (option_map (λ l. l.0) dest) }
@@ -213,7 +172,7 @@ pub(crate) fn name_of(known: &HtmlIntrospector, dest: Option<Location>) -> Optio
     if name.is_empty() { None } else { Some(name) }
 }
 
-/// Attributes, with a new `href` in front, if there is one.
+/// Prepends a new `href`, if there is one.
 #[tactic(auto, unfolding(html_names::specs::Tables::known_attrs))]
 fn attrs_with_href(href: Option<String>, mut attrs: HtmlAttrs) -> Result<HtmlAttrs, AllocError>
     ensures { IfOk result (λ made.
@@ -225,7 +184,7 @@ fn attrs_with_href(href: Option<String>, mut attrs: HtmlAttrs) -> Result<HtmlAtt
     Ok(attrs)
 }
 
-// Each node stands first among the parameters: its depth shows that the calls end.
+// The node comes first among the parameters: its depth proves that the recursion ends.
 
 #[cycle(link)]
 fn element_with_links(

@@ -8,11 +8,11 @@ ghost use Rattle.html_dom_link.specs.UsedNames.{used_in, is_nothing, AreUsedBelo
 use std::alloc::{AllocError, Global};
 use std::collections::{BTreeMap, BTreeSet};
 
-/// How many numbers are tried for a label: more than any memory holds names.
+/// The number of tries for a label: more than the names that any memory holds.
 const TRIES: u64 = 1 << 63;
 
-/// The names in use. For each label that was numbered the next number to try is kept, below which
-/// all are in use, so that numbers are not tried again for each name.
+/// The names in use. For each label that was numbered it keeps the next number to try, below which
+/// all are in use, so that no name tries them again.
 #[derive(Drop)]
 pub(crate) struct AnchorNames {
     used: BTreeSet<String>,
@@ -20,14 +20,14 @@ pub(crate) struct AnchorNames {
     ghost counted: { IsCounted (used_in used) next },
 }
 
-/// A stem, `-` and a number.
+/// Joins a stem, `-` and a number.
 fn numbered(alloc: Global, stem: &str, number: u64) -> Result<String, AllocError>
     ensures { IfOk result (λ name. text_view name ≡ name_with_number (chars stem.now) number) }
 {
     format!(in alloc; "{stem}-{number}")
 }
 
-/// The first number from one on whose name is free, or the limit.
+/// Returns the first number from this one on whose name is free, or the limit.
 fn first_free(
     alloc: Global,
     used: &BTreeSet<String>,
@@ -47,13 +47,15 @@ fn first_free(
     Ok(limit)
 }
 
-pub(crate) fn is_used(used: &BTreeSet<String>, name: &String) -> bool
+/// Whether a name is in use.
+pub fn is_used(used: &BTreeSet<String>, name: &String) -> bool
     ensures { result ≡ used_in used.now (text_view name.now) }
 {
     used.contains(name.as_str())
 }
 
-pub(crate) fn put_in_use(used: &mut BTreeSet<String>, name: String) -> Result<(), AllocError>
+/// Puts a name in use. It fails only where an allocation does.
+pub fn put_in_use(used: &mut BTreeSet<String>, name: String) -> Result<(), AllocError>
     ensures ok { OnOk result (used_in used.new ≡ with_used_name (text_view name) (used_in used.old)) }
     ensures grows { (n : Name) → used_in used.old n ≡ true → used_in used.new n ≡ true }
 {
@@ -61,7 +63,7 @@ pub(crate) fn put_in_use(used: &mut BTreeSet<String>, name: String) -> Result<()
     Ok(())
 }
 
-/// Keeps the next number to try for a label's text.
+/// Stores the next number to try for a label's text.
 fn put_number(
     next: &mut BTreeMap<String, u64>,
     label: String,
@@ -74,7 +76,7 @@ fn put_number(
     Ok(())
 }
 
-/// The label's text, empty without a label.
+/// Returns the label's text, empty without a label.
 fn label_text(alloc: Global, label: &Option<String>) -> Result<String, AllocError>
     ensures { IfOk result (λ text.
         text_view text ≡ text_of_label (optional_text_view label.now)) }
@@ -95,7 +97,7 @@ impl AnchorNames {
         }
     }
 
-    /// At most 2^63 names are in use, since a set has no more.
+    /// Shows that at most 2^63 names are in use, since a set holds no more.
     pub(crate) fn are_bounded(&self)
         ensures { IsBounded (used_in self.now.used) }
     {

@@ -1,4 +1,4 @@
-//! The names that a tree holds.
+//! The names in a tree.
 
 ghost use Rattle.std.specs.Prelude.{◌≡◌, ◌++◌, [], ◌∷◌, OnOk, IfOk, option_to_list};
 ghost use Rattle.html_dom_tree.specs.FrameViews.{html_frame_view, anchors_view};
@@ -25,7 +25,7 @@ pub(crate) fn element_names(alloc: Global, element: &HtmlElement) -> Result<Anch
     Ok(names)
 }
 
-/// The names of an element and of all below it, in document order.
+/// Returns the names of an element and of everything below it, in document order.
 pub(crate) fn listed_names(alloc: Global, element: &HtmlElement) -> Result<Vec<&String>, AllocError>
     ensures { IfOk result (λ names.
         names_view names.items ≡ element_names (element_view element.now)) }

@@ -1,4 +1,4 @@
-//! Anchors in nodes. Each node is changed where it stands.
+//! Anchors in nodes, which are changed in place.
 
 ghost use Rattle.std.specs.Prelude.{◌≡◌, ℕ, List, OnOk, IfOk};
 ghost use Rattle.std.specs.List.{list_any};
@@ -36,7 +36,7 @@ pub(crate) fn has_end(nodes: &[HtmlNode]) -> bool
     nodes.iter().any(|node| is_end(node))
 }
 
-/// A text serves all that wait, in a new `span`.
+/// Wraps the text in a new `span` that serves the waiting locations, if there are any.
 pub(crate) fn anchor_text(
     state: &mut Walk,
     child: &mut HtmlNode,
@@ -53,7 +53,7 @@ pub(crate) fn anchor_text(
     Ok(())
 }
 
-/// A start tag of a target waits. At an end tag the answer is the name of the `span` that serves
+/// Lets the start tag of a target wait. At an end tag, returns the name of the `span` that serves
 /// there.
 pub(crate) fn anchor_tag(
     state: &mut Walk,
@@ -89,7 +89,7 @@ fn name_frame_id(id: &mut Option<String>, made: Option<String>)
     }
 }
 
-/// A frame serves all that wait; the start tags in it get anchors.
+/// Lets a frame serve all waiting locations, and adds anchors for the start tags in it.
 pub(crate) fn anchor_frame(
     state: &mut Walk,
     frame: &mut HtmlFrame,

@@ -16,10 +16,9 @@ use html_names::{attr, tag};
 use std::alloc::{AllocError, Global};
 use std::collections::BTreeSet;
 
-/// The names of the places of a tree, to which fragments lead (HTML Standard 7.4.6.3): the first `id`
-/// of each element, the root among them, the first `name` of each `a`, and the ids and anchors of
-/// frames. It takes time for each by the logarithm of how many there are, and fails only where an
-/// allocation does.
+/// Returns the names of the places of a tree, to which fragments lead (HTML Standard 7.4.6.3): the
+/// first `id` of each element, including the root, the first `name` of each `a`, and the ids and
+/// anchors of frames. Takes logarithmic time for each. Fails only if an allocation fails.
 pub fn place_names(alloc: Global, root: &HtmlElement) -> Result<BTreeSet<String>, AllocError>
     ensures { IfOk result (λ names.
         used_in names ≡ stands_in (element_places (element_view root.now))) }
@@ -29,16 +28,17 @@ pub fn place_names(alloc: Global, root: &HtmlElement) -> Result<BTreeSet<String>
     Ok(names)
 }
 
+/// The first `id` of an element, which may be empty.
 #[tactic(auto, unfolding(html_names::specs::Tables::known_attrs))]
-fn first_id(element: &HtmlElement) -> Option<&String>
+pub fn first_id(element: &HtmlElement) -> Option<&String>
     ensures { option_map (λ id. text_view id.now) result ≡ first_id (element_view element.now).0 }
 {
     element.attrs.get(&attr::id)
 }
 
-/// The first `name` of an `a`.
+/// Returns the first `name` of an `a`, which may be empty.
 #[tactic(auto, unfolding(html_names::specs::Tables::known_tags, html_names::specs::Tables::known_attrs))]
-fn link_name(element: &HtmlElement) -> Option<&String>
+pub fn link_name(element: &HtmlElement) -> Option<&String>
     ensures { let h = (element_view element.now).0 in
         option_map (λ name. text_view name.now) result ≡ link_name h.name h.attrs }
 {
@@ -86,7 +86,7 @@ fn add_frame(frame: &HtmlFrame, names: &mut BTreeSet<String>) -> Result<(), Allo
     Ok(())
 }
 
-// Each node stands first among the parameters: its depth shows that the calls end.
+// The node comes first among the parameters: its depth proves that the recursion ends.
 
 #[cycle(places)]
 fn add_element(element: &HtmlElement, names: &mut BTreeSet<String>) -> Result<(), AllocError>

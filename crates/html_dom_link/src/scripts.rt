@@ -1,4 +1,4 @@
-//! Addresses that a browser runs, in place of going there.
+//! Addresses that a browser runs instead of opening them.
 
 ghost use Rattle.std.specs.Prelude.{◌≡◌, ◌∷◌, [], MatchOption, chars};
 ghost use Rattle.std.specs.List.{filter};
@@ -8,11 +8,11 @@ ghost use Rattle.html_dom_link.specs.Scripts.{begins, href_is_script, past_blank
 use crate::indicated::{is_blank, is_dropped};
 use html_dom_tree::text::split_first;
 
-/// Whether an `href` is a script to a browser: its scheme, in any ASCII case, is `javascript:`,
-/// `vbscript:` or `data:`, whose pages run scripts of their own. As the URL Standard (4.4) takes it,
-/// controls and spaces before it count for nothing, nor do tabs, line feeds and carriage returns in it.
-/// Who makes a page of what strangers write drops such a link. Other attributes that hold URLs (`src`,
-/// `action`, ..) are taken the same way.
+/// Returns whether an `href` is a script to a browser: whether its scheme, in any ASCII case, is
+/// `javascript:`, `vbscript:` or `data:`, whose pages run scripts of their own. Ignores controls
+/// and spaces before it, and tabs, line feeds and carriage returns in it, as the URL Standard (4.4)
+/// does. Drop such links when you make a page of what strangers write. Other attributes that hold
+/// URLs (`src`, `action`, ..) can be checked in the same way.
 ///
 /// ```
 /// use html_dom::href_is_script;
@@ -40,7 +40,7 @@ fn past_blanks(text: &str) -> &str
     left
 }
 
-/// The first character that counts in a URL, and what stands behind it.
+/// Returns the first character that a URL keeps, and the text behind it.
 fn first_kept(text: &str) -> Option<(char, &str)>
     ensures { MatchOption result (filter is_kept (chars text.now) ≡ [])
         (λ x. filter is_kept (chars text.now) ≡ x.0 ∷ filter is_kept (chars x.1.now)) }
@@ -55,7 +55,7 @@ fn first_kept(text: &str) -> Option<(char, &str)>
     None
 }
 
-/// Whether a text, without what counts for nothing in a URL, begins so, in any ASCII case.
+/// Returns whether a text, without what a URL drops, begins so, in any ASCII case.
 fn begins(small: &str, url: &str) -> bool
     ensures { result ≡ begins (chars small.now) (filter is_kept (chars url.now)) }
 {

@@ -8,7 +8,7 @@ use std::collections::BTreeSet;
 #[derive(Clone, Copy)]
 pub(crate) struct Sought<'a> {
     pub(crate) targets: &'a BTreeSet<Location>,
-    /// Where locations were recorded.
+    /// The positions of locations.
     pub(crate) known: &'a HtmlIntrospector,
 }
 
@@ -17,7 +17,7 @@ impl Sought<'_> {
     ghost use Rattle.html_dom_tree.specs.FrameViews.{point_view};
     ghost use Rattle.html_dom_link.specs.WalkViews.{targets_view};
 
-    /// The point at which a location was recorded, if that was in a frame.
+    /// Returns the point of a location's position, if it is in a frame.
     pub(crate) fn point(self, location: Location) -> Option<Point>
         ensures { option_map point_view result ≡ (targets_view self.entry).points location.0 }
     {

@@ -12,23 +12,22 @@ use percent_encoding::{AsciiSet, CONTROLS, ascii_set, utf8_percent_encode};
 use std::alloc::{AllocError, Global};
 use std::collections::BTreeSet;
 
-/// The fragment percent-encode set (URL Standard 1.3): a browser encodes what it has.
+/// The fragment percent-encode set (URL Standard 1.3), which a browser encodes.
 pub(crate) const FRAGMENT: AsciiSet = ascii_set!(
     CONTROLS.add(b' ').add(b'"').add(b'<').add(b'>').add(b'`')
 );
 
-/// That set and `%`, so that decoding gives what was encoded.
+/// That set and `%`, so that decoding restores what was encoded.
 pub(crate) const NAME: AsciiSet = ascii_set!(FRAGMENT.add(b'%'));
 
 pub(crate) const ANY: AsciiSet = AsciiSet { mask: !0 };
 
-/// The `href` that leads to a place of the same page by its name, wherever no other place has that
-/// spelling as its own name: `#`, and the name as it is, if a browser leaves it so, or else
-/// percent-encoded. What is encoded is the fragment percent-encode set of the URL Standard (1.3), and
-/// `%`. Behind the address of another page it leads to a place there. It fails only where an
-/// allocation does.
+/// Returns an `href` to a place of the same page by its name: `#`, and the name as it is, if a
+/// browser leaves it so, or else with the fragment percent-encode set of the URL Standard (1.3) and
+/// `%` encoded. It leads to the place wherever no other place has that spelling as its own name.
+/// Behind the address of another page it leads to a place there. Fails only if an allocation fails.
 ///
-/// It sees no tree: where one place is named `a b` and another `a%20b`, `#a%20b` leads to the other,
+/// It sees no tree: with one place named `a b` and another `a%20b`, `#a%20b` leads to the latter,
 /// since a browser looks for a fragment as it is before it decodes it (HTML Standard 7.4.6.3).
 /// [`resolve_links`](crate::resolve_links), which sees the tree, then chooses another spelling.
 ///
@@ -60,7 +59,7 @@ pub(crate) fn leading_href(
     }
 }
 
-/// `#` and a fragment.
+/// Joins `#` and a fragment.
 fn href_with(alloc: Global, fragment: &str) -> Result<String, AllocError>
     ensures { IfOk result (λ href. text_view href ≡ href_with (chars fragment.now)) }
 {
@@ -76,7 +75,7 @@ fn is_in_fragment_set(c: char) -> bool
     c > '~' || FRAGMENT.contains(c as u8)
 }
 
-/// Whether a browser leaves a name as it is.
+/// Returns whether a browser leaves a name as it is.
 fn is_left(name: &str) -> bool
     ensures { result ≡ is_left (chars name.now) }
 {
@@ -88,7 +87,7 @@ fn is_left(name: &str) -> bool
     true
 }
 
-/// A text, with `%` and two hexadecimal digits for each byte that is in the set or no ASCII.
+/// Encodes each byte that is in the set or no ASCII as `%` and two hexadecimal digits.
 pub(crate) fn encoding(alloc: Global, text: &str, set: AsciiSet) -> Result<String, AllocError>
     ensures { IfOk result (λ made. text_view made ≡ percent_encode set text.now) }
 {

@@ -1,4 +1,4 @@
-//! What the walk over a tree carries.
+//! The state of the walk over a tree.
 
 use crate::location_maps::{label_of, put_each, put_first_label, put_name};
 use crate::names::AnchorNames;
@@ -6,12 +6,12 @@ use html_dom_tree::Location;
 use std::alloc::{AllocError, Global};
 use std::collections::{BTreeMap, BTreeSet};
 
-/// What waits for a server, the names in use, and the names that locations have.
+/// The locations that wait to be served, the names in use, and the names of locations.
 #[derive(Drop)]
 pub(crate) struct Walk {
     /// The locations of the start tags that wait, in order.
     pub(crate) waiting: Vec<Location>,
-    /// For each location that waits the label of its first start tag.
+    /// The label of the first start tag of each location that waits.
     pub(crate) labels: BTreeMap<Location, Option<String>>,
     pub(crate) names: AnchorNames,
     /// The last name of each location.
@@ -57,7 +57,7 @@ impl Walk {
         Ok(())
     }
 
-    /// The label of the first start tag that waits, where one does.
+    /// Returns the label of the first start tag that waits, if one does.
     fn first_waiting(&self) -> Result<Option<Option<String>>, AllocError>
         ensures { IfOk result (λ label.
             option_map optional_text_view label ≡ first_waiting (walk_view self.now)) }
@@ -126,7 +126,7 @@ impl Walk {
         Ok(Some(name))
     }
 
-    /// Answers the name that is made for the server, which may have one of its own.
+    /// Returns the name made for the server, unless it has one of its own.
     pub(crate) fn serve(
         &mut self,
         alloc: Global,
@@ -145,7 +145,7 @@ impl Walk {
         }
     }
 
-    /// An end tag serves all that wait, where its location waits.
+    /// Serves all waiting locations if that of this end tag waits.
     pub(crate) fn end(
         &mut self,
         alloc: Global,

@@ -1,4 +1,4 @@
--- The program's element around others as that of the definition.
+-- The program's element and its surroundings as that of the definition.
 use Rattle.html_dom_tree.specs.Views.{element_view}
 use Rattle.html_dom_nest.specs.Ancestors as ancestors
 use Rattle.html_dom_nest.specs.declared.inside.Ancestor.{Ancestor}

@@ -1,5 +1,5 @@
--- The ancestors of a node, the innermost first, as a parser of HTML reads them: its stack of open
--- elements (HTML Standard 13.2.4.2), and by which rules what stands in them is read (13.2.6, the tree
+-- The ancestors of a node, innermost first, as a parser of HTML reads them: its stack of open
+-- elements (HTML Standard 13.2.4.2), and the rules by which their content is read (13.2.6, the tree
 -- construction dispatcher).
 use Rattle.std.specs.List.{list_any}
 use Rattle.std.specs.Prelude.{ℕ, Bool, true, false, not, ◌&&◌, ◌||◌, List, [], ◌∷◌, codes, if◌then◌else◌}
@@ -33,7 +33,7 @@ abbrev pub is_in : (test : List ℕ → Bool) → List Ancestor → Bool
 is_in test [] = false
 is_in test (a ∷ above) = is_of test a
 
--- a goal stands above, and no bound between
+-- a goal is above, and no bound between
 abbrev pub reaches : (goal bound : Ancestor → Bool) → List Ancestor → Bool
 reaches goal bound [] = false
 reaches goal bound (a ∷ above) = goal a || (not (bound a) && reaches goal bound above)
@@ -55,8 +55,8 @@ bounds_button_scope a = is_of (of kind.Button) a || bounds_scope a
 unfoldable pub is_search : (name : List ℕ) → Bool
 is_search name = stands_in (listed_names (codes "search")) name
 
--- special elements but `address`, `div` and `p` end the search for an item that a new one closes
--- (13.2.6.4.7, start tags of `li`, `dd`, `dt`); `search` is special, but not in Chromium
+-- special elements other than `address`, `div` and `p` end the search for an item that a new one
+-- closes (13.2.6.4.7, start tags of `li`, `dd`, `dt`); `search` is special, but not in Chromium
 abbrev pub ends_item_search : (name : List ℕ) → Bool
 ends_item_search name = of kind.Special name && not (of kind.PassedByItems name)
     && not (is_search name)
@@ -82,7 +82,7 @@ abbrev pub math_reading : Head → Reading
 math_reading h = if of kind.MathText h.name then reading.AsMathText
     else (if of kind.AnnotationXml h.name then annotation_reading h.attrs else reading.AsMathMl)
 
--- how what stands in an element is read
+-- how the content of an element is read
 abbrev pub reading_in : Space → Head → Reading
 reading_in Html h = reading.AsHtml
 reading_in Svg h = if of kind.SvgHtml h.name then reading.AsHtml else reading.AsSvg
@@ -112,11 +112,11 @@ foreign_space r = MathMl
 abbrev pub space_of : Reading → (name : List ℕ) → Space
 space_of r name = if is_read_as_html r name then begun_space name else foreign_space r
 
--- an element as an ancestor of what stands in it
+-- an element as an ancestor of its content
 abbrev pub ancestor : Head → (above : List Ancestor) → Ancestor
 ancestor h above = record { head = h; space = space_of (reading_of above) h.name }
 
--- what may stand in an element of HTML of that name
+-- the content that an element of HTML of that name may have
 abbrev pub place_in : (is_in_head : Bool) → (name : List ℕ) → Place
 place_in is_in_head name = if of kind.Html name then place.Page
     else (if of kind.Head name then place.Head

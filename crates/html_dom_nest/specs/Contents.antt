@@ -1,4 +1,4 @@
--- What an element holds that is read otherwise than it is written.
+-- Content of an element that is not read as it is written.
 use Rattle.std.specs.List.{fold}
 use Rattle.std.specs.Prelude.{ℕ, Bool, true, false, not, ◌&&◌, ◌||◌, ◌==◌, List, [], ◌∷◌, codes, if◌then◌else◌, Option, Some, None}
 use Rattle.html_names.specs.Kinds.{is_foreign_self_closing, is_void}
@@ -18,7 +18,7 @@ is_plain pre_span (text_node s span) = is_plain_text pre_span s
 is_plain pre_span (element_node h kids) = false
 is_plain pre_span (frame_node f) = false
 
--- texts alone, which are written as they stand
+-- only texts that are written as they are
 abbrev pub are_plain : (pre_span : Bool) → NodesView → Bool
 are_plain pre_span none = true
 are_plain pre_span (node n ns) = is_plain pre_span n && are_plain pre_span ns
@@ -32,8 +32,8 @@ begin_with_feed (node (text_node (c ∷ cs) span) ns) = c == 10
 begin_with_feed (node (element_node h kids) ns) = false
 begin_with_feed (node (frame_node f) ns) = false
 
--- where the tokenizer is behind a character of a script (13.2.5.4, 13.2.5.15, 13.2.5.18, 13.2.5.19): from
--- `<!--` on the script may hide its end tag
+-- the tokenizer's state behind a character of a script (13.2.5.4, 13.2.5.15, 13.2.5.18, 13.2.5.19):
+-- from `<!--` on the script may hide its end tag
 abbrev pub state_behind : ScriptState → ℕ → ScriptState
 state_behind state.Escaped c = state.Escaped
 state_behind state.LessThan c = if c == 33 then state.EscapeStart
@@ -65,7 +65,7 @@ hold_comment ns = is_escaped (state_behind_nodes state.Data ns)
 abbrev pub has_unread_end : (name : List ℕ) → Bool
 has_unread_end name = (of kind.Leaf name || of kind.HeadLeaf name) && not (is_void name)
 
--- raw text for the parser, but not where it is written (13.2.5.3): `iframe`, `noembed`, `noframes`, `xmp`
+-- raw text for the parser, but not when written (13.2.5.3): `iframe`, `noembed`, `noframes`, `xmp`
 abbrev pub is_raw_when_read : (name : List ℕ) → Bool
 is_raw_when_read name = of kind.Raw name
     && not (of kind.ScriptOrStyle name || of kind.EscapableRaw name)

@@ -1,6 +1,5 @@
--- The nodes of a tree that a parser of HTML would not leave where they are, in document order, each with
--- the first rule that it breaks. An element that stands too deep is told alone: what is in it is not
--- looked at.
+-- The nodes of a tree that a parser of HTML would not leave where they are, in document order, each
+-- with the first rule that it breaks. For an element that is too deep, its content is not checked.
 use Rattle.std.specs.Prelude.{ℕ, suc, List, [], ◌∷◌, ◌++◌, if◌then◌else◌, Option, Some, None}
 use Rattle.html_dom_tree.specs.Tree.{NodeView, tag_node, text_node, element_node, frame_node, NodesView, none, node, ElementView}
 use Rattle.html_dom_nest.specs.Ancestors.{Ancestor, ancestor}
@@ -9,7 +8,7 @@ use Rattle.html_dom_nest.specs.Surroundings.{surroundings_of}
 use Rattle.html_dom_nest.specs.declared.misnesting.Misnesting.{Misnesting}
 use Rattle.html_dom_nest.specs.declared.misnesting.Misnesting.TheVariants as rule
 
--- where a node stands: the index of each child on the way to it, from the root on; its span; and the rule
+-- a finding: the index of each child on the way from the root to the node; its span; and the rule
 pub record Finding : Type 0 where
   pub path : List ℕ
   pub span : ℕ
@@ -31,7 +30,7 @@ unfoldable mutual
   node_misnested path above (frame_node f) =
       found path f.span (frame_misnesting (surroundings_of above))
 
-  -- children stand behind the path of their parent, from an index on
+  -- children have the path of their parent and an index, from this one on
   pub nodes_misnested : (parent : List ℕ) → (index : ℕ) → (above : List Ancestor) → NodesView →
       List Finding
   nodes_misnested parent index above none = []

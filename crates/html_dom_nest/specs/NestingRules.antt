@@ -1,6 +1,6 @@
--- Where a parser of HTML would make another tree than the one that is written: the rules, for each kind
--- of node, by what stands around it (HTML Standard 13.2.6). Each is the condition under which a start tag
--- does more than to open its element, an end tag more than to close it, or a text more than to be added.
+-- Where a parser of HTML would make another tree than the written one: the rules for each kind of
+-- node, by its surroundings (HTML Standard 13.2.6). Each is the condition under which a start tag
+-- does more than open its element, an end tag more than close it, or a text more than be added.
 use Rattle.std.specs.List.{list_any}
 use Rattle.std.specs.Prelude.{ℕ, Bool, true, false, not, ◌&&◌, ◌||◌, nat_lt, List, codes, if◌then◌else◌, Option, Some, None}
 use Rattle.html_names.specs.Kinds.{is_void}
@@ -26,8 +26,8 @@ use Rattle.html_dom_nest.specs.declared.surroundings.Surroundings.{Surroundings}
 abbrev pub is_too_deep : Surroundings → Bool
 is_too_deep around = nat_lt 512 around.depth
 
--- what becomes of a node that has no place there (13.2.6.4.4 `head`, 13.2.6.4.5 `noscript` in it, 13.2.6.4.9
--- to 13.2.6.4.14 tables); in the root its own rule tells it
+-- the rule that a node breaks by standing there (13.2.6.4.4 `head`, 13.2.6.4.5 `noscript` in it,
+-- 13.2.6.4.9 to 13.2.6.4.14 tables); the root has a rule of its own
 abbrev pub stranger_misnesting : Place → Option Misnesting
 stranger_misnesting place.Page = None
 stranger_misnesting place.Head = Some why.NotInHead
@@ -51,7 +51,7 @@ frame_misnesting around = stranger_misnesting around.place
 abbrev pub is_in_tables : (name : List ℕ) → Bool
 is_in_tables name = of kind.ScriptOrStyle name || of kind.Template name
 
--- elements of such a name stand in the place
+-- elements of such a name may stand there
 abbrev pub has_place : Place → (name : List ℕ) → Bool
 has_place place.Page name = true
 has_place place.Head name = of kind.HeadContent name || of kind.Noscript name || of kind.Template name
@@ -86,14 +86,15 @@ closes_same name o = (of kind.A name && o.anchor) || (of kind.Button name && o.b
 abbrev pub is_option_part : (name : List ℕ) → Bool
 is_option_part name = of kind.Option name || of kind.Optgroup name
 
--- in a `select` a parent whose end tag is implied, but `option` in `optgroup`; elsewhere an `option`
+-- in a `select` a parent whose end tag is implied, but `option` in `optgroup`; elsewhere an
+-- `option`
 abbrev pub closes_option : (name : List ℕ) → Surroundings → Bool
 closes_option name around = if around.open_elements.select
     then (is_option_part name || of kind.Hr name) && around.parent.implied
     && not (of kind.Option name && around.parent.optgroup)
     else is_option_part name && around.parent.option
 
--- in a `ruby` such a parent, but `rp` and `rt` in `rtc`
+-- in a `ruby` such a parent, except `rp` and `rt` in `rtc`
 abbrev pub closes_ruby_part : (name : List ℕ) → Surroundings → Bool
 closes_ruby_part name around = of kind.RubyPart name && around.open_elements.ruby
     && around.parent.implied && not (of kind.RubyText name && around.parent.rtc)
@@ -125,7 +126,7 @@ abbrev pub named_misnesting : Place → (name : List ℕ) → Surroundings → O
 named_misnesting place.Body name around = body_misnesting name around
 named_misnesting p name around = placed_misnesting p name
 
--- such a start tag stands in no SVG and no MathML (13.2.6.5)
+-- such a start tag can stand neither in SVG nor in MathML (13.2.6.5)
 abbrev pub breaks_out : Head → Bool
 breaks_out h = of kind.Breakout h.name
     || (of kind.Font h.name && list_any (λ a. is_font_attr a.0) h.attrs)

@@ -1,5 +1,5 @@
--- The root of a page: what a parser adds to it, or moves (HTML Standard 13.2.6.4.2 to 13.2.6.4.6 and
--- 13.2.6.4.19 to 13.2.6.4.23).
+-- The root of a page, which a parser would complete or reorder (HTML Standard 13.2.6.4.2 to
+-- 13.2.6.4.6 and 13.2.6.4.19 to 13.2.6.4.23).
 use Rattle.std.specs.Prelude.{ℕ, Bool, true, false, ◌&&◌, List, if◌then◌else◌}
 use Rattle.html_dom_tree.specs.Tree.{NodeView, tag_node, text_node, element_node, frame_node, NodesView, none, node, ElementView}
 use Rattle.typst_html_parse_names.specs.PageNames.{of}
@@ -8,7 +8,7 @@ use Rattle.html_dom_nest.specs.WrittenTexts.{is_empty, is_white}
 use Rattle.html_dom_nest.specs.declared.page.Stage.{Stage}
 use Rattle.html_dom_nest.specs.declared.page.Stage.TheVariants as stage
 
--- nothing is written for it
+-- it is not written
 abbrev pub is_unwritten : NodeView → Bool
 is_unwritten (tag_node t) = true
 is_unwritten (text_node s span) = is_empty s
@@ -27,7 +27,7 @@ is_element_of test (text_node s span) = false
 is_element_of test (element_node h kids) = test h.name
 is_element_of test (frame_node f) = false
 
--- one `head`, white space if any, and one `body`
+-- one `head`, optional white space, and one `body`
 abbrev pub stage_behind : Stage → NodeView → Stage
 stage_behind stage.First n = if is_element_of (of kind.Head) n then stage.BehindHead
     else (if is_unwritten n then stage.First else stage.Other)

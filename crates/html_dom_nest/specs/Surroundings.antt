@@ -1,4 +1,4 @@
--- What a node's ancestors are to it: where it stands, and what is open there.
+-- The meaning of a node's ancestors for it: its place, and the open elements.
 use Rattle.std.specs.Prelude.{suc, Bool, not, ◌&&◌, ◌||◌, List, length}
 use Rattle.typst_html_parse_names.specs.PageNames.{of}
 use Rattle.typst_html_parse_names.specs.declared.kind.Kind.TheVariants as kind
@@ -7,7 +7,7 @@ use Rattle.html_dom_nest.specs.declared.surroundings.Open.{Open}
 use Rattle.html_dom_nest.specs.declared.surroundings.Parent.{Parent}
 use Rattle.html_dom_nest.specs.declared.surroundings.Surroundings.{Surroundings}
 
--- what the parent is
+-- the kinds of the parent
 abbrev pub parent_of : List Ancestor → Parent
 parent_of above = record {
   head = is_in (of kind.Head) above;
@@ -18,7 +18,7 @@ parent_of above = record {
   rtc = is_in (of kind.Rtc) above;
 }
 
--- which elements stand above with no boundary between
+-- the elements that stand above with no boundary between
 abbrev pub open_of : List Ancestor → Open
 open_of above = record {
   paragraph = reaches (is_of (of kind.P)) bounds_button_scope above;
@@ -42,7 +42,7 @@ surroundings_of above = record {
   open_elements = open_of above;
 }
 
--- what an element is to its children, from what its own ancestors are to it
+-- the surroundings of an element's children, from its own
 
 abbrev pub parent_with : Ancestor → Parent
 parent_with a = record {

@@ -1,4 +1,4 @@
--- The same findings by a walk that keeps, in place of the ancestors, what they are to a node.
+-- The same findings by a walk that keeps the surroundings of a node instead of its ancestors.
 use Rattle.std.specs.Prelude.{ℕ, suc, List, [], ◌∷◌, ◌++◌, if◌then◌else◌, Some}
 use Rattle.html_dom_tree.specs.Tree.{Head, NodeView, tag_node, text_node, element_node, frame_node, NodesView, none, node}
 use Rattle.html_dom_nest.specs.Ancestors.{space_of}
@@ -8,7 +8,7 @@ use Rattle.html_dom_nest.specs.Surroundings.{surroundings_with}
 use Rattle.html_dom_nest.specs.declared.misnesting.Misnesting.TheVariants as rule
 use Rattle.html_dom_nest.specs.declared.surroundings.Surroundings.{Surroundings}
 
--- what stands around the children of an element
+-- the surroundings of an element's children
 abbrev pub surroundings_in : Head → Surroundings → Surroundings
 surroundings_in h around =
     surroundings_with (record { head = h; space = space_of around.reading h.name }) around

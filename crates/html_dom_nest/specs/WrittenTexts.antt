@@ -20,10 +20,10 @@ is_white_char c = (c == 9) || (c == 10) || (c == 12) || (c == 13) || (c == 32)
 abbrev pub is_white : List ℕ → Bool
 is_white = list_all is_white_char
 
--- neither `&` nor `<`, so that it is written as it stands
+-- neither `&` nor `<`, so that it is written as it is
 abbrev pub is_plain_char : ℕ → Bool
 is_plain_char c = not ((c == 38) || (c == 60))
 
--- a text that is written as it stands; under the flag `pre_span` that is an empty one
+-- a text that is written as it is; with the flag `pre_span` only an empty one is
 abbrev pub is_plain_text : (pre_span : Bool) → List ℕ → Bool
 is_plain_text pre_span text = is_empty text || (not pre_span && list_all is_plain_char text)

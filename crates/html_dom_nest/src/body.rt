@@ -94,7 +94,7 @@ fn closing_misnesting(known: &KnownElement<'_>, around: &Surroundings) -> Option
     None
 }
 
-/// Of an element of HTML in a body.
+/// Returns the first such rule that an element of HTML in a body breaks.
 pub(crate) fn body_misnesting(known: &KnownElement<'_>, around: &Surroundings) -> Option<Misnesting>
     ensures { result ≡ rules.body_misnesting (element_view known.now.element.now).0.name around.now }
 {

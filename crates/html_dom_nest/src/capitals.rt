@@ -51,7 +51,7 @@ const SVG_TAGS: [&str; 37] = [
     "textPath",
 ];
 
-/// The places of `SVG_TAGS` at which the names with each first letter begin, and the end.
+/// The index in `SVG_TAGS` of the first name with each first letter, and the length.
 const SVG_TAG_STARTS: [u8; 27] = [
     0, 6, 6, 7, 7, 7, 33, 34, 34, 34, 34, 34, 35, 35, 35, 35, 35, 35, 36, 36, 37, 37, 37, 37, 37,
     37, 37,
@@ -118,7 +118,7 @@ const SVG_ATTRS: [&str; 58] = [
     "zoomAndPan",
 ];
 
-/// The places of `SVG_ATTRS` at which the names with each first letter begin, and the end.
+/// The index in `SVG_ATTRS` of the first name with each first letter, and the length.
 const SVG_ATTR_STARTS: [u8; 27] = [
     0, 2, 4, 6, 7, 8, 9, 12, 12, 12, 12, 17, 19, 24, 25, 25, 35, 35, 41, 49, 53, 53, 55, 55, 56,
     57, 58,
@@ -126,7 +126,7 @@ const SVG_ATTR_STARTS: [u8; 27] = [
 
 const MATH_ATTRS: [&str; 1] = ["definitionURL"];
 
-/// The places of `MATH_ATTRS` at which the names with each first letter begin, and the end.
+/// The index in `MATH_ATTRS` of the first name with each first letter, and the length.
 const MATH_ATTR_STARTS: [u8; 27] = [
     0, 0, 0, 0, 1, 1, 1, 1, 1, 1, 1, 1, 1, 1, 1, 1, 1, 1, 1, 1, 1, 1, 1, 1, 1, 1, 1,
 ];
@@ -137,8 +137,8 @@ fn has_capital(name: &str) -> bool
     name.chars().any(|c| c.is_ascii_uppercase())
 }
 
-/// Whether the name is one of these in small letters. Of the names only those that begin with its first
-/// letter are looked at, whose places `starts` tells.
+/// Returns whether the name is one of these in lowercase. Compares only the names with its first
+/// letter, whose indices `starts` gives.
 fn is_lowered(names: &[&'static str], starts: &[u8; 27], name: &str) -> bool
     requires ascii { IsTrue (are_ascii (texts names.now)) }
     requires starts { IsTrue (are_starts starts.now (map lowered (texts names.now))) }
@@ -159,7 +159,7 @@ fn is_lowered(names: &[&'static str], starts: &[u8; 27], name: &str) -> bool
     false
 }
 
-/// Whether the name is read as it is written, where these names have capitals.
+/// Returns whether the name is read as it is written, if these names have capitals.
 #[tactic(auto, unfolding(crate::specs::WrittenTags::keeps_case))]
 fn keeps_case(names: &[&'static str], starts: &[u8; 27], name: &str) -> bool
     requires ascii { IsTrue (are_ascii (texts names.now)) }
@@ -173,7 +173,7 @@ fn keeps_case(names: &[&'static str], starts: &[u8; 27], name: &str) -> bool
     }
 }
 
-/// The same where no names have capitals.
+/// Returns whether the name is read as it is written, if no names have capitals.
 #[tactic(auto, unfolding(crate::specs::WrittenTags::keeps_case, html_names::specs::Names::stands_in))]
 fn has_small_letters(name: &str) -> bool
     ensures { result ≡ keeps_case [] (chars name.now) }
@@ -181,7 +181,7 @@ fn has_small_letters(name: &str) -> bool
     !has_capital(name)
 }
 
-/// Whether the name of an element in that namespace is read as it is written.
+/// Returns whether the name of an element in that namespace is read as it is written.
 pub(crate) fn tag_keeps_case(space: Space, name: &str) -> bool
     ensures { result ≡ keeps_case (capital_tags space) (chars name.now) }
 {
@@ -191,7 +191,7 @@ pub(crate) fn tag_keeps_case(space: Space, name: &str) -> bool
     }
 }
 
-/// Whether the name of an attribute of such an element is.
+/// Returns whether the name of an attribute of such an element is.
 pub(crate) fn attr_keeps_case(space: Space, name: &str) -> bool
     ensures { result ≡ keeps_case (capital_attrs space) (chars name.now) }
 {

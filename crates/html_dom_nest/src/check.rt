@@ -10,19 +10,18 @@ use crate::walk::walk_tree;
 use html_dom_tree::HtmlElement;
 use std::alloc::{AllocError, Global};
 
-/// The nodes of a tree that a browser would not leave where they are, in document order, each with the
-/// first rule that it breaks: its parser closes elements where others begin, moves what has no place in a
-/// table, and more (HTML Standard 13.2, with scripting disabled). Where there is none, it is meant to make
-/// the same tree of the written text, with texts joined.
+/// Returns the nodes of a tree that a browser would not leave where they are, in document order,
+/// each with the first rule that it breaks: parsers close elements where others begin, move what
+/// has no place in a table, and more (HTML Standard 13.2, with scripting disabled). If there are
+/// none, a browser should make the same tree from the written text, with texts joined.
 ///
-/// The root is taken for that of a page, `html` with a `head` and a `body`. A frame is judged as an `svg`.
-/// What a caller can see of the tree before it is written is told by faults of writing, and not here, as
-/// children of a `br`. A few nodes are told that some browsers leave where they are; of these the words of
-/// [`Misnesting`](crate::Misnesting) tell.
+/// Judges the root as that of a page, an `html` with a `head` and a `body`, and a frame as an
+/// `svg`. Does not report what writing refuses, such as children of a `br`. Reports a few nodes
+/// that some browsers leave where they are; [`Misnesting`](crate::Misnesting) says which.
 ///
-/// It takes time for each node, character and attribute, and for each pair of attributes of an element.
-/// Beside what it gives it holds a path. It goes no more than 514 levels deep. It fails only where an
-/// allocation does.
+/// Takes time for each node, character and attribute, and for each pair of attributes of an
+/// element. Allocates a path beside the result. Recurses at most 514 levels deep. Fails only if an
+/// allocation fails.
 ///
 /// ```
 /// use typst_html::{Misnesting, misnested, read_html};

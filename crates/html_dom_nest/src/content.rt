@@ -1,4 +1,4 @@
-//! What an element holds that is read otherwise than it is written.
+//! Content of an element that is not read as it is written.
 
 ghost use Rattle.std.specs.List.{fold};
 ghost use Rattle.std.specs.Prelude.{◌≡◌, chars};
@@ -12,7 +12,7 @@ use html_dom_tree::HtmlNode;
 use html_names::tag::is_foreign_self_closing;
 use typst_html_parse_names::Kind;
 
-/// Where the tokenizer is in the text of a script (HTML Standard 13.2.5.4, 13.2.5.15, 13.2.5.18, 13.2.5.19).
+/// The tokenizer's state in a script (HTML Standard 13.2.5.4, 13.2.5.15, 13.2.5.18, 13.2.5.19).
 #[derive(Clone, Copy)]
 pub enum ScriptState {
     Data,
@@ -36,7 +36,7 @@ fn is_plain(pre_span: bool, node: &HtmlNode) -> bool
     }
 }
 
-/// Whether the nodes are texts alone, which are written as they stand.
+/// Returns whether the nodes are only texts that are written as they are.
 pub(crate) fn are_plain(pre_span: bool, nodes: &[HtmlNode]) -> bool
     ensures { result ≡ content.are_plain pre_span (nodes_view nodes.now) }
 {
@@ -48,7 +48,7 @@ pub(crate) fn are_plain(pre_span: bool, nodes: &[HtmlNode]) -> bool
     true
 }
 
-/// Whether the text that is written first begins with a line feed.
+/// Returns whether the text that is written first begins with a line feed.
 pub(crate) fn begin_with_feed(nodes: &[HtmlNode]) -> bool
     ensures { result ≡ content.begin_with_feed (nodes_view nodes.now) }
 {
@@ -106,7 +106,7 @@ fn hold_comment(nodes: &[HtmlNode]) -> bool
     matches!(state, ScriptState::Escaped)
 }
 
-/// Of an element that is read by the rules of HTML.
+/// Returns the rule that the content of an element of HTML breaks.
 pub(crate) fn content_misnesting(known: &KnownElement<'_>) -> Option<Misnesting>
     ensures { let e = element_view known.now.element.now in
         result ≡ content.content_misnesting e.0 e.1 }

@@ -1,4 +1,4 @@
-//! An element, with what its name says.
+//! An element and what its name says.
 
 ghost use Rattle.std.specs.Prelude.{◌≡◌};
 ghost use Rattle.html_dom_tree.specs.Views.{element_view};
@@ -9,7 +9,7 @@ use html_dom_tree::HtmlElement;
 use html_names::tag::is_void;
 use typst_html_parse_names::{Kind, Kinds, is_one_of, kinds_of};
 
-/// An element, with the kinds of its name.
+/// An element and the kinds of its name.
 #[derive(Drop)]
 pub(crate) struct KnownElement<'a> {
     pub(crate) element: &'a HtmlElement,
@@ -30,14 +30,13 @@ impl<'a> KnownElement<'a> {
         KnownElement { element, kinds }
     }
 
-    /// Whether its name is one of the kind, in any namespace.
+    /// Returns whether its name is of that kind, in any namespace.
     pub(crate) fn is(&self, kind: Kind) -> bool
         ensures { result ≡ of kind (element_view self.now.element.now).0.name }
     {
         self.kinds.has(kind)
     }
 
-    /// Whether its start tag is read by the rules of HTML.
     pub(crate) fn is_read_as_html(&self, reading: Reading) -> bool
         ensures { result ≡ is_read_as_html reading (element_view self.now.element.now).0.name }
     {
@@ -61,7 +60,6 @@ impl<'a> KnownElement<'a> {
         }
     }
 
-    /// Its namespace.
     pub(crate) fn space(&self, reading: Reading) -> Space
         ensures { result ≡ space_of reading (element_view self.now.element.now).0.name }
     {

@@ -1,4 +1,4 @@
-//! What stands around the children of an element.
+//! The surroundings of an element's children.
 
 ghost use Rattle.std.specs.List.{list_any};
 ghost use Rattle.std.specs.Prelude.{◌≡◌, ◌<◌, ◌≤◌};
@@ -14,7 +14,7 @@ use crate::surroundings::{Open, Parent, Surroundings};
 use html_dom_tree::HtmlAttrs;
 use typst_html_parse_names::{Kind, is_encoding, is_html_encoding};
 
-/// Whether the attributes say that an `annotation-xml` holds HTML.
+/// Returns whether the attributes say that an `annotation-xml` holds HTML.
 fn says_html(attrs: &HtmlAttrs) -> bool
     ensures { result ≡ list_any ancestors.says_html (attrs_view attrs.now) }
 {
@@ -97,7 +97,7 @@ fn place_inside(known: &KnownElement<'_>, space: Space, is_in_head: bool) -> Pla
     }
 }
 
-/// An element in its namespace, around what stands in it.
+/// An element and its namespace, around its content.
 #[derive(Drop)]
 struct Ancestor<'a> {
     known: &'a KnownElement<'a>,
@@ -200,7 +200,7 @@ impl Ancestor<'_> {
 }
 
 impl Surroundings {
-    /// What stands around the children of an element.
+    /// Returns the surroundings of the element's children.
     pub(crate) fn inside(&self, known: &KnownElement<'_>) -> Surroundings
         requires { self.now.depth ≤ 512 }
         ensures { result ≡ surroundings_in (element_view known.now.element.now).0 self.now }

@@ -1,5 +1,5 @@
-//! Which nodes of a tree a browser would not leave where they are: its parser closes elements where others
-//! begin, moves what has no place in a table, and more (HTML Standard 13.2).
+//! The nodes of a tree that a browser would not leave where they are: its parser closes elements
+//! where others begin, moves what has no place in a table, and more (HTML Standard 13.2).
 #![tactic(auto)]
 
 mod body;

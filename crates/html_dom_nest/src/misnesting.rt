@@ -2,77 +2,76 @@
 
 use std::fmt;
 
-/// Why a browser does not leave a node where it is, as its parser reads the written text (HTML Standard
-/// 13.2). Shown, it is what becomes of the node.
+/// Why a browser does not leave a node where it is when it parses the written text (HTML Standard
+/// 13.2). `Display` says what becomes of the node.
 #[derive(Clone, Copy, Debug, PartialEq, Eq, Hash)]
 pub enum Misnesting {
-    /// The root is no `html` that holds a `head`, white space if any, a `body`, and nothing else
-    /// (13.2.6.4.2 to 13.2.6.4.6, 13.2.6.4.19): browsers add what lacks, and move what is more.
+    /// The root is not an `html` of only a `head`, white space if any, and a `body` (13.2.6.4.2 to
+    /// 13.2.6.4.6, 13.2.6.4.19): browsers add what is missing, and move the rest.
     NoPage,
-    /// An element stands more than 511 elements below `body`, and not below another that does. Chromium
-    /// puts it beside its parent. What is in it is not looked at.
+    /// An element stands more than 511 elements below `body`, and not below another that does.
+    /// Chromium puts it beside its parent. Its content is not checked.
     TooDeep,
-    /// The name of an element does not begin with a letter (13.2.5.6), or has capitals that are read as
-    /// small letters, or as others (13.2.5.8, 13.2.6.5).
+    /// The name of an element does not begin with a letter (13.2.5.6), or is read in another case
+    /// (13.2.5.8, 13.2.6.5).
     TagName,
-    /// The name of an attribute has capitals that are read as small letters, or as others (13.2.5.33,
-    /// 13.2.6.1).
+    /// The name of an attribute is read in another case (13.2.5.33, 13.2.6.1).
     AttributeName,
-    /// Of two attributes of one name the second is dropped (13.2.5.33).
+    /// An element has two attributes of one name, and loses the second (13.2.5.33).
     RepeatedAttribute,
     /// A text or a value has a carriage return, which is read as a line feed (13.2.3.5).
     CarriageReturn,
-    /// An element is written without an end tag, as `mspace` outside of MathML and `input` in it, and
-    /// holds what follows (13.2.6.4.7, 13.2.6.5).
+    /// An element that is written without an end tag stays open, such as `mspace` outside MathML
+    /// and `input` in it, and takes in what follows (13.2.6.4.7, 13.2.6.5).
     StaysOpen,
-    /// Browsers know no end tag of a `basefont`, `bgsound`, `keygen` or `param`, and put what is in it
-    /// behind it (13.2.6.4.4, 13.2.6.4.7).
+    /// Browsers know no end tag of a `basefont`, `bgsound`, `keygen` or `param`, and put its
+    /// content behind it (13.2.6.4.4, 13.2.6.4.7).
     UnreadEnd,
-    /// In `iframe`, `noembed`, `noframes` and `xmp` elements and references are read as text
+    /// Elements and references in `iframe`, `noembed`, `noframes` and `xmp` are read as text
     /// (13.2.6.2).
     RawText,
-    /// A `script` or `style` in SVG or MathML has a `&` or `<`, which is read as that of a reference or a
-    /// tag (13.2.5.1).
+    /// A `script` or `style` in SVG or MathML has a `&` or `<`, which is read as the start of a
+    /// reference or a tag (13.2.5.1).
     ForeignText,
-    /// A line feed at the beginning of a `listing` is dropped (13.2.6.4.7); one more that is written in a
-    /// `textarea` of SVG or MathML is kept.
+    /// A line feed at the beginning of a `listing` is dropped (13.2.6.4.7); the extra one that is
+    /// written in a `textarea` of SVG or MathML is kept.
     FirstLineFeed,
-    /// Behind a `<!--` the end tag of a `script` may be read as text (13.2.5.15 to 13.2.5.31).
+    /// The end tag of a `script` may be read as text behind a `<!--` (13.2.5.15 to 13.2.5.31).
     ScriptComment,
-    /// It does not belong in a `head`, or in a `noscript` there, which it closes (13.2.6.4.4, 13.2.6.4.5).
+    /// Not part of a `head`, or of a `noscript` there: the node closes it (13.2.6.4.4, 13.2.6.4.5).
     NotInHead,
-    /// It does not belong right in a `table`, a section of one or a row: it is moved before the table, or
-    /// put into parts that are added (13.2.6.4.9 to 13.2.6.4.14, 13.2.6.1). Told of an `input` of type
-    /// `hidden` and of a `form` too, which browsers may leave there.
+    /// The node does not belong right in a `table`, a section of one or a row: it is moved before
+    /// the table, or put into parts that are added (13.2.6.4.9 to 13.2.6.4.14, 13.2.6.1). Reported
+    /// also for an `input` of type `hidden` and a `form`, which browsers may leave there.
     NotInTable,
-    /// It does not belong in a `colgroup`, which it closes (13.2.6.4.12).
+    /// The node does not belong in a `colgroup`, and closes it (13.2.6.4.12).
     NotInColumns,
-    /// A part of a table does not stand in the part that it belongs to, and is dropped (13.2.6.4.7). Told
-    /// of parts right in a `template` too, which browsers may leave there.
+    /// A part of a table stands outside the part that it belongs to, and is dropped (13.2.6.4.7).
+    /// Reported also for parts right in a `template`, which browsers may leave there.
     OutsideTable,
-    /// There can be no `html`, `head`, `body`, `frameset` or `frame` here, and nowhere an `image` or a
-    /// `plaintext`: it is ignored, its attributes go to the first, it is read as `img`, or it never ends
-    /// (13.2.6.4.7).
+    /// No `html`, `head`, `body`, `frameset` or `frame` can stand here, and no `image` or
+    /// `plaintext` anywhere: it is ignored, its attributes go to the first, it is read as `img`, or
+    /// it never ends (13.2.6.4.7).
     NeverRead,
     /// A `form` in a `form` is ignored (13.2.6.4.7).
     FormInForm,
-    /// The `p` around it is closed (13.2.6.4.7).
+    /// The node closes the `p` around it (13.2.6.4.7).
     ClosesParagraph,
-    /// The heading right around it is closed (13.2.6.4.7).
+    /// The node closes the heading right around it (13.2.6.4.7).
     ClosesHeading,
-    /// The `li`, `dd` or `dt` around it is closed (13.2.6.4.7).
+    /// The node closes the `li`, `dd` or `dt` around it (13.2.6.4.7).
     ClosesItem,
-    /// An `a`, `button`, `nobr` or `select` around it is closed, as it is one too (13.2.6.4.7).
+    /// The node closes the `a`, `button`, `nobr` or `select` of its name around it (13.2.6.4.7).
     ClosesSame,
-    /// The `option`, or else its parent in a `select`, is closed (13.2.6.4.7).
+    /// The node closes its parent, an `option`, or an implied one in a `select` (13.2.6.4.7).
     ClosesOption,
-    /// The `select` around it is closed (13.2.6.4.7).
+    /// The node closes the `select` around it (13.2.6.4.7).
     ClosesSelect,
-    /// The part of a `ruby` right around it is closed (13.2.6.4.7).
+    /// The node closes the part of a `ruby` right around it (13.2.6.4.7).
     ClosesRubyPart,
-    /// It closes the `svg` or `math` around it (13.2.6.5).
+    /// The node closes the `svg` or `math` around it (13.2.6.5).
     LeavesForeign,
-    /// A `selectedcontent` in a `select` is filled with what the chosen `option` holds (4.10.10).
+    /// A `selectedcontent` in a `select` gets the content of the chosen `option` (4.10.10).
     Filled,
 }
 
@@ -111,7 +110,7 @@ impl Misnesting {
     }
 }
 
-/// What becomes of the node: `closes the p that it stands in`.
+/// Writes what becomes of the node: `closes the p that it stands in`.
 impl fmt::Display for Misnesting {
     fn fmt<W: fmt::Write>(&self, f: &mut fmt::Formatter<W>) -> fmt::Result {
         f.write_str(self.words())

@@ -16,7 +16,7 @@ pub enum Stage {
     First,
     BehindHead,
     BehindBody,
-    /// What is no page.
+    /// No page.
     Other,
 }
 
@@ -100,7 +100,7 @@ fn is_complete(nodes: &[HtmlNode]) -> bool
     matches!(stage, Stage::BehindBody)
 }
 
-/// Whether the root is an `html` that holds a head and a body alone.
+/// Returns whether the root is an `html` that holds only a head and a body.
 pub(crate) fn is_page(known: &KnownElement<'_>) -> bool
     ensures { result ≡ roots.is_page (element_view known.now.element.now) }
 {

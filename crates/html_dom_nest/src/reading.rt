@@ -1,4 +1,4 @@
-//! How what stands in an element is read.
+//! How the content of an element is read.
 
 ghost use Rattle.std.specs.Prelude.{◌≡◌};
 ghost use Rattle.html_dom_nest.specs.Ancestors.{foreign_space, is_html};
@@ -11,29 +11,29 @@ pub enum Space {
     MathMl,
 }
 
-/// By which rules the start tags in an element are read (HTML Standard 13.2.6).
+/// The rules by which start tags in an element are read (HTML Standard 13.2.6).
 #[derive(Clone, Copy)]
 pub enum Reading {
-    /// As those of HTML.
+    /// Those of HTML.
     AsHtml,
-    /// As those of SVG.
+    /// Those of SVG.
     AsSvg,
-    /// As those of MathML.
+    /// Those of MathML.
     AsMathMl,
-    /// As those of HTML, but for glyphs of MathML.
+    /// Those of HTML, except for glyphs of MathML.
     AsMathText,
-    /// As those of MathML, but for `svg`.
+    /// Those of MathML, except for `svg`.
     AsAnnotation,
 }
 
-/// What may stand in an element (HTML Standard 13.2.6.4).
+/// The content that an element may have (HTML Standard 13.2.6.4).
 #[derive(Clone, Copy)]
 pub enum Place {
     /// The head and the body.
     Page,
-    /// What belongs in a `head`.
+    /// The content of a `head`.
     Head,
-    /// What belongs in a `noscript` of it.
+    /// The content of a `noscript` in a `head`.
     HeadNoscript,
     /// The parts of a table.
     Table,
@@ -43,7 +43,7 @@ pub enum Place {
     Row,
     /// Columns.
     Columns,
-    /// What belongs in a body, and all else.
+    /// The content of a body, and everything else.
     Body,
 }
 
@@ -55,7 +55,7 @@ impl Space {
     }
 }
 
-/// The namespace of an element that is not read by the rules of HTML.
+/// Returns the namespace of an element that is not read by the rules of HTML.
 pub(crate) fn foreign_space(reading: Reading) -> Space
     ensures { result ≡ foreign_space reading }
 {

@@ -30,7 +30,6 @@ fn stranger_misnesting(place: Place) -> Option<Misnesting>
     }
 }
 
-/// Of a text.
 pub(crate) fn text_misnesting(text: &str, around: &Surroundings) -> Option<Misnesting>
     ensures { result ≡ rules.text_misnesting (chars text.now) around.now }
 {
@@ -43,7 +42,6 @@ pub(crate) fn text_misnesting(text: &str, around: &Surroundings) -> Option<Misne
     stranger_misnesting(around.place)
 }
 
-/// Of a frame.
 pub(crate) fn frame_misnesting(around: &Surroundings) -> Option<Misnesting>
     ensures { result ≡ rules.frame_misnesting around.now }
 {
@@ -164,7 +162,6 @@ fn read_misnesting(known: &KnownElement<'_>, around: &Surroundings) -> Option<Mi
     }
 }
 
-/// Of an element.
 pub(crate) fn element_misnesting(
     known: &KnownElement<'_>,
     around: &Surroundings,
@@ -179,7 +176,6 @@ pub(crate) fn element_misnesting(
     }
 }
 
-/// Of a root.
 pub(crate) fn root_misnesting(known: &KnownElement<'_>, around: &Surroundings) -> Option<Misnesting>
     ensures { result ≡ rules.root_misnesting (element_view known.now.element.now) around.now }
 {

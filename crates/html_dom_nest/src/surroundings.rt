@@ -1,20 +1,20 @@
-//! What a node's ancestors are to it.
+//! What a node's ancestors mean for it.
 
 use crate::reading::{Place, Reading};
 
-/// What the parent is, an element of HTML.
+/// The kinds of the parent, if it is an element of HTML.
 #[derive(Clone, Copy)]
 pub struct Parent {
     pub head: bool,
     pub heading: bool,
-    /// Its end tag is implied.
+    /// The parent's end tag is implied.
     pub implied: bool,
     pub optgroup: bool,
     pub option: bool,
     pub rtc: bool,
 }
 
-/// Which elements of HTML stand around a node with no boundary between.
+/// The elements of HTML that stand around a node with no boundary between.
 #[derive(Clone, Copy)]
 pub struct Open {
     pub paragraph: bool,
@@ -33,10 +33,10 @@ pub struct Open {
     pub outer_select: bool,
 }
 
-/// What a node's ancestors are to it.
+/// What a node's ancestors mean for it.
 #[derive(Clone, Copy)]
 pub struct Surroundings {
-    /// How many they are.
+    /// The number of ancestors.
     pub depth: usize,
     pub place: Place,
     pub reading: Reading,
@@ -45,7 +45,7 @@ pub struct Surroundings {
 }
 
 impl Surroundings {
-    /// Those of a root.
+    /// The surroundings of a root.
     pub(crate) const NONE: Surroundings = Surroundings {
         depth: 0,
         place: Place::Page,

@@ -10,14 +10,12 @@ pub(crate) fn is_empty(text: &str) -> bool
     text.chars().next().is_none()
 }
 
-/// Whether the text has a carriage return.
 pub(crate) fn has_return(text: &str) -> bool
     ensures { result ≡ texts.has_return (chars text.now) }
 {
     text.chars().any(|c| c == '\r')
 }
 
-/// Whether the text is white space alone.
 pub(crate) fn is_white(text: &str) -> bool
     ensures { result ≡ texts.is_white (chars text.now) }
 {
@@ -31,7 +29,7 @@ fn is_plain(text: &str) -> bool
     text.chars().all(|c| !matches!(c, '&' | '<'))
 }
 
-/// Whether the text is written as it stands.
+/// Returns whether the text is written as it is.
 pub(crate) fn is_plain_text(pre_span: bool, text: &str) -> bool
     ensures { result ≡ texts.is_plain_text pre_span (chars text.now) }
 {

@@ -17,7 +17,7 @@ use crate::surroundings::Surroundings;
 use html_dom_tree::{HtmlElement, HtmlNode, Span};
 use std::alloc::{AllocError, Global};
 
-/// So many ancestors an element has at most that browsers leave where it is.
+/// The most ancestors that an element may have for browsers to leave it where it is.
 const MOST_ANCESTORS: usize = 512;
 
 #[derive(Drop)]
@@ -27,7 +27,7 @@ struct Walk {
     found: Vec<Misnested>,
 }
 
-/// The misnested nodes of a tree.
+/// Returns the misnested nodes of a tree.
 pub(crate) fn walk_tree(alloc: Global, root: &HtmlElement) -> Result<Vec<Misnested>, AllocError>
     ensures { IfOk result (λ found. findings_view found.items ≡ misnested_nodes (element_view root.now)) }
 {
@@ -72,8 +72,8 @@ fn tell_any(span: Span, why: Option<Misnesting>, walk: &mut Walk) -> Result<(), 
     }
 }
 
-/// Tells what an element breaks, and gives what stands around its children. What that takes is no part of
-/// the walk's own frame, of which one stands for each level.
+/// Adds what an element breaks, and returns the surroundings of its children. Its locals stay out
+/// of the frame of the recursive walk, of which each level has one.
 #[inline(never)]
 fn pass_own(
     element: &HtmlElement,
@@ -93,7 +93,7 @@ fn pass_own(
     Ok(around.inside(&known))
 }
 
-/// The same of a root.
+/// Does the same for a root.
 fn pass_root(root: &HtmlElement, walk: &mut Walk) -> Result<Surroundings, AllocError>
     ensures path { OnOk result (walk.new.path.items ≡ walk.old.path.items) }
     ensures found { let e = element_view root.now in
@@ -108,7 +108,7 @@ fn pass_root(root: &HtmlElement, walk: &mut Walk) -> Result<Surroundings, AllocE
     Ok(around.inside(&known))
 }
 
-// Each node stands first among the parameters: its depth shows that the calls end.
+// The node comes first among the parameters: its depth proves that the recursion ends.
 
 #[cycle(walk)]
 fn pass_element(

@@ -84,7 +84,7 @@ fn attrs_misnesting(space: Space, attrs: &HtmlAttrs) -> Option<Misnesting>
     None
 }
 
-/// Of an element in that namespace.
+/// Returns the first rule that the start tag of an element in that namespace breaks.
 pub(crate) fn tag_misnesting(space: Space, element: &HtmlElement) -> Option<Misnesting>
     ensures { result ≡ tag_misnesting space (element_view element.now).0 }
 {

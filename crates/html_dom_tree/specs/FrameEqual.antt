@@ -1,4 +1,4 @@
--- Tests of whether two tags, points or frames are equal: whether their views are.
+-- Equality of tags, points and frames, decided by their views.
 use Rattle.std.specs.Prelude.{ℕ, ℤ, List, Option}
 use native.Mathlib.Decide.{ℕ_discrete}
 use lib.IntN.{ℤ_discrete}

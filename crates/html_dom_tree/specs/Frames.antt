@@ -1,9 +1,9 @@
--- Frames that were laid out in advance, as pure values.
+-- Frames that are already laid out, as pure values.
 use Rattle.std.specs.Prelude.{ℕ, ℤ, List, [], Option, None}
 use Rattle.html_names.specs.Texts.{TextPair}
 use Rattle.html_dom_tree.specs.Tags.{TagView}
 
--- how far to the right and how far down, in millionths of a typographic point
+-- the distances to the right and down, in millionths of a typographic point
 abbrev pub PointView : Type 0
 PointView = ℤ × ℤ
 
@@ -33,7 +33,7 @@ pub record HtmlFrameView : Type 0 where
   pub anchors : List (PointView × List ℕ)
   pub span : ℕ
 
--- a frame in a tree, with no `id`, css or anchor
+-- a frame in a tree, without an `id`, css or anchors
 abbrev pub new_html_frame : FrameView → (text_size : ℤ) → (span : ℕ) → HtmlFrameView
 new_html_frame inner text_size span = record {
   inner = inner;

@@ -1,4 +1,4 @@
--- Equal lists of attributes are hashed alike.
+-- Equal lists of attributes have equal hashes.
 use Rattle.std.specs.Prelude.{◌≡◌, true}
 use Rattle.std.proofs.Common.{ap}
 pub use Rattle.html_names.specs.Hashes.{pair_writes, pairs_writes}

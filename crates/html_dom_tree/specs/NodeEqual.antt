@@ -1,4 +1,4 @@
--- Tests of whether two trees are equal: whether their views are.
+-- Equality of trees, decided by their views.
 use Rattle.std.specs.Prelude.{ℕ, List, Option, Bool}
 use native.Mathlib.Decide.{ℕ_discrete}
 use mathlib.Core.Bool.{Bool-discrete}
@@ -8,7 +8,7 @@ pub use Rattle.html_names.specs.Equal.{same, same_decides, same_equiv, option_di
 pub use Rattle.html_dom_tree.specs.FrameEqual.{tag_discrete, html_frame_discrete}
 use Rattle.html_dom_tree.specs.Tree.{TextPair, Head, NodeView, NodeView-discrete, NodesView, NodesView-discrete, ElementView}
 
--- an element apart from its children, as a tuple
+-- an element without its children, as a tuple
 abbrev Parts : Type 0
 Parts = List ℕ × (List TextPair × (List TextPair × (Option ℕ × (ℕ × Bool))))
 

@@ -1,6 +1,6 @@
--- Plain trees: what is left of a tree without frames when tags, spans, parents and flags are
--- dropped, neighbouring texts are joined (also those on both sides of a tag), and empty texts are
--- dropped. That is a tree's normal form.
+-- Plain trees: a tree without frames, with tags, spans, parents and flags dropped, neighbouring
+-- texts joined (also those on both sides of a tag), and empty texts dropped. That is a tree's
+-- normal form.
 use Rattle.std.specs.Prelude.{ℕ, List, [], ◌∷◌, ◌++◌}
 use Rattle.html_dom_tree.specs.Tree.{TextPair, tag_node, text_node, element_node, frame_node, NodesView, none, node, ElementView}
 
@@ -13,7 +13,7 @@ mutual
     no_plains : Plains
     plain : Plain → Plains → Plains
 
--- a text before plain nodes, joined with the text that they begin with, if they do
+-- a text before plain nodes, joined with their first text if they begin with one
 abbrev pub put_words : List ℕ → Plains → Plains
 put_words [] ps = ps
 put_words (c ∷ cs) no_plains = plain (words (c ∷ cs)) no_plains
@@ -21,7 +21,7 @@ put_words (c ∷ cs) (plain (words t) ps) = plain (words ((c ∷ cs) ++ t)) ps
 put_words (c ∷ cs) (plain (branch name attrs children) ps) =
     plain (words (c ∷ cs)) (plain (branch name attrs children) ps)
 
--- one recursion goes through both types
+-- one recursion over both types
 unfoldable pub nodes_normal : NodesView → Plains
 nodes_normal none = no_plains
 nodes_normal (node (tag_node t) ns) = nodes_normal ns

@@ -9,14 +9,14 @@ abbrev pub before_value : (text value : List ℕ) → List ℕ
 before_value text [] = text
 before_value text (c ∷ cs) = text ++ codes "; " ++ (c ∷ cs)
 
--- with a text before the first `style` value, or else as the value of a last attribute `style`
+-- with a text before the value of the first `style`, or else with a last attribute `style`
 abbrev pub attrs_with_style :
     (text : List ℕ) (attrs : List TextPair) (value : Option (List ℕ)) → List TextPair
 attrs_with_style text attrs (Some value) =
     with_value attrs (codes "style") (before_value text value)
 attrs_with_style text attrs None = attrs ++ (codes "style", text) ∷ []
 
--- attributes with css in them; with no css they stay
+-- attributes with css in them; without css they stay
 abbrev pub styled_attrs : (css attrs : List TextPair) → List TextPair
 styled_attrs [] attrs = attrs
 styled_attrs (p ∷ ps) attrs =
@@ -25,7 +25,7 @@ styled_attrs (p ∷ ps) attrs =
 abbrev pub head_with_style : Head → Head
 head_with_style h = record h { attrs = styled_attrs h.css h.attrs }
 
--- each element at any depth, and nothing else, is changed
+-- changes each element at any depth, and nothing else
 unfoldable mutual
   pub styled_node : NodeView → NodeView
   styled_node (tag_node t) = tag_node t

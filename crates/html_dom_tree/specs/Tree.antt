@@ -6,7 +6,7 @@ pub use Rattle.html_dom_tree.specs.Tags.{TagView, TagView-discrete, starts, ends
 use Rattle.html_dom_tree.specs.Attributes.{with_set}
 use Rattle.html_dom_tree.specs.Frames.{HtmlFrameView}
 
--- an element apart from its children
+-- an element without its children
 pub record Head : Type 0 where
   pub name : List ℕ
   pub attrs : List TextPair
@@ -28,16 +28,16 @@ mutual
     node : NodeView → NodesView → NodesView
     deriving Discrete as NodesView-discrete
 
--- an element, and its children
+-- an element and its children
 abbrev pub ElementView : Type 0
 ElementView = Head × NodesView
 
--- an element of that name, with no attribute, css, child or parent
+-- an element of that name, without attributes, css, children or parent
 abbrev pub new_element : List ℕ → ElementView
 new_element name =
     (record { name = name; attrs = []; css = []; parent = None; span = 0; pre_span = false }, none)
 
--- an element with a pair added as its last attribute
+-- an element with a pair as its last attribute
 abbrev pub with_pair : TextPair → ElementView → ElementView
 with_pair pair e = (record e.0 { attrs = e.0.attrs ++ pair ∷ [] }, e.1)
 
@@ -45,12 +45,12 @@ with_pair pair e = (record e.0 { attrs = e.0.attrs ++ pair ∷ [] }, e.1)
 abbrev pub with_set_pair : TextPair → ElementView → ElementView
 with_set_pair pair e = (record e.0 { attrs = with_set e.0.attrs pair }, e.1)
 
--- nodes, and one more behind them
+-- nodes with one more at the end
 abbrev pub with_last : NodesView → NodeView → NodesView
 with_last none n = node n none
 with_last (node m ms) n = node m (with_last ms n)
 
--- an element with a node added as its last child
+-- an element with a node as its last child
 abbrev pub with_node : NodeView → ElementView → ElementView
 with_node n e = (e.0, with_last e.1 n)
 

@@ -27,7 +27,7 @@ node_step (HtmlNode-F.Text s span) = text_node (text_view s) span.0
 node_step (HtmlNode-F.Element e) = element_node e.0 e.1
 node_step (HtmlNode-F.Frame f) = frame_node (html_frame_view f)
 
--- an element apart from its children
+-- an element without its children
 abbrev pub head_of : {A B : Type 0} → HtmlElement-F A B → Head
 head_of e = record {
   name = e.tag;

@@ -7,10 +7,10 @@ use html_names::{HtmlAttr, Refused};
 use std::alloc::{AllocError, AllocFailed, Global};
 use std::hash::{Hash, Hasher};
 
-/// The attributes of an element, in the order in which they are written. A name may come more than
-/// once. Two lists are equal where their names and values are, in order.
+/// The attributes of an element, in the order in which they are written. A name may be repeated.
+/// Two lists are equal if they have the same names and values in the same order.
 ///
-/// A contract sees the list of names and values.
+/// In contracts it is the list of names and values.
 #[derive(Debug, Drop)]
 pub struct HtmlAttrs(pub Vec<(HtmlAttr, String)>);
 
@@ -21,14 +21,14 @@ impl HtmlAttrs {
     ghost use Rattle.html_dom_tree.specs.Lending.{text_row, with_text_at};
     ghost use Rattle.html_dom_tree.specs.contracts.attrs.HtmlAttrs.{the_row};
 
-    /// The empty list.
+    /// Creates an empty list.
     pub fn new(alloc: Global) -> HtmlAttrs
         ensures { attrs_view result ≡ [] }
     {
         HtmlAttrs(Vec::new(alloc))
     }
 
-    /// Adds a pair at the end. Where an allocation fails, the list stays and the pair comes back.
+    /// Appends a pair. If an allocation fails, the list is unchanged and the error holds the pair.
     pub fn push(&mut self, attr: HtmlAttr, value: String) -> Result<(), Refused<(HtmlAttr, String)>>
         ensures ok { OnOk result
             (attrs_view self.new ≡ attrs_view self.old ++ (attr, text_view value) ∷ []) }
@@ -41,7 +41,7 @@ impl HtmlAttrs {
         }
     }
 
-    /// Adds a pair at the front. Where an allocation fails, the list stays and the pair comes back.
+    /// Prepends a pair. If an allocation fails, the list is unchanged and the error holds the pair.
     pub fn push_front(
         &mut self,
         attr: HtmlAttr,
@@ -58,9 +58,9 @@ impl HtmlAttrs {
         }
     }
 
-    /// Gives the first pair of that name this value, or adds a pair at the end where there is none.
-    /// Further pairs of the name stay. Where an allocation fails, the list stays and the pair comes
-    /// back; a value that takes the place of another needs none.
+    /// Sets the value of the first pair with that name, or appends a pair if there is none. Leaves
+    /// further pairs with that name as they are. If an allocation fails, the list is unchanged and
+    /// the error holds the pair; replacing a value does not allocate.
     ///
     /// ```
     /// use html_dom::HtmlAttrs;
@@ -89,7 +89,7 @@ impl HtmlAttrs {
         }
     }
 
-    /// The value of the first pair of that name, if there is one.
+    /// Returns the value of the first pair with that name, if there is one.
     pub fn get(&self, attr: &HtmlAttr) -> Option<&String>
         ensures { option_map (λ value. text_view value.now) result
             ≡ first (attrs_view self.now) attr.now }
@@ -102,8 +102,8 @@ impl HtmlAttrs {
         None
     }
 
-    /// The value of the first pair of that name, if there is one, to be changed. The pair keeps its
-    /// name, and the others stay.
+    /// Returns a mutable reference to the value of the first pair with that name, if there is one.
+    /// The pair keeps its name, and the other pairs stay.
     pub fn get_mut(&mut self, attr: &HtmlAttr) -> Option<&mut String>
         ensures* writes_back { sem 𝓛 (LendsSo the_row text_row self.entry result
             (λ attrs value. OnSome result
@@ -128,7 +128,7 @@ impl HtmlAttrs {
         &mut self.0[place].1
     }
 
-    /// How many pairs stand before the first of that name.
+    /// Returns the index of the first pair with that name, or the length if there is none.
     fn place(&self, attr: &HtmlAttr) -> usize
         ensures { result ≡ place (attrs_view self.now) attr.now }
     {
@@ -148,8 +148,8 @@ impl HtmlAttrs {
         self.get(attr).is_some()
     }
 
-    /// These pairs, and then the first pair of each name of `outer` that is not among them. Where
-    /// an allocation fails, both lists come back. The time grows with the product of both lengths.
+    /// Returns these pairs, then the first pair of each name that only `outer` has. If an allocation
+    /// fails, the error holds both lists. Takes time proportional to the product of both lengths.
     pub fn fold(mut self, outer: HtmlAttrs) -> Result<HtmlAttrs, Refused<(HtmlAttrs, HtmlAttrs)>>
         ensures union { IfOk result (λ attrs.
             attrs_view attrs ≡ union (attrs_view self) (attrs_view outer)) }
@@ -172,7 +172,7 @@ impl HtmlAttrs {
         Ok(self)
     }
 
-    /// A copy. It fails only where an allocation does.
+    /// Returns a copy. Fails only if an allocation fails.
     pub fn try_clone(&self) -> Result<HtmlAttrs, AllocError>
         ensures { IfOk result (λ copy. attrs_view copy ≡ attrs_view self.now) }
     {

@@ -9,16 +9,16 @@ use html_values_css::laws::equal_properties;
 use html_values_css::{Abs, Properties};
 use std::alloc::{AllocError, Global};
 
-/// A position in a frame, from its top left corner.
+/// A position in a frame, measured from its top left corner.
 #[derive(Clone, Copy, Debug, PartialEq, Eq)]
 pub struct Point {
-    /// How far to the right.
+    /// The distance to the right.
     pub x: Abs,
-    /// How far down.
+    /// The distance down.
     pub y: Abs,
 }
 
-/// A frame that was laid out in advance. Two are equal where all their fields are.
+/// A frame that is already laid out. Two frames are equal if all their fields are.
 #[derive(Debug, Drop)]
 #[cycle(frame)]
 pub struct Frame {
@@ -28,39 +28,39 @@ pub struct Frame {
     pub items: Vec<(Point, FrameItem)>,
 }
 
-/// An item of a frame. Two are equal where all their fields are.
+/// An item of a frame. Two items are equal if all their fields are.
 #[derive(Debug, Drop)]
 #[cycle(frame)]
 pub enum FrameItem {
-    /// Where a located element starts or ends.
+    /// The start or end of a located element.
     Tag(Tag),
-    /// A frame in the frame. Its position is not added to those of the items in it.
+    /// A nested frame. Its position is not added to those of its items.
     Group(Frame),
-    /// A link, with the location that it leads to, if it leads to one.
+    /// A link, with the location that it leads to, if any.
     Link(Option<Location>),
     /// Anything else.
     Other,
 }
 
-/// A laid-out frame in the tree. Two are equal where all their fields are.
+/// A laid-out frame in the tree. Two frames are equal if all their fields are.
 #[derive(Debug, Drop)]
 pub struct HtmlFrame {
     /// The frame.
     pub inner: Frame,
-    /// The size of the text around it.
+    /// The size of the surrounding text.
     pub text_size: Abs,
-    /// Its `id`, if it has one.
+    /// Its `id`, if any.
     pub id: Option<String>,
     /// Its css properties.
     pub css: Properties,
-    /// Positions in it that links lead to, each with its `id`.
+    /// The positions in it that links lead to, each with its `id`.
     pub anchors: Vec<(Point, String)>,
-    /// Where it comes from.
+    /// Its place in the source.
     pub span: Span,
 }
 
 impl HtmlFrame {
-    /// A frame in the tree, with no `id`, css or anchor.
+    /// Creates a frame in the tree, without an `id`, css or anchors.
     pub fn new(alloc: Global, inner: Frame, text_size: Abs, span: Span) -> HtmlFrame
         ensures { html_frame_view result ≡ new_html_frame (frame_view inner) text_size span.0 }
     {
@@ -74,7 +74,7 @@ impl HtmlFrame {
         }
     }
 
-    /// A copy. It fails only where an allocation does.
+    /// Returns a copy. Fails only if an allocation fails.
     pub fn try_clone(&self) -> Result<HtmlFrame, AllocError>
         ensures { IfOk result (λ copy. html_frame_view copy ≡ html_frame_view self.now) }
     {
@@ -100,7 +100,7 @@ fn copy_anchors(anchors: &Vec<(Point, String)>) -> Result<Vec<(Point, String)>, 
 }
 
 impl FrameItem {
-    /// A copy. It fails only where an allocation does.
+    /// Returns a copy. Fails only if an allocation fails.
     #[cycle(copy_frame)]
     pub fn try_clone(&self) -> Result<FrameItem, AllocError>
         ensures { IfOk result (λ copy. frame_item_view copy ≡ frame_item_view self.now) }
@@ -115,7 +115,7 @@ impl FrameItem {
 }
 
 impl Frame {
-    /// A copy of the frame and all in it. It fails only where an allocation does.
+    /// Returns a copy of the frame and everything in it. Fails only if an allocation fails.
     #[cycle(copy_frame)]
     pub fn try_clone(&self) -> Result<Frame, AllocError>
         ensures { IfOk result (λ copy. frame_view copy ≡ frame_view self.now) }

@@ -4,32 +4,32 @@ ghost use Rattle.html_dom_tree.specs.Views.{tag_view};
 use crate::text::{copy_optional_text, same_optional_text};
 use std::alloc::AllocError;
 
-/// Names an element of the source, so that a tag can say which element starts or ends there.
+/// Identifies an element of the source in the tags where it starts and ends.
 #[derive(Clone, Copy, Debug, PartialEq, Eq, PartialOrd, Ord, Hash)]
 pub struct Location(pub u64);
 
-/// Says where in the tree a located element starts or ends. Nothing is written for it. Two are
-/// equal where all their fields are.
+/// Marks where in the tree a located element starts or ends. It is not written. Two tags are equal
+/// if all their fields are.
 #[derive(Debug, Drop)]
 pub enum Tag {
-    /// The element starts here.
+    /// The start of the element.
     Start {
-        /// Which element.
+        /// The element.
         location: Location,
-        /// The label after which an anchor is named.
+        /// The label from which an anchor is named.
         label: Option<String>,
         /// The location to which the element links.
         dest: Option<Location>,
     },
-    /// The element ends here.
+    /// The end of the element.
     End {
-        /// Which element.
+        /// The element.
         location: Location,
     },
 }
 
 impl Tag {
-    /// A copy. It fails only where an allocation does.
+    /// Returns a copy. Fails only if an allocation fails.
     pub fn try_clone(&self) -> Result<Tag, AllocError>
         ensures { IfOk result (λ copy. tag_view copy ≡ tag_view self.now) }
     {

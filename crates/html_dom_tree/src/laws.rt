@@ -1,5 +1,5 @@
-//! Laws of this crate's definitions and types. Each function has a law as its contract; those that
-//! need no value do nothing.
+//! Laws of this crate's definitions and types. The contract of each function is a law; functions
+//! without arguments do nothing.
 
 ghost use Rattle.std.specs.Prelude.{◌≡◌, ◌↔◌, IsTrue};
 ghost use Rattle.html_dom_tree.specs.Attributes.{FindsInnerFirst, IsAssociative, KeepsOnNothing, DropsRepeats};
@@ -12,94 +12,94 @@ use crate::introspection::{Location, Tag};
 use crate::node::{HtmlElement, HtmlNode};
 use crate::span::Span;
 
-/// After a fold a name has its inner value where there is one, and else its outer value.
+/// After a fold, a name has its inner value if there is one, and otherwise its outer value.
 #[tactic(auto, using(crate::proofs::Folds::finds_inner_first))]
 pub fn fold_finds_inner_first()
     ensures { FindsInnerFirst }
 {}
 
-/// Folds may be grouped in any way.
+/// Folding is associative.
 #[tactic(auto, using(crate::proofs::Folds::is_associative))]
 pub fn fold_is_associative()
     ensures { IsAssociative }
 {}
 
-/// A fold of an empty outer list changes nothing.
+/// Folding with an empty outer list changes nothing.
 #[tactic(auto, using(crate::proofs::Folds::keeps_on_nothing))]
 pub fn fold_keeps_on_nothing()
     ensures { KeepsOnNothing }
 {}
 
-/// A fold on an empty inner list takes each name of the outer once.
+/// Folding an empty inner list takes each name of the outer list once.
 #[tactic(auto, using(crate::proofs::Folds::drops_repeats))]
 pub fn fold_drops_repeats()
     ensures { DropsRepeats }
 {}
 
-/// Spans are equal where their numbers are.
+/// Spans are equal if their numbers are.
 pub fn equal_spans(a: Span, b: Span) -> bool
     ensures { IsTrue result ↔ (a.0 ≡ b.0) }
 {
     a == b
 }
 
-/// Locations are equal where their numbers are.
+/// Locations are equal if their numbers are.
 pub fn equal_locations(a: Location, b: Location) -> bool
     ensures { IsTrue result ↔ (a.0 ≡ b.0) }
 {
     a == b
 }
 
-/// Tags are equal where all their fields are.
+/// Tags are equal if all their fields are.
 pub fn equal_tags(a: &Tag, b: &Tag) -> bool
     ensures { IsTrue result ↔ (tag_view a.now ≡ tag_view b.now) }
 {
     a == b
 }
 
-/// Points are equal where both coordinates are.
+/// Points are equal if both coordinates are.
 pub fn equal_points(a: Point, b: Point) -> bool
     ensures { IsTrue result ↔ (point_view a ≡ point_view b) }
 {
     a == b
 }
 
-/// Items of frames are equal where all their fields are, at any depth.
+/// Items of frames are equal if all their fields are, at any depth.
 pub fn equal_frame_items(a: &FrameItem, b: &FrameItem) -> bool
     ensures { IsTrue result ↔ (frame_item_view a.now ≡ frame_item_view b.now) }
 {
     a == b
 }
 
-/// Frames are equal where all their fields are, at any depth.
+/// Frames are equal if all their fields are, at any depth.
 pub fn equal_frames(a: &Frame, b: &Frame) -> bool
     ensures { IsTrue result ↔ (frame_view a.now ≡ frame_view b.now) }
 {
     a == b
 }
 
-/// Frames in a tree are equal where all their fields are, at any depth.
+/// Frames in a tree are equal if all their fields are, at any depth.
 pub fn equal_html_frames(a: &HtmlFrame, b: &HtmlFrame) -> bool
     ensures { IsTrue result ↔ (html_frame_view a.now ≡ html_frame_view b.now) }
 {
     a == b
 }
 
-/// Attribute lists are equal where their names and values are, in order.
+/// Attribute lists are equal if they have the same names and values in the same order.
 pub fn equal_attrs(a: &HtmlAttrs, b: &HtmlAttrs) -> bool
     ensures { IsTrue result ↔ (attrs_view a.now ≡ attrs_view b.now) }
 {
     a == b
 }
 
-/// Nodes are equal where all their fields are, at any depth.
+/// Nodes are equal if all their fields are, at any depth.
 pub fn equal_nodes(a: &HtmlNode, b: &HtmlNode) -> bool
     ensures { IsTrue result ↔ (node_view a.now ≡ node_view b.now) }
 {
     a == b
 }
 
-/// Elements are equal where all their fields are, at any depth.
+/// Elements are equal if all their fields are, at any depth.
 pub fn equal_elements(a: &HtmlElement, b: &HtmlElement) -> bool
     ensures { IsTrue result ↔ (element_view a.now ≡ element_view b.now) }
 {

@@ -1,7 +1,7 @@
 //! The tree of an HTML document: elements with their attributes and css, texts, laid-out frames,
-//! and tags that say where located elements start and end.
+//! and tags that mark where located elements start and end.
 //!
-//! A contract sees a tree as a pure value in which each text is a list of characters.
+//! In contracts a tree is a pure value in which each text is a list of characters.
 //!
 //! ```
 //! use html_dom::{HtmlElement, HtmlNode, Span};

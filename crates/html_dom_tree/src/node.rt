@@ -13,13 +13,13 @@ use html_values_css::Properties;
 use html_values_css::laws::equal_properties;
 use std::alloc::{AllocError, AllocFailed, Global};
 
-/// A node of the tree. Two are equal where all their fields are.
+/// A node of the tree. Two nodes are equal if all their fields are.
 #[derive(Debug, Drop)]
 #[cycle(tree)]
 pub enum HtmlNode {
-    /// Where a located element starts or ends. Nothing is written for it.
+    /// The start or end of a located element. It is not written.
     Tag(Tag),
-    /// A text, and where it comes from.
+    /// A text and its place in the source.
     Text(String, Span),
     /// An element with its children.
     Element(HtmlElement),
@@ -27,7 +27,7 @@ pub enum HtmlNode {
     Frame(HtmlFrame),
 }
 
-/// An element. Two are equal where all their fields are.
+/// An element. Two elements are equal if all their fields are.
 #[derive(Debug, Drop)]
 #[cycle(tree)]
 pub struct HtmlElement {
@@ -35,32 +35,31 @@ pub struct HtmlElement {
     pub tag: HtmlTag,
     /// The attributes, in the order in which they are written.
     pub attrs: HtmlAttrs,
-    /// The css properties. They are not written by `html` and `html_in_bundle`, unless
+    /// The css properties. `html` and `html_in_bundle` write them only after
     /// [`resolve_inline_styles`](crate::resolve_inline_styles) has put them into the attribute
-    /// `style` before. In a document that is made of items (`html_document`,
-    /// `html_document_for_bundle`) that is done.
+    /// `style`, as in each document made from items (`html_document`, `html_document_for_bundle`).
     pub css: Properties,
     /// The children.
     pub children: Vec<HtmlNode>,
-    /// The location of the element's parent in the source, where it stands elsewhere in the tree.
+    /// The location of the element's parent in the source, if that stands elsewhere in the tree.
     pub parent: Option<Location>,
-    /// Where the element comes from.
+    /// Its place in the source.
     pub span: Span,
     /// Whether each character of the texts directly in this element is written as a character
-    /// reference, as in the `span`s that keep blanks. In `script`, `style`, `textarea` and `title`
-    /// it says nothing.
+    /// reference, as in the `span`s that preserve blanks. Ignored in `script`, `style`, `textarea`
+    /// and `title`.
     pub pre_span: bool,
 }
 
 impl HtmlNode {
-    /// A text.
+    /// Creates a text node.
     pub fn text(text: String, span: Span) -> HtmlNode
         ensures { node_view result ≡ text_node (text_view text) span.0 }
     {
         HtmlNode::Text(text, span)
     }
 
-    /// Where the node comes from; a tag has the span 0.
+    /// Returns the span of the node, which is 0 for a tag.
     pub fn span(&self) -> Span
         ensures { result.0 ≡ node_span (node_view self.now) }
     {
@@ -72,7 +71,7 @@ impl HtmlNode {
         }
     }
 
-    /// A copy of the node and all below it. It fails only where an allocation does.
+    /// Returns a copy of the node and everything below it. Fails only if an allocation fails.
     #[cycle(copy)]
     pub fn try_clone(&self) -> Result<HtmlNode, AllocError>
         ensures { IfOk result (λ copy. node_view copy ≡ node_view self.now) }
@@ -115,7 +114,7 @@ impl From<HtmlFrame> for HtmlNode {
 }
 
 impl HtmlElement {
-    /// An element of that name, with no attribute, css, child or parent, and the span 0.
+    /// Creates an element without attributes, css, children or parent, and with the span 0.
     pub fn new(alloc: Global, tag: HtmlTag) -> HtmlElement
         ensures { element_view result ≡ new_element tag }
     {
@@ -130,7 +129,7 @@ impl HtmlElement {
         }
     }
 
-    /// The element with these children in place of its own.
+    /// Returns the element with these children instead of its own.
     pub fn with_children(mut self, children: Vec<HtmlNode>) -> HtmlElement
         ensures { element_view result ≡ ((element_view self).0, nodes_view children.items) }
     {
@@ -138,7 +137,7 @@ impl HtmlElement {
         self
     }
 
-    /// The element with a node added as its last child. Where an allocation fails, both come back.
+    /// Appends a child. If an allocation fails, the error holds both.
     ///
     /// ```
     /// use html_dom::{HtmlElement, HtmlNode, Span};
@@ -166,8 +165,8 @@ impl HtmlElement {
         }
     }
 
-    /// The element with a text added as its last child, which gets the span of the element. Where an
-    /// allocation fails, the element comes back.
+    /// Appends a text with the span of the element. If an allocation fails, the error holds the
+    /// element.
     ///
     /// ```
     /// use html_dom::{HtmlElement, HtmlNode, Span};
@@ -194,9 +193,9 @@ impl HtmlElement {
         }
     }
 
-    /// The element with these css properties in place of its own. They are written only if
-    /// [`resolve_inline_styles`](crate::resolve_inline_styles) puts them into the attribute
-    /// `style`.
+    /// Returns the element with these css properties instead of its own. They are written only
+    /// after [`resolve_inline_styles`](crate::resolve_inline_styles) has put them into the
+    /// attribute `style`.
     pub fn with_css(mut self, css: Properties) -> HtmlElement
         ensures { let view = element_view self in
             element_view result ≡ (record view.0 { css = css }, view.1) }
@@ -205,10 +204,10 @@ impl HtmlElement {
         self
     }
 
-    /// The element with a pair added as its last attribute, also where one of that name is there:
-    /// then both are written, and a browser takes the first (HTML Standard, duplicate-attribute parse
-    /// error). [`set_attr`](HtmlElement::set_attr) leaves one. Where an allocation fails, all that
-    /// went in comes back.
+    /// Appends an attribute, even if one of that name exists: both are written then, and a browser
+    /// takes the first (HTML Standard, duplicate-attribute parse error).
+    /// [`set_attr`](HtmlElement::set_attr) replaces instead. If an allocation fails, the error
+    /// holds all arguments.
     pub fn with_attr(
         mut self,
         attr: HtmlAttr,
@@ -230,9 +229,9 @@ impl HtmlElement {
         }
     }
 
-    /// Gives the first attribute of that name this value, or adds a last attribute where there is
-    /// none. Further ones of the name stay. Where an allocation fails, the element stays, and name and
-    /// value come back.
+    /// Sets the value of the first attribute with that name, or appends an attribute if there is
+    /// none. Leaves further ones as they are. If an allocation fails, the element is unchanged and
+    /// the error holds name and value.
     ///
     /// ```
     /// use html_dom::HtmlElement;
@@ -257,7 +256,7 @@ impl HtmlElement {
         self.attrs.set(attr, value)
     }
 
-    /// The element with that span.
+    /// Returns the element with that span.
     pub fn spanned(mut self, span: Span) -> HtmlElement
         ensures { let view = element_view self in
             element_view result ≡ (record view.0 { span = span.0 }, view.1) }
@@ -266,7 +265,7 @@ impl HtmlElement {
         self
     }
 
-    /// A copy of the element and all below it. It fails only where an allocation does.
+    /// Returns a copy of the element and everything below it. Fails only if an allocation fails.
     pub fn try_clone(&self) -> Result<HtmlElement, AllocError>
         ensures { IfOk result (λ copy. element_view copy ≡ element_view self.now) }
     {
@@ -290,8 +289,8 @@ impl HtmlElement {
     }
 }
 
-// A copy calls itself for each level. What copies one node alone is kept out of it, so that a level
-// takes half as much of the stack.
+// Copying recurses at each level. Code that copies one node alone stays out of the recursion, which
+// halves the stack that a level takes.
 
 #[inline(never)]
 fn tag_copy(tag: &Tag) -> Result<HtmlNode, AllocError>

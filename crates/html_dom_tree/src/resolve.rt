@@ -10,15 +10,15 @@ use html_names::attr;
 use html_values_css::Properties;
 use std::alloc::{AllocError, Global};
 
-/// Writes the css of each element, at any depth, into its attribute `style`: before the first value
-/// of that name, with `; ` between unless that value is empty, or as a last attribute. An element
-/// without css stays as it is. Where an allocation fails, nothing is changed.
+/// Writes the css of each element, at any depth, into its attribute `style`: before the value of
+/// the first `style`, with `; ` between unless that value is empty, or as a new last attribute.
+/// Leaves elements without css as they are. If an allocation fails, nothing changes.
 ///
-/// Elements keep their css, so a second call would write it once more. A document that was made of
-/// items has been through this call.
+/// Elements keep their css, so a second call writes it once more. Documents made from items have
+/// been through this call.
 ///
-/// The new tree is made beside the old one. [`with_inline_styles`], which html_dom does not pass
-/// on, takes a tree and copies no node.
+/// Builds the new tree beside the old one. [`with_inline_styles`], which html_dom does not
+/// re-export, consumes a tree and copies no node.
 ///
 /// ```
 /// use html_dom::{HtmlElement, resolve_inline_styles};
@@ -44,9 +44,9 @@ pub fn resolve_inline_styles(alloc: Global, element: &mut HtmlElement) -> Result
     Ok(())
 }
 
-/// The element with the css of each element, at any depth, in its attribute `style`, as
-/// [`resolve_inline_styles`] writes it. The element is changed in place, and no node is copied. Where
-/// an allocation fails, the element is gone.
+/// Consumes an element and returns it with the css of each element, at any depth, in its attribute
+/// `style`, as [`resolve_inline_styles`] writes it. Changes the element in place, and copies no
+/// node. If an allocation fails, drops the element.
 pub fn with_inline_styles(
     alloc: Global,
     mut element: HtmlElement,
@@ -57,7 +57,7 @@ pub fn with_inline_styles(
     Ok(element)
 }
 
-/// Styles the nodes below an element, and then its own attributes.
+/// Styles the nodes below an element, then its own attributes.
 #[cycle(style)]
 fn style_element(alloc: Global, element: &mut HtmlElement) -> Result<(), AllocError>
     ensures { OnOk result
@@ -103,7 +103,7 @@ fn inline_text(alloc: Global, css: &Properties) -> Result<String, AllocError>
     css.to_inline().to_string(alloc)
 }
 
-/// Puts a text before the first `style` value, or adds it as a last attribute.
+/// Puts a text before the value of the first `style`, or appends it as an attribute.
 #[tactic(auto, unfolding(html_names::specs::Tables::known_attrs))]
 fn put_style(attrs: &mut HtmlAttrs, text: String) -> Result<(), AllocError>
     ensures { let old = attrs_view attrs.old in
@@ -120,7 +120,7 @@ fn put_style(attrs: &mut HtmlAttrs, text: String) -> Result<(), AllocError>
     }
 }
 
-/// A text before a value, with `; ` between unless the value is empty.
+/// Joins a text and a value with `; `, or returns the text if the value is empty.
 fn before_value(mut text: String, value: &String) -> Result<String, AllocError>
     ensures { IfOk result (λ joined.
         text_view joined ≡ before_value (text_view text) (text_view value.now)) }

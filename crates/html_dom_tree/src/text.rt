@@ -1,5 +1,4 @@
-//! Texts that are read and texts that grow meanwhile; copies and equality of texts and of optional
-//! texts.
+//! Helpers to read and extend texts, and to copy and compare texts and optional texts.
 
 ghost use Rattle.std.specs.Prelude.{◌≡◌, ◌↔◌, ◌++◌, ◌∷◌, [], IsTrue, IfOk, MatchOption, OnOk, chars};
 ghost use Rattle.html_dom_tree.specs.Views.{text_view, optional_text_view};
@@ -7,7 +6,7 @@ ghost use Rattle.html_dom_tree.specs.Views.{text_view, optional_text_view};
 use std::alloc::{AllocError, Global};
 use std::mem;
 
-/// Makes a text empty.
+/// Clears a text.
 #[tactic(auto, using(std::proofs::StrCases::chars_of_empty))]
 pub fn empty(text: &mut String)
     ensures { text_view text.new ≡ [] }
@@ -15,7 +14,7 @@ pub fn empty(text: &mut String)
     text.clear();
 }
 
-/// Adds a character.
+/// Appends a character.
 pub fn add(text: &mut String, c: char) -> Result<(), AllocError>
     ensures { OnOk result (text_view text.new ≡ text_view text.old ++ c ∷ []) }
 {
@@ -23,7 +22,7 @@ pub fn add(text: &mut String, c: char) -> Result<(), AllocError>
     Ok(())
 }
 
-/// Adds a text.
+/// Appends a text.
 pub fn add_text(text: &mut String, more: &str) -> Result<(), AllocError>
     ensures { OnOk result (text_view text.new ≡ text_view text.old ++ chars more.now) }
 {
@@ -31,7 +30,7 @@ pub fn add_text(text: &mut String, more: &str) -> Result<(), AllocError>
     Ok(())
 }
 
-/// Makes a text of one character.
+/// Replaces a text with one character.
 pub fn begin(text: &mut String, c: char) -> Result<(), AllocError>
     ensures { OnOk result (text_view text.new ≡ c ∷ []) }
 {
@@ -39,7 +38,7 @@ pub fn begin(text: &mut String, c: char) -> Result<(), AllocError>
     add(text, c)
 }
 
-/// Takes a text, and leaves an empty one.
+/// Takes a text and leaves an empty one in its place.
 #[tactic(auto, using(std::proofs::StrCases::chars_of_empty))]
 pub fn take(alloc: Global, text: &mut String) -> String
     ensures taken { text_view result ≡ text_view text.old }
@@ -48,7 +47,7 @@ pub fn take(alloc: Global, text: &mut String) -> String
     mem::replace(text, String::new(alloc))
 }
 
-/// The first character of a text, and the rest.
+/// Returns the first character of a text and the rest.
 pub fn split_first(text: &str) -> Option<(char, &str)>
     ensures { MatchOption result (chars text.now ≡ [])
         (λ x. chars text.now ≡ x.0 ∷ chars x.1.now) }

@@ -1,4 +1,4 @@
--- An element that is constructed of arguments: attributes of its typed arguments, and a body of the
+-- An element constructed from arguments: attributes from its typed arguments, and a body from the
 -- first argument without a name.
 use Rattle.std.specs.Prelude.{ℕ, List, [], ◌∷◌, ◌++◌, map, Bool, false, if◌then◌else◌, Option, None, Some, option_map, is_some, bytes_eq}
 use Rattle.html_names.specs.Kinds.{is_void, is_raw}
@@ -18,7 +18,7 @@ use Rattle.html_flow.specs.declared.args.ArgValue.TheVariants.{Plain, Body as It
 use Rattle.html_flow.specs.declared.args.Arg.{Arg}
 use Rattle.html_flow.specs.declared.args.ElementInfo.{ElementInfo}
 
--- what an argument has: a value, or items
+-- the content of an argument: a value or items
 pub data ArgValueView : Type 0 where
   plain : ValueView → ArgValueView
   items : ItemsView → ArgValueView
@@ -57,7 +57,7 @@ abbrev pub entry_of : List Entry → List ℕ → Option Entry
 entry_of [] name = None
 entry_of (e ∷ es) name = if bytes_eq e.0 name then Some e else entry_of es name
 
--- the entry for an argument, where it has a name that the element knows
+-- the entry for an argument, if it has a name that the element knows
 abbrev pub entry_for : List Entry → Option (List ℕ) → Option Entry
 entry_for es None = None
 entry_for es (Some name) = entry_of es name
@@ -67,7 +67,7 @@ abbrev pub cast_answer : AttrTypeView → ArgValueView → CastAnswer
 cast_answer k (plain v) = cast k v
 cast_answer k (items c) = refuses WrongKind
 
--- a text becomes an attribute, nothing is omitted
+-- a text becomes an attribute, `nothing` none
 abbrev pub attr_of : List ℕ → CastAnswer → List TextPair
 attr_of name (gives t) = (name, t) ∷ []
 attr_of name nothing = []
@@ -106,14 +106,14 @@ other_args es (a ∷ more) =
 abbrev pub text_items : List ℕ → ℕ → ItemsView
 text_items s span = item (text_item s span) inherits no_items
 
--- the body that an argument gives: of a raw element a text, else items, a text, or none
+-- the body that an argument makes: for a raw element a text, else items, a text, or none
 abbrev pub arg_body : Bool → ArgValueView → ℕ → Option BodyView
 arg_body raw (plain (str_value s)) span = Some (present (text_items s span))
 arg_body false (plain none_value) span = Some (present no_items)
 arg_body false (items c) span = Some (present c)
 arg_body raw given span = None
 
--- a body and the arguments that are left, or the span of an argument of the wrong kind
+-- a body and the other arguments, or the span of an argument of the wrong kind
 pub data BodyChoice : Type 0 where
   takes : BodyView → List ArgView → BodyChoice
   fails : (span : ℕ) → BodyChoice
@@ -138,17 +138,17 @@ first_choice raw (a ∷ more) =
 abbrev pub body_choice : List ℕ → List ArgView → BodyChoice
 body_choice name args = if is_void name then takes absent args else first_choice (is_raw name) args
 
--- faults of casts, as the one fault of constructing that they are
+-- faults of casts, as the one fault of construction that they are
 abbrev pub joined_faults : List (CastFault × ℕ) → List ConstructFaultView
 joined_faults [] = []
 joined_faults (f ∷ fs) = cast_faults (f ∷ fs) ∷ []
 
--- the fault of a choice, where it is one
+-- the fault of a choice, if it is one
 abbrev pub choice_faults : BodyChoice → List ConstructFaultView
 choice_faults (takes body left) = []
 choice_faults (fails span) = body_kind span ∷ []
 
--- an element with the arguments that it has not used
+-- an element with the arguments that it did not use
 abbrev pub Construction : Type 0
 Construction = ElemView × List ArgView
 
@@ -161,7 +161,7 @@ abbrev pub with_body : List ℕ → List Entry → List TextPair → BodyChoice 
 with_body name es pairs (takes body left) = Some (constructed_element name pairs body, other_args es left)
 with_body name es pairs (fails span) = None
 
--- what arguments construct, where a body can be chosen
+-- the element that arguments construct, if a body can be chosen
 abbrev pub construction : ElementInfo → List ArgView → Option Construction
 construction info args =
     let es = entries_view info.attrs.items in

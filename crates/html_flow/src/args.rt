@@ -5,7 +5,7 @@ use html_flow_convert::Pair;
 use html_names::{HtmlAttr, HtmlTag};
 use html_values::{AttrType, Value};
 
-/// What an element of HTML is called, and which typed attributes it has.
+/// The name of an element of HTML, and its typed attributes.
 #[derive(Debug, Drop)]
 pub struct ElementInfo {
     /// The element's name.
@@ -15,7 +15,7 @@ pub struct ElementInfo {
 }
 
 impl ElementInfo {
-    /// An element of that name with these attributes.
+    /// Creates the description of an element with that name and these attributes.
     pub fn new(tag: HtmlTag, attrs: Vec<(HtmlAttr, AttrType)>) -> ElementInfo
         ensures tag { result.tag ≡ tag }
         ensures attrs { result.attrs ≡ attrs }
@@ -34,15 +34,15 @@ pub struct Args {
 /// An argument.
 #[derive(Debug, Drop)]
 pub struct Arg {
-    /// The name, where it has one.
+    /// The name, if it has one.
     pub name: Option<String>,
-    /// Where it comes from.
+    /// Its place in the source.
     pub span: Span,
-    /// What is given.
+    /// The value or items.
     pub value: ArgValue,
 }
 
-/// What an argument gives.
+/// What an argument holds.
 #[derive(Debug, Drop)]
 pub enum ArgValue {
     /// A value.

@@ -19,17 +19,17 @@ use html_values::{AttrType, CastFault, Value};
 use html_values_css::Properties;
 use std::alloc::{AllocError, Global};
 
-/// The element that arguments construct.
+/// Constructs an element from arguments.
 ///
-/// Each argument with a name that the element knows is cast to the type of that attribute; where
-/// the cast gives a text, that becomes an attribute, in the arguments' order, and where it gives
-/// nothing there is none. A name that comes twice becomes two attributes. Unless the element is
-/// void, the first argument without a name is its body: of a raw element (`script`, `style`) a
-/// text, of another items, a text, or none, which is an empty body. What was used is taken out of
-/// the arguments, the others stay in order.
+/// Casts each argument with a name that the element knows to the type of that attribute; a text
+/// that the cast returns becomes an attribute, in the order of the arguments, and without a text
+/// there is none. A name that comes twice becomes two attributes. Unless the element is void, the
+/// first argument without a name is its body: of a raw element (`script`, `style`) a text, of
+/// another items, a text, or none, which is an empty body. Removes the arguments that it uses; the
+/// others stay in order.
 ///
-/// Refused with all faults of casts (`Casts`, items in place of a value are of the wrong kind),
-/// else with `BodyKind`. After a refusal all arguments are as they were.
+/// Fails with all faults of casts (`Casts`; items instead of a value are of the wrong kind), or
+/// else with `BodyKind`. After a failure all arguments are as they were.
 ///
 /// ```
 /// use html_dom::Span;
@@ -165,7 +165,7 @@ fn text_body(alloc: Global, text: &String, span: Span) -> Result<Vec<Pair>, Cons
     Ok(body)
 }
 
-/// The body that a value gives; for items, which are a body of their own, an empty one.
+/// Returns the body that a value makes; for items, which are a body of their own, an empty one.
 fn plain_body(
     alloc: Global,
     raw: bool,
@@ -184,7 +184,7 @@ fn plain_body(
     }
 }
 
-/// The items that are a body of their own, or the body that was made of a value.
+/// Returns the items that are a body of their own, or else the body made from a value.
 fn own_or(value: ArgValue, plain: Vec<Pair>) -> Vec<Pair>
     ensures { items_view result.items
         ≡ or_own (arg_value_view value) (items_view plain.items) }
@@ -236,7 +236,7 @@ fn take_body(
     }
 }
 
-/// Drops the arguments that are attributes of the element, in one pass; the others stay in order.
+/// Removes the arguments that are attributes of the element, in one pass; the others stay in order.
 fn drop_known(entries: &[(HtmlAttr, AttrType)], args: &mut Vec<Arg>)
     ensures { args_view args.new.items
         ≡ other_args (entries_view entries.now) (args_view args.old.items) }

@@ -1,4 +1,4 @@
-//! Laws of this layer, each the contract of a function.
+//! Laws of this layer, as contracts of functions.
 
 pub use html_flow_convert::laws::{
     equal_construct_faults, equal_conversion_levels, equal_flow_faults, equal_whitespaces,

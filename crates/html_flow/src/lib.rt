@@ -1,5 +1,5 @@
-//! What a document flows: items, elements that are constructed of typed arguments, and the nodes
-//! that items become. Items and their conversion are html_flow_convert's.
+//! The flow of a document: items, elements constructed from typed arguments, and the nodes that
+//! items become. Items and their conversion come from html_flow_convert.
 //!
 //! ```
 //! use html_dom::Span;

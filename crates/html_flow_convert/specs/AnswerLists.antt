@@ -1,4 +1,4 @@
--- Answers for lone spaces, of which the first ones are used.
+-- Answers for lone spaces, the first of which are used.
 use Rattle.std.specs.Prelude.{Bool, List, drop}
 use Rattle.html_flow_convert.specs.declared.protect.Answers.{Answers}
 

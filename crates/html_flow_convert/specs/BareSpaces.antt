@@ -8,7 +8,7 @@ use Rattle.html_names.specs.Texts.{TextPair}
 use Rattle.html_dom_tree.specs.Tree.{Head, NodeView, tag_node, text_node, element_node, frame_node, NodesView, none, node}
 use Rattle.html_flow_convert.specs.Nodes.{is_one}
 
--- what a list of nodes looks like where lines are made of it: a line may end at a border
+-- what a list of nodes looks like in a line, which may end at a border
 pub data Thing : Type 0 where
   border : Thing
   visible : Thing
@@ -51,21 +51,21 @@ unfoldable mutual
   nodes_things none = []
   nodes_things (node n ns) = node_things n ++ nodes_things ns
 
--- what stands right before is there, and no border
+-- something that is no border stands right before
 abbrev pub is_in_line : (before : Option Thing) → Bool
 is_in_line None = false
 is_in_line (Some border) = false
 is_in_line (Some visible) = true
 is_in_line (Some space) = true
 
--- what stands right after is visible
+-- something visible stands right after
 abbrev pub is_visible_first : (after : List Thing) → Bool
 is_visible_first [] = false
 is_visible_first (border ∷ ts) = false
 is_visible_first (visible ∷ ts) = true
 is_visible_first (space ∷ ts) = false
 
--- for each space in order, whether it is bare, where that stands before the first thing
+-- whether each space is bare, in order, if that stands before the first thing
 unfoldable pub bare_after : (before : Option Thing) → List Thing → List Bool
 bare_after before [] = []
 bare_after before (border ∷ ts) = bare_after (Some border) ts
@@ -73,11 +73,11 @@ bare_after before (visible ∷ ts) = bare_after (Some visible) ts
 bare_after before (space ∷ ts) =
     (is_in_line before && is_visible_first ts) ∷ bare_after (Some space) ts
 
--- for each lone space of the nodes in order, whether it is bare
+-- whether each lone space of the nodes is bare, in order
 abbrev pub bare_spaces : NodesView → List Bool
 bare_spaces ns = bare_after None (nodes_things ns)
 
--- how many nodes stand inside no element that is not looked into, such an element counting itself
+-- the number of nodes outside of elements that are not looked into, which count themselves
 unfoldable mutual
   pub node_turns : NodeView → ℕ
   node_turns (tag_node t) = 1

@@ -19,21 +19,21 @@ use Rattle.html_flow_convert.specs.declared.convert.ConversionLevel.TheVariants.
 use Rattle.html_flow_convert.specs.declared.convert.Whitespace.{Whitespace}
 use Rattle.html_flow_convert.specs.declared.convert.Whitespace.TheVariants.{Normal, Pre}
 
--- a role, where there is one
+-- a role, if there is one
 abbrev pub RoleText : Type 0
 RoleText = Option (List ℕ)
 
--- the role that a caller hands in
+-- the role that a caller passes
 abbrev pub role_text : Option (Bor (List ℕ)) → RoleText
 role_text = option_map (λ role. chars role.now)
 
--- the role of an item in a list of that role
+-- the role of an item in a list with that role
 abbrev pub item_role : (list : RoleText) → RoleView → RoleText
 item_role list inherits = list
 item_role list (sets text) = Some text
 item_role list unsets = None
 
--- a paragraph does not take a role, and what stands in it has it
+-- a paragraph takes no role, and passes it on to its content
 abbrev pub passes_role : (name : List ℕ) → Bool
 passes_role name = bytes_eq name (codes "p")
 
@@ -55,7 +55,7 @@ element_head role h = record {
 abbrev pub body_role : RoleText → ElemHead → RoleText
 body_role role h = if passes_role h.name then role else None
 
--- elements with lines of their own, by default or by css, have bodies of lines
+-- the bodies of elements with lines of their own, by default or by css, are at block level
 abbrev pub body_level : ElemHead → ConversionLevel
 body_level h = if shows_border (default_display h.name) || makes_block h.css then Block else Inline
 
@@ -79,8 +79,8 @@ abbrev pub frame_item_node : FrameElemView → NodeView
 frame_item_node f = frame_node (record (new_html_frame f.inner f.text_size f.span)
     { css = (codes "display", codes "block") ∷ [] })
 
--- what is done to the nodes of a list once they are made: where white space collapses, runs of
--- blanks are kept, and in lines the spaces too that would go
+-- the last step for the nodes of a list: where white space collapses, runs of blanks are protected,
+-- and at block level also the spaces that would go
 abbrev pub list_nodes : ConversionLevel → Whitespace → List NodeView → NodesView
 list_nodes level Pre ns = nodes_of ns
 list_nodes Inline Normal ns = nodes_of (nodes_with_runs ns)

@@ -1,9 +1,9 @@
--- What stands too deep: the spans of the items, in document order, whose bodies do.
+-- Items that are too deep: the spans of those whose bodies are, in document order.
 use Rattle.std.specs.Prelude.{ℕ, ◌+◌, nat_lt, if◌then◌else◌, List, [], ◌∷◌, ◌++◌, Option, None, Some}
 use Rattle.html_flow_convert.specs.Items.{ItemView, tag_item, element_item, space_item, text_item, hole_item, break_item, box_item, block_item, frame_item, ItemsView, no_items, item, BodyView, absent, present}
 
--- among items that stand at a depth, a body in which is one deeper; what is in a body that stands
--- too deep is not looked at
+-- among items at a depth, each body being one deeper; the content of a body that is too deep is not
+-- checked
 unfoldable mutual
   pub item_too_deep : (depth limit : ℕ) → ItemView → List ℕ
   item_too_deep depth limit (tag_item t) = []
@@ -26,7 +26,7 @@ unfoldable mutual
   items_too_deep depth limit (item i role items) =
       item_too_deep depth limit i ++ items_too_deep depth limit items
 
--- the same where the items stand in something of that span, which may itself stand too deep
+-- the same if the items stand in something with that span, which may be too deep itself
 abbrev pub fragment_too_deep : (depth limit span : ℕ) → ItemsView → List ℕ
 fragment_too_deep depth limit span items =
     if nat_lt limit depth then span ∷ [] else items_too_deep depth limit items

@@ -1,4 +1,4 @@
--- What a document flows: items as pure values, in which texts are lists of characters.
+-- The flow of a document: items as pure values, in which texts are lists of characters.
 use Rattle.std.specs.Prelude.{ℕ, ℤ, List, [], ◌∷◌, ◌++◌, Option, None, Some}
 use Rattle.html_names.specs.Texts.{TextPair}
 use Rattle.html_dom_tree.specs.Attributes.{with_set}
@@ -11,7 +11,7 @@ pub data RoleView : Type 0 where
   sets : List ℕ → RoleView
   unsets : RoleView
 
--- an element apart from its body
+-- an element without its body
 pub record ElemHead : Type 0 where
   pub name : List ℕ
   pub attrs : List TextPair
@@ -19,7 +19,7 @@ pub record ElemHead : Type 0 where
   pub parent : Option ℕ
   pub span : ℕ
 
--- a drawing, the size of the text around it in millionths of a point, and its span
+-- a drawing, the size of the surrounding text in millionths of a point, and its span
 pub record FrameElemView : Type 0 where
   pub inner : FrameView
   pub text_size : ℤ
@@ -37,7 +37,7 @@ mutual
     block_item : BodyView → (span : ℕ) → ItemView
     frame_item : FrameElemView → ItemView
 
-  -- items in a row, each with its role
+  -- a list of items, each with its role
   pub data ItemsView : Type 0 where
     no_items : ItemsView
     item : ItemView → RoleView → ItemsView → ItemsView
@@ -58,7 +58,7 @@ new_head name = record { name = name; attrs = []; css = []; parent = None; span 
 abbrev pub with_set_pair : TextPair → ElemView → ElemView
 with_set_pair pair e = (record e.0 { attrs = with_set e.0.attrs pair }, e.1)
 
--- with a pair as its last, or as it was
+-- with a pair as its last, or unchanged
 abbrev pub with_pair : TextPair → ElemView → ElemView
 with_pair pair e = (record e.0 { attrs = e.0.attrs ++ pair ∷ [] }, e.1)
 
@@ -66,12 +66,12 @@ abbrev pub with_optional_pair : List ℕ → Option (List ℕ) → ElemView → 
 with_optional_pair name None e = e
 with_optional_pair name (Some value) e = with_pair (name, value) e
 
--- items, and one more behind them
+-- items with one more at the end
 abbrev pub with_last : ItemsView → ItemView × RoleView → ItemsView
 with_last no_items x = item x.0 x.1 no_items
 with_last (item i role is) x = item i role (with_last is x)
 
--- an element with an item at the end of its body, which is made where there is none
+-- an element with an item at the end of its body, which is added if there is none
 abbrev pub with_last_item : ItemView × RoleView → ElemView → ElemView
 with_last_item x (head, absent) = (head, present (item x.0 x.1 no_items))
 with_last_item x (head, present items) = (head, present (with_last items x))
@@ -80,7 +80,7 @@ with_last_item x (head, present items) = (head, present (with_last items x))
 abbrev pub element_as_item : ElemView → ItemView
 element_as_item e = element_item e.0 e.1
 
--- with that body, with that css, with that span in place of its own
+-- with that body, css or span instead of its own
 abbrev pub with_items : ItemsView → ElemView → ElemView
 with_items items e = (e.0, present items)
 
@@ -99,7 +99,7 @@ abbrev pub located_item : ℕ → Option (List ℕ) → Option ℕ → ItemView 
 located_item location label dest i = inheriting (tag_item (starts location label dest))
     ∷ inheriting i ∷ inheriting (tag_item (ends location)) ∷ []
 
--- the span that an item comes from, 0 for a tag and a hole
+-- the span of an item, 0 for a tag and a hole
 abbrev pub item_span : ItemView → ℕ
 item_span (tag_item t) = 0
 item_span (element_item h b) = h.span

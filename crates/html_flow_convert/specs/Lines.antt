@@ -1,4 +1,4 @@
--- Going through the things of a line one by one.
+-- A walk along the things of a line.
 use Rattle.std.specs.Prelude.{◌≡◌, ℕ, ◌+◌, ◌≤◌, Bool, true, false, ◌&&◌, List, [], ◌∷◌, ◌++◌, Some, None, if◌then◌else◌}
 use Rattle.html_dom_tree.specs.Tree.{NodesView}
 use Rattle.html_dom_flat.specs.Flat.{FlatNodeView, nodes_flat}
@@ -25,7 +25,7 @@ last_after l look.Space = last.Space (is_within l)
 last_after l look.Nothing = l
 last_after l look.Inside = l
 
--- the answer for a space that stands last, where that stands after it
+-- the answer for a space that stands last, given what stands after it
 abbrev pub space_answer : Last → (is_visible : Bool) → List Bool
 space_answer last.Border is_visible = []
 space_answer last.Visible is_visible = []
@@ -45,19 +45,19 @@ answers_left last.Visible ts = bare_after (Some visible) ts
 answers_left (last.Space in_line) ts =
     (in_line && is_visible_first ts) ∷ bare_after (Some space) ts
 
--- the place after a node and all that stands in it
+-- the index after a node and everything in it
 abbrev pub place_past : (place : ℕ) → FlatNode → ℕ
 place_past place (flat.Tag t) = place + 1
 place_past place (flat.Text s span) = place + 1
 place_past place (flat.Frame f) = place + 1
 place_past place (flat.Element e) = e.past
 
--- the place of the next node to look at
+-- the index of the next node to look at
 abbrev pub next_place : (place : ℕ) → Look → FlatNode → ℕ
 next_place place l f = if is_inside l then place + 1 else place_past place f
 
--- going through the list of those nodes, at a place: what is left of them has the answers that are
--- left, and the turns
+-- the walk over the list of those nodes, at an index: the rest has the answers and the turns that
+-- are left
 pub record Stands (whole : NodesView) (place : ℕ) (list : List FlatNodeView) (l : Last)
     (bare : List Bool) (turns : ℕ) : Type 0 where
   pub rest : NodesView

@@ -1,5 +1,5 @@
--- A node that stands for the box or block that it is alone in (this project's rule): in place of an
--- element around it, its own css says how it is displayed (CSS Display 3).
+-- A node that takes the place of the box or block that it is alone in (this project's rule): its
+-- own css says how it is displayed, instead of an element around it (CSS Display 3).
 use Rattle.std.specs.Prelude.{ℕ, Bool, true, false, ◌&&◌, List, [], ◌∷◌, codes, chars, bytes_eq, map, if◌then◌else◌, Option, Some, None}
 use Rattle.html_names.specs.Displays.{default_display}
 use Rattle.html_names.specs.Texts.{TextPair}
@@ -28,7 +28,7 @@ lone_alone (text_node s span) = None
 lone_alone (element_node h ns) = Some (element_node h ns)
 lone_alone (frame_node f) = Some (frame_node f)
 
--- the one element or frame that is left when tags at both ends are cut off
+-- the only element or frame between tags at both ends
 unfoldable pub lone_node : NodesView → Option NodeView
 lone_node none = None
 lone_node (node n ns) =
@@ -73,7 +73,7 @@ box_change (element_node h ns) =
     if is_math h && is_shown_as_block h then set_to (codes "inline math") else removed
 box_change (frame_node f) = removed
 
--- of a lone element of a block, by its default display; none where it cannot stand for the block
+-- of a lone element of a block, by its default display; none if it can't take the block's place
 abbrev pub change_by_display : Option Display → Option DisplayChangeView
 change_by_display None = Some (set_to (codes "block"))
 change_by_display (Some display.None) = Some removed
@@ -95,7 +95,7 @@ block_change (element_node h ns) =
     else change_by_display (default_display h.name)
 block_change (frame_node f) = Some (set_to (codes "block"))
 
--- the nodes with a lone one changed; without such a change all in an element
+-- the nodes with a lone one changed; without such a change, all in an element
 abbrev pub changed_or_in : Head → Option DisplayChangeView → NodesView → List NodeView
 changed_or_in h None ns = element_node h ns ∷ []
 changed_or_in h (Some change) ns = map (node_with_display change) (node_list ns)
@@ -108,7 +108,7 @@ abbrev pub block_change_of : Option NodeView → Option DisplayChangeView
 block_change_of None = None
 block_change_of (Some n) = block_change n
 
--- what stands for a box or a block whose nodes leave none to stand for it
+-- the element for a box or a block in which no node can take its place
 abbrev pub box_head : (span : ℕ) → Head
 box_head span =
     made_head (codes "span") ((codes "display", codes "inline-block") ∷ []) span
@@ -116,7 +116,7 @@ box_head span =
 abbrev pub block_head : (span : ℕ) → Head
 block_head span = made_head (codes "div") [] span
 
--- the nodes of a box and of a block, by those of their bodies
+-- the nodes of a box and of a block, from those of their bodies
 abbrev pub box_nodes : (span : ℕ) → NodesView → List NodeView
 box_nodes span ns = changed_or_in (box_head span) (box_change_of (lone_node ns)) ns
 

@@ -1,4 +1,4 @@
--- What a node looks like where lines are made of it, as the code sees it.
+-- The look of a node in a line, as the code computes it.
 use Rattle.std.specs.Prelude.{ℕ, Bool, true, false, ◌||◌, List, [], ◌∷◌, if◌then◌else◌}
 use Rattle.std.specs.List.{list_all}
 use Rattle.html_names.specs.Characters.{is_ignorable}
@@ -11,7 +11,7 @@ use Rattle.html_flow_convert.specs.BareSpaces.{Thing, border, visible, space, ma
 use Rattle.html_flow_convert.specs.declared.look.Look.{Look}
 use Rattle.html_flow_convert.specs.declared.look.Look.TheVariants.{Border, Visible, Space, Nothing, Inside}
 
--- the things of a node, of which these stand in it
+-- the things of a node, given those inside it
 abbrev pub look_things : Look → (inside : List Thing) → List Thing
 look_things Border inside = border ∷ []
 look_things Visible inside = visible ∷ []

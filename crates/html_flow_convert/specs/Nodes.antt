@@ -1,8 +1,8 @@
--- Nodes that are made where white space is processed.
+-- Nodes that white space processing adds.
 use Rattle.std.specs.Prelude.{ℕ, Bool, true, false, ◌==◌, List, [], ◌∷◌, codes, None}
 use Rattle.html_dom_tree.specs.Tree.{Head, NodeView, tag_node, text_node, element_node, frame_node, none}
 
--- an element apart from its children: of that name, css and span, and with nothing else
+-- an element of that name, css and span, with nothing else and without children
 abbrev pub made_head : (name : List ℕ) (css : List (List ℕ × List ℕ)) (span : ℕ) → Head
 made_head name css span =
     record { name = name; attrs = []; css = css; parent = None; span = span; pre_span = false }

@@ -10,7 +10,7 @@ pub data PieceView : Type 0 where
   alone : (c : ℕ) → PieceView
   line_break : PieceView
 
--- neither a blank nor a character that is not shown by default
+-- neither a blank nor an ignorable character
 abbrev pub is_normal : ℕ → Bool
 is_normal c = not (is_blank c) && not (is_ignorable c)
 
@@ -28,7 +28,7 @@ abbrev pub is_in_stretch : (before : Option ℕ) (c : ℕ) (after : List ℕ) �
 is_in_stretch before c after =
     is_normal c || ((c == 32) && is_normal_there before && is_normal_there (first_char after))
 
--- a character before pieces, as part of the stretch that stands there or of a new one
+-- a character before pieces, as part of a stretch that stands there or of a new one
 abbrev pub in_stretch : ℕ → List PieceView → List PieceView
 in_stretch c [] = stretch (c ∷ []) ∷ []
 in_stretch c (stretch s ∷ ps) = stretch (c ∷ s) ∷ ps
@@ -39,7 +39,7 @@ abbrev pub is_carriage_return : Option ℕ → Bool
 is_carriage_return None = false
 is_carriage_return (Some c) = c == 13
 
--- a character outside of stretches before pieces: CR LF, CR and LF are one line break each
+-- a character outside stretches before pieces: CR LF, CR and LF are one line break each
 abbrev pub outside_stretch : (before : Option ℕ) → ℕ → List PieceView → List PieceView
 outside_stretch before c ps =
     if c == 13 then line_break ∷ ps

@@ -1,4 +1,4 @@
--- Nodes whose spaces stay: each lone space that is not bare stands in a `span` of its own.
+-- Nodes with protected spaces: each lone space that is not bare is in a `span` of its own.
 use Rattle.std.specs.Prelude.{ℕ, ◌+◌, Bool, true, false, List, [], ◌∷◌, drop, if◌then◌else◌}
 use Rattle.html_dom_tree.specs.Tree.{NodeView, tag_node, text_node, element_node, frame_node, NodesView, none, node}
 use Rattle.html_flow_convert.specs.BareSpaces.{Thing, border, visible, space, is_entered, node_things, bare_spaces}

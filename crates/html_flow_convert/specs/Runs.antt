@@ -30,13 +30,13 @@ first_span (n ∷ ns) = span_or (node_span n) (first_span ns)
     span_or zero later = later
     span_or (suc k) later = suc k
 
--- two blanks or more, or a tab as the only one
+-- two blanks or more, or a single tab
 abbrev pub are_kept : (blanks : List NodeView) → Bool
 are_kept [] = false
 are_kept (n ∷ []) = is_tab n
 are_kept (n ∷ m ∷ ns) = true
 
--- a run: in a `span` in which white space stays, if its blanks are kept
+-- a run, in a `span` that preserves white space if its blanks must stay
 abbrev pub run_nodes : List NodeView → List NodeView
 run_nodes ns =
     if are_kept (filter is_blank_node ns)
@@ -48,7 +48,7 @@ abbrev pub front_nodes : List NodeView → List NodeView
 front_nodes [] = []
 front_nodes (n ∷ ns) = if is_tag n then n ∷ front_nodes ns else run_nodes (n ∷ ns)
 
--- the blanks and tags at the blank_front of a list; what comes after them, each run in it in its place
+-- the leading blanks and tags of a list, and the nodes after them, with each run in it in its place
 unfoldable pub blank_front : List NodeView → List NodeView
 blank_front [] = []
 blank_front (n ∷ ns) = if is_blank_node n || is_tag n then n ∷ blank_front ns else []
@@ -59,6 +59,6 @@ after_front (n ∷ ns) =
     if is_blank_node n || is_tag n then after_front ns
     else n ∷ (front_nodes (blank_front ns) ++ after_front ns)
 
--- nodes in which each run of kept blanks is one `span`
+-- nodes in which each run of preserved blanks is one `span`
 abbrev pub nodes_with_runs : List NodeView → List NodeView
 nodes_with_runs ns = front_nodes (blank_front ns) ++ after_front ns

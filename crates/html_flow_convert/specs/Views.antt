@@ -20,7 +20,7 @@ role_view Unset = unsets
 abbrev pub frame_elem_view : FrameElem → FrameElemView
 frame_elem_view f = record { inner = frame_view f.frame; text_size = f.text_size; span = f.span.0 }
 
--- items, each already seen with its role
+-- items from their views with their roles
 abbrev pub items_of : List (ItemView × RoleView) → ItemsView
 items_of [] = no_items
 items_of (x ∷ xs) = item x.0 x.1 (items_of xs)
@@ -43,7 +43,7 @@ item_step (Item-F.Box body span) = box_item (body_of body) span.0
 item_step (Item-F.Block body span) = block_item (body_of body) span.0
 item_step (Item-F.Frame f) = frame_item (frame_elem_view f)
 
--- an element apart from its body
+-- an element without its body
 abbrev pub head_of : {A B C : Type 0} → HtmlElem-F A B C → ElemHead
 head_of e = record {
   name = e.tag;

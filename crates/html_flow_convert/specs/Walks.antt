@@ -1,4 +1,4 @@
--- Going through nodes, as the program does.
+-- A walk over nodes, as the program does it.
 use Rattle.std.specs.Prelude.{Bool, List, [], ◌∷◌, ◌++◌}
 use Rattle.html_flow_convert.specs.BareSpaces.{Thing, border, visible, space}
 use Rattle.html_flow_convert.specs.Lines.{last_after, answer_before}
@@ -7,18 +7,18 @@ use Rattle.html_flow_convert.specs.declared.line.Last.{Last}
 use Rattle.html_flow_convert.specs.declared.look.Look.{Look}
 use Rattle.html_flow_convert.specs.declared.look.Look.TheVariants as look
 
--- the answers for the spaces so far but for one that stands last, and what stands last
+-- the answers for the spaces so far, except one that stands last, and what stands last
 abbrev pub WalkView : Type 0
 WalkView = List Bool × Last
 
 abbrev pub walk_view : Walk → WalkView
 walk_view w = (w.bare.items, w.last)
 
--- one more
+-- with one more
 abbrev pub walk_with : WalkView → Look → WalkView
 walk_with w next = (w.0 ++ answer_before w.1 next, last_after w.1 next)
 
--- these too
+-- with these too
 unfoldable pub walk_on : WalkView → List Thing → WalkView
 walk_on w [] = w
 walk_on w (border ∷ ts) = walk_on (walk_with w look.Border) ts

@@ -1,4 +1,4 @@
-//! The answers for lone spaces of a list of nodes.
+//! Which lone spaces of a list of nodes are bare.
 
 ghost use Rattle.std.specs.Prelude.{◌≡◌, [], IfOk, OnOk};
 ghost use Rattle.std.specs.List.{list_all};
@@ -14,7 +14,7 @@ use std::alloc::{AllocError, Global};
 
 #[derive(Drop)]
 struct Walk {
-    /// For each lone space but one that stands last, whether it is bare.
+    /// Whether each lone space is bare, except one that stands last.
     bare: Vec<bool>,
     last: Last,
 }
@@ -73,7 +73,7 @@ fn look_of(element: &HtmlElement) -> Look
     element_look(&element.tag, &element.css, element.pre_span)
 }
 
-/// For each lone space of the nodes in order, whether it is bare.
+/// Returns whether each lone space of the nodes is bare, in order.
 pub(crate) fn answers_for(alloc: Global, nodes: &[HtmlNode]) -> Result<Vec<bool>, AllocError>
     ensures { IfOk result (λ bare. bare.items ≡ bare_spaces (nodes_view nodes.now)) }
 {

@@ -17,11 +17,11 @@ use std::alloc::{AllocError, Global};
 /// Which lone spaces of a list of nodes may stay bare.
 #[derive(Debug, Drop)]
 pub struct Bareness {
-    /// For each text of exactly one space, in the order of writing and inside of no element that is
-    /// not looked into, whether it is bare.
+    /// Whether each text of exactly one space is bare, in the order of writing; without those
+    /// inside an element that is not looked into.
     pub bare: Vec<bool>,
-    /// How many nodes were looked at: those that stand inside of no element that is not looked into.
-    /// Such an element itself is one of them.
+    /// The number of nodes that were looked at, including elements that are not looked into, but
+    /// not what is inside them.
     pub turns: usize,
 }
 
@@ -39,7 +39,7 @@ fn flat_look(names: &NameTable, node: &FlatNode) -> Look
     }
 }
 
-/// The place after a node and all that stands in it.
+/// Returns the index after a node and everything in it.
 fn place_past(node: &FlatNode, place: usize) -> usize
     requires { place + 1 < 2 ^ 64 }
     ensures { result ≡ place_past place node.now }
@@ -60,17 +60,17 @@ fn next_place(node: &FlatNode, look: Look, place: usize) -> usize
     place_past(node, place)
 }
 
-/// Which lone spaces of these nodes collapsing white space leaves (CSS Text 3, 4.1): a text of
-/// exactly one space is bare where what stands right before it is there and no border, and what
-/// stands right after it is visible.
+/// Returns which lone spaces of these nodes survive when white space collapses (CSS Text 3, 4.1): a
+/// text of exactly one space is bare if something that is no border stands right before it, and
+/// something visible right after it.
 ///
 /// An element with `display: block` in its css or with lines of its own by default is a border, and
-/// so is `br`; else a replaced element is visible, as a frame is; else an element whose texts are
-/// written as character references counts for nothing. None of these is looked into. Any other
-/// element counts as what stands in it. Any other text is visible if one of its characters is shown
-/// by default, else it counts for nothing, as a tag does. It fails only where an allocation does.
+/// so is `br`; otherwise, a replaced element is visible, like a frame, and an element whose texts
+/// are written as character references counts for nothing. None of these is looked into. Any other
+/// element counts as its content. Any other text is visible if one of its characters is visible by
+/// default, and otherwise counts for nothing, like a tag. Fails only if an allocation fails.
 ///
-/// Cost: grows with `turns`, which is at most the number of nodes at all depths.
+/// Takes time linear in `turns`, which is at most the number of nodes at all depths.
 ///
 /// ```
 /// use html_dom::{FlatTree, HtmlNode, Span};

@@ -1,4 +1,4 @@
-//! From items to nodes.
+//! Conversion of items to nodes.
 #![tactic(auto, unfolding(crate::specs::Converted::item_nodes, crate::specs::Depth::item_too_deep))]
 
 ghost use Rattle.std.specs.Prelude.{◌≡◌, ◌≤◌, ◌↔◌, ◌++◌, ◌∷◌, [], if◌then◌else◌, IfOk, IsTrue, OnOk, codes, map};
@@ -29,20 +29,20 @@ use std::alloc::{AllocError, Global};
 pub enum ConversionLevel {
     /// On lines of its own. Lone spaces that are not bare are protected.
     Block,
-    /// In a line, which is looked at as a whole.
+    /// In a line, which is judged as a whole.
     Inline,
 }
 
 /// What becomes of white space.
 #[derive(Clone, Copy, Debug, PartialEq, Eq, Hash)]
 pub enum Whitespace {
-    /// It collapses (CSS Text 3, 4.1), so what has to stay is protected.
+    /// It collapses (CSS Text 3, 4.1), so what must stay is protected.
     Normal,
     /// It stays, as in `pre`.
     Pre,
 }
 
-/// Whether it is a limit on how deep items may stand that the calls take: from 1 to 10,000.
+/// Returns whether the calls accept this limit on the depth of items: from 1 to 10,000.
 ///
 /// ```
 /// use html_flow::is_depth_limit;
@@ -57,34 +57,32 @@ pub fn is_depth_limit(limit: usize) -> bool
     (1..=10_000).contains(&limit)
 }
 
-/// The nodes that items become, in order.
+/// Converts items to nodes, in order (docs/RULES.md, From items to nodes).
 ///
-/// An element item becomes an element of that tag, with these attributes, css and parent, and with
-/// the nodes of its body as children; a tag its node; a space the text of one space; a hole
-/// nothing; a line break a `br`, or a line feed where white space stays; a frame a frame with the
-/// css `display: block`; a box or block the one element or frame that stands in it, tags at both
-/// ends aside, whose css then says how it is displayed, if that can stand for it, or else a `span`
-/// or `div` around its nodes. Each node has its item's span, and a `span` that keeps a run of
-/// blanks the first of those in it that is not 0.
+/// An element item becomes an element with this tag, these attributes, css and parent, and the
+/// nodes of its body as children; a tag its node; a space the text of one space; a hole nothing; a
+/// line break a `br`, or a line feed where white space stays; a frame a frame with the css
+/// `display: block`; a box or block the one element or frame in it, tags at both ends aside, with
+/// css that says how it is displayed, if that can take its place, or else a `span` or `div` around
+/// its nodes. Each node has its item's span, and a `span` that preserves a run of blanks the first
+/// span in it that is not 0.
 ///
-/// White space stays in `pre`, `script`, `style`, `textarea` and `title` and in all that stands in
-/// them. Where it collapses, a text is cut at line breaks and around blanks and characters that are
-/// not shown by default, but not at a space between two other characters; runs of two blanks or
-/// more, or of one tab, stand in a `span` that keeps them, and at block level so does each lone
-/// space that is not bare (see [`bare_spaces`](crate::bare_spaces)).
+/// White space stays in `pre`, `script`, `style`, `textarea`, `title` and everything in them. Where
+/// it collapses, texts are split at line breaks and around blanks and ignorable characters, but not
+/// at a space between two other characters; a `span` preserves each run of two blanks or more, or
+/// of one tab, and at block level also each lone space that is not bare (see
+/// [`bare_spaces`](crate::bare_spaces)).
 ///
-/// `role` is that of the list, and an item may have its own in its place. An element takes it as
-/// its last attribute `role`, and what stands in it has none; a `p`, a box or a block takes none
-/// and passes it on.
+/// `role` is that of the list, unless an item has its own. An element gets it as its last attribute
+/// `role`, and its content has none; a `p`, a box or a block gets none and passes it on.
 ///
-/// `depth` is that of the list, a body in it is one deeper; it is at most `limit`, which is from 1
-/// to 10,000 (see [`is_depth_limit`]). It fails where an allocation does, and with the span of the
-/// first item, in document order, that has a body, even an empty one, deeper than `limit`.
+/// `depth` is that of the list, and a body in it is one deeper; it is at most `limit`, which is
+/// from 1 to 10,000 (see [`is_depth_limit`]). Fails if an allocation fails, or with the span of the
+/// first item, in document order, whose body, even an empty one, is deeper than `limit`.
 ///
-/// Cost: grows with the number of items at all depths and the length of their texts. Where an element
-/// alone, tags aside, stands in boxes and blocks that stand in one another, what is in it is looked
-/// at, and these tags are moved, once for each of them. The items are copied first, if
-/// none stands too deep.
+/// Takes time linear in the number of items at all depths and the length of their texts. But the
+/// content of an element that stands alone, tags aside, in nested boxes and blocks is looked at,
+/// and these tags are moved, once for each of them. Copies the items first, if none is too deep.
 ///
 /// ```
 /// use html_dom::Span;
@@ -121,10 +119,10 @@ pub fn convert_to_nodes(
     convert_items(alloc, copies, level, whitespace, role, depth, limit)
 }
 
-/// The nodes that items become, as those of [`convert_to_nodes`]. Texts, attributes and css are moved
-/// into them.
+/// Consumes items and converts them to nodes like [`convert_to_nodes`]. Moves their texts,
+/// attributes and css into the nodes.
 ///
-/// Cost: as that of [`convert_to_nodes`], without its copies.
+/// Takes the same time as [`convert_to_nodes`], without its copies.
 pub fn convert_items(
     alloc: Global,
     items: Vec<Pair>,
@@ -172,7 +170,7 @@ fn convert_list(
     Ok(finish(alloc, nodes, level, setting.whitespace)?)
 }
 
-/// The nodes of a body, where there is one, in a list that stands like that one but deeper.
+/// Converts a body, if there is one, as a list in the same setting, but deeper.
 #[cycle(convert)]
 fn convert_body(
     alloc: Global,
@@ -197,7 +195,7 @@ fn convert_body(
     convert_list(alloc, items, level, setting.deeper())
 }
 
-/// Adds the nodes of an item whose list, apart from the item's own role, stands so.
+/// Appends the nodes of an item. The setting is that of its list, apart from the item's own role.
 #[cycle(convert)]
 fn push_item(
     alloc: Global,
@@ -382,8 +380,7 @@ fn block_css(alloc: Global) -> Result<Properties, AllocError>
     Ok(Properties::new(alloc).with("display", value)?)
 }
 
-/// What becomes of the nodes of a list once they are made: where white space collapses, what has to
-/// stay is protected.
+/// Protects what must stay in the nodes of a list where white space collapses.
 fn finish(
     alloc: Global,
     nodes: Vec<HtmlNode>,

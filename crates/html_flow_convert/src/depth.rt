@@ -1,4 +1,4 @@
-//! What stands too deep among items.
+//! Items that are too deep.
 #![tactic(auto, unfolding(crate::specs::Depth::item_too_deep))]
 
 ghost use Rattle.std.specs.Prelude.{◌≡◌, ◌≤◌, option_map};
@@ -8,7 +8,7 @@ ghost use Rattle.html_flow_convert.specs.Views.{body_view, item_view, items_view
 use crate::item::{Item, Pair};
 use html_dom_tree::Span;
 
-/// The span of the first of these items, in document order, or of those in them, that has a body
+/// Returns the span of the first of these items, in document order and at any depth, whose body is
 /// deeper than the limit.
 #[cycle(depth)]
 pub(crate) fn items_too_deep(items: &[Pair], depth: usize, limit: usize) -> Option<Span>

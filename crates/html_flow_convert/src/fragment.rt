@@ -1,4 +1,4 @@
-//! Items that stand in something of a known span.
+//! Items inside something with a known span.
 
 ghost use Rattle.std.specs.Prelude.{◌≤◌};
 ghost use Rattle.html_dom_tree.specs.Views.{nodes_view};
@@ -14,9 +14,9 @@ use html_dom_tree::{HtmlNode, Span};
 use html_flow_faults::FlowFault;
 use std::alloc::Global;
 
-/// The nodes of items on lines of their own, in something of that span. It fails with this span if
-/// `depth` is above `limit`, which is from 1 to 10,000, and else as [`convert_to_nodes`] does at
-/// block level.
+/// Converts items on lines of their own, in something of that span. Fails with this span if `depth`
+/// is above `limit`, which is from 1 to 10,000, and else as [`convert_to_nodes`] does at block
+/// level.
 pub fn html_block_fragment(
     alloc: Global,
     items: &[Pair],
@@ -46,8 +46,8 @@ pub fn html_block_fragment(
     )
 }
 
-/// The nodes of items in a line, in something of that span. It fails with this span if `depth` is
-/// above `limit`, which is from 1 to 10,000, and else as [`convert_to_nodes`] does at inline level.
+/// Converts items in a line, in something of that span. Fails with this span if `depth` is above
+/// `limit`, which is from 1 to 10,000, and else as [`convert_to_nodes`] does at inline level.
 pub fn html_inline_fragment(
     alloc: Global,
     items: &[Pair],
@@ -77,7 +77,7 @@ pub fn html_inline_fragment(
     )
 }
 
-/// The nodes of items of mathematics: the same as [`html_inline_fragment`].
+/// Converts items of mathematics exactly as [`html_inline_fragment`] does.
 pub fn html_math_fragment(
     alloc: Global,
     items: &[Pair],

@@ -19,10 +19,10 @@ pub struct Pair {
     pub role: Role,
 }
 
-/// The value of the attribute `role` that an item is given.
+/// The value of the attribute `role` for an item.
 #[derive(Debug, Drop)]
 pub enum Role {
-    /// That of the list in which the item stands.
+    /// That of the item's list.
     Inherit,
     /// Its own.
     Set(String),
@@ -30,11 +30,11 @@ pub enum Role {
     Unset,
 }
 
-/// A part of a document that flows.
+/// A part of the flow of a document.
 #[derive(Debug, Drop)]
 #[cycle(items)]
 pub enum Item {
-    /// A tag, for which nothing is written.
+    /// A tag, which is not written.
     Tag(Tag),
     /// An element of HTML.
     Element(HtmlElem),
@@ -42,13 +42,13 @@ pub enum Item {
     Space(Span),
     /// A text.
     Text(String, Span),
-    /// Something of which nothing is shown.
+    /// An item that shows nothing.
     Hole,
     /// A forced line break.
     LineBreak(Span),
-    /// A part of a line with its body.
+    /// A part of a line, with its body.
     Box(Option<Vec<Pair>>, Span),
-    /// A part on lines of its own with its body.
+    /// A part on lines of its own, with its body.
     Block(Option<Vec<Pair>>, Span),
     /// A drawing.
     Frame(FrameElem),
@@ -78,16 +78,16 @@ pub struct HtmlElem {
     pub tag: HtmlTag,
     /// The attributes, in the order in which they are written.
     pub attrs: HtmlAttrs,
-    /// The css properties. The node that is made of the element has them too. In a document that is
-    /// made of items (`html_document`, `html_document_for_bundle`, `export`, `export_linked`) they are
-    /// put into the attribute `style`; in nodes alone (`convert_to_nodes`, fragments)
-    /// `resolve_inline_styles` does that.
+    /// The css properties, which the element's node has too. Documents made from items
+    /// (`html_document`, `html_document_for_bundle`, `export`, `export_linked`) have them in the
+    /// attribute `style`; for nodes alone (`convert_to_nodes`, fragments), `resolve_inline_styles`
+    /// puts them there.
     pub css: Properties,
-    /// The items inside, where there is a body.
+    /// The items inside, if there is a body.
     pub body: Option<Vec<Pair>>,
-    /// The location of the element's parent in the source, where it stands elsewhere in the tree.
+    /// The location of the element's parent in the source, if that stands elsewhere in the tree.
     pub parent: Option<Location>,
-    /// Where the element comes from.
+    /// Its place in the source.
     pub span: Span,
 }
 
@@ -96,13 +96,13 @@ pub struct HtmlElem {
 pub struct FrameElem {
     /// The drawing.
     pub frame: Frame,
-    /// The size of the text around it.
+    /// The size of the surrounding text.
     pub text_size: Abs,
-    /// Where it comes from.
+    /// Its place in the source.
     pub span: Span,
 }
 
-/// The item with the role of its list.
+/// Returns the item with the role of its list.
 impl From<Item> for Pair {
     ghost use Rattle.html_flow_convert.specs.Items.{inheriting};
 
@@ -116,7 +116,7 @@ impl From<Item> for Pair {
     }
 }
 
-/// The element as an item.
+/// Returns the element as an item.
 impl From<HtmlElem> for Item {
     ghost use Rattle.html_flow_convert.specs.Items.{element_as_item};
 
@@ -127,7 +127,7 @@ impl From<HtmlElem> for Item {
     }
 }
 
-/// The element as an item with the role of its list.
+/// Returns the element as an item with the role of its list.
 impl From<HtmlElem> for Pair {
     ghost use Rattle.html_flow_convert.specs.Items.{element_as_item, inheriting};
 
@@ -139,10 +139,10 @@ impl From<HtmlElem> for Pair {
     }
 }
 
-/// Adds an item between the two tags that locate it: a start tag with that label and that
-/// destination, the item, and the end tag, each with the role of its list. A destination is where the
-/// element is a link to; a location to which a link leads gets an anchor (see `html_document`). Where
-/// an allocation fails, the list stays, and label and item come back.
+/// Appends an item between the two tags that locate it: a start tag with that label and
+/// destination, the item, and the end tag, each with the role of its list. A destination makes the
+/// element a link to it; a location that a link leads to gets an anchor (see `html_document`). If
+/// an allocation fails, the list is unchanged and the error holds label and item.
 ///
 /// ```
 /// use html_dom::Location;
@@ -179,7 +179,7 @@ pub fn push_located(
     Ok(())
 }
 
-/// Adds what [`push_located`] adds, to a list that has room for it.
+/// Appends what [`push_located`] appends, to a list that has room for it.
 pub fn push_located_reserved(
     items: &mut Vec<Pair>,
     location: Location,
@@ -215,7 +215,7 @@ fn push_reserved(items: &mut Vec<Pair>, item: Item)
 }
 
 impl Pair {
-    /// A copy of the item with its role, and all inside.
+    /// Returns a copy of the item with its role, and everything inside.
     #[cycle(copy)]
     pub fn try_clone(&self) -> Result<Pair, AllocError>
         ensures { IfOk result (λ copy. pair_view copy ≡ pair_view self.now) }
@@ -228,7 +228,7 @@ impl Pair {
 }
 
 impl Role {
-    /// A copy.
+    /// Returns a copy.
     pub fn try_clone(&self) -> Result<Role, AllocError>
         ensures { IfOk result (λ copy. role_view copy ≡ role_view self.now) }
     {
@@ -241,7 +241,7 @@ impl Role {
 }
 
 impl FrameElem {
-    /// A copy.
+    /// Returns a copy.
     pub fn try_clone(&self) -> Result<FrameElem, AllocError>
         ensures { IfOk result (λ copy. frame_elem_view copy ≡ frame_elem_view self.now) }
     {
@@ -254,7 +254,7 @@ impl FrameElem {
 }
 
 impl Item {
-    /// A copy of the item and all inside.
+    /// Returns a copy of the item and everything inside.
     #[cycle(copy)]
     pub fn try_clone(&self) -> Result<Item, AllocError>
         ensures { IfOk result (λ copy. item_view copy ≡ item_view self.now) }
@@ -272,7 +272,7 @@ impl Item {
         }
     }
 
-    /// Where the item comes from: 0 for a tag and a hole.
+    /// Returns the span of the item: 0 for a tag or a hole.
     pub fn span(&self) -> Span
         ensures { result.0 ≡ item_span (item_view self.now) }
     {
@@ -290,7 +290,7 @@ impl Item {
 }
 
 impl HtmlElem {
-    /// A copy of the element and all inside.
+    /// Returns a copy of the element and everything inside.
     #[cycle(copy)]
     pub fn try_clone(&self) -> Result<HtmlElem, AllocError>
         ensures { IfOk result (λ copy. elem_view copy ≡ elem_view self.now) }
@@ -305,7 +305,7 @@ impl HtmlElem {
         })
     }
 
-    /// An element of that name, with nothing else: no attribute, css, body or parent, and span 0.
+    /// Creates an element without attributes, css, body or parent, and with the span 0.
     pub fn new(alloc: Global, tag: HtmlTag) -> HtmlElem
         ensures { elem_view result ≡ (new_head tag, absent) }
     {
@@ -319,7 +319,7 @@ impl HtmlElem {
         }
     }
 
-    /// The element with that body.
+    /// Returns the element with that body.
     pub fn with_body(mut self, body: Vec<Pair>) -> HtmlElem
         ensures { elem_view result ≡ with_items (items_view body.items) (elem_view self) }
     {
@@ -327,8 +327,8 @@ impl HtmlElem {
         self
     }
 
-    /// The element with an item added at the end of its body, which is made where there is none.
-    /// Where an allocation fails, both come back.
+    /// Appends an item to the body of the element, and adds a body if there is none. If an
+    /// allocation fails, the error holds both.
     ///
     /// ```
     /// use html_dom::Span;
@@ -369,8 +369,8 @@ impl HtmlElem {
         }
     }
 
-    /// The element with a text added at the end of its body, which is made where there is none. The
-    /// text gets the span of the element. Where an allocation fails, the element comes back.
+    /// Appends a text with the span of the element to its body, and adds a body if there is none.
+    /// If an allocation fails, the error holds the element.
     ///
     /// ```
     /// use html_flow::HtmlElem;
@@ -398,8 +398,8 @@ impl HtmlElem {
         }
     }
 
-    /// The element with these css properties in place of its own. In a document that is made of the
-    /// element they stand in the attribute `style`, before a value that is there.
+    /// Returns the element with these css properties instead of its own. A document made from the
+    /// element has them in the attribute `style`, before a value that is there.
     pub fn with_css(mut self, css: Properties) -> HtmlElem
         ensures { elem_view result ≡ with_properties css (elem_view self) }
     {
@@ -407,7 +407,7 @@ impl HtmlElem {
         self
     }
 
-    /// The element with that span.
+    /// Returns the element with that span.
     pub fn spanned(mut self, span: Span) -> HtmlElem
         ensures { elem_view result ≡ with_span span.0 (elem_view self) }
     {
@@ -415,9 +415,10 @@ impl HtmlElem {
         self
     }
 
-    /// The element with a pair added as its last attribute, also where one of that name is there:
-    /// then both are written, and a browser takes the first (HTML Standard, duplicate-attribute parse
-    /// error). [`set_attr`](HtmlElem::set_attr) leaves one. Where an allocation fails, all comes back.
+    /// Appends an attribute, even if one of that name exists: both are written then, and a browser
+    /// takes the first (HTML Standard, duplicate-attribute parse error).
+    /// [`set_attr`](HtmlElem::set_attr) replaces it. If an allocation fails, the error holds all
+    /// three.
     pub fn with_attr(
         mut self,
         attr: HtmlAttr,
@@ -439,8 +440,8 @@ impl HtmlElem {
         }
     }
 
-    /// The element with a pair added as its last attribute, as by [`with_attr`](HtmlElem::with_attr),
-    /// of a copy of that value. Where an allocation fails, element and name come back.
+    /// Appends an attribute like [`with_attr`](HtmlElem::with_attr), with a copy of that value. If
+    /// an allocation fails, the error holds element and name.
     ///
     /// ```
     /// use html_flow::HtmlElem;
@@ -476,9 +477,9 @@ impl HtmlElem {
         }
     }
 
-    /// Gives the first attribute of that name this value, or adds a last attribute where there is
-    /// none. Further ones of the name stay. Where an allocation fails, the element stays, and name and
-    /// value come back.
+    /// Sets the value of the first attribute with that name, or appends an attribute if there is
+    /// none. Leaves further ones as they are. If an allocation fails, the element is unchanged and
+    /// the error holds name and value.
     ///
     /// ```
     /// use html_flow::HtmlElem;
@@ -503,8 +504,8 @@ impl HtmlElem {
         self.attrs.set(attr, value)
     }
 
-    /// The element with a pair added as its last attribute, as by `with_attr`, where there is a value,
-    /// else as it was. Where an allocation fails, all comes back.
+    /// Appends an attribute like `with_attr` if there is a value, and otherwise leaves the element
+    /// as it is. If an allocation fails, the error holds all arguments.
     pub fn with_optional_attr(
         self,
         attr: HtmlAttr,
@@ -540,7 +541,7 @@ fn copy_body(body: &Option<Vec<Pair>>) -> Result<Option<Vec<Pair>>, AllocError>
     Ok(Some(copied_pairs(*pairs.allocator(), pairs)?))
 }
 
-/// Copies of items with their roles, and all inside.
+/// Returns copies of items with their roles, and everything inside.
 #[cycle(copy)]
 pub fn copied_pairs(alloc: Global, pairs: &[Pair]) -> Result<Vec<Pair>, AllocError>
     ensures { IfOk result (λ copies. pairs_view copies.items ≡ pairs_view pairs.now) }

@@ -1,5 +1,5 @@
-//! Items and the nodes that they become, and white space that must not collapse (CSS Text 3, 4.1): a
-//! part of html_flow, which passes these names on.
+//! Items and the nodes that they become, and white space that must not collapse (CSS Text 3, 4.1):
+//! a part of html_flow, which re-exports these names.
 //!
 //! ```
 //! use html_dom::Span;

@@ -1,4 +1,4 @@
-//! Lines, which are gone through thing by thing: what stands last, and whether a lone space is bare.
+//! A walk along a line: what stands last, and whether a lone space is bare.
 
 ghost use Rattle.std.specs.Prelude.{◌≡◌, ◌++◌, OnOk};
 ghost use Rattle.html_flow_convert.specs.Lines.{is_within, last_after, answer_before};
@@ -12,12 +12,12 @@ pub(crate) enum Last {
     /// A border, or nothing.
     Border,
     Visible,
-    /// A lone space, and whether what stands before it is there and no border.
+    /// A lone space, and whether something that is no border stands before it.
     Space(bool),
 }
 
 impl Last {
-    /// Whether a space after it stands in a line.
+    /// Returns whether a space after it stands in a line.
     fn is_within(self) -> bool
         ensures { result ≡ is_within self }
     {
@@ -36,7 +36,7 @@ impl Last {
     }
 }
 
-/// Adds the answer for a space that stands last, if something stands after it.
+/// Adds the answer for a space that stands last, once something stands after it.
 pub(crate) fn push_answer(bare: &mut Vec<bool>, last: Last, next: Look) -> Result<(), AllocError>
     ensures { OnOk result (bare.new.items ≡ bare.old.items ++ answer_before last next) }
 {

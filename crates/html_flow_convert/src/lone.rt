@@ -1,4 +1,4 @@
-//! Boxes and blocks, and nodes that stand for one (this project's rule).
+//! Boxes and blocks, and nodes that take their place (this project's rule).
 
 ghost use Rattle.std.specs.Prelude.{◌≡◌, ◌++◌, ◌∷◌, [], IfOk, OnOk, bytes_eq, codes, map, option_map};
 ghost use Rattle.std.specs.List.{list_all};
@@ -24,7 +24,7 @@ enum DisplayChange {
 }
 
 impl DisplayChange {
-    /// Changes the css. Nothing is allocated where `display` goes.
+    /// Changes the css. Removing `display` allocates nothing.
     fn apply(self, alloc: Global, css: &mut Properties) -> Result<(), AllocError>
         ensures { OnOk result (css.new ≡ css_with_display (change_view self) css.old) }
     {
@@ -57,7 +57,7 @@ fn element_or_frame(node: &HtmlNode) -> Option<&HtmlNode>
     }
 }
 
-/// The one node that is left when tags at both ends are cut off, if it is an element or frame.
+/// Returns the only node between tags at both ends, if it is an element or frame.
 fn lone_node(nodes: &[HtmlNode]) -> Option<&HtmlNode>
     ensures { option_map (λ lone. node_view lone.now) result ≡ lone_node (nodes_view nodes.now) }
 {
@@ -86,7 +86,7 @@ fn is_block(text: &String) -> bool
     text.as_str() == "block"
 }
 
-/// Whether the first attribute `display` is `block`.
+/// Returns whether the first attribute `display` is `block`.
 #[tactic(auto, unfolding(html_names::specs::Tables::known_attrs))]
 fn is_shown_as_block(element: &HtmlElement) -> bool
     ensures { result ≡ is_shown_as_block (head_of element.now) }
@@ -124,7 +124,7 @@ fn change_in_box(body: &[HtmlNode]) -> Option<DisplayChange>
     Some(box_change(lone))
 }
 
-/// The change of a lone element of a block, by its default display.
+/// Returns the change of a lone element of a block, by its default display.
 #[tactic(auto, using(crate::proofs::LoneNodes::block_word))]
 fn change_by_display(display: Option<Display>) -> Option<DisplayChange>
     ensures { option_map change_view result ≡ change_by_display display }
@@ -138,7 +138,7 @@ fn change_by_display(display: Option<Display>) -> Option<DisplayChange>
     }
 }
 
-/// The change of a lone element of a block, if it can stand for the block.
+/// Returns the change of a lone element of a block, if it can take the block's place.
 #[tactic(auto, using(crate::proofs::LoneNodes::block_math_word))]
 fn element_block_change(element: &HtmlElement) -> Option<DisplayChange>
     ensures { option_map change_view result
@@ -182,7 +182,7 @@ fn element_displayed(
     Ok(element)
 }
 
-/// The node with its css changed; a tag or text has none.
+/// Returns the node with its css changed; a tag or text has none.
 fn node_displayed(
     alloc: Global,
     node: HtmlNode,
@@ -256,9 +256,9 @@ fn block_element(alloc: Global, span: Span) -> HtmlElement
     HtmlElement::new(alloc, tag::div).spanned(span)
 }
 
-/// Adds the nodes of a box, by those of its body: the one element or frame in it, tags at both ends
-/// aside, whose css then leaves `display` out, or is `inline math` on a formula that would be a
-/// block, else a `span`.
+/// Appends the nodes of a box, given those of its body: the one element or frame in it, tags at
+/// both ends aside, whose css loses `display`, or gets `inline math` for a formula that would be a
+/// block; or else a `span`.
 pub(crate) fn push_box(
     alloc: Global,
     nodes: &mut Vec<HtmlNode>,
@@ -274,8 +274,8 @@ pub(crate) fn push_box(
     }
 }
 
-/// Adds the nodes of a block, by those of its body: the one element or frame in it, tags at both
-/// ends aside, with css that makes it a block where it is none, else a `div`.
+/// Appends the nodes of a block, given those of its body: the one element or frame in it, tags at
+/// both ends aside, with css that makes it a block if it is none; or else a `div`.
 pub(crate) fn push_block(
     alloc: Global,
     nodes: &mut Vec<HtmlNode>,

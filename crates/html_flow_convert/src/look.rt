@@ -23,7 +23,7 @@ pub(crate) enum Look {
     /// A lone space.
     Space,
     Nothing,
-    /// What stands in it.
+    /// The look of its content.
     Inside,
 }
 
@@ -54,7 +54,7 @@ fn has_display_block(list: &[Property]) -> bool
     list.iter().any(|property| is_display_block(property))
 }
 
-/// Whether the css makes a block: it has `display` with the value `block`.
+/// Returns whether the css makes a block: `display` is `block`.
 pub fn makes_block(css: &Properties) -> bool
     ensures { result ≡ makes_block css.now }
 {

@@ -1,4 +1,4 @@
-//! Elements that are made where white space is processed.
+//! Elements that white space processing adds.
 
 ghost use Rattle.std.specs.Prelude.{◌≡◌, [], ◌∷◌, IfOk, codes};
 ghost use Rattle.html_dom_tree.specs.Tree.{element_node, none};
@@ -10,7 +10,7 @@ use html_names::tag;
 use html_values_css::Properties;
 use std::alloc::{AllocError, Global};
 
-/// A forced line break.
+/// Creates a forced line break.
 #[tactic(auto, unfolding(html_names::specs::Tables::known_tags))]
 pub fn break_element(alloc: Global, span: Span) -> HtmlElement
     ensures { element_view result ≡ (made_head (codes "br") [] span.0, none) }
@@ -26,7 +26,7 @@ fn pre_wrap_css(alloc: Global) -> Result<Properties, AllocError>
     Ok(css.with("white-space", kept)?)
 }
 
-/// Each character of the texts directly in it is written as a character reference.
+/// Creates a `span` in which each character of the texts is written as a character reference.
 #[tactic(auto, unfolding(html_names::specs::Tables::known_tags))]
 pub(crate) fn pre_wrap_span(alloc: Global, span: Span) -> Result<HtmlElement, AllocError>
     ensures { IfOk result (λ element. head_of element ≡ pre_wrap_head span.0) }

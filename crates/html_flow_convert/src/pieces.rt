@@ -12,7 +12,7 @@ use html_dom_tree::{HtmlNode, Span};
 use html_names::charsets::is_default_ignorable;
 use std::alloc::{AllocError, Global};
 
-/// Whether the character is neither a blank nor hidden by default.
+/// Returns whether the character is neither blank nor ignorable.
 #[tactic(auto, using(crate::proofs::Stretching::ascii_shown))]
 fn is_normal(c: char) -> bool
     ensures { result ≡ is_normal c }
@@ -51,7 +51,7 @@ fn goes_on(is_normal: bool, c: char, ends_normal: bool) -> bool
     is_normal || (c == ' ' && ends_normal)
 }
 
-/// Whether the text is one stretch: normal characters, and single spaces between them.
+/// Returns whether the text is one stretch: normal characters, and single spaces between them.
 fn is_stretch(text: &str) -> bool
     ensures { IsTrue result → pieces (chars text.now) ≡ stretch (chars text.now) ∷ [] }
 {
@@ -148,13 +148,13 @@ fn push_pieces(
     push_stretch(alloc, nodes, pending, span)
 }
 
-/// Adds the nodes of a text where white space collapses, each with that span. A space between two
-/// characters that are neither blanks nor hidden by default stays in its text; any other space, each
-/// tab and each character that is hidden by default is a text of its own; a carriage return with a
-/// line feed, and each of them alone, is a `br`. The stretches between are texts. It fails only
-/// where an allocation does; the list then has what it had, and after it a beginning of the nodes.
+/// Appends the nodes of a text where white space collapses, each with that span. A space between
+/// two characters that are neither blank nor ignorable stays in its text; any other space, each tab
+/// and each ignorable character becomes a text of its own; a carriage return with a line feed, and
+/// each of them alone, becomes a `br`. The stretches between become texts. Fails only if an
+/// allocation fails; the list then has what it had, followed by the first of the nodes.
 ///
-/// Cost: grows with the length of the text. One that is a single stretch is moved.
+/// Takes time linear in the length of the text. Moves a text that is a single stretch.
 pub fn push_text_nodes(
     alloc: Global,
     nodes: &mut Vec<HtmlNode>,

@@ -1,4 +1,4 @@
-//! Lone spaces in elements that keep them.
+//! Lone spaces in elements that preserve them.
 
 ghost use Rattle.std.specs.Prelude.{◌≡◌, ℕ, List, false, drop, IfOk, OnOk};
 ghost use Rattle.html_dom_tree.specs.Tree.{element_node, text_node};
@@ -17,9 +17,9 @@ use std::mem;
 
 #[derive(Drop)]
 struct Answers {
-    /// For each space, whether it is bare.
+    /// Whether each space is bare.
     bare: Vec<bool>,
-    /// How many are used.
+    /// The number of those used.
     next: usize,
 }
 
@@ -66,7 +66,7 @@ fn protect_space(
     keep_text(alloc, node)
 }
 
-// Each node stands first among the parameters: its depth shows that the calls end.
+// The node comes first among the parameters: its depth proves that the recursion ends.
 
 #[cycle(protect)]
 #[tactic(auto, unfolding(crate::specs::BareSpaces::node_things, crate::specs::Protected::node_by_answers))]
@@ -124,11 +124,10 @@ fn protect_nodes(
     Ok(())
 }
 
-/// The nodes, in which each lone space that is not bare stands in a `span` that keeps it, also
-/// inside the elements that are looked into (see [`crate::bare_spaces`]). It fails only where an
-/// allocation does.
+/// Wraps each lone space that is not bare in a `span` that preserves it, also inside the elements
+/// that are looked into (see [`crate::bare_spaces`]). Fails only if an allocation fails.
 ///
-/// Cost: grows with the number of nodes that are looked at. Each is changed where it stands.
+/// Takes time linear in the number of nodes that are looked at, and changes each in place.
 pub fn protect_spaces(alloc: Global, mut nodes: Vec<HtmlNode>) -> Result<Vec<HtmlNode>, AllocError>
     ensures { IfOk result (λ made.
         nodes_view made.items ≡ protected_nodes (nodes_view nodes.items)) }

@@ -50,7 +50,7 @@ fn goes_on(run: &[HtmlNode], node: &HtmlNode) -> bool
     is_blank(node) || (is_tag(node) && !run.is_empty())
 }
 
-/// Whether the blanks of a run are kept: two or more, or a tab as the only one.
+/// Returns whether the blanks of a run are preserved: two or more, or a single tab.
 fn are_kept(run: &[HtmlNode]) -> bool
     ensures { result ≡ are_kept (filter is_blank_node (map node_view run.now)) }
 {
@@ -64,7 +64,7 @@ fn are_kept(run: &[HtmlNode]) -> bool
     false
 }
 
-/// The first span of these nodes that is not 0, or 0.
+/// Returns the first span of these nodes that is not 0, or 0.
 fn first_span(nodes: &[HtmlNode]) -> Span
     ensures { result.0 ≡ first_span (map node_view nodes.now) }
 {
@@ -76,7 +76,7 @@ fn first_span(nodes: &[HtmlNode]) -> Span
     Span(0)
 }
 
-/// Ends a run: its nodes are taken, and put into a `span` that keeps them, if its blanks are kept.
+/// Ends a run: takes its nodes, and wraps them in a `span` that preserves them if they need it.
 fn end_run(
     alloc: Global,
     made: &mut Vec<HtmlNode>,
@@ -110,13 +110,13 @@ fn has_kept_run(nodes: &[HtmlNode]) -> bool
     false
 }
 
-/// The nodes, in which each run of two blanks or more, or of one tab, stands in a `span` that keeps
-/// them. A run begins with a text of exactly one space or tab and goes on over such texts and tags
-/// up to another node. The `span` has the first span of its nodes that is not 0. It fails only where
-/// an allocation does.
+/// Wraps each run of two blanks or more, or of one tab, in a `span` that preserves it. A run begins
+/// with a text of exactly one space or tab and continues over such texts and tags up to another
+/// node. The `span` has the first span of its nodes that is not 0. Fails only if an allocation
+/// fails.
 ///
-/// Cost: grows with the number of nodes; none is moved where no run is kept. The memory of those that
-/// were moved is given back on the way.
+/// Takes time linear in the number of nodes; moves none if no run is preserved. Returns the memory
+/// of moved nodes on the way.
 pub fn keep_runs(alloc: Global, mut nodes: Vec<HtmlNode>) -> Result<Vec<HtmlNode>, AllocError>
     ensures { IfOk result (λ made.
         map node_view made.items ≡ nodes_with_runs (map node_view nodes.items)) }

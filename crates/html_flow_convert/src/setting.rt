@@ -1,4 +1,4 @@
-//! How a list of items stands.
+//! The setting of a list of items.
 
 ghost use Rattle.std.specs.Prelude.{◌≡◌, ◌+◌, ◌<◌, nat_lt};
 ghost use Rattle.html_names.specs.Displays.{default_display};
@@ -12,13 +12,13 @@ use crate::makes_block;
 use html_names::property::Display;
 use html_names::{HtmlTag, tag};
 
-/// How a list of items stands.
+/// The setting of a list of items.
 #[derive(Clone, Copy)]
 pub(crate) struct Setting<'a> {
     pub(crate) whitespace: Whitespace,
     pub(crate) role: Option<&'a str>,
     pub(crate) depth: usize,
-    /// How deep a list may stand.
+    /// The greatest depth of a list.
     pub(crate) limit: usize,
 }
 
@@ -83,7 +83,7 @@ impl<'a> Setting<'a> {
     }
 }
 
-/// Whether what stands in the element has the role that the element has.
+/// Returns whether the element passes its role on to its content.
 #[tactic(auto, unfolding(html_names::specs::Tables::known_tags))]
 pub(crate) fn passes_role(tag: &HtmlTag) -> bool
     ensures { result ≡ passes_role tag.now }

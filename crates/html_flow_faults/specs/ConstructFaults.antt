@@ -1,5 +1,4 @@
--- Numbers and places of the faults of constructing, when one is the first, and what decides whether
--- two are equal.
+-- Numbers and spans of the faults of construction, when one is the first, and when two are equal.
 use Rattle.std.specs.Prelude.{◌≡◌, ℕ, List, [], ◌∷◌, map}
 use native.Mathlib.Decide.{ℕ_discrete}
 use mathlib.Core.List.{List-discrete}
@@ -47,7 +46,7 @@ construct_fault_view OutOfMemory = out_of_memory
 construct_fault_view (Casts fs) = cast_faults (faults_view fs.items)
 construct_fault_view (BodyKind span) = body_kind span.0
 
--- the fault that is answered is the first of the list, unless memory ran out
+-- the returned fault is the first of the list, unless memory ran out
 abbrev pub IsFirst : ConstructFault → List ConstructFaultView → Type 0
 IsFirst OutOfMemory fs = Unit {0}
 IsFirst f fs = (rest : List ConstructFaultView) × (fs ≡ construct_fault_view f ∷ rest)

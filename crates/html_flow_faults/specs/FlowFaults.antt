@@ -1,4 +1,4 @@
--- Numbers of the faults of converting, and when one is the first.
+-- Numbers of the faults of conversion, and when one is the first.
 use Rattle.std.specs.Prelude.{◌≡◌, ℕ, List, ◌∷◌}
 use Rattle.html_flow_faults.specs.declared.fault.FlowFault.{FlowFault}
 use Rattle.html_flow_faults.specs.declared.fault.FlowFault.TheVariants.{OutOfMemory, TooDeep}
@@ -7,8 +7,7 @@ abbrev pub number_of : FlowFault → ℕ
 number_of OutOfMemory = 0
 number_of (TooDeep span) = 8
 
--- the fault that is answered has the first of the spans of what stands too deep, unless memory ran
--- out
+-- the returned fault has the first of the spans of bodies that are too deep, unless memory ran out
 abbrev pub IsFirst : FlowFault → (too_deep : List ℕ) → Type 0
 IsFirst OutOfMemory spans = Unit {0}
 IsFirst (TooDeep span) spans = (rest : List ℕ) × (spans ≡ span.0 ∷ rest)

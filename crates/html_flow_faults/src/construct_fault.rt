@@ -7,26 +7,26 @@ use html_values_css::CastFault;
 use std::alloc::{AllocError, AllocFailed};
 use thiserror::Error;
 
-/// Why no element could be constructed of its arguments.
+/// Why arguments construct no element.
 #[derive(Debug, Drop, PartialEq, Eq, Error)]
 pub enum ConstructFault {
     /// An allocation failed.
     #[error("out of memory")]
     OutOfMemory,
-    /// These arguments could not be cast to their attributes' types.
+    /// The arguments that could not be cast to the types of their attributes.
     #[error("arguments could not be cast")]
     Casts(Vec<(CastFault, Span)>),
-    /// The first argument without a name can be no body of the element.
+    /// The first argument without a name can't be a body of the element.
     #[error("the body has the wrong kind")]
     BodyKind {
-        /// Where the argument comes from.
+        /// The place of the argument in the source.
         span: Span,
     },
 }
 
 impl ConstructFault {
-    /// The fault's number: 0 for out of memory, 24 for a body of the wrong kind, and for casts that
-    /// of the first of them (0 where there is none).
+    /// Returns the fault's number: 0 for out of memory, 24 for a body of the wrong kind, and for
+    /// casts that of the first of them (0 if there is none).
     pub fn number(&self) -> u8
         ensures { result ≡ number_of self.now }
     {
@@ -40,7 +40,7 @@ impl ConstructFault {
         }
     }
 
-    /// Where the first argument that is wrong comes from; 0 for out of memory, and where there is
+    /// Returns the span of the first argument that is wrong; 0 for out of memory, or if there is
     /// none.
     pub fn span(&self) -> Span
         ensures { result.0 ≡ span_of self.now }

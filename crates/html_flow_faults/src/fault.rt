@@ -12,7 +12,7 @@ pub enum FlowFault {
     /// An allocation failed.
     #[error("out of memory")]
     OutOfMemory,
-    /// A body stands deeper than the limit.
+    /// A body is deeper than the limit.
     #[error("items are nested too deeply")]
     TooDeep {
         /// The span of the item that has the body.
@@ -21,7 +21,7 @@ pub enum FlowFault {
 }
 
 impl FlowFault {
-    /// The fault's number: 0 for out of memory, 8 for a body that stands too deep.
+    /// Returns the fault's number: 0 for out of memory, 8 for a body that is too deep.
     pub fn number(&self) -> u8
         ensures { result ≡ number_of self.now }
     {

@@ -1,4 +1,4 @@
-//! Why items are no nodes, and arguments no element: a part of html_flow, which passes these names on.
+//! Why items or arguments can't be converted: a part of html_flow, which re-exports these names.
 #![tactic(auto)]
 
 mod construct_fault;

@@ -1,12 +1,12 @@
--- Lists of items that are made one after the other (this project's rules).
+-- Lists that grow item by item (this project's rules).
 use Rattle.std.specs.Prelude.{ℕ, ◌-◌, Bool, false, if◌then◌else◌, ◌==◌, List, [], ◌∷◌, ◌++◌, length, slice_index}
 use Rattle.html_flow_convert.specs.Items.{ItemView, text_item, break_item, RoleView, inherits, ElemView, element_as_item, inheriting, absent, new_head, with_span}
 
--- items in a row, each with its role
+-- a list of items, each with its role
 abbrev pub Pairs : Type 0
 Pairs = List (ItemView × RoleView)
 
--- the items so far, and the span that what is added gets
+-- the items so far, and the span for what is added
 pub record ListView : Type 0 where
   pub items : Pairs
   pub span : ℕ
@@ -18,34 +18,34 @@ no_list span = record { items = []; span = span }
 abbrev pub with_list_span : (span : ℕ) → ListView → ListView
 with_list_span span l = record { items = l.items; span = span }
 
--- with items behind its own
+-- with items appended
 abbrev pub with_more : Pairs → ListView → ListView
 with_more more l = record { items = l.items ++ more; span = l.span }
 
--- whether the last of the items passes a test: where there is none, it does not
+-- whether the last item, if any, passes a test
 abbrev pub last_passes : (ItemView × RoleView → Bool) → Pairs → Bool
 last_passes test [] = false
 last_passes test (x ∷ []) = test x
 last_passes test (x ∷ y ∷ xs) = last_passes test (y ∷ xs)
 
--- items of which the last is changed, where there is one
+-- items with the last one changed, if there is one
 abbrev pub with_changed_last : (ItemView × RoleView → ItemView × RoleView) → Pairs → Pairs
 with_changed_last change [] = []
 with_changed_last change (x ∷ []) = change x ∷ []
 with_changed_last change (x ∷ y ∷ xs) = x ∷ with_changed_last change (y ∷ xs)
 
--- whether a text of that span is joined to an item: to a text of that span with the role of its
--- list
+-- whether an item is extended by a text of that span: a text of that span with the role of its list
+-- is
 abbrev pub takes_text : (span : ℕ) → ItemView × RoleView → Bool
 takes_text span (text_item s own, inherits) = own == span
 takes_text span x = false
 
--- a text with another text behind it
+-- a text with another appended
 abbrev pub with_longer_text : (text : List ℕ) → ItemView × RoleView → ItemView × RoleView
 with_longer_text text (text_item s own, role) = (text_item (s ++ text) own, role)
 with_longer_text text x = x
 
--- items with a text behind them, joined to their last one where that takes it
+-- items with a text appended, or with their last one extended by it
 abbrev pub text_added : (text : List ℕ) (span : ℕ) → Pairs → Pairs
 text_added text span items =
     if last_passes (takes_text span) items then with_changed_last (with_longer_text text) items
@@ -66,15 +66,15 @@ abbrev pub item_ends_in_space : ItemView × RoleView → Bool
 item_ends_in_space (text_item s span, role) = text_ends_in_space s
 item_ends_in_space x = false
 
--- one space behind items, unless their last one ends in a space
+-- items with one space appended, unless their last one ends in a space
 abbrev pub with_space : ListView → ListView
 with_space l = if last_passes item_ends_in_space l.items then l else with_text (32 ∷ []) l
 
--- a forced line break behind items
+-- items with a forced line break appended
 abbrev pub with_break : ListView → ListView
 with_break l = with_more (inheriting (break_item l.span) ∷ []) l
 
--- an element behind items, with the role of the list
+-- items with an element appended, with the role of the list
 abbrev pub with_element : ElemView → ListView → ListView
 with_element e l = with_more (inheriting (element_as_item e) ∷ []) l
 

@@ -12,15 +12,15 @@ pub record NoteView : Type 0 where
   pub content : Pairs
   pub span : ℕ
 
--- two locations for each note, counted from 1, from the greatest location downwards: that of the
--- note, and that of its mark
+-- two locations for each note, counted from 1, from the greatest location down: that of the note,
+-- and that of its mark
 abbrev pub note_location : (number : ℕ) → ℕ
 note_location number = 2 ^ 64 - 1 - 2 * number
 
 abbrev pub mark_location : (number : ℕ) → ℕ
 mark_location number = note_location number + 1
 
--- the names that are wished for as anchors
+-- the requested names of anchors
 abbrev pub note_label : (number : ℕ) → List ℕ
 note_label number = codes "fn" ++ decimal number
 
@@ -55,13 +55,13 @@ mark_item number span =
     (Some (note_location number))
     (note_link (codes "footnote-ref") (codes "doc-noteref") (decimal number) span)) span
 
--- the link back to the mark: an arrow to the left, as a text and not as a picture
+-- the link back to the mark: an arrow to the left, as text rather than as a picture
 abbrev pub back_items : (number span : ℕ) → Pairs
 back_items number span =
     located_item 0 None (Some (mark_location number))
     (note_link (codes "footnote-back") (codes "doc-backlink") (0x21a9 ∷ 0xfe0e ∷ []) span)
 
--- items with more behind them
+-- items with more appended
 abbrev pub with_items_behind : ItemsView → Pairs → ItemsView
 with_items_behind no_items more = items_of more
 with_items_behind (item i role is) more = item i role (with_items_behind is more)
@@ -71,7 +71,7 @@ abbrev pub is_line : ElemView → Bool
 is_line (h, absent) = false
 is_line (h, present items) = bytes_eq h.name (codes "p")
 
--- an element with more at the end of its body, where it has one
+-- an element with more at the end of its body, if it has one
 abbrev pub with_longer_body : (more : Pairs) → ElemView → ElemView
 with_longer_body more (h, absent) = (h, absent)
 with_longer_body more (h, present items) = (h, present (with_items_behind items more))
@@ -86,7 +86,7 @@ with_longer_line more (element_item h body, role) =
     (element_as_item (with_longer_body more (h, body)), role)
 with_longer_line more x = x
 
--- more behind items: within the last one where that is a paragraph with a body
+-- items with more appended: inside the last one if that is a paragraph with a body
 abbrev pub in_last_line : (more : Pairs) → Pairs → Pairs
 in_last_line more items =
     if last_passes is_line_item items then with_changed_last (with_longer_line more) items
@@ -107,7 +107,7 @@ abbrev pub note_items : (number : ℕ) → List NoteView → Pairs
 note_items number [] = []
 note_items number (n ∷ ns) = located_note number n ++ note_items (suc number) ns
 
--- the section of notes, which is none where there is no note
+-- the section of notes, or none if there are no notes
 abbrev pub section_item : List NoteView → ItemView
 section_item notes =
     plain_item (codes "section") (class_and_role (codes "footnotes") (codes "doc-endnotes"))

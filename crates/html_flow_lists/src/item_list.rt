@@ -1,4 +1,4 @@
-//! A list of items that is made one after the other.
+//! A list of items that grows item by item.
 
 ghost use Rattle.std.specs.Prelude.{◌≡◌, ◌↔◌, ◌++◌, ◌∷◌, [], IsTrue, OnOk, OnErr, IfErr, chars, length, ◌==◌};
 ghost use Rattle.html_names.specs.Texts.{text_view};
@@ -15,10 +15,10 @@ use html_flow_places::NamedPlaces;
 use html_names::{HtmlTag, Refused};
 use std::alloc::{AllocError, AllocFailed, Global};
 
-/// Items that are added one after the other, and the span that the texts and line breaks among them
-/// get. Where an allocation fails, the list stays as it was.
+/// A growing list of items, and the span for the texts and line breaks in it. If an allocation
+/// fails, the list is unchanged.
 ///
-/// A contract sees the list of the items with their roles, and the span.
+/// In contracts it is the list of items with their roles, and the span.
 ///
 /// ```
 /// use html_dom::Span;
@@ -42,7 +42,7 @@ pub struct ItemList {
 }
 
 impl ItemList {
-    /// A list without items, with the span 0. It takes no memory.
+    /// Creates a list without items, with the span 0. Allocates nothing.
     pub fn new(alloc: Global) -> ItemList
         ensures { list_view result ≡ no_list 0 }
     {
@@ -52,7 +52,7 @@ impl ItemList {
         }
     }
 
-    /// A list without items, with this list's allocator and span. It takes no memory.
+    /// Creates a list without items, with this list's allocator and span. Allocates nothing.
     pub fn new_list(&self) -> ItemList
         ensures { list_view result ≡ no_list (list_view self.now).span }
     {
@@ -62,14 +62,14 @@ impl ItemList {
         }
     }
 
-    /// An element of that name with the list's span, and with nothing else. It takes no memory.
+    /// Creates an element with that name and the list's span, and nothing else. Allocates nothing.
     pub fn new_element(&self, tag: HtmlTag) -> HtmlElem
         ensures { elem_view result ≡ element_of_list tag (list_view self.now) }
     {
         HtmlElem::new(*self.items.allocator(), tag).spanned(self.span)
     }
 
-    /// The list with that span: what is added from now on gets it.
+    /// Returns the list with that span, for everything that is added from now on.
     pub fn spanned(mut self, span: Span) -> ItemList
         ensures { list_view result ≡ with_list_span span.0 (list_view self) }
     {
@@ -77,42 +77,42 @@ impl ItemList {
         self
     }
 
-    /// Sets the span that what is added from now on gets.
+    /// Sets the span for everything that is added from now on.
     pub fn set_span(&mut self, span: Span)
         ensures { list_view self.new ≡ with_list_span span.0 (list_view self.old) }
     {
         self.span = span;
     }
 
-    /// The span that what is added gets.
+    /// Returns the span for what is added.
     pub fn span(&self) -> Span
         ensures { result.0 ≡ (list_view self.now).span }
     {
         self.span
     }
 
-    /// The items so far.
+    /// Returns the items so far.
     pub fn items(&self) -> &[Pair]
         ensures { pairs_view result.now ≡ (list_view self.now).items }
     {
         &self.items
     }
 
-    /// Whether there are no items.
+    /// Returns whether there are no items.
     pub fn is_empty(&self) -> bool
         ensures { IsTrue result ↔ ((list_view self.now).items ≡ []) }
     {
         self.items.is_empty()
     }
 
-    /// The items, as a body of an element or of a document.
+    /// Returns the items, as the body of an element or of a document.
     pub fn into_items(self) -> Vec<Pair>
         ensures { pairs_view result.items ≡ (list_view self).items }
     {
         self.items
     }
 
-    /// Adds a text, with the list's span. It is joined to the last item where that is a text of the
+    /// Appends a text with the list's span. Extends the last item instead if that is a text of the
     /// same span with the role of the list. An empty text adds nothing.
     ///
     /// ```
@@ -160,8 +160,8 @@ impl ItemList {
         }
     }
 
-    /// Adds one space as a text, unless the last item is a text that ends in a space: several in a
-    /// row are one, as in a browser.
+    /// Appends one space as a text, unless the last item is a text that ends in a space: several in
+    /// a row are one, as in a browser.
     ///
     /// ```
     /// use html_flow::ItemList;
@@ -191,7 +191,7 @@ impl ItemList {
         }
     }
 
-    /// Adds a forced line break, with the list's span.
+    /// Appends a forced line break with the list's span.
     pub fn line_break(&mut self) -> Result<(), AllocError>
         ensures ok { OnOk result (list_view self.new ≡ with_break (list_view self.old)) }
         ensures kept { OnErr result (list_view self.new ≡ list_view self.old) }
@@ -200,7 +200,7 @@ impl ItemList {
         Ok(())
     }
 
-    /// Adds an item as it is. Where an allocation fails, it comes back.
+    /// Appends an item as it is. If an allocation fails, the error holds it.
     pub fn item(&mut self, item: Pair) -> Result<(), Refused<Pair>>
         ensures ok { OnOk result
             (list_view self.new ≡ with_more (pair_view item ∷ []) (list_view self.old)) }
@@ -213,8 +213,8 @@ impl ItemList {
         }
     }
 
-    /// Adds an element, with its own span and with the role of the list. Where an allocation fails,
-    /// it comes back.
+    /// Appends an element, with its own span and the role of the list. If an allocation fails, the
+    /// error holds it.
     pub fn element(&mut self, element: HtmlElem) -> Result<(), Refused<HtmlElem>>
         ensures ok { OnOk result
             (list_view self.new ≡ with_element (elem_view element) (list_view self.old)) }
@@ -230,8 +230,8 @@ impl ItemList {
         Ok(())
     }
 
-    /// Adds an element that is the place of that name, as `NamedPlaces::push_place` does. Where an
-    /// allocation fails, list and places stay, and the element comes back.
+    /// Appends an element as the place of that name, as `NamedPlaces::push_place` does. If an
+    /// allocation fails, list and places are unchanged, and the error holds the element.
     ///
     /// ```
     /// use html_flow::{ItemList, NamedPlaces};
@@ -259,8 +259,8 @@ impl ItemList {
         places.push_place(&mut self.items, name, element)
     }
 
-    /// Adds an element that is a link to the place of that name, as `NamedPlaces::push_link` does.
-    /// Where an allocation fails, list and places stay, and the element comes back.
+    /// Appends an element as a link to the place of that name, as `NamedPlaces::push_link` does. If
+    /// an allocation fails, list and places are unchanged, and the error holds the element.
     pub fn link(
         &mut self,
         places: &mut NamedPlaces,
@@ -278,7 +278,7 @@ impl ItemList {
     }
 }
 
-/// A text as an item with the role of its list.
+/// Returns a text as an item with the role of its list.
 pub(crate) fn text_pair(text: String, span: Span) -> Pair
     ensures { pair_view result ≡ inheriting (text_item (text_view text) span.0) }
 {
@@ -292,7 +292,7 @@ fn is_empty(text: &str) -> bool
     text.is_empty()
 }
 
-/// Whether a text of that span is joined to an item.
+/// Returns whether an item can be extended by a text of that span.
 fn takes_text(last: &Pair, span: Span) -> bool
     ensures { result ≡ takes_text span.0 (pair_view last.now) }
 {
@@ -302,7 +302,6 @@ fn takes_text(last: &Pair, span: Span) -> bool
     }
 }
 
-/// Adds characters at the end of a text.
 fn lengthen_text(last: &mut Pair, more: &str) -> Result<(), AllocError>
     ensures ok { OnOk result
         (pair_view last.new ≡ with_longer_text (chars more.now) (pair_view last.old)) }
@@ -322,7 +321,6 @@ fn push_text(text: &mut String, more: &str) -> Result<(), AllocError>
     Ok(())
 }
 
-/// Whether an item is a text that ends in a space.
 fn item_ends_in_space(pair: &Pair) -> bool
     ensures { result ≡ item_ends_in_space (pair_view pair.now) }
 {

@@ -1,11 +1,10 @@
-//! Laws of this crate's definitions, each the contract of a function: where the locations of
-//! footnotes are.
+//! Laws of this crate's definitions, as contracts of functions: the locations of footnotes.
 
 ghost use Rattle.std.specs.Prelude.{◌<◌, ◌≤◌, ◌^◌};
 ghost use Rattle.html_flow_lists.specs.NoteLaws.{AreDifferent, AreHigh};
 
 /// The locations of a note and of its mark are above 2^63, where no place has one that is counted
-/// from 1 upwards. No list is as long as the number that is asked for here.
+/// from 1 up. No list is as long as the number required here.
 pub fn note_locations_are_high(number: u64)
     requires some { 1 ≤ number }
     requires few { number < 2 ^ 59 }

@@ -1,5 +1,4 @@
-//! Lists to which items are added one after the other, and footnotes: a part of html_flow, which
-//! passes these names on.
+//! Lists that grow item by item, and footnotes: a part of html_flow, which re-exports these names.
 //!
 //! ```
 //! use html_dom::Span;

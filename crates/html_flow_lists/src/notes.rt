@@ -14,14 +14,14 @@ use html_flow_convert::{HtmlElem, Item, Pair, copied_pairs, push_located};
 use html_names::{HtmlTag, Refused, attr, tag};
 use std::alloc::{AllocError, AllocFailed, Global};
 
-/// Footnotes: each mark takes the content of the next note, and the section shows them all.
+/// Footnotes: each mark consumes the content of the next note, and the section shows all notes.
 ///
-/// Links lead from a mark to its note and back, where the document's links are resolved
-/// (`export_linked`). Notes and marks have locations of their own, from the greatest one downwards:
-/// give none above 2^63 to anything else. The `id`s `fn1` and `fnref1` are wished for: where one is
-/// taken, another is made of it.
+/// Links lead from a mark to its note and back, once the document's links are resolved
+/// (`export_linked`). Notes and marks have locations of their own, from the greatest one down: give
+/// none above 2^63 to anything else. The `id`s `fn1` and `fnref1` are requested: if one is taken,
+/// another is made from it.
 ///
-/// A contract sees the list of the notes, each with its content and its span.
+/// In contracts it is the list of notes, each with its content and its span.
 ///
 /// ```
 /// use html_dom::Span;
@@ -50,7 +50,7 @@ struct Note {
 }
 
 impl Notes {
-    /// No notes. It takes no memory.
+    /// Creates an empty list of notes. Allocates nothing.
     pub fn new(alloc: Global) -> Notes
         ensures { notes_view result ≡ [] }
     {
@@ -59,24 +59,24 @@ impl Notes {
         }
     }
 
-    /// How many notes there are.
+    /// Returns the number of notes.
     pub fn len(&self) -> usize
         ensures { result ≡ length (notes_view self.now) }
     {
         self.notes.len()
     }
 
-    /// Whether there is no note.
+    /// Returns whether there are no notes.
     pub fn is_empty(&self) -> bool
         ensures { IsTrue result ↔ (notes_view self.now ≡ []) }
     {
         self.notes.is_empty()
     }
 
-    /// Keeps the content as the next note, and returns its mark, to stand where the note belongs:
+    /// Stores the content as the next note, and returns its mark, to put where the note belongs:
     /// `<sup><a class="footnote-ref" role="doc-noteref">1</a></sup>`, in which the `a` is a link to
-    /// the note. All elements that are made for the note have that span. Where an allocation fails,
-    /// the notes stay and the content comes back.
+    /// the note. All elements made for the note have that span. If an allocation fails, the notes
+    /// are unchanged and the error holds the content.
     pub fn mark(&mut self, content: Vec<Pair>, span: Span) -> Result<Item, Refused<Vec<Pair>>>
         ensures mark { IfOk result (λ mark. item_view mark
             ≡ mark_item (length (notes_view self.old) + 1) span.0) }
@@ -98,12 +98,12 @@ impl Notes {
         }
     }
 
-    /// The notes as one section, to stand at the end of the document, or nothing where there is no
-    /// note: `<section class="footnotes" role="doc-endnotes"><ol>`, with an entry
+    /// Returns the notes as one section for the end of the document, or nothing if there are none:
+    /// `<section class="footnotes" role="doc-endnotes"><ol>`, with an entry
     /// `<li role="doc-endnote">` for each note in order. An entry has the note's content and a link
-    /// back to its mark (`↩︎`): in the last item of the content where that is a `p` with a body, so
-    /// that it stands in the last line, else behind the content. The `section` and the `ol` have the
-    /// span 0. The notes stay: their contents are copied.
+    /// back to its mark (`↩︎`): in the last item of the content if that is a `p` with a body, so
+    /// that it stands in the last line, or else behind the content. The `section` and the `ol` have
+    /// the span 0. Copies the contents of the notes, which stay.
     ///
     /// ```
     /// use html_dom::Span;
@@ -139,7 +139,7 @@ impl Notes {
         Ok(items)
     }
 
-    /// A copy of the notes and all inside.
+    /// Returns a copy of the notes and everything inside.
     pub fn try_clone(&self) -> Result<Notes, AllocError>
         ensures { IfOk result (λ copy. notes_view copy ≡ notes_view self.now) }
     {
@@ -162,7 +162,7 @@ impl Note {
     }
 }
 
-/// The location of a note. Notes and their marks have two each, from the greatest one downwards.
+/// Returns the location of a note. Notes and their marks have two each, from the greatest one down.
 fn note_location(number: u64) -> Location
     requires { number < 2 ^ 59 }
     ensures { result.0 ≡ note_location number }
@@ -170,7 +170,6 @@ fn note_location(number: u64) -> Location
     Location(u64::MAX - 2 * number)
 }
 
-/// The location of the mark of a note.
 fn mark_location(number: u64) -> Location
     requires few { number < 2 ^ 59 }
     requires some { 1 ≤ number }
@@ -179,7 +178,6 @@ fn mark_location(number: u64) -> Location
     Location(u64::MAX - 2 * number + 1)
 }
 
-/// The mark of a note.
 #[tactic(auto, unfolding(html_names::specs::Tables::known_tags))]
 fn mark_of(alloc: Global, number: u64, span: Span) -> Result<Item, AllocError>
     requires few { number < 2 ^ 59 }
@@ -196,7 +194,7 @@ fn mark_of(alloc: Global, number: u64, span: Span) -> Result<Item, AllocError>
     Ok(Item::from(mark.with_body(body).spanned(span)))
 }
 
-/// A stem, and a number in decimal digits.
+/// Joins a stem and a number in decimal digits.
 fn numbered(alloc: Global, stem: &str, number: u64) -> Result<String, AllocError>
     requires { IsTrue (is_ascii stem.now) }
     ensures { IfOk result (λ text. text_view text ≡ stem.now ++ decimal number) }
@@ -204,7 +202,6 @@ fn numbered(alloc: Global, stem: &str, number: u64) -> Result<String, AllocError
     format!(in alloc; "{stem}{number}")
 }
 
-/// A link of that class and role, with that text.
 fn note_link(
     alloc: Global,
     class: &str,
@@ -222,7 +219,6 @@ fn note_link(
     Ok(Item::from(link.spanned(span)))
 }
 
-/// An element with a class and a role.
 #[tactic(auto, using(html_names::proofs::Lists::chars_ascii), unfolding(html_names::specs::Tables::known_attrs))]
 fn with_class_and_role(
     alloc: Global,
@@ -239,7 +235,7 @@ fn with_class_and_role(
     Ok(element.with_attr_text(attr::role, role)?)
 }
 
-/// The notes, each between the tags that locate it.
+/// Returns the notes, each between the tags that locate it.
 fn note_items(alloc: Global, notes: Vec<Note>) -> Result<Vec<Pair>, AllocError>
     ensures { IfOk result (λ items.
         pairs_view items.items ≡ note_items 1 (map note_view notes.items)) }
@@ -253,7 +249,7 @@ fn note_items(alloc: Global, notes: Vec<Note>) -> Result<Vec<Pair>, AllocError>
     Ok(items)
 }
 
-/// Adds a note between the tags that locate it.
+/// Appends a note between the tags that locate it.
 fn push_note(
     alloc: Global,
     items: &mut Vec<Pair>,
@@ -274,8 +270,8 @@ fn push_note(
     Ok(())
 }
 
-/// Adds the link back to the mark of a note: within the last item where that is a paragraph with a
-/// body, else behind the items.
+/// Appends the link back to the mark of a note: inside the last item if that is a paragraph with a
+/// body, or else behind the items.
 fn push_back_link(
     alloc: Global,
     content: &mut Vec<Pair>,
@@ -303,7 +299,7 @@ fn ends_in_line(items: &[Pair]) -> bool
     }
 }
 
-/// Whether an item is a paragraph with a body.
+/// Returns whether an item is a paragraph with a body.
 fn is_line_item(pair: &Pair) -> bool
     ensures { result ≡ is_line_item (pair_view pair.now) }
 {
@@ -320,7 +316,7 @@ fn is_line(element: &HtmlElem) -> bool
     element.body.is_some() && element.tag == tag::p
 }
 
-/// Adds the link back to the mark of a note, at the end of the body of the last item.
+/// Appends the link back to the mark of a note to the body of the last item.
 fn push_in_last_line(
     alloc: Global,
     items: &mut [Pair],
@@ -367,7 +363,6 @@ fn push_in_body(
     }
 }
 
-/// Adds a link to the mark of a note.
 fn push_link_to_mark(
     alloc: Global,
     items: &mut Vec<Pair>,

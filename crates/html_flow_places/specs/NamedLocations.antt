@@ -7,8 +7,8 @@ use Rattle.html_names.specs.NameTables.{number_in, with_name}
 use Rattle.html_dom_tree.specs.declared.introspection.Location.{Location}
 use Rattle.html_flow_convert.specs.Items.{RoleView, ItemView, ElemView, located_item, element_as_item}
 
--- the location of a name among names: one more than how many stand before the first that is equal
--- to it, or than all where none is
+-- the location of a name among names: one more than the index of the first that is equal to it, or
+-- than their number if none is
 abbrev pub location_in : List (List ℕ) → List ℕ → ℕ
 location_in names name = number_in names name + 1
 
@@ -22,13 +22,13 @@ abbrev pub place_items : List (List ℕ) → List ℕ → ElemView → List (Ite
 place_items names name element =
     located_item (location_in names name) (Some name) None (element_as_item element)
 
--- the items of an element that is a link to the place of a name. Location 0 is that of no name
+-- the items of an element that is a link to the place of a name. No name has the location 0
 abbrev pub link_items : List (List ℕ) → List ℕ → ElemView → List (ItemView × RoleView)
 link_items names name element =
     located_item 0 None (Some (location_in names name)) (element_as_item element)
 
--- a call that asks for the location of a name: where it succeeds, it gives the location, and the
--- names become the old ones with that name; else the name had no location and the names stay
+-- a call that requests the location of a name: on success it returns the location, and the names
+-- become the old ones with that name; else the name had no location and the names stay
 pub record GivesLocation (result : Result Location AllocError) (name : List ℕ)
     (old new : List (List ℕ)) : Type 0 where
   pub location : IfOk result (λ l. l.0 ≡ location_in old name)
@@ -36,9 +36,8 @@ pub record GivesLocation (result : Result Location AllocError) (name : List ℕ)
   pub absent : OnErr result (stands_in old name ≡ false)
   pub kept : OnErr result (new ≡ old)
 
--- a call that asks for the location of a first name and then for that of a second: where it
--- succeeds, both have one; else it stopped at the first that had none, and the names stay, or the
--- first has one
+-- a call that requests the location of a first name and then that of a second: on success both have
+-- one; else it stopped at the first that had none, and the names stay, or the first has one
 pub record LocatesBoth {A : Type 0} (result : Result A AllocError) (first second : List ℕ)
     (old new : List (List ℕ)) : Type 0 where
   pub names : OnOk result (new ≡ with_name (with_name old first) second)

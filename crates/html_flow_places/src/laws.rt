@@ -1,4 +1,4 @@
-//! Laws of names of places, each the contract of a function.
+//! Laws of names of places, as contracts of functions.
 
 ghost use Rattle.std.specs.Prelude.{◌≡◌, ◌↔◌, bytes_eq, chars, IsTrue, IfOk, OnErr, OnOk, false};
 ghost use Rattle.html_names.specs.Names.{stands_in};
@@ -8,7 +8,7 @@ ghost use Rattle.html_flow_places.specs.NamedLocations.{LocatesBoth};
 use crate::NamedPlaces;
 use std::alloc::AllocError;
 
-/// Two names have one location exactly where they are equal.
+/// Two names have the same location exactly if they are equal.
 #[tactic(auto, using(crate::proofs::NamedLocations::equal_locations))]
 pub fn equal_name_locations(places: &mut NamedPlaces, a: &str, b: &str) -> Result<bool, AllocError>
     ensures locations { IfOk result (λ same. IsTrue same ↔ (chars a.now ≡ chars b.now)) }
@@ -17,7 +17,7 @@ pub fn equal_name_locations(places: &mut NamedPlaces, a: &str, b: &str) -> Resul
     Ok(places.location(a)? == places.location(b)?)
 }
 
-/// A location stays when another of the names gets one.
+/// A location stays when another name gets one.
 #[tactic(auto, using(crate::proofs::NamedLocations::stays))]
 pub fn name_location_stays(
     places: &mut NamedPlaces,

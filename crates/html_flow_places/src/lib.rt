@@ -1,4 +1,4 @@
-//! Places and links by name: a part of html_flow, which passes these names on.
+//! Places and links by name: a part of html_flow, which re-exports these names.
 //!
 //! ```
 //! use html_flow::{HtmlElem, NamedPlaces};

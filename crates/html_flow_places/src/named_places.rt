@@ -13,17 +13,17 @@ use std::collections::BTreeMap;
 use std::fmt;
 use std::marker::Model;
 
-/// Locations for the names of places, so that a converter of documents needs no map of its own:
-/// each name gets the next location from 1 when it is first asked for, and keeps it. So a link may
-/// come before the place to which it leads.
+/// Maps the names of places to locations, so that a converter of documents needs no map of its own:
+/// each name gets the next location, from 1 on, when it is first requested, and keeps it. So a link
+/// may come before the place that it leads to.
 ///
-/// A name is a fragment as it stands in a link, percent-decoded. It is the label of its place, so
-/// that an element without an `id` gets it as one where a link leads there.
+/// A name is a percent-decoded fragment of a link. It is the label of its place, so an element
+/// without an `id` gets it as its `id` if a link leads there.
 ///
-/// A document that has locations of its own too must not take these. No name has `Location(0)`,
+/// A document that has locations of its own too must not use these. No name has `Location(0)`,
 /// which each link gets.
 ///
-/// A contract sees the names, in the order of their locations.
+/// In contracts it is the list of names, in the order of their locations.
 ///
 /// ```
 /// use html_dom::Location;
@@ -56,7 +56,7 @@ impl Model for NamedPlaces {
 }
 
 impl NamedPlaces {
-    /// Names of which none has a location yet. They take no memory.
+    /// Creates a map in which no name has a location yet. Allocates nothing.
     pub fn new(alloc: Global) -> NamedPlaces
         ensures { result ≡ [] }
     {
@@ -66,12 +66,12 @@ impl NamedPlaces {
         }
     }
 
-    /// The location of a name: the one that it has, else the next.
+    /// Returns the location of a name: the one that it has, or else the next.
     ///
-    /// Where an allocation fails, the names stay as they were. For a name that has a location none
-    /// is made.
+    /// If an allocation fails, the names are unchanged. A name that has a location needs no
+    /// allocation.
     ///
-    /// Cost: a search in an ordered map.
+    /// Takes the time of a search in an ordered map.
     pub fn location(&mut self, name: &str) -> Result<Location, AllocError>
         ensures { GivesLocation result (chars name.now) self.old self.new }
     {
@@ -95,9 +95,9 @@ impl NamedPlaces {
         Ok(location)
     }
 
-    /// The name that has that location, if one has it.
+    /// Returns the name with that location, if there is one.
     ///
-    /// Cost: an index.
+    /// Takes constant time.
     pub fn name(&self, location: Location) -> Option<&str>
         ensures { option_map (λ name. chars name.now) result ≡ name_of self.now location.0 }
     {
@@ -105,10 +105,10 @@ impl NamedPlaces {
         Some(self.names.get(number as usize)?.as_str())
     }
 
-    /// Adds an element that is the place of that name, between two tags that locate it: what
-    /// `push_located` adds for the name's location, with the name as the label, after which its
-    /// anchor is named, and with no destination. Where an allocation fails, list and names stay,
-    /// and the element comes back.
+    /// Appends an element as the place of that name, between two tags that locate it:
+    /// `push_located` with the name's location, the name as the label, from which its anchor is
+    /// named, and no destination. If an allocation fails, list and names are unchanged, and the
+    /// error holds the element.
     ///
     /// ```
     /// use html_dom::Location;
@@ -146,9 +146,9 @@ impl NamedPlaces {
         Ok(())
     }
 
-    /// Adds an element that is a link to the place of that name, between two tags that locate it:
-    /// what `push_located` adds for `Location(0)`, with no label and with the name's location as
-    /// the destination. Where an allocation fails, list and names stay, and the element comes back.
+    /// Appends an element as a link to the place of that name, between two tags that locate it:
+    /// `push_located` with `Location(0)`, no label, and the name's location as the destination. If
+    /// an allocation fails, list and names are unchanged, and the error holds the element.
     ///
     /// ```
     /// use html_flow::{HtmlElem, NamedPlaces};
@@ -198,7 +198,7 @@ impl NamedPlaces {
     }
 }
 
-/// Gives the name that location. Where an allocation fails, each name has the one that it had.
+/// Sets the location of the name. If an allocation fails, each name keeps the one that it had.
 fn put(
     locations: &mut BTreeMap<String, Location>,
     alloc: Global,

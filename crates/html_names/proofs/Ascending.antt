@@ -1,5 +1,6 @@
 -- What stands in a table of texts, and that an ascending one holds no text twice.
-use Rattle.std.proofs.Common.{◌≡◌, ℕ, zero, suc, ◌<◌, true, false, List, [], ◌∷◌, refl, sym, ap, ◌∙◌, length, get_or, arith, bytes_eq}
+use Rattle.std.proofs.Common.{◌≡◌, ℕ, zero, suc, ◌<◌, Bool, true, false, List, [], ◌∷◌, refl, sym, ap, ◌∙◌, length, get_or, arith, bytes_eq}
+use Rattle.std.specs.List.{list_all}
 use Rattle.std.specs.Ordering.{nat_cmp, is_lt, is_eq}
 use Rattle.std.specs.declared.cmp.Ordering.{Ordering}
 use Rattle.std.specs.declared.cmp.Ordering.TheVariants.{Less, Equal, Greater}
@@ -8,7 +9,6 @@ use Rattle.std.proofs.lemmas.Cmp.{nat_list_cmp_total}
 use Rattle.std.proofs.lemmas.Map.Text.{is_eq-slice_cmp}
 use Rattle.std.proofs.lemmas.Bool.{and_parts}
 use Rattle.std.proofs.lemmas.Slice.Eq.{bytes_eq-Decides}
-use Rattle.std.proofs.Math.Bool.{or-true}
 use Rattle.html_names.specs.Names.{stands_in, rises, is_below_first, is_ascii, are_ascii}
 
 pub stands : (names : List (List ℕ)) (n : ℕ) → n < length names →
@@ -16,14 +16,24 @@ pub stands : (names : List (List ℕ)) (n : ℕ) → n < length names →
 unfolding stands_in
 stands [] n h = absurd (omega arith)
 stands (m ∷ ms) zero h = rw ((bytes_eq-Decides m m).1 refl) refl
-stands (m ∷ ms) (suc n) h = rw (stands ms n (omega arith)) (or-true (bytes_eq m (get_or ms n [])))
+stands (m ∷ ms) (suc n) h = grind (arith, stands ms n)
+
+-- a text of a table differs from one that does not stand there
+pub differs : (table : List (List ℕ)) (name text : List ℕ) → stands_in table name ≡ true →
+    stands_in table text ≡ false → bytes_eq name text ≡ false
+differs table name text s h = grind (arith, (bytes_eq-Decides name text).0)
+
+-- a test that all pass
+pub all_at : {A : Type 0} (p : A → Bool) (xs : List A) (n : ℕ) (d : A) → n < length xs →
+    list_all p xs ≡ true → p (get_or xs n d) ≡ true
+all_at p [] n d h a = absurd (omega arith)
+all_at p (x ∷ xs) zero d h a = (and_parts (p x) (list_all p xs) a).0
+all_at p (x ∷ xs) (suc n) d h a =
+    all_at p xs n d (omega arith) (and_parts (p x) (list_all p xs) a).1
 
 pub ascii_at : (names : List (List ℕ)) (n : ℕ) → n < length names → are_ascii names ≡ true →
     is_ascii (get_or names n []) ≡ true
-ascii_at [] n h a = absurd (omega arith)
-ascii_at (m ∷ ms) zero h a = (and_parts (is_ascii m) (are_ascii ms) a).0
-ascii_at (m ∷ ms) (suc n) h a =
-    ascii_at ms n (omega arith) (and_parts (is_ascii m) (are_ascii ms) a).1
+ascii_at names n = all_at is_ascii names n []
 
 abbrev cmp : List ℕ → List ℕ → Ordering
 cmp = slice_cmp nat_cmp

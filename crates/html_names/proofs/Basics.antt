@@ -64,9 +64,7 @@ from_place xs k x below is = drop_more xs k x below ∙ ap (λ y. y ∷ drop (k 
 pub all_append : (p : ℕ → Bool) (xs ys : List ℕ) → all p xs ≡ true → all p ys ≡ true →
     all p (xs ++ ys) ≡ true
 all_append p [] ys h k = k
-all_append p (x ∷ xs) ys h k =
-    let both = and_parts (p x) (all p xs) h in
-    and_from (p x) (all p (xs ++ ys)) both.0 (all_append p xs ys both.1 k)
+all_append p (x ∷ xs) ys h k = grind (arith, all_append p xs ys)
 
 pub implied : (a b : Bool) → (not a || b) ≡ true → a ≡ true → b ≡ true
 implied true b holds is = holds

@@ -1,8 +1,7 @@
 -- The tables by number against the definitions by lists.
-use Rattle.std.proofs.Common.{◌≡◌, ℕ, zero, suc, ◌<◌, Bool, true, false, List, [], ◌∷◌, refl, sym, chars, length, get_or, arith, map, bytes_eq, string_bytes, None}
+use Rattle.std.proofs.Common.{◌≡◌, ℕ, zero, suc, ◌<◌, Bool, true, false, List, [], ◌∷◌, refl, sym, chars, length, get_or, arith, map, string_bytes, None}
 use Rattle.std.specs.List.{list_all}
 use Rattle.std.proofs.lemmas.Bool.{and_parts}
-use Rattle.std.proofs.lemmas.Slice.Eq.{bytes_eq-Decides}
 use Rattle.html_names.specs.Names.{stands_in}
 use Rattle.html_names.specs.Characters.{is_tag_char}
 use Rattle.html_names.specs.Held.{held_text, IsHeld}
@@ -12,6 +11,7 @@ use Rattle.html_names.specs.Kinds.{is_void, void_names, is_raw, raw_names, is_es
 use Rattle.html_names.specs.Displays.{Row, first_row, rows, default_display}
 use Rattle.html_names.specs.declared.name.Name.{Name}
 use Rattle.html_names.specs.declared.name.Name.TheVariants.{Known, Own}
+use Rattle.html_names.proofs.Ascending.{differs}
 use Rattle.html_names.specs.declared.table.TheConstants.{KINDS, DISPLAYS}
 use Rattle.html_names.specs.declared.table.kinds.TheConstants.{VOID, RAW, ESCAPABLE_RAW, FOREIGN_SELF_CLOSING, MATHML, TOKEN, METADATA, SECTIONING, HEADING, PHRASING, FLOW_BESIDE_PHRASING, NOT_PALPABLE, EMBEDDED, INTERACTIVE, SCRIPT_SUPPORTING, REPLACED, LINE_BREAK}
 
@@ -23,20 +23,11 @@ at_place f g (x ∷ xs) (y ∷ ys) a b zero e h = cc
 at_place f g (x ∷ xs) (y ∷ ys) a b (suc n) e h = at_place f g xs ys a b n (cc) (omega arith)
 
 -- a text outside a list is outside each part of it
-differs : (table : List (List ℕ)) (l t : List ℕ) (r : Bool) → bytes_eq l t ≡ r →
-    stands_in table l ≡ true → stands_in table t ≡ false → r ≡ false
-differs table l t false e s h = refl
-differs table l t true e s h =
-    let same : l ≡ t = (bytes_eq-Decides l t).0 e in
-    let w = rw same at s in cc
-
 pub outside : (table list : List (List ℕ)) (t : List ℕ) → list_all (stands_in table) list ≡ true →
     stands_in table t ≡ false → stands_in list t ≡ false
 unfolding stands_in
 outside table [] t a h = refl
-outside table (l ∷ ls) t a h =
-    let both = and_parts (stands_in table l) (list_all (stands_in table) ls) a in
-    rw (differs table l t (bytes_eq l t) refl both.0 h, outside table ls t both.1 h) refl
+outside table (l ∷ ls) t a h = grind (arith, differs table l t, outside table ls t)
 
 -- the table says of each known tag whether it is of the kind, as the test of its text does
 abbrev pub HasKind : (kind : ℕ) → (test : List ℕ → Bool) → Type 0

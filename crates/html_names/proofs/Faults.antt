@@ -42,21 +42,13 @@ pub attr_fault-more : (t : List ℕ) → IsUtf8 t → eqb (length t) 0 ≡ false
     attr_fault (chars t) ≡ bad_attr_char (find (λ c. not (is_attr_char c)) (chars t))
 attr_fault-more t u h = attr_by (chars t) t (encodes-chars t u) h
 
-module _ (p : ℕ → Bool) where
-  valid_by : (b : Bool) (c : ℕ) (cs : List ℕ) → p c ≡ b →
-      ((find (λ d. not (p d)) cs ≡ None) → all p cs ≡ true) →
-      find (λ d. not (p d)) (c ∷ cs) ≡ None → (p c ≡ true) × (all p cs ≡ true)
-  valid_by true c cs e ih h = (e, ih (rw e at h))
-  valid_by false c cs e ih h = let w = rw e at h in cc
+all_valid : (p : ℕ → Bool) (cs : List ℕ) → find (λ c. not (p c)) cs ≡ None → all p cs ≡ true
+all_valid p [] h = refl
+all_valid p (c ∷ cs) h = grind (arith, all_valid p cs)
 
-  pub all_valid : (cs : List ℕ) → find (λ d. not (p d)) cs ≡ None → all p cs ≡ true
-  all_valid [] h = refl
-  all_valid (c ∷ cs) h =
-      let both = valid_by (p c) c cs refl (all_valid cs) h in
-      rw (both.0, both.1) refl
-
-  pub valid : (c : ℕ) (cs : List ℕ) → find (λ d. not (p d)) (c ∷ cs) ≡ None → IsOf p (c ∷ cs)
-  valid c cs h = valid_by (p c) c cs refl (all_valid cs) h
+valid : (p : ℕ → Bool) (c : ℕ) (cs : List ℕ) → find (λ d. not (p d)) (c ∷ cs) ≡ None →
+    IsOf p (c ∷ cs)
+valid p c cs h = and_parts (p c) (all p cs) (all_valid p (c ∷ cs) h)
 
 none_bad : (name : List ℕ) (o : Option ℕ) → fault_after name o ≡ None → o ≡ None
 none_bad name (Some c) h = cc
@@ -84,9 +76,7 @@ tag_char_ascii c h = grind (arith, nat_tests)
 
 all_tag_ascii : (cs : List ℕ) → all is_tag_char cs ≡ true → is_ascii cs ≡ true
 all_tag_ascii [] h = refl
-all_tag_ascii (c ∷ cs) h =
-    let both = and_parts (is_tag_char c) (all is_tag_char cs) h in
-    and_from (nat_lt c 128) (is_ascii cs) (tag_char_ascii c both.0) (all_tag_ascii cs both.1)
+all_tag_ascii (c ∷ cs) h = grind (arith, tag_char_ascii c, all_tag_ascii cs)
 
 pub tag_ascii : (t : List ℕ) → IsOf is_tag_char t → is_ascii t ≡ true
 tag_ascii [] h = absurd h

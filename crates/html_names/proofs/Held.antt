@@ -1,6 +1,7 @@
 -- A known name's text, and that it is valid.
 use Rattle.std.proofs.Common.{OnErr, Result, Ok, Err, ◌≡◌, ℕ, zero, suc, ◌<◌, Bool, true, false, ◌&&◌, List, [], ◌∷◌, refl, ap, ◌∙◌, chars, length, get_or, arith, map, Option, Some, None}
 use Rattle.std.specs.Borrow.{Bor}
+use Rattle.std.specs.List.{list_all}
 use Rattle.std.proofs.lemmas.Bool.{and_parts}
 use Rattle.html_names.specs.Names.{texts, are_ascii, stands_in}
 use Rattle.html_names.specs.Characters.{all, IsOf, is_tag_char, is_attr_char}
@@ -9,6 +10,7 @@ use Rattle.html_names.specs.Tables.{known_tags, known_attrs, tag_count, attr_cou
 use Rattle.html_names.specs.declared.name.Name.{Name}
 use Rattle.html_names.specs.declared.name.Name.TheVariants.{Known, Own}
 use Rattle.html_names.specs.declared.table.TheConstants.{TAGS, ATTRS}
+use Rattle.html_names.proofs.Ascending.{all_at}
 use Rattle.html_names.proofs.Lists.{chars_ascii}
 
 pub known_text : (table : List (Bor (List ℕ))) (n : ℕ) (d : Bor (List ℕ)) → n < length table →
@@ -21,23 +23,13 @@ abbrev is_of : (ℕ → Bool) → List ℕ → Bool
 is_of p [] = false
 is_of p (c ∷ cs) = p c && all p cs
 
-abbrev all_of : (ℕ → Bool) → List (List ℕ) → Bool
-all_of p [] = true
-all_of p (t ∷ ts) = is_of p t && all_of p ts
-
 of_test : (p : ℕ → Bool) (t : List ℕ) → is_of p t ≡ true → IsOf p t
 of_test p [] h = cc
 of_test p (c ∷ cs) h = and_parts _ _ h
 
-known_valid : (p : ℕ → Bool) (table : List (List ℕ)) (n : ℕ) → n < length table →
-    all_of p table ≡ true → IsOf p (get_or table n [])
-known_valid p [] n h a = absurd (omega arith)
-known_valid p (t ∷ ts) zero h a = of_test p t (and_parts _ _ a).0
-known_valid p (t ∷ ts) (suc n) h a = known_valid p ts n (omega arith) (and_parts _ _ a).1
-
-held_valid : (p : ℕ → Bool) (table : List (List ℕ)) (name : Name) → all_of p table ≡ true →
+held_valid : (p : ℕ → Bool) (table : List (List ℕ)) (name : Name) → list_all (is_of p) table ≡ true →
     IsHeld (length table) table p name → IsOf p (held_text table name)
-held_valid p table (Known n) a h = known_valid p table n h a
+held_valid p table (Known n) a h = of_test p _ (all_at (is_of p) table n [] h a)
 held_valid p table (Own s) a h = h.0
 
 pub tag_texts : map (λ n. n.now) TAGS ≡ known_tags

@@ -1,7 +1,7 @@
 -- Nothing is wrong with a known name, but for the one that is reserved.
-use Rattle.std.proofs.Common.{◌≡◌, ℕ, zero, suc, ◌+◌, ◌<◌, ◌==◌, Bool, true, false, not, ◌||◌, ◌&&◌, List, [], ◌∷◌, refl, sym, ◌∙◌, length, get_or, arith, find, None}
+use Rattle.std.proofs.Common.{◌≡◌, ℕ, zero, suc, ◌+◌, ◌<◌, ◌==◌, Bool, true, false, not, ◌||◌, ◌&&◌, List, [], ◌∷◌, refl, sym, length, get_or, arith, find, None}
 use Rattle.std.specs.List.{list_any}
-use Rattle.std.proofs.lemmas.Bool.{and_parts, eqb-true, not-true}
+use Rattle.std.proofs.lemmas.Bool.Decides.{nat_tests}
 use Rattle.html_names.specs.Characters.{all, IsOf, is_tag_char, is_attr_char, is_hyphen}
 use Rattle.html_names.specs.Names.{IsPlace, tag_fault, attr_fault}
 use Rattle.html_names.specs.Held.{held_text, IsHeld}
@@ -15,8 +15,7 @@ use Rattle.html_names.proofs.Held.{tag_long, attr_long, tag_valid, attr_valid}
 -- no character of a valid name is bad
 none_bad : (p : ℕ → Bool) (cs : List ℕ) → all p cs ≡ true → find (λ c. not (p c)) cs ≡ None
 none_bad p [] h = refl
-none_bad p (c ∷ cs) h =
-    let both = and_parts (p c) (all p cs) h in rw both.0 (none_bad p cs both.1)
+none_bad p (c ∷ cs) h = grind (arith, none_bad p cs)
 
 faultless_tag : (name : List ℕ) → IsOf is_tag_char name → list_any is_hyphen name ≡ false →
     tag_fault name ≡ None
@@ -39,19 +38,12 @@ are_plain one place [] = true
 are_plain one place (n ∷ ns) =
     (place == one || not (list_any is_hyphen n)) && are_plain one (suc place) ns
 
-here : (one place : ℕ) (b c : Bool) → (place == one) ≡ b → (place ≡ one → ⊥) → (b || c) ≡ true →
-    c ≡ true
-here one place true c e other h = absurd (other (eqb-true place one e))
-here one place false c e other h = h
-
 plain_at : (one place n k : ℕ) (names : List (List ℕ)) → k < length names → n ≡ place + k →
     (n ≡ one → ⊥) → are_plain one place names ≡ true → list_any is_hyphen (get_or names k []) ≡ false
 plain_at one place n k [] l e other h = absurd (omega arith)
-plain_at one place n zero (t ∷ ts) l e other h =
-    let is : place ≡ n = omega arith in
-    not-true _ (here one place _ _ refl (λ p. other (sym is ∙ p)) (and_parts _ _ h).0)
+plain_at one place n zero (t ∷ ts) l e other h = grind (arith, nat_tests)
 plain_at one place n (suc k) (t ∷ ts) l e other h =
-    plain_at one (suc place) n k ts (omega arith) (omega arith) other (and_parts _ _ h).1
+    grind (arith, plain_at one (suc place) n k ts)
 
 tags_plain : are_plain RESERVED_TAG 0 known_tags ≡ true
 unfolding known_tags

@@ -7,48 +7,27 @@ use Rattle.html_names.specs.Names.{stands_in}
 use Rattle.html_names.specs.NameTables.{NamesView, Numbers, number_in, with_name, name_at}
 use Rattle.html_names.specs.NumberMaps.{number_where}
 
-same : (name : List ℕ) → bytes_eq name name ≡ true
+pub same : (name : List ℕ) → bytes_eq name name ≡ true
 same name = (bytes_eq-Decides name name).1 refl
-
-below_step : (b s : Bool) (k count : ℕ) → (s ≡ true → k < count) → (b || s) ≡ true →
-    (if b then 0 else k + 1) < suc count
-below_step true s k count below h = omega arith
-below_step false s k count below h = omega (arith, below h)
 
 pub number_below : (names : List (List ℕ)) (name : List ℕ) → stands_in names name ≡ true →
     number_in names name < length names
 unfolding stands_in number_in
 number_below [] name h = cc
-number_below (n ∷ ns) name h =
-    below_step (bytes_eq n name) (stands_in ns name) (number_in ns name) (length ns)
-    (number_below ns name) h
-
-next_step : (b s : Bool) (k count : ℕ) → (s ≡ false → k ≡ count) → (b || s) ≡ false →
-    (if b then 0 else k + 1) ≡ suc count
-next_step true s k count next h = cc
-next_step false s k count next h = omega (arith, next h)
+number_below (n ∷ ns) name h = grind (arith, number_below ns name)
 
 pub number_next : (names : List (List ℕ)) (name : List ℕ) → stands_in names name ≡ false →
     number_in names name ≡ length names
 unfolding stands_in number_in
 number_next [] name h = refl
-number_next (n ∷ ns) name h =
-    next_step (bytes_eq n name) (stands_in ns name) (number_in ns name) (length ns)
-    (number_next ns name) h
-
-name_step : (n name : List ℕ) (ns : List (List ℕ)) (b s : Bool) (k : ℕ) → bytes_eq n name ≡ b →
-    (s ≡ true → name_at ns k ≡ name) → (b || s) ≡ true →
-    name_at (n ∷ ns) (if b then 0 else k + 1) ≡ name
-name_step n name ns true s k e there h = (bytes_eq-Decides n name).0 e
-name_step n name ns false s k e there h = rw (add-one k) (there h)
+number_next (n ∷ ns) name h = grind (arith, number_next ns name)
 
 pub name_at-number : (names : List (List ℕ)) (name : List ℕ) → stands_in names name ≡ true →
     name_at names (number_in names name) ≡ name
 unfolding stands_in number_in
 name_at-number [] name h = cc
 name_at-number (n ∷ ns) name h =
-    name_step n name ns (bytes_eq n name) (stands_in ns name) (number_in ns name) refl
-    (name_at-number ns name) h
+    grind (arith, name_at-number ns name, add-one, (bytes_eq-Decides n name).0)
 
 pub name_at-append : (names more : List (List ℕ)) (number : ℕ) → number < length names →
     name_at (names ++ more) number ≡ name_at names number
@@ -61,30 +40,17 @@ pub name_at-last : (names : List (List ℕ)) (name : List ℕ) →
 name_at-last [] name = refl
 name_at-last (n ∷ ns) name = name_at-last ns name
 
-stands_step : (b s t : Bool) → (s ≡ true → t ≡ true) → (b || s) ≡ true → (b || t) ≡ true
-stands_step true s t still h = refl
-stands_step false s t still h = still h
-
 pub stands_in-append : (names more : List (List ℕ)) (name : List ℕ) →
     stands_in names name ≡ true → stands_in (names ++ more) name ≡ true
 unfolding stands_in
 stands_in-append [] more name h = cc
-stands_in-append (n ∷ ns) more name h =
-    stands_step (bytes_eq n name) (stands_in ns name) (stands_in (ns ++ more) name)
-    (stands_in-append ns more name) h
-
-number_step : (b s : Bool) (k m : ℕ) → (s ≡ true → m ≡ k) → (b || s) ≡ true →
-    (if b then 0 else m + 1) ≡ (if b then 0 else k + 1)
-number_step true s k m still h = refl
-number_step false s k m still h = ap (λ n. n + 1) (still h)
+stands_in-append (n ∷ ns) more name h = grind (arith, stands_in-append ns more name)
 
 pub number_in-append : (names more : List (List ℕ)) (name : List ℕ) →
     stands_in names name ≡ true → number_in (names ++ more) name ≡ number_in names name
 unfolding stands_in number_in
 number_in-append [] more name h = cc
-number_in-append (n ∷ ns) more name h =
-    number_step (bytes_eq n name) (stands_in ns name) (number_in ns name)
-    (number_in (ns ++ more) name) (number_in-append ns more name) h
+number_in-append (n ∷ ns) more name h = grind (arith, number_in-append ns more name)
 
 -- a name at the end stands there, with the number that it has or gets
 pub stands_in-last : (names : List (List ℕ)) (name : List ℕ) →
@@ -110,40 +76,28 @@ pub with_name-new : (names : List (List ℕ)) (name : List ℕ) → stands_in na
 unfolding with_name
 with_name-new names name h = rw h refl
 
-appends_by : (names : List (List ℕ)) (name : List ℕ) (s : Bool) → stands_in names name ≡ s →
-    (more : List (List ℕ)) × (with_name names name ≡ names ++ more)
-appends_by names name true h = ([], with_name-stands names name h ∙ sym (append-nil names))
-appends_by names name false h = (name ∷ [], with_name-new names name h)
-
 -- to tell a name adds at the end
 pub with_name-appends : (names : List (List ℕ)) (name : List ℕ) →
     (more : List (List ℕ)) × (with_name names name ≡ names ++ more)
-with_name-appends names name = appends_by names name (stands_in names name) refl
+unfolding with_name
+with_name-appends names name =
+    (if stands_in names name then [] else name ∷ [], grind (arith, append-nil names))
 
 pub with_name-long : (names : List (List ℕ)) (name : List ℕ) →
     length names ≤ length (with_name names name)
-with_name-long names name =
-    let told = with_name-appends names name in
-    rw (told.1, length-append names told.0) (omega arith)
-
-told_by : (names : List (List ℕ)) (name : List ℕ) (s : Bool) → stands_in names name ≡ s →
-    stands_in (with_name names name) name ≡ true
-told_by names name true h = rw (with_name-stands names name h) h
-told_by names name false h = rw (with_name-new names name h) (stands_in-last names name)
+unfolding with_name
+with_name-long names name = grind (arith, length-append names (name ∷ []))
 
 -- a name that is told stands there, with the number that it had or got
 pub stands_in-told : (names : List (List ℕ)) (name : List ℕ) →
     stands_in (with_name names name) name ≡ true
-stands_in-told names name = told_by names name (stands_in names name) refl
-
-number_by : (names : List (List ℕ)) (name : List ℕ) (s : Bool) → stands_in names name ≡ s →
-    number_in (with_name names name) name ≡ number_in names name
-number_by names name true h = rw (with_name-stands names name h) refl
-number_by names name false h = rw (with_name-new names name h) (number_in-last names name)
+unfolding with_name
+stands_in-told names name = grind (arith, stands_in-last names name)
 
 pub number_in-told : (names : List (List ℕ)) (name : List ℕ) →
     number_in (with_name names name) name ≡ number_in names name
-number_in-told names name = number_by names name (stands_in names name) refl
+unfolding with_name
+number_in-told names name = grind (arith, number_in-last names name)
 
 pub name_at-told : (names : List (List ℕ)) (name : List ℕ) →
     name_at (with_name names name) (number_in names name) ≡ name
@@ -209,19 +163,11 @@ told_again names name other =
 -- for a number that is asked for twice
 pub ruleset stays = (number_later, stands_in-both, told_again, eq-eqb)
 
-where_told : (names : List (List ℕ)) (name : List ℕ) (number : ℕ) (s : Bool) →
-    stands_in names name ≡ s →
-    Some number ≡ (if s then Some (number_in names name) else None) →
-    (number ≡ number_in names name) × (number < length names) × (with_name names name ≡ names)
-where_told names name number true h e =
-    let is : number ≡ number_in names name = ap (λ found. unwrap_or found 0) e in
-    (is, rw is (number_below names name h), with_name-stands names name h)
-where_told names name number false h e = cc
-
 told_where : (names : List (List ℕ)) (name : List ℕ) (number : ℕ) →
     Some number ≡ number_where names name →
     (number ≡ number_in names name) × (number < length names) × (with_name names name ≡ names)
-told_where names name number e = where_told names name number (stands_in names name) refl e
+unfolding with_name
+told_where names name number e = grind (arith, number_below names name)
 
 last_below : (names after : List (List ℕ)) (name : List ℕ) (number : ℕ) → number ≡ length names →
     after ≡ names ++ name ∷ [] → number < length after

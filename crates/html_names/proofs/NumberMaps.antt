@@ -1,5 +1,5 @@
 -- The numbers of names as they are held, against the list of their texts.
-use Rattle.std.proofs.Common.{◌≡◌, ℕ, ◌+◌, ◌<◌, ◌≤◌, ltb, ltb-true, ltb-false, Bool, true, false, if◌then◌else◌, List, [], ◌∷◌, ◌++◌, refl, sym, ap, ◌∙◌, length, get_or, arith, bytes_eq, length-append, Option, Some, None, string_bytes, String, Global}
+use Rattle.std.proofs.Common.{◌≡◌, ℕ, Bool, true, false, if◌then◌else◌, List, [], ◌∷◌, ◌++◌, refl, sym, ap, ◌∙◌, length, get_or, arith, bytes_eq, length-append, Option, Some, None, string_bytes, String, Global}
 use Rattle.std.specs.BTreeMap.{UpdatesBy}
 use Rattle.std.specs.String.{string_cmp}
 use Rattle.std.specs.Cmp.Lexicographic.{slice_cmp}
@@ -23,25 +23,20 @@ unfolding stands_in
 fresh count table is_valid numbers [] e none = (λ number h. absurd (omega arith), λ name h. none name)
 fresh count table is_valid numbers (n ∷ ns) e none = cc
 
-numbered_at : (names : List (List ℕ)) (name : List ℕ) (number : ℕ) (b : Bool) →
-    IsNumbered names → stands_in names name ≡ false → number < length names + 1 →
-    ltb number (length names) ≡ b →
-    number_in (names ++ name ∷ []) (name_at (names ++ name ∷ []) number) ≡ number
-numbered_at names name number true numbered new h e =
-    let l : number < length names = ltb-true number (length names) e in
-    rw (name_at-append names (name ∷ []) number l)
-    (number_in-append names (name ∷ []) (name_at names number) (stands names number l)
-    ∙ numbered number l)
-numbered_at names name number false numbered new h e =
-    let l : length names ≤ number = ltb-false number (length names) e in
-    let last : number ≡ length names = omega arith in
-    rw (last, name_at-last names name) (number_in-last names name ∙ number_next names name new)
-
 pub numbered : (names : List (List ℕ)) (name : List ℕ) → IsNumbered names →
     stands_in names name ≡ false → IsNumbered (names ++ name ∷ [])
 numbered names name all new number h =
-    numbered_at names name number (ltb number (length names)) all new
-    (omega (arith, length-append names (name ∷ []))) refl
+    grind (
+      arith,
+      all number,
+      length-append names (name ∷ []),
+      name_at-append names (name ∷ []) number,
+      stands names number,
+      number_in-append names (name ∷ []) (name_at names number),
+      name_at-last names name,
+      number_in-last names name,
+      number_next names name,
+    )
 
 -- a text that is not the last stands among the names as before
 others_stand : (names : List (List ℕ)) (name other : List ℕ) → bytes_eq name other ≡ false →
@@ -56,14 +51,6 @@ module _ {A : Type 0} (kept : ℕ → A) where
   kept_where names name =
       if stands_in names name then Some (kept (number_in names name)) else None
 
-  other_where : (names : List (List ℕ)) (name other : List ℕ) (s : Bool) →
-      stands_in names other ≡ s →
-      (if s then Some (kept (number_in names other)) else None)
-      ≡ (if s then Some (kept (number_in (names ++ name ∷ []) other)) else None)
-  other_where names name other true h =
-      ap (λ number. Some (kept number)) (sym (number_in-append names (name ∷ []) other h))
-  other_where names name other false h = refl
-
   pub added_where : (names : List (List ℕ)) (name other : List ℕ) (b : Bool) →
       stands_in names name ≡ false → bytes_eq name other ≡ b →
       (if b then Some (kept (length names)) else kept_where names other)
@@ -73,8 +60,7 @@ module _ {A : Type 0} (kept : ℕ → A) where
       rw (sym is, stands_in-last names name, number_in-last names name, number_next names name new)
       refl
   added_where names name other false new e =
-      rw (others_stand names name other e)
-      (other_where names name other (stands_in names other) refl)
+      grind (arith, others_stand names name other e, number_in-append names (name ∷ []) other)
 
 -- a new name goes to the end of the list, and gets the next number
 module _ (count : ℕ) (table : List (List ℕ)) (is_valid : ℕ → Bool)

@@ -1,9 +1,11 @@
 -- A text is looked for among the names that begin with its first letter.
-use Rattle.std.proofs.Common.{◌≡◌, ℕ, zero, suc, ◌+◌, ◌-◌, ◌<◌, ◌≤◌, Bool, true, false, List, [], ◌∷◌, refl, sym, ap, ◌∙◌, length, get_or, arith, bytes_eq, chars, ltb, ltb-false, ◌&&◌}
-use Rattle.std.specs.Prelude.{nat_le, nat_lt}
+use Rattle.std.proofs.Common.{◌≡◌, ℕ, zero, suc, ◌+◌, ◌-◌, ◌<◌, ◌≤◌, true, false, List, [], ◌∷◌, refl, sym, ap, ◌∙◌, length, get_or, arith, bytes_eq, chars}
+use Rattle.std.specs.Prelude.{nat_le}
 use Rattle.std.specs.List.{list_all}
 use Rattle.std.specs.Str.{IsUtf8}
-use Rattle.std.proofs.lemmas.Bool.{and_parts, leb-true, ltb-true, false≢true}
+use borrow.Author.Count.{below_more}
+use Rattle.std.proofs.lemmas.Bool.Decides.{nat_tests}
+use Rattle.std.proofs.lemmas.Bool.{and_parts, false≢true}
 use Rattle.std.proofs.lemmas.Slice.Eq.{bytes_eq-Decides}
 use Rattle.std.proofs.lemmas.List.{get_or-map, length-map}
 use Rattle.std.specs.Borrow.{Bor}
@@ -16,8 +18,8 @@ use Rattle.html_names.proofs.Ascending.{ascii_at}
 start_within : (starts : List ℕ) (n letter : ℕ) → list_all (λ s. nat_le s n) starts ≡ true →
     get_or starts letter 0 ≤ n
 start_within [] n letter h = omega arith
-start_within (s ∷ ss) n zero h = leb-true s n (and_parts _ _ h).0
-start_within (s ∷ ss) n (suc letter) h = start_within ss n letter (and_parts _ _ h).1
+start_within (s ∷ ss) n zero h = grind (arith, nat_tests)
+start_within (s ∷ ss) n (suc letter) h = grind (arith, start_within ss n letter)
 
 pub within : (starts : List ℕ) (names : List (List ℕ)) (letter : ℕ) →
     are_starts starts names ≡ true → get_or starts letter 0 ≤ length names
@@ -39,21 +41,19 @@ unfolding stands_in
 none [] t h = refl
 none (n ∷ ns) t h = rw (h 0 (omega arith), none ns t (λ k l. h (suc k) (omega (arith, l)))) refl
 
-differs : (starts : List ℕ) (names : List (List ℕ)) (t : List ℕ) (k : ℕ) (b : Bool) →
-    all_started starts 0 names ≡ true → k < length names →
-    (is_started starts k t ≡ true → bytes_eq (get_or names k []) t ≡ false) →
-    bytes_eq (get_or names k []) t ≡ b → b ≡ false
-differs starts names t k false s l h e = refl
-differs starts names t k true s l h e =
-    let is : get_or names k [] ≡ t = (bytes_eq-Decides _ t).0 e in
-    let started : is_started starts k t ≡ true = rw is at (started_at starts 0 names k k l (omega arith) s) in
-    sym e ∙ h started
-
 absent : (starts : List ℕ) (names : List (List ℕ)) (t : List ℕ) → are_starts starts names ≡ true →
     ((k : ℕ) → is_started starts k t ≡ true → bytes_eq (get_or names k []) t ≡ false) →
     stands_in names t ≡ false
 absent starts names t s h =
-    none names t (λ k l. differs starts names t k _ (and_parts _ _ s).1 l (h k) refl)
+    let within_end = list_all (λ n. nat_le n (length names)) starts in
+    let all : all_started starts 0 names ≡ true =
+    (and_parts within_end (all_started starts 0 names) s).1 in
+    none names t (λ k l. grind (
+      arith,
+      h k,
+      (bytes_eq-Decides (get_or names k []) t).0,
+      started_at starts 0 names k k l (omega arith) all,
+    ))
 
 module _ (starts : List ℕ) (names : List (List ℕ)) (t : List ℕ) (h : are_starts starts names ≡ true)
     (ascii : are_ascii names ≡ true) (utf8 : IsUtf8 t) where
@@ -83,11 +83,7 @@ other starts names (c ∷ cs) first h a u is e =
 
 bounds : (starts : List ℕ) (k c : ℕ) (cs : List ℕ) → is_started starts k (c ∷ cs) ≡ true →
     (get_or starts (c - 97) 0 ≤ k) × (k < get_or starts (c - 97 + 1) 0)
-bounds starts k c cs h =
-    let start = get_or starts (c - 97) 0 in
-    let past = get_or starts (c - 97 + 1) 0 in
-    let both = and_parts (is_lower c && nat_le start k) (nat_lt k past) h in
-    (leb-true start k (and_parts (is_lower c) (nat_le start k) both.0).1, ltb-true k past both.1)
+bounds starts k c cs h = grind (arith, nat_tests)
 
 -- and stands among those of that letter
 pub not_among : (starts : List ℕ) (names : List (List ℕ)) (t : List ℕ) (first letter : ℕ) →
@@ -119,13 +115,8 @@ module _ (table : List (Bor (List ℕ))) (t : List ℕ) (place n : ℕ) (d : Bor
       bytes_eq (get_or (texts table) place []) t ≡ false
   not_here other = rw at (sym other)
 
-one_more : (P : ℕ → Type 0) (start place k : ℕ) (b : Bool) → ltb k place ≡ b →
-    ((k : ℕ) → start ≤ k → k < place → P k) → P place → start ≤ k → k < place + 1 → P k
-one_more P start place k true e before here s l = before k s (ltb-true k place e)
-one_more P start place k false e before here s l =
-    let same : k ≡ place = omega (arith, ltb-false k place e) in rw same here
-
 -- one more name is another
 pub more : (P : ℕ → Type 0) (start place : ℕ) → ((k : ℕ) → start ≤ k → k < place → P k) →
     P place → (k : ℕ) → start ≤ k → k < place + 1 → P k
-more P start place before here k s l = one_more P start place k (ltb k place) refl before here s l
+more P start place before here k s l =
+    below_more (λ i. start ≤ i → P i) place (λ i b a. before i a b) (λ a. here) k l s

@@ -17,6 +17,16 @@ abbrev pub listed_names : List ℕ → List (List ℕ)
 listed_names [] = [] ∷ []
 listed_names (c ∷ cs) = if c == 32 then [] ∷ listed_names cs else put_first c (listed_names cs)
 
+-- the name that an identifier spells: `-` for each `_`, but nothing for one at the end
+abbrev pub spelled_name : List ℕ → List ℕ
+spelled_name [] = []
+spelled_name (c ∷ []) = if c == 95 then [] else c ∷ []
+spelled_name (c ∷ d ∷ cs) = (if c == 95 then 45 else c) ∷ spelled_name (d ∷ cs)
+
+-- each name is the one that its identifier spells
+abbrev pub are_spelled : List (Bor (List ℕ) × List ℕ) → Bool
+are_spelled = list_all (λ c. bytes_eq c.1 (spelled_name c.0.now))
+
 -- the text is one of the list
 unfoldable pub stands_in : List (List ℕ) → List ℕ → Bool
 stands_in [] text = false

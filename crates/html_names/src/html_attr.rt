@@ -11,7 +11,8 @@ ghost use Rattle.html_names.specs.Characters.{IsOf, is_attr_char};
 
 use crate::charsets::is_valid_in_attribute_name;
 use crate::fault::NameFault;
-use crate::name::{Name, place_in};
+use crate::lookup::place_in;
+use crate::name::Name;
 use crate::table::{ATTR_STARTS, ATTRS};
 use std::alloc::{AllocError, Global};
 use std::fmt;

@@ -11,7 +11,8 @@ ghost use Rattle.html_names.specs.Characters.{IsOf, is_tag_char, is_hyphen, is_l
 
 use crate::charsets::is_valid_in_tag_name;
 use crate::fault::NameFault;
-use crate::name::{Name, is_one_of, place_in};
+use crate::lookup::{is_one_of, place_in};
+use crate::name::Name;
 use crate::table::{RESERVED_TAG, TAG_STARTS, TAGS};
 use std::alloc::{AllocError, Global};
 use std::fmt;

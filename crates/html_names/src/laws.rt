@@ -8,6 +8,11 @@ use crate::property::Display;
 use crate::{HtmlAttr, HtmlTag, NameFault, NameTable, Refused};
 use std::alloc::AllocError;
 
+/// Constants, each after its identifier.
+macro_rules! identified {
+    ($($name:ident,)*) => { [$((stringify!($name), $name)),*] };
+}
+
 pub mod attrs;
 pub mod tags;
 

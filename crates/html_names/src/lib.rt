@@ -22,6 +22,7 @@ mod html_attr;
 mod html_tag;
 mod kind;
 pub mod laws;
+pub mod lookup;
 mod name;
 mod name_table;
 pub mod output;

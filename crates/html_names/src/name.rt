@@ -1,7 +1,5 @@
 ghost use Rattle.std.specs.Prelude.{◌≡◌, OnErr, IfOk, length, chars, IsTrue, None};
-ghost use Rattle.html_names.specs.Held.{IsLookup};
-ghost use Rattle.html_names.specs.Names.{texts, are_ascii, stands_in};
-ghost use Rattle.html_names.specs.Starts.{are_starts};
+ghost use Rattle.html_names.specs.Names.{texts, are_ascii};
 ghost use Rattle.html_names.specs.Tables.{tag_count};
 
 use crate::property::Display;
@@ -85,43 +83,4 @@ impl Name {
             Name::Own(_) => None,
         }
     }
-}
-
-/// Only the names that begin with the text's first letter are looked at.
-pub(crate) fn place_in(table: &[&'static str], starts: &[u8; 27], text: &str) -> Option<u8>
-    requires ascii { IsTrue (are_ascii (texts table.now)) }
-    requires starts { IsTrue (are_starts starts.now (texts table.now)) }
-    ensures { IsLookup (texts table.now) (chars text.now) result }
-{
-    let first = *text.as_bytes().first()?;
-    if !first.is_ascii_lowercase() {
-        return None;
-    }
-    let letter = usize::from(first - b'a');
-    for place in starts[letter]..starts[letter + 1] {
-        if table[usize::from(place)] == text {
-            return Some(place);
-        }
-    }
-    None
-}
-
-#[tactic(auto, unfolding(crate::specs::Names::stands_in))]
-fn stands_in(names: &[&'static str], text: &str) -> bool
-    ensures { result ≡ stands_in (texts names.now) text.now }
-{
-    for name in names {
-        if *name == text {
-            return true;
-        }
-    }
-    false
-}
-
-#[tactic(auto, using(crate::proofs::Lists::in_characters))]
-pub(crate) fn is_one_of(names: &[&'static str], text: &str) -> bool
-    requires { IsTrue (are_ascii (texts names.now)) }
-    ensures { result ≡ stands_in (texts names.now) (chars text.now) }
-{
-    stands_in(names, text)
 }

@@ -6,22 +6,18 @@ ghost use Rattle.html_names.specs.NameTables.{Numbers, IsNumbered, no_names, nam
 
 use crate::html_attr::HtmlAttr;
 use crate::html_tag::HtmlTag;
+use crate::kind;
 use crate::property::Display;
 use std::alloc::{AllocError, Global};
 use std::fmt;
 use std::marker::Model;
 
-mod kept_tag;
 mod number_map;
 
-use kept_tag::KeptTag;
 use number_map::NumberMap;
 
 /// Numbers for names: each tag, and each attribute, gets the next number from 0 when it is first
 /// asked for, and keeps it. Tags and attributes are numbered apart.
-///
-/// What the tables of kinds and of displays say of a tag is kept with its number, so that to ask by
-/// number takes an index and a field.
 ///
 /// A contract sees the table as the texts of its tags and of its attributes, in the order of their
 /// numbers.
@@ -41,7 +37,7 @@ use number_map::NumberMap;
 /// ```
 #[derive(Drop)]
 pub struct NameTable {
-    kept_tags: Vec<KeptTag>,
+    kept_tags: Vec<HtmlTag>,
     tag_numbers: NumberMap,
     kept_attrs: Vec<HtmlAttr>,
     attr_numbers: NumberMap,
@@ -97,7 +93,7 @@ impl NameTable {
             (with_tag self.old tag.now) }
     {
         let number = self.kept_tags.len();
-        self.kept_tags.push(KeptTag::new(tag)?)?;
+        self.kept_tags.push(tag.try_clone()?)?;
         if let Err(fault) = self.tag_numbers.put(&tag.name, number) {
             self.kept_tags.pop();
             return Err(fault);
@@ -156,7 +152,7 @@ impl NameTable {
         requires { number < length self.now.tags }
         ensures { result.now ≡ name_at self.now.tags number }
     {
-        self.kept_tags[number].tag()
+        &self.kept_tags[number]
     }
 
     /// The attribute of that number.
@@ -172,7 +168,7 @@ impl NameTable {
         requires { number < length self.now.tags }
         ensures { result ≡ kinds.is_void (name_at self.now.tags number) }
     {
-        self.kept_tags[number].is_void()
+        kind::is_void(&self.kept_tags[number])
     }
 
     /// Whether the tag of that number is of an element of raw text, as `tag::is_raw` says.
@@ -180,7 +176,7 @@ impl NameTable {
         requires { number < length self.now.tags }
         ensures { result ≡ kinds.is_raw (name_at self.now.tags number) }
     {
-        self.kept_tags[number].is_raw()
+        kind::is_raw(&self.kept_tags[number])
     }
 
     /// Whether the tag of that number is of an element of escapable raw text, as
@@ -189,7 +185,7 @@ impl NameTable {
         requires { number < length self.now.tags }
         ensures { result ≡ kinds.is_escapable_raw (name_at self.now.tags number) }
     {
-        self.kept_tags[number].is_escapable_raw()
+        kind::is_escapable_raw(&self.kept_tags[number])
     }
 
     /// Whether the tag of that number is of a foreign element that is written self-closing, as
@@ -198,7 +194,7 @@ impl NameTable {
         requires { number < length self.now.tags }
         ensures { result ≡ kinds.is_foreign_self_closing (name_at self.now.tags number) }
     {
-        self.kept_tags[number].is_foreign_self_closing()
+        kind::is_foreign_self_closing(&self.kept_tags[number])
     }
 
     /// The default display of the tag of that number, as `Display::default_for` says.
@@ -206,7 +202,7 @@ impl NameTable {
         requires { number < length self.now.tags }
         ensures { result ≡ default_display (name_at self.now.tags number) }
     {
-        self.kept_tags[number].default_display()
+        Display::default_for(&self.kept_tags[number])
     }
 }
 

@@ -1,4 +1,4 @@
-//! The program: HTML text of a tree or of items that standard input spells in JSON.
+//! The program: writes the HTML text of a tree or of items that standard input spells in JSON.
 #![tactic(auto)]
 
 use html_tool_run::{Status, run, words_of};
@@ -10,8 +10,8 @@ fn main(rt: HostRuntime) -> ExitCode {
     ExitCode::from(outcome(&rt).code())
 }
 
-/// What `run` makes of the process's arguments, standard input and standard output. Arguments that
-/// are no UTF-8 count as wrong words, as none at all do.
+/// Runs `run` on the process's arguments, standard input and standard output. Arguments that are no
+/// UTF-8 count as wrong words, like no arguments at all.
 fn outcome(rt: &HostRuntime) -> Status {
     let mut args = Vec::new(rt.alloc());
     match env::args(rt) {

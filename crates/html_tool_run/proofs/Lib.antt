@@ -1,3 +1,5 @@
 pub mod Answering
 pub mod FirstFaults
+pub mod Heads
 pub mod Inputs
+pub mod PushedNames

@@ -1,11 +1,16 @@
 -- What is answered to an input that spells a document.
-use Rattle.std.specs.Prelude.{ℕ, List, [], ◌++◌, map, Option, Some, None, option_map, Result, Ok, Err, String, if◌then◌else◌}
+use Rattle.std.specs.Prelude.{ℕ, Bool, List, [], ◌++◌, map, Option, Some, None, option_map, Result, Ok, Err, String, if◌then◌else◌}
 use Rattle.std.specs.declared.alloc.Global.{Global}
-use Rattle.html_dom_link.specs.Links.{DeadLinkView, document_dead_links}
+use Rattle.html_dom_document.specs.Documents.{DocumentView, document_root}
+use Rattle.html_dom_link.specs.Links.{DeadLinkView, document_dead_links, document_with_links}
+use Rattle.html_dom_tree.specs.Tree.{ElementView}
+use Rattle.html_flow_convert.specs.LoneNode.{node_list}
 use Rattle.typst_html_encode.specs.FaultViews.{ExportFaultView}
 use Rattle.typst_html_encode.specs.FrameWriters.{no_frames}
-use Rattle.typst_html_export.specs.Exported.{export_faults, export_text, export_linked_faults, export_linked_text}
-use Rattle.typst_html_export.specs.Linked.{linked_document}
+use Rattle.typst_html_encode.specs.Text as html
+use Rattle.typst_html_export.specs.Assembled.{items_document_faults}
+use Rattle.typst_html_export.specs.Exported.{root_faults}
+use Rattle.typst_html_export.specs.OwnHead.{linked_document_with_head}
 use Rattle.html_tool_run.specs.Answers.{Answer, TextPlace, in_text, answer_if, answer_to, fault_refusal, first_refusal_or_text, options_of}
 use Rattle.html_tool_spell.specs.Json.{json_of}
 use Rattle.html_tool_spell.specs.LeftForms.{Left}
@@ -14,17 +19,25 @@ use Rattle.html_tool_spell.specs.SpelledDocuments.{Spelling, names_refusals, spe
 use Rattle.html_tool_run.specs.declared.documents.DocumentText.{DocumentText}
 use Rattle.html_tool_run.specs.declared.documents.Settings.{Settings}
 
--- the text of a document, with its links resolved where that is wanted
-abbrev pub document_text : Settings → Spelling → List ℕ
-document_text w s = if w.links
-    then export_linked_text no_frames (options_of w.pretty) s.0 s.1.0 s.1.1
-    else export_text no_frames (options_of w.pretty) s.0 s.1.0 s.1.1
+-- the document that is made of what is spelled
+abbrev pub made_document : Spelling → DocumentView
+made_document s = linked_document_with_head s.info (node_list s.head) s.items s.footnotes
 
--- what is wrong with it
+-- the one that is written: with its links resolved where that is wanted
+abbrev pub written_document : (links : Bool) → DocumentView → DocumentView
+written_document links d = if links then document_with_links d else d
+
+abbrev pub written_root : Settings → Spelling → ElementView
+written_root w s = document_root (written_document w.links (made_document s))
+
+-- the text of a document
+abbrev pub document_text : Settings → Spelling → List ℕ
+document_text w s = html.document_text no_frames (options_of w.pretty) (written_root w s)
+
+-- what is wrong with it: first with making it, and then with its tree
 abbrev pub document_faults : Settings → Spelling → List ExportFaultView
-document_faults w s = if w.links
-    then export_linked_faults w.limit no_frames (options_of w.pretty) s.0 s.1.0 s.1.1
-    else export_faults w.limit no_frames (options_of w.pretty) s.0 s.1.0 s.1.1
+document_faults w s = items_document_faults w.limit s.items s.footnotes
+    ++ root_faults no_frames (options_of w.pretty) (written_root w s)
 
 abbrev pub document_refusals : Settings → Spelling → List Refusal
 document_refusals w s = map fault_refusal (document_faults w s)
@@ -40,7 +53,7 @@ document_input_answer w input at =
 
 -- the links of a document that lead nowhere, where links are wanted
 abbrev pub dead_links : Settings → Spelling → List DeadLinkView
-dead_links w s = if w.links then document_dead_links (linked_document s.0 s.1.0 s.1.1) else []
+dead_links w s = if w.links then document_dead_links (made_document s) else []
 
 -- those of the document that is spelled, if one is
 abbrev pub dead_links_in : Settings → Option (Left Spelling) → List DeadLinkView

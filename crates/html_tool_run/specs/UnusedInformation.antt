@@ -1,12 +1,13 @@
 -- What is known of a document that its text does not show, since its items have a root of their own, as
 -- JSON: the names of the members that tell it.
---     {"unused":["title","description","authors","keywords","lang","region"]}
+--     {"unused":["title","description","authors","keywords","lang","region","head"]}
 use Rattle.std.specs.Prelude.{ℕ, ◌==◌, Bool, List, [], ◌∷◌, ◌++◌, length, map, not, is_some, codes, chars, option_and_then, if◌then◌else◌}
 use Rattle.serde_json.specs.Data.{Data, string, array, object, member, no_members}
 use Rattle.serde_json.specs.View.{items_of}
 use Rattle.serde_json.specs.Written.{compact_text}
 use Rattle.html_dom_document.specs.Documents.{InfoView}
 use Rattle.html_flow_convert.specs.Items.{no_items}
+use Rattle.html_flow_convert.specs.LoneNode.{node_list}
 use Rattle.typst_html_export.specs.Assembled.{items_document_faults}
 use Rattle.typst_html_export.specs.OwnHead.{have_own_root}
 use Rattle.html_tool_run.specs.Answers.{Answer, TextPlace, in_text, answer_if, answer_to, fault_refusal, first_refusal_or_text}
@@ -27,9 +28,14 @@ known_names info = name_if (is_some info.title) (codes "title")
     ++ name_if (is_some info.locale) (codes "lang")
     ++ name_if (is_some (option_and_then (λ l. l.region) info.locale)) (codes "region")
 
+-- those of a document: a head without nodes tells nothing
+abbrev pub told_names : Spelling → List (List ℕ)
+told_names s =
+    known_names s.info ++ name_if (not (length (node_list s.head) == 0)) (codes "head")
+
 -- all of them where the items have a root of their own, and else none
 abbrev pub unused_names : Spelling → List (List ℕ)
-unused_names s = if have_own_root s.1.0 then known_names s.0 else []
+unused_names s = if have_own_root s.items then told_names s else []
 
 abbrev pub unused_data : List (List ℕ) → Data
 unused_data names =
@@ -40,7 +46,7 @@ unused_text s = chars (compact_text (unused_data (unused_names s)))
 
 -- what is wrong with the document of the items, without footnotes
 abbrev pub unused_refusals : (limit : ℕ) → Spelling → List Refusal
-unused_refusals limit s = map fault_refusal (items_document_faults limit s.1.0 no_items)
+unused_refusals limit s = map fault_refusal (items_document_faults limit s.items no_items)
 
 -- names are refused before what else is wrong
 unfoldable pub unused_answer : (limit : ℕ) → Spelling → Answer

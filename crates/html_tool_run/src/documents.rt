@@ -1,12 +1,11 @@
 //! The HTML text of documents with what is known of them and with footnotes.
 
-ghost use Rattle.std.specs.Prelude.{◌≡◌, ◌≤◌, IfOk, Some};
+ghost use Rattle.std.specs.Prelude.{◌≡◌, ◌≤◌, ◌++◌, IfOk, Some};
 ghost use Rattle.serde_json.specs.View.{view};
 ghost use Rattle.html_dom_document.specs.Documents.{document_root};
-ghost use Rattle.html_dom_document.specs.Views.{document_view, info_view};
+ghost use Rattle.html_dom_document.specs.Views.{document_view};
 ghost use Rattle.html_dom_link.specs.DeadLinks.{dead_links_view};
-ghost use Rattle.html_dom_link.specs.Links.{document_dead_links};
-ghost use Rattle.html_flow_convert.specs.Views.{items_view};
+ghost use Rattle.html_dom_link.specs.Links.{document_dead_links, document_with_links};
 ghost use Rattle.typst_html_encode.specs.Endings as written;
 ghost use Rattle.typst_html_encode.specs.ExportFaults as writing;
 ghost use Rattle.typst_html_encode.specs.FrameWriters.{no_frames};
@@ -16,26 +15,27 @@ ghost use Rattle.html_tool_run.specs.Answers.{answer_to};
 ghost use Rattle.html_tool_run.specs.DocumentAnswers.{document_answer, document_input_answer};
 ghost use Rattle.html_tool_run.specs.DocumentAnswers.{document_faults, document_refusals, document_text};
 ghost use Rattle.html_tool_run.specs.DocumentAnswers.{dead_links, dead_links_in, input_dead_links, text_given};
+ghost use Rattle.html_tool_run.specs.DocumentAnswers.{made_document};
+ghost use Rattle.typst_html_export.specs.Assembled.{items_document_faults};
 ghost use Rattle.typst_html_export.specs.Assembles.{GivesDocument};
-ghost use Rattle.typst_html_export.specs.Exported.{export_linked_faults, export_linked_text};
-ghost use Rattle.typst_html_export.specs.Linked.{linked_document};
+ghost use Rattle.typst_html_export.specs.Exported.{root_faults};
 ghost use Rattle.html_tool_spell.specs.Refusals.{Gives};
 ghost use Rattle.html_tool_run.specs.Replies.{GivesAnswer, GivesAnswerAt};
 ghost use Rattle.html_tool_spell.specs.SpelledDocuments.{spelled_document};
 ghost use Rattle.html_tool_spell.specs.Spelling.{spelling_view};
 
 use crate::program::fault_of;
-use html_dom_document::{DocumentInfo, HtmlDocument};
+use crate::unused::has_nodes;
+use html_dom_document::HtmlDocument;
 use html_dom_link::{DeadLink, dead_links, document_with_links};
 use html_dom_tree::HtmlElement;
-use html_flow_convert::Pair;
 use html_names::tag;
 use html_tool_spell::{Fault, SpelledDocument, document_in, parse};
 use serde_json::Value;
 use std::alloc::Global;
 use std::mem;
 use typst_html_encode::{ExportFault, HtmlOptions, html_of};
-use typst_html_export::{export_items, html_document};
+use typst_html_export::{export_items, export_with_head, html_document_with_head};
 
 /// How a document is written.
 #[derive(Clone, Copy, Debug, PartialEq, Eq)]
@@ -94,17 +94,37 @@ fn exported(
     let options = HtmlOptions {
         pretty: settings.pretty,
     };
-    let limit = settings.limit;
+    if settings.links {
+        return linked(alloc, &document, settings.limit, &options);
+    }
+    let text = unlinked(alloc, document, settings.limit, &options);
+    with_dead_links(text, Vec::new(alloc))
+}
+
+/// Where there are no nodes for the head, no item is copied.
+fn unlinked(
+    alloc: Global,
+    document: SpelledDocument,
+    limit: usize,
+    options: &HtmlOptions,
+) -> Result<String, ExportFault>
+    requires some_limit { 1 ≤ limit }
+    requires low_limit { limit ≤ 10000 }
+    ensures { let s = spelling_view document in GivesDocument text_view result
+        (html.document_text no_frames options.now (document_root (made_document s)))
+        (items_document_faults limit s.items s.footnotes
+        ++ root_faults no_frames options.now (document_root (made_document s))) }
+{
     let SpelledDocument {
         info,
         items,
         footnotes,
+        head,
     } = document;
-    if settings.links {
-        return linked(alloc, &items, &info, &footnotes, limit, &options);
+    if has_nodes(&head) {
+        return export_with_head(alloc, &items, &info, &head, &footnotes, limit, options, &());
     }
-    let text = export_items(alloc, items, &info, &footnotes, limit, &options, &());
-    with_dead_links(text, Vec::new(alloc))
+    export_items(alloc, items, &info, &footnotes, limit, options, &())
 }
 
 fn with_dead_links(
@@ -123,24 +143,27 @@ fn with_dead_links(
 
 fn linked(
     alloc: Global,
-    items: &[Pair],
-    info: &DocumentInfo,
-    footnotes: &[Pair],
+    document: &SpelledDocument,
     limit: usize,
     options: &HtmlOptions,
 ) -> Result<DocumentText, ExportFault>
     requires some_limit { 1 ≤ limit }
     requires low_limit { limit ≤ 10000 }
-    ensures text { GivesDocument text_view (text_given result)
-        (export_linked_text no_frames options.now
-        (info_view info.now) (items_view items.now) (items_view footnotes.now))
-        (export_linked_faults limit no_frames options.now
-        (info_view info.now) (items_view items.now) (items_view footnotes.now)) }
+    ensures text { let s = spelling_view document.now in
+        let root = document_root (document_with_links (made_document s)) in
+        GivesDocument text_view (text_given result)
+        (html.document_text no_frames options.now root)
+        (items_document_faults limit s.items s.footnotes ++ root_faults no_frames options.now root) }
     ensures dead { IfOk result (λ made. dead_links_view made.dead_links.items
-        ≡ document_dead_links (linked_document
-        (info_view info.now) (items_view items.now) (items_view footnotes.now))) }
+        ≡ document_dead_links (made_document (spelling_view document.now))) }
 {
-    let made = html_document(alloc, items, info, footnotes, limit)?;
+    let SpelledDocument {
+        info,
+        items,
+        footnotes,
+        head,
+    } = document;
+    let made = html_document_with_head(alloc, items, info, head, footnotes, limit)?;
     let dead = dead_links(alloc, &made)?;
     let document = document_with_links(alloc, made)?;
     with_dead_links(html_of_made(alloc, document, options), dead)
@@ -175,15 +198,19 @@ fn spelled_text(alloc: Global, value: Value, settings: &Settings) -> Result<Docu
 /// The HTML text of the document that an input spells, which is one JSON object.
 ///
 /// Its members are the texts `title`, `description`, `lang` and `region`, the lists of texts `authors`
-/// and `keywords`, and the lists `items` and `footnotes`, which are those of a run. Each may be left
-/// out, but for the `lang` of a `region`. An input that spells something else, another member too, is
-/// bad: before the first list where the object is wrong. The lists of items are numbered from 1 on,
-/// those of the footnotes after those of the items, wherever these members stand. Of two members of one
-/// name the last counts.
+/// and `keywords`, the lists `items` and `footnotes`, which are those of a run, and `head`, a list of
+/// nodes of a tree, which stand at the end of the document's head. Each may be left out, but for the
+/// `lang` of a `region`. An input that spells something else, another member too, is bad: before the
+/// first list where the object is wrong. The lists are numbered from 1 on, through the items, then the
+/// footnotes, then the head, wherever these members stand. Of two members of one name the last counts.
 ///
-/// The text is that of [`export`](typst_html_export::export), or of
-/// [`export_linked`](typst_html_export::export_linked) where links are wanted, and then it is told
-/// which links lead nowhere. Names are refused before what else is wrong.
+/// Its items and footnotes have more forms than those of a run: an element may have css, a start a label
+/// (`["start", n, dest, label]`), an item a role (`["role", role, item]`), and locations may have names
+/// (`["place", name]`, `["link", name]`) in place of numbers.
+///
+/// The text is that of [`export_with_head`](typst_html_export::export_with_head). Where links are wanted,
+/// they get their `href` as by [`export_linked`](typst_html_export::export_linked), and it is told which
+/// links lead nowhere. Names are refused before what else is wrong.
 ///
 /// ```
 /// use html_tool_run::{Settings, text_of_document};

@@ -5,11 +5,12 @@ ghost use Rattle.serde_json.specs.Data.{string};
 ghost use Rattle.serde_json.specs.View.{view};
 ghost use Rattle.serde_json.specs.Written.{compact_text};
 ghost use Rattle.html_dom_document.specs.Views.{info_view};
-ghost use Rattle.html_dom_tree.specs.Views.{text_view};
+ghost use Rattle.html_dom_tree.specs.Views.{nodes_view, text_view};
+ghost use Rattle.html_flow_convert.specs.LoneNode.{node_list};
 ghost use Rattle.html_names.specs.Texts.{texts_view};
 ghost use Rattle.html_tool_run.specs.Answers.{answer_to};
 ghost use Rattle.html_tool_run.specs.Replies.{GivesAnswer, GivesAnswerAt};
-ghost use Rattle.html_tool_run.specs.UnusedInformation.{known_names, name_if, unused_data, unused_text};
+ghost use Rattle.html_tool_run.specs.UnusedInformation.{known_names, name_if, told_names, unused_data, unused_text};
 ghost use Rattle.html_tool_run.specs.UnusedInformation.{unused_answer, unused_input_answer, unused_refusals};
 ghost use Rattle.html_tool_spell.specs.Refusals.{Gives};
 ghost use Rattle.html_tool_spell.specs.SpelledDocuments.{spelled_document};
@@ -17,6 +18,7 @@ ghost use Rattle.html_tool_spell.specs.Spelling.{spelling_view};
 
 use crate::program::fault_of;
 use html_dom_document::{DocumentInfo, Locale};
+use html_dom_tree::HtmlNode;
 use html_tool_spell::{Fault, SpelledDocument, document_in, parse};
 use serde_json::{Value, json};
 use std::alloc::{AllocError, Global};
@@ -26,7 +28,7 @@ use typst_html_export::has_own_root;
 /// all that tell something, where the items have a root of their own
 /// ([`has_own_root`](typst_html_export::has_own_root)), and else none.
 ///
-/// They stand in the order `title`, `description`, `authors`, `keywords`, `lang`, `region`. The input is
+/// They stand in the order `title`, `description`, `authors`, `keywords`, `lang`, `region`, `head`. The input is
 /// that of [`text_of_document`](crate::text_of_document). It is refused as there, but for footnotes and
 /// for what can't be written.
 ///
@@ -65,28 +67,55 @@ fn unused_text(alloc: Global, document: &SpelledDocument, limit: usize) -> Resul
         (unused_refusals limit (spelling_view document.now)) }
 {
     match has_own_root(alloc, &document.items, limit) {
-        Ok(own_root) => Ok(names_text(alloc, own_root, &document.info)?),
+        Ok(own_root) => Ok(names_text(alloc, own_root, document)?),
         Err(fault) => Err(fault_of(&fault)),
     }
 }
 
-fn names_text(alloc: Global, own_root: bool, info: &DocumentInfo) -> Result<String, AllocError>
+fn names_text(
+    alloc: Global,
+    own_root: bool,
+    document: &SpelledDocument,
+) -> Result<String, AllocError>
     ensures { IfOk result (λ text. string_bytes text ≡ compact_text (unused_data
-        (if own_root then known_names (info_view info.now) else []))) }
+        (if own_root then told_names (spelling_view document.now) else []))) }
 {
-    let value = names_value(alloc, own_root, info)?;
+    let value = names_value(alloc, own_root, document)?;
     Ok(value.to_string(alloc)?)
 }
 
-fn names_value(alloc: Global, own_root: bool, info: &DocumentInfo) -> Result<Value, AllocError>
+fn names_value(
+    alloc: Global,
+    own_root: bool,
+    document: &SpelledDocument,
+) -> Result<Value, AllocError>
     ensures { IfOk result (λ value. view value ≡ unused_data
-        (if own_root then known_names (info_view info.now) else [])) }
+        (if own_root then told_names (spelling_view document.now) else [])) }
 {
     let mut names = Vec::new(alloc);
     if own_root {
-        push_known_names(alloc, &mut names, info)?;
+        push_told_names(alloc, &mut names, document)?;
     }
     json!(in alloc; {"unused": names})
+}
+
+fn push_told_names(
+    alloc: Global,
+    names: &mut Vec<Value>,
+    document: &SpelledDocument,
+) -> Result<(), AllocError>
+    ensures { OnOk result (map view names.new.items
+        ≡ map view names.old.items ++ map string (told_names (spelling_view document.now))) }
+{
+    push_known_names(alloc, names, &document.info)?;
+    push_name(alloc, names, "head", has_nodes(&document.head))?;
+    Ok(())
+}
+
+pub(crate) fn has_nodes(nodes: &[HtmlNode]) -> bool
+    ensures { result ≡ not (length (node_list (nodes_view nodes.now)) == 0) }
+{
+    !nodes.is_empty()
 }
 
 fn push_known_names(

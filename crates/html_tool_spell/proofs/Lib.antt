@@ -7,4 +7,5 @@ pub mod NodeRows
 pub mod PairRows
 pub mod Readings
 pub mod Rows
+pub mod Tags
 pub mod ToldBodies

@@ -10,8 +10,9 @@ use Rattle.html_dom_tree.specs.declared.span.Span.{Span}
 use Rattle.html_tool_spell.proofs.Readings.{IsOwnFirst, read_from, refused_whole}
 use Rattle.html_tool_spell.proofs.Rows.{Row, joined}
 use Rattle.html_tool_spell.specs.LeftForms.{Left}
+use Rattle.html_tool_spell.specs.Marks.{Mark, at_start}
 use Rattle.html_tool_spell.specs.NameRefusals.{name_refusals, all_name_refusals, element_refusals}
-use Rattle.html_tool_spell.specs.Reading.{IsRead, AddsNode}
+use Rattle.html_tool_spell.specs.Reading.{mark, IsRead, AddsNode}
 use Rattle.html_tool_spell.specs.Refusals.{IsFirst}
 use Rattle.html_tool_spell.specs.Spelled.{element_made, spelled_node, spelled_all, element_of, spelled_element}
 use Rattle.html_tool_spell.specs.declared.fault.Fault.{Fault}
@@ -49,24 +50,24 @@ pub own_first : IsOwnFirst element_made name_refusals all_name_refusals
 unfolding name_refusals
 own_first span tag pairs kids = refl
 
-told_node : (w : NodeView) (n code : ℕ) (span : Span)
+told_node : (w : NodeView) (m : Mark) (code : ℕ) (span : Span)
     → IsFirst (Refused code span) (name_refusals w)
-    → IsOkAnd (element_of (w, n)) (λ e. IsFirst (Refused code span) (element_refusals e))
+    → IsOkAnd (element_of (w, m)) (λ e. IsFirst (Refused code span) (element_refusals e))
 unfolding name_refusals
-told_node (element_node head kids) n code span h = h
-told_node x n code span h = absurd (cc (h.1))
+told_node (element_node head kids) m code span h = h
+told_node x m code span h = absurd (cc (h.1))
 
 pub told_element : (d : Data) (made : NodeView) (before after : Reader) (code : ℕ) (span : Span)
-    → before.lists ≡ 0 → before.refused ≡ None → after.refused ≡ Some (code, span)
-    → IsRead name_refusals made (spelled_node d before.lists) before after
+    → mark before ≡ at_start → before.refused ≡ None → after.refused ≡ Some (code, span)
+    → IsRead name_refusals made (spelled_node d (mark before)) before after
     → IsOkAnd (spelled_element d) (λ e. IsFirst (Refused code span) (element_refusals e))
 told_element d made before after code span first clear is r =
     rw (← first, r.spelled)
-    (told_node r.whole after.lists code span
-    (refused_whole name_refusals made (spelled_node d before.lists) before after code span clear is r))
+    (told_node r.whole (mark after) code span
+    (refused_whole name_refusals made (spelled_node d (mark before)) before after code span clear is r))
 
 -- a node of a list that was just opened
-pub added_from : (r : Result (Unit {0}) Fault) (wanted : Left (NodeView × ℕ))
+pub added_from : (r : Result (Unit {0}) Fault) (wanted : Left (NodeView × Mark))
     (old new : Vec HtmlNode Global) (before since after : Reader) → since.refused ≡ before.refused
     → AddsNode r wanted old new since after → AddsNode r wanted old new before after
 added_from (Ok done) wanted old new before since after kept h = record {

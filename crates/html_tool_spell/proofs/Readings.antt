@@ -9,8 +9,9 @@ use Rattle.html_dom_tree.specs.Tree.{TextPair}
 use Rattle.html_dom_tree.specs.declared.span.Span.{Span}
 use Rattle.html_tool_spell.specs.Fields.{element_from}
 use Rattle.html_tool_spell.specs.LeftForms.{Left, mapped, and_then, IsLeft}
+use Rattle.html_tool_spell.specs.Marks.{Mark}
 use Rattle.html_tool_spell.specs.NameRefusals.{Refusal, refusals, pairs_refusals, own_refusals}
-use Rattle.html_tool_spell.specs.Reading.{first_of, IsWrong, IsRead, Reads, with_lists}
+use Rattle.html_tool_spell.specs.Reading.{first_of, mark, IsWrong, IsRead, Reads, marked}
 use Rattle.html_tool_spell.specs.Refusals.{IsFirst}
 use Rattle.html_tool_spell.specs.declared.fault.Fault.{Fault}
 use Rattle.html_tool_spell.specs.declared.fault.Fault.TheVariants.{OutOfMemory, BadInput, Refused}
@@ -46,8 +47,8 @@ wrong_by o p OutOfMemory f h = tt
 wrong_by o p (BadInput place) f h = left_by o p place f h
 wrong_by o p (Refused n span) f h = absurd h
 
-pub read_clean : {B : Type 0} (refusals : B → List Refusal) (made : B) (wanted : Left (B × ℕ))
-    (before after : Reader) → wanted ≡ Ok (made, after.lists) → refusals made ≡ []
+pub read_clean : {B : Type 0} (refusals : B → List Refusal) (made : B) (wanted : Left (B × Mark))
+    (before after : Reader) → wanted ≡ Ok (made, mark after) → refusals made ≡ []
     → after.refused ≡ before.refused → IsRead refusals made wanted before after
 read_clean refusals made wanted before after is clean kept = record {
   whole = made;
@@ -57,7 +58,7 @@ read_clean refusals made wanted before after is clean kept = record {
 }
 
 -- read from where as much was refused
-pub read_from : {B : Type 0} (refusals : B → List Refusal) (made : B) (wanted : Left (B × ℕ))
+pub read_from : {B : Type 0} (refusals : B → List Refusal) (made : B) (wanted : Left (B × Mark))
     (before since after : Reader) → since.refused ≡ before.refused
     → IsRead refusals made wanted since after → IsRead refusals made wanted before after
 read_from refusals made wanted before since after kept r = record {
@@ -68,7 +69,7 @@ read_from refusals made wanted before since after kept r = record {
 }
 
 pub reads_from : {A B : Type 0} (view : A → B) (refusals : B → List Refusal) (r : Result A Fault)
-    (wanted : Left (B × ℕ)) (before since after : Reader) → since.refused ≡ before.refused
+    (wanted : Left (B × Mark)) (before since after : Reader) → since.refused ≡ before.refused
     → Reads view refusals r wanted since after → Reads view refusals r wanted before after
 reads_from view refusals (Ok a) wanted before since after kept h =
     read_from refusals (view a) wanted before since after kept h
@@ -76,7 +77,7 @@ reads_from view refusals (Err e) wanted before since after kept h = h
 
 -- a part of something that has the same names
 pub read_mapped : {A B : Type 0} (f : A → B) (ones : A → List Refusal) (others : B → List Refusal)
-    (made : A) (wanted : Left (A × ℕ)) (before after : Reader)
+    (made : A) (wanted : Left (A × Mark)) (before after : Reader)
     → ((a : A) → others (f a) ≡ ones a) → IsRead ones made wanted before after
     → IsRead others (f made) (mapped (λ p. (f p.0, p.1)) wanted) before after
 read_mapped f ones others made wanted before after agrees r = record {
@@ -95,7 +96,7 @@ first_told (r ∷ rs) code span h =
     ap (option_map (λ (p : ℕ × Span). (p.0, p.1.0))) h in
     (rs, cc)
 
-pub refused_whole : {B : Type 0} (refusals : B → List Refusal) (made : B) (wanted : Left (B × ℕ))
+pub refused_whole : {B : Type 0} (refusals : B → List Refusal) (made : B) (wanted : Left (B × Mark))
     (before after : Reader) (code : ℕ) (span : Span) → before.refused ≡ None
     → after.refused ≡ Some (code, span) → (r : IsRead refusals made wanted before after)
     → IsFirst (Refused code span) (refusals r.whole)
@@ -113,28 +114,28 @@ pub name_refused : (fault : List ℕ → Option NameFault) (text made : List ℕ
     (span : Span) (before after : Reader)
     → name.IsFirst f (option_to_list (fault text)) → (name.number_of f ≢ 0) × (after
     ≡ record before { refused = first_of before.refused ((name.number_of f, span.0) ∷ []) })
-    → IsRead (λ t. refusals span.0 (fault t)) made (Ok (text, before.lists)) before after
+    → IsRead (λ t. refusals span.0 (fault t)) made (Ok (text, mark before)) before after
 name_refused fault text made f span before after first noted =
     let told = one_refusal f span.0 (fault text) first noted.0 in
     let seen : after.refused ≡ first_of before.refused (refusals span.0 (fault text)) =
     ap (λ r. r.refused) noted.1 ∙ ap (first_of before.refused) (sym told) in
     record {
       whole = text;
-      spelled = ap (λ r. Ok (text, r.lists)) (sym noted.1);
+      spelled = ap (λ r. Ok (text, mark r)) (sym noted.1);
       noted = seen;
       same = λ h. absurd (cc ((first_of_none before.refused _ (sym seen ∙ h)).1, told));
     }
 
 -- a part, and then the rest
-abbrev pub then_from : {A B C : Type 0} → (f : A → B → C) → Left (A × ℕ)
-    → (rest : ℕ → Left (B × ℕ)) → Left (C × ℕ)
+abbrev pub then_from : {A B C : Type 0} → (f : A → B → C) → Left (A × Mark)
+    → (rest : Mark → Left (B × Mark)) → Left (C × Mark)
 then_from f first rest = and_then (λ p. mapped (λ q. (f p.0 q.0, q.1)) (rest p.1)) first
 
 pub then_read : {A B C : Type 0} (f : A → B → C) (ones : A → List Refusal)
     (alls : B → List Refusal) (both : C → List Refusal)
     → ((a : A) (b : B) → both (f a b) ≡ ones a ++ alls b)
-    → (first : Left (A × ℕ)) (rest : ℕ → Left (B × ℕ)) (x : A) (y : B) (s t u : Reader)
-    → IsRead ones x first s t → IsRead alls y (rest t.lists) t u
+    → (first : Left (A × Mark)) (rest : Mark → Left (B × Mark)) (x : A) (y : B) (s t u : Reader)
+    → IsRead ones x first s t → IsRead alls y (rest (mark t)) t u
     → IsRead both (f x y) (then_from f first rest) s u
 then_read f ones alls both joins first rest x y s t u a b = record {
   whole = f a.whole b.whole;
@@ -155,33 +156,33 @@ IsOwnFirst {A = A} made ones alls = (span : ℕ) (tag : List ℕ) (pairs : List 
     → ones (made span tag pairs inside) ≡ own_refusals span tag pairs ++ alls inside
 
 own_then : {A B : Type 0} (made : List ℕ → List TextPair → A → B) (tag : List ℕ)
-    (pairs : Option (List TextPair)) (inside : ℕ → Left (A × ℕ)) (n : ℕ)
+    (pairs : Option (List TextPair)) (inside : Mark → Left (A × Mark)) (m : Mark)
     → then_from (λ (own : List ℕ × List TextPair) held. made own.0 own.1 held)
-    (then_from (λ t ps. (t, ps)) (Ok (tag, n)) (λ m. with_lists m pairs)) inside
-    ≡ element_from made n (Some tag) pairs (inside n)
-own_then made tag None inside n = refl
-own_then made tag (Some ps) inside n = refl
+    (then_from (λ t ps. (t, ps)) (Ok (tag, m)) (λ n. marked n pairs)) inside
+    ≡ element_from made m (Some tag) pairs (inside m)
+own_then made tag None inside m = refl
+own_then made tag (Some ps) inside m = refl
 
 -- an element of its parts, which are read in its own list
 pub read_element : {A B : Type 0} (made : ℕ → List ℕ → List TextPair → A → B)
     (ones : B → List Refusal) (alls : A → List Refusal) → IsOwnFirst made ones alls
     → (tag tag_made : List ℕ) (pairs : Option (List TextPair)) (pairs_made : List TextPair)
-    (inside : ℕ → Left (A × ℕ)) (inside_made : A) (span : ℕ) (s t u v : Reader)
+    (inside : Mark → Left (A × Mark)) (inside_made : A) (span : ℕ) (s t u v : Reader)
     → span ≡ s.lists
-    → IsRead (λ name. refusals span (tag_fault name)) tag_made (Ok (tag, s.lists)) s t
-    → IsRead (pairs_refusals span) pairs_made (with_lists t.lists pairs) t u
-    → IsRead alls inside_made (inside u.lists) u v
+    → IsRead (λ name. refusals span (tag_fault name)) tag_made (Ok (tag, mark s)) s t
+    → IsRead (pairs_refusals span) pairs_made (marked (mark t) pairs) t u
+    → IsRead alls inside_made (inside (mark u)) u v
     → IsRead ones (made s.lists tag_made pairs_made inside_made)
-    (element_from (made s.lists) s.lists (Some tag) pairs (inside s.lists)) s v
+    (element_from (made s.lists) (mark s) (Some tag) pairs (inside (mark s))) s v
 read_element made ones alls own tag tag_made pairs pairs_made inside inside_made
     span s t u v here a b c =
     let Whole : ℕ → Type 0 = λ k. IsRead ones (made k tag_made pairs_made inside_made)
-    (element_from (made k) s.lists (Some tag) pairs (inside s.lists)) s v in
+    (element_from (made k) (mark s) (Some tag) pairs (inside (mark s))) s v in
     subst Whole here
-    (rw (← own_then (made span) tag pairs inside s.lists)
+    (rw (← own_then (made span) tag pairs inside (mark s))
     (then_read (λ (o : List ℕ × List TextPair) held. made span o.0 o.1 held)
     (λ o. own_refusals span o.0 o.1) alls ones
     (λ o held. own span o.0 o.1 held) _ inside (tag_made, pairs_made) inside_made s u v
     (then_read (λ n ps. (n, ps)) (λ name. refusals span (tag_fault name)) (pairs_refusals span)
-    (λ o. own_refusals span o.0 o.1) (λ n ps. refl) (Ok (tag, s.lists))
-    (λ m. with_lists m pairs) tag_made pairs_made s t u a b) c))
+    (λ o. own_refusals span o.0 o.1) (λ n ps. refl) (Ok (tag, mark s))
+    (λ m. marked m pairs) tag_made pairs_made s t u a b) c))

@@ -1,10 +1,15 @@
 -- The parts of what a JSON value spells, whether it spells a tree or items: texts, numbers and
 -- attributes, and the fields of texts and of tags.
-use Rattle.std.specs.Prelude.{ℕ, List, [], ◌∷◌, chars, Option, Some, None, option_map, option_and_then, Ok}
-use Rattle.serde_json.specs.Data.{Data, Items, no_items, item}
+use Rattle.std.specs.Prelude.{ℕ, List, [], ◌∷◌, chars, true, Option, Some, None, option_map, option_and_then, Ok, Err, if◌then◌else◌}
+use Rattle.serde_json.specs.Data.{Data, null, Items, no_items, item}
 use Rattle.serde_json.specs.Find.{as_str, as_array, as_number, as_u64}
 use Rattle.html_dom_tree.specs.Tree.{TextPair, TagView, starts, ends}
+use Rattle.html_names.specs.NameTables.{with_name}
+use Rattle.html_flow_places.specs.NamedLocations.{location_in}
 use Rattle.html_tool_spell.specs.LeftForms.{Left, mapped, and_then, from_part}
+use Rattle.html_tool_spell.specs.Marks.{Mark, are_there}
+use Rattle.html_tool_spell.specs.declared.input_forms.Forms.{Forms}
+use Rattle.html_tool_spell.specs.declared.input_forms.Forms.TheVariants.{Program, Document}
 
 -- a text's characters
 abbrev pub text_at : Data → Option (List ℕ)
@@ -40,10 +45,24 @@ dest_form no_items = Some None
 dest_form (item d no_items) = option_map Some (whole_at d)
 dest_form _ = None
 
-abbrev pub start_form : Items → Option TagView
-start_form no_items = None
-start_form (item l ds) = option_and_then
+abbrev pub plain_start_form : Items → Option TagView
+plain_start_form no_items = None
+plain_start_form (item l ds) = option_and_then
     (λ d. option_map (λ l. starts l None d) (whole_at l)) (dest_form ds)
+
+-- a destination, or null for none
+abbrev pub dest_at : Data → Option (Option ℕ)
+dest_at null = Some None
+dest_at d = option_map Some (whole_at d)
+
+-- with a label
+abbrev pub labelled_start : (l dest label : Data) → Option TagView
+labelled_start l dest label = option_and_then (λ n. option_and_then (λ t. option_map
+    (λ d. starts n (Some t) d) (dest_at dest)) (text_at label)) (whole_at l)
+
+abbrev pub start_form : Forms → Items → Option TagView
+start_form Document (item l (item dest (item label no_items))) = labelled_start l dest label
+start_form forms fields = plain_start_form fields
 
 abbrev pub end_form : Items → Option TagView
 end_form (item l no_items) = option_map ends (whole_at l)
@@ -53,17 +72,30 @@ abbrev pub no_fields : Items → Option (Unit {0})
 no_fields no_items = Some tt
 no_fields (item d ds) = None
 
--- what holds no other list that is numbered; its own is number n
-abbrev pub leaf : {A B : Type 0} → (made : A → B) → Option A → (n : ℕ) → Left (B × ℕ)
-leaf made fields n = from_part n (λ a. Ok (made a, n)) fields
+-- what holds no other list that is numbered
+abbrev pub leaf : {A B : Type 0} → (made : A → B) → Option A → Mark → Left (B × Mark)
+leaf made fields m = from_part m.lists (λ a. Ok (made a, m)) fields
 
--- an element of number n, made of its tag, its attributes and what it holds
-abbrev pub element_from : {A B : Type 0} → (made : List ℕ → List TextPair → A → B) → (n : ℕ)
-    → (tag : Option (List ℕ)) (pairs : Option (List TextPair)) (inside : Left (A × ℕ)) → Left (B × ℕ)
-element_from made n tag pairs inside = from_part n (λ t. from_part n (λ ps.
+-- a tag whose locations are numbers, beside which there are no names
+abbrev pub numbered_leaf : {B : Type 0} → (made : TagView → B) → Option TagView → Mark
+    → Left (B × Mark)
+numbered_leaf made tag m = from_part m.lists (λ t. if are_there m.names then Err m.lists
+    else Ok (made t, record m { numbered = true })) tag
+
+-- a tag of a name, beside which there are no numbers; `made` tells its location
+abbrev pub named_leaf : {B : Type 0} → (made : (location : ℕ) (name : List ℕ) → B)
+    → Option (List ℕ) → Mark → Left (B × Mark)
+named_leaf made name m = from_part m.lists (λ t. if m.numbered then Err m.lists
+    else Ok (made (location_in m.names t) t, record m { names = with_name m.names t })) name
+
+-- an element in the list that was opened last, made of its tag, its attributes and what it holds
+abbrev pub element_from : {A B : Type 0} → (made : List ℕ → List TextPair → A → B) → Mark
+    → (tag : Option (List ℕ)) (pairs : Option (List TextPair)) (inside : Left (A × Mark))
+    → Left (B × Mark)
+element_from made m tag pairs inside = from_part m.lists (λ t. from_part m.lists (λ ps.
     mapped (λ c. (made t ps c.0, c.1)) inside) pairs) tag
 
 -- the first of a row, and then the rest
-abbrev pub row_from : {A B : Type 0} → (add : A → B → B) → (first : Left (A × ℕ))
-    → (rest : ℕ → Left (B × ℕ)) → Left (B × ℕ)
+abbrev pub row_from : {A B : Type 0} → (add : A → B → B) → (first : Left (A × Mark))
+    → (rest : Mark → Left (B × Mark)) → Left (B × Mark)
 row_from add first rest = and_then (λ p. mapped (λ q. (add p.0 q.0, q.1)) (rest p.1)) first

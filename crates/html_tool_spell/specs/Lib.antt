@@ -2,6 +2,7 @@ pub mod Fields
 pub mod FormKinds
 pub mod Json
 pub mod LeftForms
+pub mod Marks
 pub mod NameRefusals
 pub mod Reading
 pub mod Refusals

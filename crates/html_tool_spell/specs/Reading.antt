@@ -1,28 +1,38 @@
 -- How calls end that read a part of a JSON value: those before a name was refused make what the part
 -- spells, and the others only see that it spells something, or where the form is left.
-use Rattle.std.specs.Prelude.{◌≡◌, ◌≢◌, ℕ, ◌+◌, List, [], ◌∷◌, ◌++◌, Option, Some, None, Result, Ok, MatchResult, String, Vec, vec_len, vec_capacity}
+use Rattle.std.specs.Prelude.{◌≡◌, ◌≢◌, ℕ, ◌+◌, true, false, List, [], ◌∷◌, ◌++◌, Option, Some, None, Result, Ok, MatchResult, String, Vec, vec_len, vec_capacity}
 use Rattle.std.specs.declared.alloc.Global.{Global}
 use Rattle.serde_json.specs.Data.{Data}
 use Rattle.serde_json.specs.View.{view}
 use Rattle.serde_json.specs.declared.value.Value.{Value}
+use Rattle.html_names.specs.NameTables.{with_name}
 use Rattle.html_names.specs.Names.{attr_fault}
 use Rattle.html_names.specs.declared.fault.NameFault.{NameFault}
 use Rattle.html_names.specs.declared.html_attr.HtmlAttr.{HtmlAttr}
 use Rattle.html_dom_tree.specs.Tree.{TextPair, NodeView, NodesView}
 use Rattle.html_dom_tree.specs.Views.{pair_view, attrs_view, node_view, nodes_view}
 use Rattle.html_dom_tree.specs.declared.attrs.HtmlAttrs.{HtmlAttrs}
+use Rattle.html_dom_tree.specs.declared.introspection.Location.{Location}
 use Rattle.html_dom_tree.specs.declared.node.HtmlNode.{HtmlNode}
 use Rattle.html_dom_tree.specs.declared.span.Span.{Span}
 use Rattle.html_flow_convert.specs.Items.{ItemView, ItemsView}
+use Rattle.html_flow_convert.specs.Views as flow
 use Rattle.html_flow_convert.specs.Views.{item_view, items_view}
 use Rattle.html_flow_convert.specs.declared.item.Item.{Item}
 use Rattle.html_flow_convert.specs.declared.item.Pair.{Pair}
+use Rattle.html_flow_places.specs.NamedLocations.{location_in}
 use Rattle.html_tool_spell.specs.LeftForms.{Left, IsLeft, IsInText, from_part}
+use Rattle.html_tool_spell.specs.Marks.{Mark}
 use Rattle.html_tool_spell.specs.NameRefusals.{Refusal, refusals, pairs_refusals, name_refusals, all_name_refusals, item_refusals, items_refusals}
+use Rattle.html_tool_spell.specs.SpelledItems.{Part}
 use Rattle.html_tool_spell.specs.declared.fault.Fault.{Fault}
 use Rattle.html_tool_spell.specs.declared.fault.Fault.TheVariants.{OutOfMemory, BadInput, Refused}
 use Rattle.html_tool_spell.specs.declared.fault.InputPlace.TheVariants.{Form}
 use Rattle.html_tool_spell.specs.declared.reader.Reader.{Reader}
+
+-- what a reader remembers of what was read, apart from refusals
+abbrev pub mark : Reader → Mark
+mark r = record { lists = r.lists; names = r.places; numbered = r.numbered }
 
 -- the first refusal, of what was refused before and then these
 abbrev pub first_of : (before : Option (ℕ × Span)) → List Refusal → Option (ℕ × Span)
@@ -64,25 +74,25 @@ Notes number span r before after = MatchResult r (λ _. (number ≢ 0) × (after
     ≡ record before { refused = first_of before.refused ((number, span.0) ∷ []) })) IsWant
 
 -- something is spelled, and its first refusal is remembered; it was made where nothing is refused
-pub record IsRead {B : Type 0} (refusals : B → List Refusal) (made : B) (wanted : Left (B × ℕ))
+pub record IsRead {B : Type 0} (refusals : B → List Refusal) (made : B) (wanted : Left (B × Mark))
     (before after : Reader) : Type 0 where
   pub whole : B
-  pub spelled : wanted ≡ Ok (whole, after.lists)
+  pub spelled : wanted ≡ Ok (whole, mark after)
   pub noted : after.refused ≡ first_of before.refused (refusals whole)
   pub same : after.refused ≡ None → made ≡ whole
 
 -- a part was read, or the form is left in it
 abbrev pub Reads : {A B : Type 0} → (view : A → B) → (refusals : B → List Refusal)
-    → Result A Fault → Left (B × ℕ) → (before after : Reader) → Type 0
+    → Result A Fault → Left (B × Mark) → (before after : Reader) → Type 0
 Reads view refusals r wanted before after =
     MatchResult r (λ a. IsRead refusals (view a) wanted before after) (IsWrong wanted)
 
-abbrev pub ReadsNode : Result HtmlNode Fault → Left (NodeView × ℕ) → (before after : Reader)
+abbrev pub ReadsNode : Result HtmlNode Fault → Left (NodeView × Mark) → (before after : Reader)
     → Type 0
 ReadsNode = Reads node_view name_refusals
 
 -- a node was read and added to others, of which there may be as many as before
-pub record IsAdded (wanted : Left (NodeView × ℕ)) (old new : Vec HtmlNode Global)
+pub record IsAdded (wanted : Left (NodeView × Mark)) (old new : Vec HtmlNode Global)
     (before after : Reader) : Type 0 where
   pub made : HtmlNode
   pub added : new.items ≡ old.items ++ made ∷ []
@@ -91,37 +101,60 @@ pub record IsAdded (wanted : Left (NodeView × ℕ)) (old new : Vec HtmlNode Glo
   pub read : IsRead name_refusals (node_view made) wanted before after
 
 -- a part was read as a node that was added to others, or the form is left in it
-abbrev pub AddsNode : Result (Unit {0}) Fault → Left (NodeView × ℕ)
+abbrev pub AddsNode : Result (Unit {0}) Fault → Left (NodeView × Mark)
     → (old new : Vec HtmlNode Global) → (before after : Reader) → Type 0
 AddsNode r wanted old new before after =
     MatchResult r (λ _. IsAdded wanted old new before after) (IsWrong wanted)
 
-abbrev pub ReadsNodes : Result (Vec HtmlNode Global) Fault → Left (NodesView × ℕ)
+abbrev pub ReadsNodes : Result (Vec HtmlNode Global) Fault → Left (NodesView × Mark)
     → (before after : Reader) → Type 0
 ReadsNodes = Reads (λ nodes. nodes_view nodes.items) all_name_refusals
 
-abbrev pub ReadsItem : Result Item Fault → Left (ItemView × ℕ) → (before after : Reader) → Type 0
+abbrev pub ReadsItem : Result Item Fault → Left (ItemView × Mark) → (before after : Reader) → Type 0
 ReadsItem = Reads item_view item_refusals
 
-abbrev pub ReadsItems : Result (Vec Pair Global) Fault → Left (ItemsView × ℕ)
+abbrev pub ReadsItems : Result (Vec Pair Global) Fault → Left (ItemsView × Mark)
     → (before after : Reader) → Type 0
 ReadsItems = Reads (λ pairs. items_view pairs.items) items_refusals
 
--- what has no list that is numbered, behind so many
-abbrev pub with_lists : {A : Type 0} → (lists : ℕ) → Option A → Left (A × ℕ)
-with_lists lists = from_part lists (λ a. Ok (a, lists))
+abbrev pub part_refusals : Part → List Refusal
+part_refusals p = item_refusals p.0
+
+abbrev pub ReadsPart : Result Pair Fault → Left (Part × Mark) → (before after : Reader) → Type 0
+ReadsPart = Reads flow.pair_view part_refusals
+
+-- what has no list that is numbered
+abbrev pub marked : {A : Type 0} → Mark → Option A → Left (A × Mark)
+marked m = from_part m.lists (λ a. Ok (a, m))
+
+-- a part without names that are judged, which is read in the list that was opened last
+abbrev pub ReadsHere : {A B : Type 0} → (view : A → B) → Result A Fault → Option B → Reader
+    → Type 0
+ReadsHere view r wanted reader =
+    MatchResult r (λ a. wanted ≡ Some (view a)) (IsWrong (marked (mark reader) wanted))
+
+-- a name has a location; where there are numbers, it has none, memory aside
+abbrev pub IsBesideNumbers : Reader → Fault → Type 0
+IsBesideNumbers reader OutOfMemory = Unit {0}
+IsBesideNumbers reader (BadInput place) = (reader.numbered ≡ true) × (place ≡ Form reader.lists)
+IsBesideNumbers reader (Refused number span) = ⊥
+
+abbrev pub Locates : (name : List ℕ) → Result Location Fault → (before after : Reader) → Type 0
+Locates name r before after = MatchResult r (λ l. (before.numbered ≡ false)
+    × (l.0 ≡ location_in before.places name)
+    × (after ≡ record before { places = with_name before.places name })) (IsBesideNumbers before)
 
 abbrev pub ReadsName : (fault : List ℕ → Option NameFault) → Span → Result (List ℕ) Fault
     → (text : List ℕ) → (before after : Reader) → Type 0
 ReadsName fault span r text before = Reads (λ name. name) (λ t. refusals span.0 (fault t)) r
-    (Ok (text, before.lists)) before
+    (Ok (text, mark before)) before
 
 abbrev pub ReadsPair : Span → Result (HtmlAttr × String Global) Fault → Option TextPair
     → (before after : Reader) → Type 0
 ReadsPair span r wanted before = Reads pair_view (λ p. refusals span.0 (attr_fault p.0)) r
-    (with_lists before.lists wanted) before
+    (marked (mark before) wanted) before
 
 abbrev pub ReadsPairs : Span → Result HtmlAttrs Fault → Option (List TextPair)
     → (before after : Reader) → Type 0
 ReadsPairs span r wanted before =
-    Reads attrs_view (pairs_refusals span.0) r (with_lists before.lists wanted) before
+    Reads attrs_view (pairs_refusals span.0) r (marked (mark before) wanted) before

@@ -4,12 +4,16 @@
 -- The spans are the numbers of these lists, from 1 on, in the order of their opening brackets. Where a
 -- value spells no tree, the form is left at the number of the last list that is opened, 0 before the
 -- first: a list that is none of these is opened, and nothing in it is looked at.
-use Rattle.std.specs.Prelude.{ℕ, ◌+◌, List, [], false, codes, bytes_eq, None, Ok, Err, if◌then◌else◌}
+use Rattle.std.specs.Prelude.{ℕ, List, [], false, None, Ok, Err}
 use Rattle.serde_json.specs.Data.{Data, array, Items, no_items, item}
-use Rattle.serde_json.specs.Find.{as_str}
 use Rattle.html_dom_tree.specs.Tree.{TextPair, Head, NodeView, tag_node, text_node, element_node, frame_node, NodesView, none, node, ElementView}
-use Rattle.html_tool_spell.specs.Fields.{text_at, pairs_at, text_form, start_form, end_form, leaf, element_from, row_from}
+use Rattle.html_tool_spell.specs.Fields.{text_at, pairs_at, text_form, plain_start_form, end_form, leaf, numbered_leaf, element_from, row_from}
+use Rattle.html_tool_spell.specs.FormKinds.{list_kind}
 use Rattle.html_tool_spell.specs.LeftForms.{Left, and_then, from_part}
+use Rattle.html_tool_spell.specs.Marks.{Mark, opened, at_start}
+use Rattle.html_tool_spell.specs.declared.input_forms.Forms.TheVariants.{Program}
+use Rattle.html_tool_spell.specs.declared.kind.Kind.{Kind}
+use Rattle.html_tool_spell.specs.declared.kind.Kind.TheVariants.{Text, Element, Start, End}
 
 abbrev pub spelled_head : (tag : List ℕ) (pairs : List TextPair) (span : ℕ) → Head
 spelled_head tag pairs span =
@@ -18,54 +22,54 @@ spelled_head tag pairs span =
 abbrev pub element_made : (span : ℕ) → List ℕ → List TextPair → NodesView → NodeView
 element_made span tag pairs kids = element_node (spelled_head tag pairs span) kids
 
-abbrev pub kind_from : (kind : List ℕ) (n : ℕ)
-    (as_text as_element as_start as_end : Left (NodeView × ℕ)) → Left (NodeView × ℕ)
-kind_from k n as_text as_element as_start as_end =
-    if bytes_eq k (codes "text") then as_text else (if bytes_eq k (codes "el") then as_element
-    else (if bytes_eq k (codes "start") then as_start
-    else (if bytes_eq k (codes "end") then as_end else Err n)))
-
-abbrev pub spelled_text : Items → ℕ → Left (NodeView × ℕ)
-spelled_text fields n = leaf (λ t. text_node t n) (text_form fields) n
-
--- the node that a value spells behind n lists, and how many lists are opened then
-abbrev mutual
-  pub spelled_node : Data → ℕ → Left (NodeView × ℕ)
-  spelled_node (array items) n = form items (n + 1)
-  spelled_node _ n = Err n
-
-  -- that of the list of number n
-  pub form : Items → ℕ → Left (NodeView × ℕ)
-  form no_items n = Err n
-  form (item kind fields) n = from_part n (λ k. kind_from k n (spelled_text fields n)
-      (element_form fields n) (leaf tag_node (start_form fields) n)
-      (leaf tag_node (end_form fields) n)) (as_str kind)
-
-  pub element_form : Items → ℕ → Left (NodeView × ℕ)
-  element_form (item tag (item attrs (item children no_items))) n =
-      element_from (element_made n) n (text_at tag) (pairs_at attrs) (list_at children n)
-  element_form _ n = Err n
-
-  pub list_at : Data → ℕ → Left (NodesView × ℕ)
-  list_at (array items) n = spelled_all items n
-  list_at _ n = Err n
-
-  pub spelled_all : Items → ℕ → Left (NodesView × ℕ)
-  spelled_all no_items n = Ok (none, n)
-  spelled_all (item d ds) n = row_from node (spelled_node d n) (spelled_all ds)
+abbrev pub spelled_text : Items → Mark → Left (NodeView × Mark)
+spelled_text fields m = leaf (λ t. text_node t m.lists) (text_form fields) m
 
 -- a node of that kind
-abbrev pub kind_form : (kind : List ℕ) → Items → (n : ℕ) → Left (NodeView × ℕ)
-kind_form k fields n = kind_from k n (spelled_text fields n) (element_form fields n)
-    (leaf tag_node (start_form fields) n) (leaf tag_node (end_form fields) n)
+abbrev pub kind_from : Kind → Items → (m : Mark) → (as_element : Left (NodeView × Mark))
+    → Left (NodeView × Mark)
+kind_from Text fields m as_element = spelled_text fields m
+kind_from Element fields m as_element = as_element
+kind_from Start fields m as_element = numbered_leaf tag_node (plain_start_form fields) m
+kind_from End fields m as_element = numbered_leaf tag_node (end_form fields) m
+kind_from kind fields m as_element = Err m.lists
+
+-- the node that a value spells behind what was read, and what is remembered then
+abbrev mutual
+  pub spelled_node : Data → Mark → Left (NodeView × Mark)
+  spelled_node (array items) m = form items (opened m)
+  spelled_node _ m = Err m.lists
+
+  -- that of the list that was opened last
+  pub form : Items → Mark → Left (NodeView × Mark)
+  form no_items m = Err m.lists
+  form (item kind fields) m = from_part m.lists
+      (λ k. kind_from k fields m (element_form fields m)) (list_kind Program (item kind fields))
+
+  pub element_form : Items → Mark → Left (NodeView × Mark)
+  element_form (item tag (item attrs (item children no_items))) m =
+      element_from (element_made m.lists) m (text_at tag) (pairs_at attrs) (list_at children m)
+  element_form _ m = Err m.lists
+
+  pub list_at : Data → Mark → Left (NodesView × Mark)
+  list_at (array items) m = spelled_all items m
+  list_at _ m = Err m.lists
+
+  pub spelled_all : Items → Mark → Left (NodesView × Mark)
+  spelled_all no_items m = Ok (none, m)
+  spelled_all (item d ds) m = row_from node (spelled_node d m) (spelled_all ds)
+
+-- a node of that kind, in the list that was opened last
+abbrev pub node_of_kind : Kind → Items → Mark → Left (NodeView × Mark)
+node_of_kind kind fields m = kind_from kind fields m (element_form fields m)
 
 -- the element that the first list spells
-abbrev pub element_of : NodeView × ℕ → Left ElementView
-element_of (element_node h kids, n) = Ok (h, kids)
-element_of (tag_node t, n) = Err 1
-element_of (text_node s span, n) = Err 1
-element_of (frame_node b, n) = Err 1
+abbrev pub element_of : NodeView × Mark → Left ElementView
+element_of (element_node h kids, m) = Ok (h, kids)
+element_of (tag_node t, m) = Err 1
+element_of (text_node s span, m) = Err 1
+element_of (frame_node b, m) = Err 1
 
 -- the element that a value spells
 abbrev pub spelled_element : Data → Left ElementView
-spelled_element d = and_then element_of (spelled_node d 0)
+spelled_element d = and_then element_of (spelled_node d at_start)

@@ -1,21 +1,27 @@
--- The document that a JSON object spells: what is known of it, its items and its footnotes.
+-- The document that a JSON object spells: what is known of it, its items, its footnotes and nodes for
+-- its head.
 --     {"title": t, "description": t, "authors": [t, ..], "keywords": [t, ..], "lang": t, "region": t,
---      "items": [item, ..], "footnotes": [item, ..]}
+--      "items": [item, ..], "footnotes": [item, ..], "head": [node, ..]}
 -- Each member may be left out; a region stands only beside a language. An object with another member
--- spells nothing. Names of items are not judged here. The spans are the numbers of the lists of items,
--- from 1 on, those of the footnotes after those of the items. Where the object is wrong, or there is
--- none, the form is left before the first list.
+-- spells nothing. Items have the forms of documents, in which names of places stand for all of them.
+-- Names of items are not judged here. The spans are the numbers of the lists of items
+-- and nodes, from 1 on, through the items, then the footnotes, then the head. Where the object is wrong,
+-- or there is none, the form is left before the first list.
 use Rattle.std.specs.Prelude.{ℕ, List, [], ◌∷◌, ◌++◌, codes, bytes_eq, Option, Some, None, option_map, option_and_then, if◌then◌else◌}
 use Rattle.serde_json.specs.Data.{Data, array, Items, no_items, item, Members, no_members, member}
 use Rattle.serde_json.specs.Find.{as_array, as_object}
 use Rattle.html_dom_document.specs.Documents.{InfoView, LocaleView, locale_of, no_info}
+use Rattle.html_dom_tree.specs.Tree.{NodesView}
 use Rattle.html_flow_convert.specs.Items.{ItemsView}
 use Rattle.html_tool_spell.specs.Fields.{text_at}
 use Rattle.html_tool_spell.specs.LeftForms.{Left, mapped, and_then, from_part}
-use Rattle.html_tool_spell.specs.NameRefusals.{Refusal, items_refusals}
+use Rattle.html_tool_spell.specs.Marks.{Mark, at_start}
+use Rattle.html_tool_spell.specs.NameRefusals.{Refusal, items_refusals, all_name_refusals}
+use Rattle.html_tool_spell.specs.Spelled as tree
 use Rattle.html_tool_spell.specs.SpelledItems.{list_at}
 use Rattle.html_tool_spell.specs.declared.field.Field.{Field}
 use Rattle.html_tool_spell.specs.declared.field.Field.TheVariants.{Title, Description, Authors, Keywords, Lang, Region}
+use Rattle.html_tool_spell.specs.declared.input_forms.Forms.TheVariants.{Document}
 
 -- the field of that name
 abbrev pub named_field : (name : List ℕ) → Option Field
@@ -49,15 +55,22 @@ with_field info Lang d = option_map (λ t. record info { locale = Some (locale_o
 with_field info Region d = option_and_then (λ t. option_map (λ l. record info { locale = Some l })
     (with_region info.locale t)) (text_at d)
 
--- what an object tells of a document: what is known, and the values of its items and footnotes
+-- what an object tells of a document: what is known, and the values of its items, its footnotes and its
+-- head
 pub record ToldView : Type 0 where
   pub info : InfoView
   pub items : Data
   pub footnotes : Data
+  pub head : Data
 
--- nothing is known, and there are no items and no footnotes
+-- nothing is known, and all lists are empty
 abbrev pub nothing_told : ToldView
-nothing_told = record { info = no_info; items = array no_items; footnotes = array no_items }
+nothing_told = record {
+  info = no_info;
+  items = array no_items;
+  footnotes = array no_items;
+  head = array no_items;
+}
 
 -- what is told, and one field more
 abbrev pub with_known : ToldView → (name : List ℕ) → Data → Option ToldView
@@ -68,7 +81,8 @@ with_known told name d = option_map (λ info. record told { info = info })
 abbrev pub with_member : ToldView → (name : List ℕ) → Data → Option ToldView
 with_member told name d = if bytes_eq name (codes "items") then Some (record told { items = d })
     else (if bytes_eq name (codes "footnotes") then Some (record told { footnotes = d })
-    else with_known told name d)
+    else (if bytes_eq name (codes "head") then Some (record told { head = d })
+    else with_known told name d))
 
 -- what is told, and the members of an object more, which stand in the order of their names: "lang"
 -- before "region"
@@ -80,21 +94,29 @@ with_members told (member name d ms) =
 abbrev pub told_at : Data → Option ToldView
 told_at d = option_and_then (with_members nothing_told) (as_object d)
 
--- the items and the footnotes, whose lists are numbered on
-abbrev pub bodies_at : (items notes : Data) → Left (ItemsView × ItemsView)
-bodies_at items notes =
-    and_then (λ p. mapped (λ q. (p.0, q.0)) (list_at notes p.1)) (list_at items 0)
+-- what is known, the items, the footnotes, and the nodes for the head
+pub record Spelling : Type 0 where
+  pub info : InfoView
+  pub items : ItemsView
+  pub footnotes : ItemsView
+  pub head : NodesView
 
--- what is known, the items and the footnotes
-abbrev pub Spelling : Type 0
-Spelling = InfoView × (ItemsView × ItemsView)
-
--- of the names of the items, and then of the footnotes
+-- of the names of the items, then of the footnotes, and then of the head
 abbrev pub names_refusals : Spelling → List Refusal
-names_refusals s = items_refusals s.1.0 ++ items_refusals s.1.1
+names_refusals s =
+    items_refusals s.items ++ items_refusals s.footnotes ++ all_name_refusals s.head
 
+-- with the nodes for the head, which are read behind the others
+abbrev pub with_head : InfoView → (items notes : ItemsView) → (head : Data) → Mark → Left Spelling
+with_head info items notes head m = mapped
+    (λ nodes. record { info = info; items = items; footnotes = notes; head = nodes.0 })
+    (tree.list_at head m)
+
+-- the items, the footnotes and the head in a row
 abbrev pub spelling_from : ToldView → Left Spelling
-spelling_from told = mapped (λ bodies. (told.info, bodies)) (bodies_at told.items told.footnotes)
+spelling_from told = and_then (λ items. and_then (λ notes.
+    with_head told.info items.0 notes.0 told.head notes.1)
+    (list_at Document told.footnotes items.1)) (list_at Document told.items at_start)
 
 -- the document that a value spells
 abbrev pub spelled_document : Data → Left Spelling

@@ -3,7 +3,7 @@ use Rattle.std.specs.Prelude.{◌≡◌, List, [], Result, Ok, IsOkAnd, MatchRes
 use Rattle.std.specs.declared.alloc.Global.{Global}
 use Rattle.serde_json.specs.View.{view}
 use Rattle.html_dom_tree.specs.Tree.{ElementView}
-use Rattle.html_dom_tree.specs.Views.{element_view}
+use Rattle.html_dom_tree.specs.Views.{element_view, nodes_view}
 use Rattle.html_dom_tree.specs.declared.node.HtmlElement.{HtmlElement}
 use Rattle.html_dom_document.specs.Views.{info_view}
 use Rattle.html_flow_convert.specs.Items.{ItemsView}
@@ -43,10 +43,16 @@ told_view told = record {
   info = info_view told.info;
   items = view told.items;
   footnotes = view told.footnotes;
+  head = view told.head;
 }
 
 abbrev pub spelling_view : SpelledDocument → Spelling
-spelling_view d = (info_view d.info, (items_view d.items.items, items_view d.footnotes.items))
+spelling_view d = record {
+  info = info_view d.info;
+  items = items_view d.items.items;
+  footnotes = items_view d.footnotes.items;
+  head = nodes_view d.head.items;
+}
 
 abbrev pub GivesSpelledDocument : Result SpelledDocument Fault → Left Spelling → Type 0
 GivesSpelledDocument = GivesSpelled spelling_view names_refusals

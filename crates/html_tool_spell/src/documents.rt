@@ -1,4 +1,5 @@
-//! What is known of a document, its items and its footnotes, as a JSON value spells them.
+//! What is known of a document, its items, its footnotes and the nodes for its head, as a JSON value
+//! spells them.
 
 ghost use Rattle.std.specs.Prelude.{◌≡◌};
 ghost use Rattle.serde_json.specs.View.{view};
@@ -9,9 +10,12 @@ ghost use Rattle.html_tool_spell.specs.Spelling.{GivesSpelledDocument, told_view
 
 use crate::fault::{Fault, InputPlace};
 use crate::field::{named_field, with_field};
+use crate::input_forms::Forms;
 use crate::items::list_of;
+use crate::nodes;
 use crate::reader::Reader;
 use html_dom_document::DocumentInfo;
+use html_dom_tree::HtmlNode;
 use html_flow_convert::Pair;
 use serde_json::Value;
 use std::alloc::Global;
@@ -22,6 +26,7 @@ pub(crate) struct Told {
     info: DocumentInfo,
     items: Value,
     footnotes: Value,
+    head: Value,
 }
 
 impl Told {
@@ -32,6 +37,7 @@ impl Told {
             info: DocumentInfo::new(alloc),
             items: Value::Array(Vec::new(alloc)),
             footnotes: Value::Array(Vec::new(alloc)),
+            head: Value::Array(Vec::new(alloc)),
         }
     }
 }
@@ -61,6 +67,10 @@ fn with_member(alloc: Global, told: Told, name: &str, value: Value) -> Result<To
             footnotes: value,
             ..told
         }),
+        "head" => Ok(Told {
+            head: value,
+            ..told
+        }),
         _ => with_known(alloc, told, name, value),
     }
 }
@@ -82,9 +92,12 @@ pub struct SpelledDocument {
     pub items: Vec<Pair>,
     /// Its footnotes.
     pub footnotes: Vec<Pair>,
+    /// Nodes for its head.
+    pub head: Vec<HtmlNode>,
 }
 
-/// The document that a value spells, where no name in it is refused: made of the texts of a value, which
+/// The document that a value spells, where no name in it is refused. Its items have the forms of
+/// documents: more than those of [`items_in`](crate::items_in). It is made of the texts of a value, which
 /// is gone where nothing is made.
 pub fn document_in(alloc: Global, value: Value) -> Result<SpelledDocument, Fault>
     ensures { GivesSpelledDocument result (spelled_document (view value)) }
@@ -100,16 +113,19 @@ fn document_by(alloc: Global, told: Told) -> Result<SpelledDocument, Fault>
         info,
         items,
         footnotes,
+        head,
     } = told;
     let mut reader = Reader::new(alloc);
-    let items = list_of(&mut reader, items)?;
-    let footnotes = list_of(&mut reader, footnotes)?;
+    let items = list_of(&mut reader, Forms::Document, items)?;
+    let footnotes = list_of(&mut reader, Forms::Document, footnotes)?;
+    let head = nodes::list_of(&mut reader, head)?;
     match reader.refused() {
         Some((number, span)) => Err(Fault::Refused(number, span)),
         None => Ok(SpelledDocument {
             info,
             items,
             footnotes,
+            head,
         }),
     }
 }

@@ -4,8 +4,11 @@ ghost use Rattle.std.specs.Prelude.{◌≡◌, ◌≢◌, length, drop, option_m
 ghost use Rattle.serde_json.specs.View.{view, items_view};
 ghost use Rattle.html_dom_tree.specs.Tree.{TextPair};
 ghost use Rattle.html_dom_tree.specs.Views.{tag_view, text_view};
-ghost use Rattle.html_tool_spell.specs.Fields.{text_at, pair_at, pair_form, text_form, start_form, end_form, no_fields};
+ghost use Rattle.html_tool_spell.specs.Fields.{text_at, pair_at, pair_form, text_form, end_form, no_fields};
+ghost use Rattle.html_tool_spell.specs.Fields.{dest_at, labelled_start, plain_start_form, start_form};
+ghost use Rattle.html_tool_spell.specs.declared.input_forms.Forms.TheVariants.{Document};
 
+use crate::input_forms::Forms;
 use html_dom_tree::{Location, Tag};
 use serde_json::Value;
 
@@ -60,8 +63,52 @@ fn texts_at(name: Value, value: Value) -> Option<(String, String)>
 }
 
 #[tactic(auto, using(crate::proofs::Forms::forms))]
-pub(crate) fn start_in(list: Vec<Value>) -> Option<Tag>
-    ensures { option_map tag_view result ≡ start_form (items_view (drop 1 list.items)) }
+pub(crate) fn start_in(forms: Forms, list: Vec<Value>) -> Option<Tag>
+    ensures { option_map tag_view result ≡ start_form forms (items_view (drop 1 list.items)) }
+{
+    match forms {
+        Forms::Program => plain_start_in(list),
+        Forms::Document => {
+            if list.len() == 4 {
+                labelled_start_in(list)
+            } else {
+                plain_start_in(list)
+            }
+        }
+    }
+}
+
+fn labelled_start_in(list: Vec<Value>) -> Option<Tag>
+    requires { length list.items ≡ 4 }
+    ensures { option_map tag_view result ≡ start_form Document (items_view (drop 1 list.items)) }
+{
+    let [_, location, dest, label] = parts_of::<4>(list)?;
+    labelled_start(location, dest, label)
+}
+
+fn labelled_start(location: Value, dest: Value, label: Value) -> Option<Tag>
+    ensures { option_map tag_view result
+        ≡ labelled_start (view location) (view dest) (view label) }
+{
+    Some(Tag::Start {
+        location: Location(location.as_u64()?),
+        label: Some(text_at(label)?),
+        dest: dest_at(dest)?,
+    })
+}
+
+fn dest_at(value: Value) -> Option<Option<Location>>
+    ensures { option_map (option_map (λ l. l.0)) result ≡ dest_at (view value) }
+{
+    match value {
+        Value::Null => Some(None),
+        value => Some(Some(Location(value.as_u64()?))),
+    }
+}
+
+#[tactic(auto, using(crate::proofs::Forms::forms))]
+pub(crate) fn plain_start_in(list: Vec<Value>) -> Option<Tag>
+    ensures { option_map tag_view result ≡ plain_start_form (items_view (drop 1 list.items)) }
 {
     let (location, dest) = match list.as_slice() {
         [_, location] => (location, None),

@@ -13,6 +13,7 @@ mod documents;
 mod fault;
 mod field;
 mod fields;
+mod input_forms;
 mod items;
 mod json;
 mod kind;

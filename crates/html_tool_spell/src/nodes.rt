@@ -4,14 +4,15 @@ ghost use Rattle.std.specs.Prelude.{◌≡◌, ◌<◌, drop, option_map, vec_le
 ghost use Rattle.serde_json.specs.View.{view, items_view};
 ghost use Rattle.html_dom_tree.specs.Tree.{tag_node};
 ghost use Rattle.html_dom_tree.specs.Views.{tag_view};
-ghost use Rattle.html_tool_spell.specs.Fields.{leaf, text_at, pairs_at, element_from};
-ghost use Rattle.html_tool_spell.specs.FormKinds.{node_of_kind};
-ghost use Rattle.html_tool_spell.specs.Reading.{AddsNode, ReadsNode, ReadsNodes};
-ghost use Rattle.html_tool_spell.specs.Spelled.{spelled_element, spelled_node, form, spelled_text, element_form, element_made, list_at};
+ghost use Rattle.html_tool_spell.specs.Fields.{numbered_leaf, text_at, pairs_at, element_from};
+ghost use Rattle.html_tool_spell.specs.Reading.{AddsNode, ReadsNode, ReadsNodes, mark};
+ghost use Rattle.html_tool_spell.specs.Spelled.{spelled_element, spelled_node, form, node_of_kind, spelled_text};
+ghost use Rattle.html_tool_spell.specs.Spelled.{element_form, element_made, list_at};
 ghost use Rattle.html_tool_spell.specs.Spelling.{GivesElement};
 
 use crate::fault::{Fault, InputPlace};
-use crate::fields::{end_in, parts_of, start_in, text_at, text_in};
+use crate::fields::{end_in, parts_of, plain_start_in, text_at, text_in};
+use crate::input_forms::Forms;
 use crate::kind::{Kind, list_kind};
 use crate::reader::Reader;
 use html_dom_tree::{HtmlElement, HtmlNode, Tag};
@@ -46,7 +47,7 @@ pub fn into_element(alloc: Global, value: Value) -> Result<HtmlElement, Fault>
 }
 
 fn node_in(reader: &mut Reader, value: Value) -> Result<HtmlNode, Fault>
-    ensures { ReadsNode result (spelled_node (view value) reader.old.lists) reader.old reader.new }
+    ensures { ReadsNode result (spelled_node (view value) (mark reader.old)) reader.old reader.new }
 {
     let mut nodes = Vec::with_capacity(reader.alloc(), 1)?;
     push_node(reader, &mut nodes, value)?;
@@ -56,7 +57,7 @@ fn node_in(reader: &mut Reader, value: Value) -> Result<HtmlNode, Fault>
 #[cycle(spell)]
 fn push_node(reader: &mut Reader, nodes: &mut Vec<HtmlNode>, value: Value) -> Result<(), Fault>
     requires { vec_len nodes.old < vec_capacity nodes.old }
-    ensures { AddsNode result (spelled_node (view value) reader.old.lists)
+    ensures { AddsNode result (spelled_node (view value) (mark reader.old))
         nodes.old nodes.new reader.old reader.new }
 {
     let Value::Array(list) = value else {
@@ -70,10 +71,10 @@ fn push_node(reader: &mut Reader, nodes: &mut Vec<HtmlNode>, value: Value) -> Re
 #[cycle(spell)]
 fn push_list(reader: &mut Reader, nodes: &mut Vec<HtmlNode>, list: Vec<Value>) -> Result<(), Fault>
     requires { vec_len nodes.old < vec_capacity nodes.old }
-    ensures { AddsNode result (form (items_view list.items) reader.old.lists)
+    ensures { AddsNode result (form (items_view list.items) (mark reader.old))
         nodes.old nodes.new reader.old reader.new }
 {
-    match list_kind(&list) {
+    match list_kind(Forms::Program, &list) {
         Some(kind) => push_form(reader, nodes, kind, list),
         None => Err(reader.left()),
     }
@@ -87,21 +88,22 @@ fn push_form(
     list: Vec<Value>,
 ) -> Result<(), Fault>
     requires { vec_len nodes.old < vec_capacity nodes.old }
-    ensures { AddsNode result (node_of_kind kind (items_view (drop 1 list.items)) reader.old.lists)
+    ensures { AddsNode result (node_of_kind kind (items_view (drop 1 list.items)) (mark reader.old))
         nodes.old nodes.new reader.old reader.new }
 {
     match kind {
         Kind::Text => push_text(reader, nodes, list),
         Kind::Element => push_element(reader, nodes, list),
-        Kind::Start => push_tag(reader, nodes, start_in(list)),
+        Kind::Start => push_tag(reader, nodes, plain_start_in(list)),
         Kind::End => push_tag(reader, nodes, end_in(list)),
         Kind::Block | Kind::Box | Kind::Space | Kind::Break | Kind::Hole => Err(reader.left()),
+        Kind::Place | Kind::Link | Kind::Role => Err(reader.left()),
     }
 }
 
 fn push_text(reader: &Reader, nodes: &mut Vec<HtmlNode>, list: Vec<Value>) -> Result<(), Fault>
     requires { vec_len nodes.old < vec_capacity nodes.old }
-    ensures { AddsNode result (spelled_text (items_view (drop 1 list.items)) reader.now.lists)
+    ensures { AddsNode result (spelled_text (items_view (drop 1 list.items)) (mark reader.now))
         nodes.old nodes.new reader.now reader.now }
 {
     match text_in(list) {
@@ -113,18 +115,14 @@ fn push_text(reader: &Reader, nodes: &mut Vec<HtmlNode>, list: Vec<Value>) -> Re
     }
 }
 
-fn push_tag(reader: &Reader, nodes: &mut Vec<HtmlNode>, tag: Option<Tag>) -> Result<(), Fault>
+fn push_tag(reader: &mut Reader, nodes: &mut Vec<HtmlNode>, tag: Option<Tag>) -> Result<(), Fault>
     requires { vec_len nodes.old < vec_capacity nodes.old }
-    ensures { AddsNode result (leaf tag_node (option_map tag_view tag) reader.now.lists)
-        nodes.old nodes.new reader.now reader.now }
+    ensures { AddsNode result (numbered_leaf tag_node (option_map tag_view tag) (mark reader.old))
+        nodes.old nodes.new reader.old reader.new }
 {
-    match tag {
-        Some(tag) => {
-            nodes.push_reserved(HtmlNode::Tag(tag));
-            Ok(())
-        }
-        None => Err(reader.left()),
-    }
+    let tag = reader.numbered(tag)?;
+    nodes.push_reserved(HtmlNode::Tag(tag));
+    Ok(())
 }
 
 #[cycle(spell)]
@@ -135,7 +133,7 @@ fn push_element(
     list: Vec<Value>,
 ) -> Result<(), Fault>
     requires { vec_len nodes.old < vec_capacity nodes.old }
-    ensures { AddsNode result (element_form (items_view (drop 1 list.items)) reader.old.lists)
+    ensures { AddsNode result (element_form (items_view (drop 1 list.items)) (mark reader.old))
         nodes.old nodes.new reader.old reader.new }
 {
     match parts_of::<4>(list) {
@@ -156,8 +154,8 @@ fn push_element_with(
     list: Value,
 ) -> Result<(), Fault>
     requires { vec_len nodes.old < vec_capacity nodes.old }
-    ensures { AddsNode result (element_from (element_made reader.old.lists) reader.old.lists
-        (text_at (view name)) (pairs_at (view pairs)) (list_at (view list) reader.old.lists))
+    ensures { AddsNode result (element_from (element_made reader.old.lists) (mark reader.old)
+        (text_at (view name)) (pairs_at (view pairs)) (list_at (view list) (mark reader.old)))
         nodes.old nodes.new reader.old reader.new }
 {
     let Some(name) = text_at(name) else {
@@ -180,8 +178,8 @@ fn push_element_with(
 }
 
 #[cycle(spell)]
-fn list_of(reader: &mut Reader, value: Value) -> Result<Vec<HtmlNode>, Fault>
-    ensures { ReadsNodes result (list_at (view value) reader.old.lists) reader.old reader.new }
+pub(crate) fn list_of(reader: &mut Reader, value: Value) -> Result<Vec<HtmlNode>, Fault>
+    ensures { ReadsNodes result (list_at (view value) (mark reader.old)) reader.old reader.new }
 {
     let Value::Array(values) = value else {
         return Err(reader.left());

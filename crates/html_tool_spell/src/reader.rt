@@ -1,18 +1,23 @@
 //! What a reader of a JSON value remembers, and how it reads names.
 
-ghost use Rattle.std.specs.Prelude.{◌≡◌, ◌+◌, None, OnOk, IfErr, chars};
+ghost use Rattle.std.specs.Prelude.{◌≡◌, [], None, OnOk, IfErr, chars, option_map};
 ghost use Rattle.serde_json.specs.View.{view};
 ghost use Rattle.html_names.specs.NameFaults.{number_of};
 ghost use Rattle.html_names.specs.Names.{tag_fault, attr_fault};
-ghost use Rattle.html_tool_spell.specs.Fields.{pairs_at, pair_at};
-ghost use Rattle.html_tool_spell.specs.Reading.{IsWant, Notes, ReadsName, ReadsPair, ReadsPairs};
+ghost use Rattle.html_dom_tree.specs.Views.{tag_view};
+ghost use Rattle.html_tool_spell.specs.Fields.{numbered_leaf, pairs_at, pair_at};
+ghost use Rattle.html_tool_spell.specs.Marks.{are_there, at_start, opened};
+ghost use Rattle.html_tool_spell.specs.Reading.{IsWant, Locates, Notes, Reads, ReadsHere, ReadsName, ReadsPair, ReadsPairs, mark};
+ghost use Rattle.html_tool_spell.specs.SpelledItems.{css_at};
 ghost use Rattle.html_tool_spell.specs.declared.fault.Fault.TheVariants.{BadInput};
 ghost use Rattle.html_tool_spell.specs.declared.fault.InputPlace.TheVariants.{Form};
 
 use crate::fault::{Fault, InputPlace};
 use crate::fields::pair_in;
-use html_dom_tree::{HtmlAttrs, Span};
+use html_dom_tree::{HtmlAttrs, Location, Span, Tag};
+use html_flow_places::NamedPlaces;
 use html_names::{HtmlAttr, HtmlTag, NameFault, attr, tag};
+use html_values_css::Properties;
 use serde_json::Value;
 use std::alloc::Global;
 
@@ -24,18 +29,24 @@ pub(crate) struct Reader {
     alloc: Global,
     /// How many lists of nodes or items were opened.
     lists: u64,
+    /// The locations of names.
+    places: NamedPlaces,
+    /// Whether there was a tag whose location is a number.
+    numbered: bool,
     /// The first name that was refused: the number of its fault, and the span.
     refused: Option<(u8, Span)>,
 }
 
 impl Reader {
     pub(crate) fn new(alloc: Global) -> Reader
-        ensures lists { result.lists ≡ 0 }
+        ensures mark { mark result ≡ at_start }
         ensures refused { result.refused ≡ None }
     {
         Reader {
             alloc,
             lists: 0,
+            places: NamedPlaces::new(alloc),
+            numbered: false,
             refused: None,
         }
     }
@@ -51,7 +62,7 @@ impl Reader {
     }
 
     pub(crate) fn open(&mut self) -> Result<(), Fault>
-        ensures lists { OnOk result (self.new.lists ≡ self.old.lists + 1) }
+        ensures mark { OnOk result (mark self.new ≡ opened (mark self.old)) }
         ensures refused { self.new.refused ≡ self.old.refused }
         ensures fault { IfErr result IsWant }
     {
@@ -71,6 +82,37 @@ impl Reader {
         ensures { result ≡ BadInput (Form self.now.lists) }
     {
         Fault::BadInput(InputPlace::Form(self.lists))
+    }
+
+    /// That tag, whose locations are numbers. Names and numbers have no places beside one another.
+    pub(crate) fn numbered(&mut self, tag: Option<Tag>) -> Result<Tag, Fault>
+        ensures { Reads tag_view (λ t. []) result
+            (numbered_leaf (λ t. t) (option_map tag_view tag) (mark self.old)) self.old self.new }
+    {
+        let Some(tag) = tag else {
+            return Err(self.left());
+        };
+        if self.has_names() {
+            return Err(self.left());
+        }
+        self.numbered = true;
+        Ok(tag)
+    }
+
+    fn has_names(&self) -> bool
+        ensures { result ≡ are_there self.now.places }
+    {
+        self.places.name(Location(1)).is_some()
+    }
+
+    /// The location of a name, where there are no numbers.
+    pub(crate) fn named(&mut self, name: &str) -> Result<Location, Fault>
+        ensures { Locates (chars name.now) result self.old self.new }
+    {
+        if self.numbered {
+            return Err(self.left());
+        }
+        Ok(self.places.location(name)?)
     }
 
     /// Remembers the fault of a name of the element with that span, unless another was before it.
@@ -123,6 +165,23 @@ impl Reader {
             pairs.push(self.pair(value, span)?)?;
         }
         Ok(HtmlAttrs(pairs))
+    }
+
+    /// The css that a value tells.
+    pub(crate) fn css(&self, value: Value) -> Result<Properties, Fault>
+        ensures { ReadsHere (λ css. css) result (css_at (view value)) self.now }
+    {
+        let Value::Array(values) = value else {
+            return Err(self.left());
+        };
+        let mut css = Properties::with_capacity(self.alloc, values.len())?;
+        for value in values {
+            let Some((name, value)) = pair_in(value) else {
+                return Err(self.left());
+            };
+            css.push(&name, value)?;
+        }
+        Ok(css)
     }
 
     fn pair(&mut self, value: Value, span: Span) -> Result<(HtmlAttr, String), Fault>

@@ -32,12 +32,7 @@ module _ (a b c d e : List ℕ) where
   pub step_by_step : (t u v w x y : List ℕ) → t ≡ [] → u ≡ texts_with_gap t a → v ≡ texts_with_gap u b
       → w ≡ texts_with_gap v c → x ≡ texts_with_gap w d → y ≡ texts_with_gap x e
       → y ≡ texts_with_gap a (texts_with_gap b (texts_with_gap c (texts_with_gap d e)))
-  step_by_step t u v w x y none first second third fourth fifth =
-      let after_first = first ∙ ap (λ l. texts_with_gap l a) none in
-      let after_second = second ∙ ap (λ l. texts_with_gap l b) after_first in
-      let after_third = third ∙ ap (λ l. texts_with_gap l c) after_second in
-      let after_fourth = fourth ∙ ap (λ l. texts_with_gap l d) after_third in
-      fifth ∙ ap (λ l. texts_with_gap l e) after_fourth ∙ five
+  step_by_step t u v w x y none first second third fourth fifth = cc five
 
 -- a count above zero is a text that is not empty
 pub spaced-nonempty : (xs ys : List ℕ) → 0 < length ys → texts_with_gap xs ys ≡ gap_after xs ++ ys

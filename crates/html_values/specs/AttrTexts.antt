@@ -13,7 +13,7 @@ use Rattle.jiff_core.specs.declared.civil.time.Time.{Time as CivilTime}
 use Rattle.html_values.specs.declared.moment.Moment.{Moment}
 use Rattle.html_values.specs.declared.moment.Moment.TheVariants.{Date, Time, DateTime}
 
--- the words of a Boolean
+-- the word for a Boolean
 abbrev pub word_of : List ℕ → List ℕ → Bool → List ℕ
 word_of one other true = one
 word_of one other false = other
@@ -35,12 +35,12 @@ horizontal_text dir = dir_text (horizontal_dir dir)
 abbrev pub four_digits : ℕ → List ℕ
 four_digits n = two_digits (n / 100) ++ two_digits (n % 100)
 
--- the years that have four digits, but for the year 0
+-- the years that have four digits, except the year 0
 abbrev pub year_fits : ℤ → Bool
 year_fits (pos n) = ltb 0 n && ltb n 10_000
 year_fits (negsuc n) = false
 
--- a moment without a year has a text as well
+-- a moment without a year has a text, too
 abbrev pub has_year : Moment → Bool
 has_year (Date d) = year_fits d.year
 has_year (Time t) = true
@@ -52,7 +52,7 @@ date_text d =
     four_digits (unsigned_abs d.year) ++ codes "-" ++ two_digits d.month
     ++ codes "-" ++ two_digits d.day
 
--- seconds are omitted where they are zero
+-- seconds are omitted if they are zero
 abbrev pub seconds_text : ℕ → List ℕ
 seconds_text n = if n == 0 then [] else codes ":" ++ two_digits n
 
@@ -66,7 +66,7 @@ moment_text (Date d) = date_text d
 moment_text (Time t) = time_text t
 moment_text (DateTime b) = date_text b.date ++ codes "T" ++ time_text b.time
 
--- two texts with a space between them, where neither is empty
+-- two texts with a space between them, if neither is empty
 abbrev pub gap_after : List ℕ → List ℕ
 gap_after [] = []
 gap_after (x ∷ xs) = x ∷ xs ++ codes " "

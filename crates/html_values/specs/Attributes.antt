@@ -1,4 +1,4 @@
--- What a call that makes a text ensures of it: it is this one, unless out of memory.
+-- The promise of a call that makes a text: the result is this one, unless memory ran out.
 use Rattle.std.specs.Prelude.{ℕ, List, IfOk, ◌≡◌, Result, String}
 use Rattle.std.specs.declared.alloc.Global.{Global}
 use Rattle.html_names.specs.Texts.{text_view}

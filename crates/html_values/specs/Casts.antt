@@ -1,4 +1,4 @@
--- Casts: which values a type of attribute is for, and the text, nothing, or refusal that each
+-- Casts: which values a type of attribute accepts, and the text, nothing, or refusal that each
 -- becomes (this project's table of casts).
 use Rattle.std.specs.Prelude.{ℕ, ℤ, pos, negsuc, zero, suc, ◌==◌, List, [], ◌∷◌, codes, Bool, true, false, ◌&&◌, ◌||◌, if◌then◌else◌, Option, None, Some, Result, Ok, Err, ◌≡◌, String, Vec, option_map, length, slice_index, ◌-◌}
 use Rattle.std.specs.Int.NonZero.{non_zero_u64_get}
@@ -20,28 +20,28 @@ use Rattle.html_values_css.specs.declared.cast_fault.CastFault.{CastFault}
 use Rattle.html_values_css.specs.declared.cast_fault.CastFault.TheVariants.{WrongKind, NotInStrings, NumberRange, NotOneChar, VerticalDir, BadImageSource, SeparatorInItem, YearRange}
 use Rattle.html_values.specs.declared.native_type.NativeType.{NativeType}
 
--- what a value becomes as an attribute of a type
+-- the result of casting a value to an attribute of a type
 pub data CastAnswer : Type 0 where
   gives : List ℕ → CastAnswer
   nothing : CastAnswer
   refuses : CastFault → CastAnswer
 
--- the fault that an answer is, where it is one
+-- the fault that an answer is, if it is one
 abbrev pub answer_faults : CastAnswer → List CastFault
 answer_faults (gives t) = []
 answer_faults nothing = []
 answer_faults (refuses f) = f ∷ []
 
--- how a call ends that casts: with what the answer gives, as a view shows it, else refused
+-- how a cast ends: with the value of the answer, as a view shows it, or with its fault
 abbrev pub GivesCast : {A : Type 0} → (A → CastAnswer) → Result A CastFault → CastAnswer → Type 0
 GivesCast view r answer = Gives view r answer (answer_faults answer)
 
--- how a call ends that finds one value: with it, else with that fault
+-- how a search for one value ends: with it, or with that fault
 abbrev pub Finds : {A B : Type 0} → (A → B) → CastFault → Result A CastFault → Option B → Type 0
 Finds view fault (Ok made) found = found ≡ Some (view made)
 Finds view fault (Err other) found = (other ≡ fault) × (found ≡ None)
 
--- what was made: a text, a candidate, or a text or nothing
+-- the answer for what was made: a text, a candidate, or a text or nothing
 abbrev pub text_answer : String Global → CastAnswer
 text_answer text = gives (text_view text)
 
@@ -49,7 +49,7 @@ abbrev pub candidate_answer : ImageCandidate → CastAnswer
 candidate_answer made =
     gives (candidate_text (text_view made.src) (option_map non_zero_u64_get made.width))
 
--- a text that was made for an array's item, or the refusal
+-- a text made for an array's item, or the refusal
 abbrev pub text_result : Result (String Global) CastFault → Result (List ℕ) CastFault
 text_result (Ok text) = Ok (text_view text)
 text_result (Err fault) = Err fault
@@ -58,7 +58,7 @@ abbrev pub option_answer : Option (String Global) → CastAnswer
 option_answer None = nothing
 option_answer (Some text) = text_answer text
 
--- whether a native type is for values of this kind
+-- whether a native type accepts values of this kind
 abbrev pub native_castable : NativeType → ValueView → Bool
 native_castable NativeType.NoValue none_value = true
 native_castable NativeType.NoneEmpty none_value = true
@@ -90,7 +90,7 @@ positive (pos zero) = None
 positive (pos (suc n)) = Some (suc n)
 positive (negsuc n) = None
 
--- another number is refused
+-- any other number is refused
 abbrev pub in_range : Option ℕ → (ℕ → CastAnswer) → CastAnswer
 in_range None answer = refuses NumberRange
 in_range (Some n) answer = answer n
@@ -130,7 +130,7 @@ abbrev pub candidate : List ℕ → Option ℕ → CastAnswer
 candidate src width =
     if is_bad_source src then refuses BadImageSource else gives (candidate_text src width)
 
--- a width is from one on
+-- a width is at least one
 abbrev pub image : List ℕ → Option ℤ → CastAnswer
 image src None = candidate src None
 image src (Some width) = in_range (positive width) (λ w. candidate src (Some w))
@@ -194,12 +194,12 @@ item_answer (gives t) = gives t
 item_answer nothing = gives []
 item_answer (refuses f) = refuses f
 
--- a value in place of an array of itself, where that is allowed
+-- a value instead of an array of itself, if that is allowed
 abbrev pub shorthand_answer : Bool → CastAnswer → CastAnswer
 shorthand_answer false answer = refuses WrongKind
 shorthand_answer true answer = item_answer answer
 
--- the text of a list's item may not hold the separator
+-- the text of a list's item may not contain the separator
 abbrev pub item_text : ℕ → CastAnswer → Result (List ℕ) CastFault
 item_text separator (gives t) =
     if list_any (λ c. c == separator) t then Err SeparatorInItem else Ok t
@@ -220,7 +220,7 @@ item_texts inner separator no_values = Ok []
 item_texts inner separator (value v vs) =
     and_then (item_text separator (inner v)) (item_texts inner separator vs)
 
--- a space stands after a comma
+-- a space follows a comma
 abbrev pub list_separator_text : ℕ → List ℕ
 list_separator_text separator = if separator == 44 then codes ", " else separator ∷ []
 
@@ -247,7 +247,7 @@ abbrev mutual
   cast (list inner separator shorthand) v =
       shorthand_answer (shorthand && castable inner v) (cast inner v)
 
-  -- the first type that native_castable the value casts it
+  -- the first type that accepts the value casts it
   pub first_cast : AttrTypesView → ValueView → CastAnswer
   first_cast no_attr_types v = refuses WrongKind
   first_cast (attr_type k ks) v = if castable k v then cast k v else first_cast ks v

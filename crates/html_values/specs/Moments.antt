@@ -1,4 +1,4 @@
--- What decides whether moments are equal.
+-- Equality of moments.
 use Rattle.std.specs.Prelude.{ℕ, ℤ}
 use Rattle.jiff_core.specs.Date.{epoch_day}
 use Rattle.jiff_core.specs.Time.{time_nanos}

@@ -12,23 +12,23 @@ use html_names::Refused;
 use html_values_css::CastFault;
 use std::alloc::{AllocFailed, Global};
 
-/// A type of attribute: which values it takes, and the text of each.
+/// A type of attribute: the values that it accepts, and the text of each.
 #[derive(Debug, Drop)]
 #[cycle(attr_type)]
 pub enum AttrType {
-    /// A Boolean: an attribute that is there or not.
+    /// A Boolean: an attribute that is present or not.
     Presence,
     /// Values of one kind.
     Native(NativeType),
     /// One of these texts.
     Strings(Vec<String>),
-    /// The first of these types that takes the value.
+    /// The first of these types that accepts the value.
     Union(Vec<AttrType>),
-    /// An array, joined to one text.
+    /// An array, joined into one text.
     List(ListType),
 }
 
-/// A type of attribute for arrays, joined to one text by a separator.
+/// A type of attribute for arrays, joined into one text by a separator.
 #[derive(Debug, Drop)]
 #[cycle(attr_type)]
 pub struct ListType {
@@ -38,11 +38,11 @@ pub struct ListType {
 }
 
 impl ListType {
-    /// A list of such items, separated by that character, and by a space after a comma. With
-    /// `shorthand` a value that the inner type takes may stand for an array of itself.
+    /// Creates a list of such items, separated by that character, and by a space after a comma.
+    /// With `shorthand`, a value that the inner type accepts may stand for an array of itself.
     ///
-    /// An item has a text: `inner` does not hold the type of presence. Where an allocation
-    /// fails, `inner` comes back.
+    /// Each item has a text: `inner` does not contain the type of presence. If an allocation fails,
+    /// the error holds `inner`.
     pub fn new(
         alloc: Global,
         inner: AttrType,
@@ -66,7 +66,7 @@ impl ListType {
 }
 
 impl AttrType {
-    /// Whether the type is for a value: by its kind, and for a list of texts by the text itself.
+    /// Returns whether the type accepts a value by its kind, or as one of the texts that it lists.
     #[cycle(castable)]
     pub fn castable(&self, value: &Value) -> bool
         ensures { result ≡ castable (attr_type_view self.now) (value_view value.now) }
@@ -83,7 +83,7 @@ impl AttrType {
         }
     }
 
-    /// Whether the type is that of presence, or a union that holds it.
+    /// Returns whether the type is that of presence, or a union that contains it.
     #[cycle(presence)]
     pub fn has_presence(&self) -> bool
         ensures { result ≡ has_presence (attr_type_view self.now) }
@@ -133,13 +133,13 @@ fn is_presence_in(members: &[AttrType]) -> bool
 }
 
 impl AttrType {
-    /// What a value becomes as an attribute of this type: its text, or nothing where the attribute
-    /// is omitted.
+    /// Casts a value to an attribute of this type: returns its text, or nothing if the attribute is
+    /// omitted.
     ///
-    /// A type that is not for the value refuses it with `WrongKind`, or with `NotInStrings` where
-    /// it lists other texts. A value that the type is for, but that has no text there, is refused
-    /// with the fault that says why. A union casts by its first type that is `castable` for the
-    /// value. A list joins the texts of its items.
+    /// Fails with `WrongKind` if the type does not accept the value, or with `NotInStrings` if it
+    /// lists other texts. A value that the type accepts, but that has no text there, fails with the
+    /// fault that says why. A union casts by its first type that is `castable` for the value. A
+    /// list joins the texts of its items.
     ///
     /// ```
     /// use html_values::{AttrType, CastFault, NativeType, Value};
@@ -185,7 +185,7 @@ impl ListType {
         }
     }
 
-    /// The text of a value that stands for an array of itself.
+    /// Returns the text of a value that stands for an array of itself.
     #[cycle(cast)]
     #[tactic(auto, using(crate::proofs::Joined::item_refusal))]
     fn cast_shorthand(&self, alloc: Global, value: &Value) -> Result<String, CastFault>

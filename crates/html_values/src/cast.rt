@@ -1,4 +1,4 @@
-//! The pieces of a cast.
+//! The parts of a cast.
 
 ghost use Rattle.std.specs.Prelude.{◌≡◌, ◌++◌, ◌==◌, chars, IfOk, IfErr, OnOk, Ok, Err};
 ghost use Rattle.std.specs.List.{flat_map, join_by, list_any};
@@ -74,7 +74,7 @@ pub(crate) fn without_separator(text: String, separator: char) -> Result<String,
     Ok(text)
 }
 
-/// Adds the separator, and a space after a comma.
+/// Appends the separator, and a space after a comma.
 fn push_separator(text: &mut Output, separator: char) -> Result<(), AllocError>
     ensures { OnOk result (text.new ≡ text.old ++ list_separator_text separator) }
 {

@@ -19,12 +19,12 @@ const WEEK: u64 = 7 * DAY;
 
 /// A span of time in whole seconds.
 ///
-/// Its text has weeks, days, hours, minutes and seconds, each above zero, as in `1w 2d`; `0s` where
-/// there is none (HTML Standard 2.3.5, duration strings).
+/// Its text has weeks, days, hours, minutes and seconds, each above zero, as in `1w 2d`, or is `0s`
+/// if there are none (HTML Standard 2.3.5, duration strings).
 #[derive(Clone, Copy, Debug, PartialEq, Eq)]
 pub struct Duration(pub u64);
 
-/// Adds a space, unless the text is empty.
+/// Appends a space, unless the text is empty.
 fn push_gap(text: &mut Output) -> Result<(), AllocError>
     ensures { OnOk result (text.new ≡ gap_after text.old) }
 {
@@ -34,7 +34,7 @@ fn push_gap(text: &mut Output) -> Result<(), AllocError>
     }
 }
 
-/// Adds a count with its unit, unless it is zero, and a space before it, unless it is the first.
+/// Appends a count with its unit, after a space unless it is the first, if it is not zero.
 fn push_count(text: &mut Output, count: u64, unit: &str) -> Result<(), AllocError>
     requires { IsTrue (is_ascii unit.now) }
     ensures { OnOk result
@@ -48,7 +48,7 @@ fn push_count(text: &mut Output, count: u64, unit: &str) -> Result<(), AllocErro
     text.push_ascii(unit)
 }
 
-/// The counts that are above zero.
+/// Returns the counts that are above zero.
 fn counts(alloc: Global, seconds: u64) -> Result<String, AllocError>
     ensures { IsText result (counts_text seconds) }
 {

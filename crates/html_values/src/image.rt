@@ -11,19 +11,19 @@ use std::num::NonZeroU64;
 /// The size of an icon in pixels, written `16x16` (HTML Standard 4.6.7.8, `sizes`).
 #[derive(Clone, Copy, Debug, PartialEq, Eq)]
 pub struct IconSize {
-    /// From left to right.
+    /// The width.
     pub width: u64,
-    /// From top to bottom.
+    /// The height.
     pub height: u64,
 }
 
-/// A source of an image and perhaps its width in pixels, written `x.png 480w` (HTML Standard
+/// A source of an image and optionally its width in pixels, written `x.png 480w` (HTML Standard
 /// 4.8.4.2.1, image candidate strings).
 #[derive(Debug, Drop, PartialEq, Eq)]
 pub struct ImageCandidate {
-    /// Where the image is.
+    /// The address of the image.
     pub src: String,
-    /// How wide it is.
+    /// The width.
     pub width: Option<NonZeroU64>,
 }
 

@@ -12,10 +12,10 @@ use html_values_css::{Dir, Rgba, ToCss};
 use std::alloc::{AllocError, Global};
 use std::num::{NonZeroI64, NonZeroU64};
 
-/// A value that has a text as an attribute. The text is decided by the value.
+/// A value that has a text as an attribute. The value alone determines the text.
 ///
-/// A whole implementation, for an enum. Its variants are brought in by its path, which begins with
-/// the name of the crate where it stands, `tests_surface`:
+/// A whole implementation, for an enum. It imports the variants by a path that begins with the name
+/// of the crate that contains them, `tests_surface`:
 ///
 /// ```
 /// ghost use Rattle.std.specs.Prelude.{codes};
@@ -49,7 +49,7 @@ pub trait IntoAttr {
     /// The text of a value.
     ghost attr_text: { Self → List ℕ };
 
-    /// The value's text.
+    /// Returns the value's text.
     fn into_attr(&self, alloc: Global) -> Result<String, AllocError>
         ensures { IsText result (attr_text self.now) };
 }

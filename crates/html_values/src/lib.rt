@@ -1,6 +1,6 @@
-//! Typed values of attributes: the texts that they have, and the types of attributes that cast
-//! values of a document to texts. With the css values of `html_values_css`, and with the civil dates and
-//! times that a [`Moment`] is made of, as [`civil`].
+//! Typed values of attributes: their texts, and the types of attributes that cast values of a
+//! document to texts; also the css values of `html_values_css`, and the civil dates and times in a
+//! [`Moment`], as [`civil`].
 //!
 //! ```
 //! use html_values::{Datetime, Duration, IntoAttr, Moment, civil};
@@ -12,7 +12,7 @@
 //! assert_eq!(rt; time.as_str(), "1w 1d 1h 1m 1s");
 //! ```
 //!
-//! A contract sees a text as a list of characters.
+//! In contracts a text is a list of characters.
 #![tactic(auto)]
 
 mod attr_type;

@@ -9,7 +9,7 @@ use html_values_css::CastFault;
 use jiff::civil::{Date, DateTime, Time};
 use std::alloc::{AllocError, Global};
 
-/// A date, a time of day, or both, in no time zone: the civil values of `jiff`.
+/// A date, a time of day, or both, without a time zone: the civil values of `jiff`.
 #[derive(Clone, Copy, Debug, PartialEq, Eq)]
 pub enum Moment {
     /// A day of the calendar.
@@ -20,10 +20,10 @@ pub enum Moment {
     DateTime(DateTime),
 }
 
-/// A moment that has a text: where it has a year, that is one from 1 to 9999.
+/// A moment that has a text: its year, if any, is from 1 to 9999.
 ///
-/// The text is `2024-02-09`, `08:05`, `08:05:30` where there are seconds, or both with a `T`
-/// between them (HTML Standard 2.3.5); parts of a second are omitted.
+/// The text is `2024-02-09`, `08:05`, `08:05:30` if there are seconds, or both with a `T` between
+/// them (HTML Standard 2.3.5); it omits parts of a second.
 #[derive(Clone, Copy, Debug, PartialEq, Eq)]
 pub struct Datetime {
     moment: Moment,
@@ -31,7 +31,7 @@ pub struct Datetime {
 }
 
 impl Moment {
-    /// Whether the year, where there is one, is from 1 to 9999.
+    /// Returns whether the year, if any, is from 1 to 9999.
     fn has_year(&self) -> bool
         ensures { result ≡ has_year self.now }
     {
@@ -44,7 +44,7 @@ impl Moment {
 }
 
 impl Datetime {
-    /// The moment, unless its year is outside 1 to 9999.
+    /// Returns the moment, unless its year is outside 1 to 9999.
     pub fn new(moment: Moment) -> Result<Datetime, CastFault>
         ensures ok { IfOk result (λ made. (made.moment ≡ moment) × IsTrue (has_year moment)) }
         ensures fault { IfErr result (λ fault. (fault ≡ YearRange) × IsFalse (has_year moment)) }
@@ -57,7 +57,7 @@ impl Datetime {
     }
 }
 
-/// Whether a year is from 1 to 9999.
+/// Returns whether a year is from 1 to 9999.
 fn is_year(year: i16) -> bool
     ensures { result ≡ year_fits year }
 {
@@ -86,7 +86,7 @@ fn push_time(text: &mut Output, time: &Time) -> Result<(), AllocError>
     push_seconds(text, time.second().unsigned_abs())
 }
 
-/// Adds seconds, unless they are zero.
+/// Appends seconds, unless they are zero.
 fn push_seconds(text: &mut Output, seconds: u8) -> Result<(), AllocError>
     requires { seconds < 100 }
     ensures { OnOk result (text.new ≡ text.old ++ seconds_text seconds) }

@@ -19,7 +19,7 @@ use html_values_css::{CastFault, Dir};
 use std::alloc::Global;
 use std::num::NonZeroU64;
 
-/// A type of attribute whose values have one kind each.
+/// A type of attribute whose values each have one kind.
 #[derive(Clone, Copy, Debug, PartialEq, Eq)]
 pub enum NativeType {
     /// None, written `none`.
@@ -282,7 +282,7 @@ fn ends_with_comma(src: &str) -> bool
     src.ends_with(',')
 }
 
-/// Whether a text is empty, or begins or ends with a comma.
+/// Returns whether a text is empty, or begins or ends with a comma.
 fn is_bad_source(src: &str) -> bool
     ensures { result ≡ is_bad_source (chars src.now) }
 {

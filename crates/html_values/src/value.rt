@@ -7,7 +7,7 @@ use html_values_css::{Dir, Rgba};
 pub enum Value {
     /// Nothing.
     None,
-    /// What decides by itself.
+    /// A value that decides by itself.
     Auto,
     /// A Boolean.
     Bool(bool),
@@ -25,9 +25,9 @@ pub enum Value {
     Dir(Dir),
     /// An image.
     Image {
-        /// Where the image is.
+        /// The address of the image.
         src: String,
-        /// How wide it is in pixels.
+        /// The width in pixels.
         width: Option<i64>,
     },
     /// Several values.

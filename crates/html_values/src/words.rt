@@ -20,7 +20,7 @@ pub struct NoneEmpty;
 #[derive(Clone, Copy, Debug, PartialEq, Eq)]
 pub struct NoneUndefined;
 
-/// What decides by itself, written `auto`.
+/// A value that decides by itself, written `auto`.
 #[derive(Clone, Copy, Debug, PartialEq, Eq)]
 pub struct AutoValue;
 
@@ -46,7 +46,7 @@ pub enum HorizontalDir {
 }
 
 impl HorizontalDir {
-    /// The direction of writing.
+    /// Returns the direction of writing.
     pub fn dir(self) -> Dir
         ensures { result ≡ horizontal_dir self }
     {

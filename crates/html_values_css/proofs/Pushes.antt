@@ -1,5 +1,5 @@
 -- Pushes as steps of a finite map, and that their order does not matter.
-use Rattle.std.proofs.Common.{◌≡◌, ℕ, length, List, [], ◌∷◌, Bool, true, false, cond, ◌&&◌, bytes_eq, Option, Some, None, refl, sym, ap, ◌∙◌, subst, is_some, true≢false}
+use Rattle.std.proofs.Common.{◌≡◌, arith, ℕ, length, List, [], ◌∷◌, Bool, true, false, cond, ◌&&◌, bytes_eq, Option, Some, None, refl, sym, ap, ◌∙◌, subst, is_some, true≢false}
 use Rattle.std.specs.Prelude.{T}
 use Rattle.std.specs.Bool.{Decides, one_answer}
 use Rattle.std.specs.List.{AllByRecursion, IsDistinct, Contains}
@@ -103,15 +103,10 @@ last_value : (ps : List TextPair) (old : List TextPair) (q : List ℕ)
     ≡ option_or (value_of ps q) (value_of old q)
 last_value [] old q d = refl
 last_value (p ∷ ps) old q d =
+    let absent : eq_by_cmp by_name q p.0 ≡ true → value_of ps q ≡ None
+    = λ h. lookup-none (is_at (by_name q)) ps (none_past_head ties_equiv q p ps d h) in
     last_value ps (with_value old p.0 p.1) q (IsDistinct-tail (eq_by_cmp by_name) p.0 (keys_of ps)
-    d) ∙ ap (option_or (value_of ps q)) (set_to old p q) ∙ by (eq_by_cmp by_name q p.0) refl
-  where
-    by : (b : Bool) → eq_by_cmp by_name q p.0 ≡ b
-        → option_or (value_of ps q) (cond b (Some p.1) (value_of old q))
-        ≡ option_or (cond b (Some p.1) (value_of ps q)) (value_of old q)
-    by true h = ap (λ o. option_or o (Some p.1))
-        (lookup-none (is_at (by_name q)) ps (none_past_head ties_equiv q p ps d h))
-    by false h = refl
+    d) ∙ ap (option_or (value_of ps q)) (set_to old p q) ∙ grind (arith, absent)
 
 still_listed : (ps old : List TextPair) → IsListed old → IsListed (properties_after old ps)
 still_listed [] old s = s

@@ -1,9 +1,9 @@
 -- What a sum writes part by part is its text.
-use Rattle.std.proofs.Common.{◌≡◌, ℕ, ℤ, List, [], ◌∷◌, ◌++◌, Bool, true, false, not, Result, Ok, Err, refl, sym, ap, subst, ◌∙◌, append_assoc, append-nil, codes, if◌then◌else◌}
+use Rattle.std.proofs.Common.{◌≡◌, arith, ℕ, ℤ, List, [], ◌∷◌, ◌++◌, not, Result, Ok, Err, refl, ap, subst, ◌∙◌, append_assoc, append-nil, codes}
 use Rattle.std.specs.List.{filter, flat_map}
 use Rattle.std.specs.declared.alloc.AllocError.{AllocError}
-use Rattle.html_values_css.specs.Quantities.{is_zero, is_negative}
-use Rattle.html_values_css.specs.Sums.{Part, Parts, Zero, One, More, following_part, whole_sum, sum_text, written_sum, next, next_parts, next_text, next_warnings, with_part, sum_end, quantity_part}
+use Rattle.html_values_css.specs.Quantities.{is_zero}
+use Rattle.html_values_css.specs.Sums.{Part, Parts, Zero, One, More, following_part, whole_sum, sum_text, written_sum, next_parts, next_text, next_warnings, sum_end, quantity_part}
 use Rattle.html_values_css.specs.Writer.{WriterState, Emits, SumsUp}
 use Rattle.html_values_css.specs.Sink.{StartsWith, SinkAnswers}
 use Rattle.html_values_css.specs.declared.sink.Warning.{Warning}
@@ -12,70 +12,34 @@ use Rattle.html_values_css.proofs.Giving.{handed_none}
 abbrev shown : List Part → List Part
 shown ps = filter (λ p. not (is_zero p.number)) ps
 
--- a part that is dropped, and one that is not
-abbrev stepped : Bool → Parts → List ℕ → Part → List Part → List ℕ
-stepped z parts own p ps = written_sum (if z then parts else next parts)
-    (if z then own else with_part parts own p) ps
-
-abbrev kept : Bool → Part → List Part → List Part
-kept z p ps = if not z then p ∷ shown ps else shown ps
-
-more_step : (z : Bool) (own : List ℕ) (p : Part) (ps : List Part)
-    → ((own : List ℕ) → written_sum More own ps ≡ own
-    ++ (flat_map following_part (shown ps) ++ codes ")"))
-    → stepped z More own p ps ≡ own ++ (flat_map following_part (kept z p ps) ++ codes ")")
-more_step true own p ps h = h own
-more_step false own p ps h = h (own ++ following_part p) ∙ append_assoc own (following_part p) _
-    ∙ ap (λ l. own ++ l) (sym (append_assoc (following_part p) (flat_map following_part (shown ps))
-    (codes ")")))
-
 -- the parts after a second one
 after_more : (ps : List Part) (own : List ℕ) → written_sum More own ps ≡ own
     ++ (flat_map following_part (shown ps) ++ codes ")")
 after_more [] own = refl
-after_more (p ∷ ps) own = more_step (is_zero p.number) own p ps (after_more ps)
+after_more (p ∷ ps) own = grind (arith, append_assoc, after_more ps)
 
 abbrev with_first : List ℕ → List Part → List ℕ
 with_first own [] = own
 with_first own (q ∷ qs) = codes "calc(" ++ own ++ flat_map following_part (q ∷ qs) ++ codes ")"
 
-one_step : (z : Bool) (own : List ℕ) (p : Part) (ps : List Part) → written_sum One own ps
-    ≡ with_first own (shown ps) → stepped z One own p ps ≡ with_first own (kept z p ps)
-one_step true own p ps h = h
-one_step false own p ps h =
-    after_more ps (codes "calc(" ++ own ++ following_part p)
-    ∙ append_assoc (codes "calc(" ++ own) (following_part p) _
-    ∙ ap (λ l. codes "calc(" ++ own ++ l) (sym (append_assoc (following_part p)
-    (flat_map following_part (shown ps)) (codes ")")))
-    ∙ sym (append_assoc (codes "calc(" ++ own) (following_part p ++ flat_map following_part (shown ps))
-    (codes ")"))
-
 after_one : (ps : List Part) (own : List ℕ) → written_sum One own ps ≡ with_first own (shown ps)
 after_one [] own = append-nil own
-after_one (p ∷ ps) own = one_step (is_zero p.number) own p ps (after_one ps own)
+after_one (p ∷ ps) own =
+    grind (arith, append_assoc, after_one ps own, after_more ps (codes "calc(" ++ own ++ following_part p))
 
 first_is : (p : Part) (ps : List Part) → with_first p.text ps ≡ whole_sum (p ∷ ps)
 first_is p [] = refl
 first_is p (q ∷ qs) = refl
 
-zero_step : (z : Bool) (p : Part) (ps : List Part) → written_sum Zero [] ps ≡ whole_sum (shown ps)
-    → stepped z Zero [] p ps ≡ whole_sum (kept z p ps)
-zero_step true p ps h = h
-zero_step false p ps h = after_one ps p.text ∙ first_is p (shown ps)
-
 pub sums : (ps : List Part) → written_sum Zero [] ps ≡ sum_text ps
 sums [] = refl
-sums (p ∷ ps) = zero_step (is_zero p.number) p ps (sums ps)
-
-either : (b : Bool) (warnings : List Warning) → warnings ≡ [] → (if b then [] else warnings) ≡ []
-either true warnings none = refl
-either false warnings none = none
+sums (p ∷ ps) = grind (arith, sums ps, after_one ps p.text, first_is p (shown ps))
 
 pub never_warns : (parts : Parts) (text : ℤ → List ℕ) (z : ℤ)
     → next_warnings parts (quantity_part text z) ≡ []
-never_warns Zero text z = either (is_zero z) [] refl
-never_warns One text z = either (is_zero z) _ (either (is_negative z) [] refl)
-never_warns More text z = either (is_zero z) _ (either (is_negative z) [] refl)
+never_warns Zero text z = grind arith
+never_warns One text z = grind arith
+never_warns More text z = grind arith
 
 -- A sum of `all` that still lacks `left`, which began at a writer in `start`: what stood before it,
 -- how many parts it has, and what it has written.

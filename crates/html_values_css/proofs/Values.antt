@@ -43,10 +43,8 @@ fraction_all zero n h = tt
 fraction_all (suc k) zero h = tt
 fraction_all (suc k) (suc n) h =
     let digit = leading_digit k (suc n) h in
-    (rw (digit_is (suc n / 10 ^ k) digit) digit, fraction_all k (suc n % 10 ^ k) (left k))
-  where
-    left : (k : ℕ) → suc n % 10 ^ k < 10 ^ k
-    left k = let above = power_above k in omega arith
+    let above = power_above k in
+    (rw (digit_is (suc n / 10 ^ k) digit) digit, fraction_all k (suc n % 10 ^ k) (omega arith))
 
 hundreds_1 : (n : ℕ) → n < 10 → decimals 100 (fraction_digits 1 n) ≡ n * 100
 hundreds_1 zero h = refl
@@ -54,27 +52,18 @@ hundreds_1 (suc n) h = rw (digit_is (suc n / 1) (omega arith)) (omega arith)
 
 hundreds_2 : (n : ℕ) → n < 100 → decimals 1000 (fraction_digits 2 n) ≡ n * 100
 hundreds_2 zero h = refl
-hundreds_2 (suc n) h = rw (
-  digit_is (suc n / 10) (omega arith),
-  hundreds_1 (suc n % 10)
-      (omega arith),
-) (omega arith)
+hundreds_2 (suc n) h =
+    grind (arith, digit_is (suc n / 10), hundreds_1 (suc n % 10))
 
 hundreds_3 : (n : ℕ) → n < 1000 → decimals 10000 (fraction_digits 3 n) ≡ n * 100
 hundreds_3 zero h = refl
-hundreds_3 (suc n) h = rw (
-  digit_is (suc n / 100) (omega arith),
-  hundreds_2 (suc n % 100)
-      (omega arith),
-) (omega arith)
+hundreds_3 (suc n) h =
+    grind (arith, digit_is (suc n / 100), hundreds_2 (suc n % 100))
 
 pub hundreds_4 : (n : ℕ) → n < 10000 → decimals 100000 (fraction_digits 4 n) ≡ n * 100
 hundreds_4 zero h = refl
-hundreds_4 (suc n) h = rw (
-  digit_is (suc n / 1000) (omega arith),
-  hundreds_3 (suc n % 1000)
-      (omega arith),
-) (omega arith)
+hundreds_4 (suc n) h =
+    grind (arith, digit_is (suc n / 1000), hundreds_3 (suc n % 1000))
 
 percents_1 : (n : ℕ) → n < 10 → decimals 10000 (fraction_digits 1 n) ≡ n * 10000
 percents_1 zero h = refl
@@ -82,11 +71,8 @@ percents_1 (suc n) h = rw (digit_is (suc n / 1) (omega arith)) (omega arith)
 
 pub percents_2 : (n : ℕ) → n < 100 → decimals 100000 (fraction_digits 2 n) ≡ n * 10000
 percents_2 zero h = refl
-percents_2 (suc n) h = rw (
-  digit_is (suc n / 10) (omega arith),
-  percents_1 (suc n % 10)
-      (omega arith),
-) (omega arith)
+percents_2 (suc n) h =
+    grind (arith, digit_is (suc n / 10), percents_1 (suc n % 10))
 
 unsigned_is : (ds rest : List ℕ) → 0 < length ds → AllDigits 10 ds → Ends rest
     → unsigned_value (digits_of (ds ++ rest)) (after_digits (ds ++ rest))
@@ -98,10 +84,8 @@ unsigned_is (d ∷ ds) rest h a e = rw (digits_first (d ∷ ds) rest a e, digits
 without_sign : (ds rest : List ℕ) → 0 < length ds → AllDigits 10 ds → part_value (ds ++ rest)
     ≡ unsigned_value (digits_of (ds ++ rest)) (after_digits (ds ++ rest))
 without_sign [] rest h a = absurd (omega (arith, h))
-without_sign (d ∷ ds) rest h a = rw (no_minus d a.0) refl
-  where
-    no_minus : (d : ℕ) → digit_value d < 10 → (d == 45) ≡ false
-    no_minus d h = grind (arith, nat_tests)
+without_sign (d ∷ ds) rest h a =
+    let no_minus : (d == 45) ≡ false = grind (arith, nat_tests, a.0) in rw no_minus refl
 
 -- a unit: it begins with no digit and no point
 abbrev pub IsUnit : List ℕ → Type 0

@@ -1,14 +1,13 @@
 -- The text of a sum is worth the sum of its parts.
-use Rattle.std.proofs.Common.{◌≡◌, ℕ, zero, suc, ◌<◌, ◌/◌, ◌%◌, ◌^◌, ◌==◌, ℤ, pos, negsuc, neg_ℤ, List, [], ◌∷◌, ◌++◌, length, take, drop, map, bytes_eq, Bool, true, false, not, ◌&&◌, cond, if◌then◌else◌, Some, None, option_map, refl, sym, ap, ◌∙◌, codes, append_assoc, append-nil, arith}
+use Rattle.std.proofs.Common.{◌≡◌, ℕ, zero, suc, ◌<◌, ◌/◌, ◌%◌, ◌^◌, ◌==◌, ℤ, pos, negsuc, neg_ℤ, List, [], ◌∷◌, ◌++◌, length, map, Bool, true, false, not, cond, if◌then◌else◌, Some, option_map, refl, sym, ap, ◌∙◌, codes, append_assoc, append-nil, arith}
 use Rattle.std.specs.List.{AllByRecursion, filter, flat_map}
-use Rattle.std.specs.Char.{digit_value}
 use Rattle.std.specs.Fmt.{decimal}
 use Rattle.std.specs.Str.Parse.{AllDigits}
 use Rattle.std.proofs.lemmas.Bool.Decides.{nat_tests}
 use Rattle.std.proofs.lemmas.Fmt.{decimal_is_IsNumeral}
 use lib.IntN.{+ℤ_idl, +ℤ_idr}
 use Rattle.html_names.specs.Names.{listed_names}
-use Rattle.html_values_css.specs.Quantities.{IsQuantity, is_zero, is_negative, nearest_hundreds, point_text, sign_text, fixed_text, abs_text, em_text, ratio_text}
+use Rattle.html_values_css.specs.Quantities.{IsQuantity, is_zero, is_negative, nearest_hundreds, point_text, sign_text, fixed_text}
 use Rattle.html_values_css.specs.Sums.{Part, following_part, whole_sum, sum_text, quantity_part}
 use Rattle.html_values_css.specs.Lengths.{Amounts, nothing, negative_amounts, amounts_sum, both, part_value, value_with_sign, terms, sum_value, before_close, of_body, css_value, round, LengthValue, RelValue}
 use Rattle.html_values_css.proofs.Digits.{whole_fits, power_above}
@@ -31,10 +30,7 @@ first_word (c ∷ cs) b p = rw (p.0, first_word cs b p.1) refl
 
 digits_word : (ds : List ℕ) → AllDigits 10 ds → IsWord ds
 digits_word [] a = tt
-digits_word (d ∷ ds) a = (no_space d a.0, digits_word ds a.1)
-  where
-    no_space : (d : ℕ) → digit_value d < 10 → (d == 32) ≡ false
-    no_space d h = grind (arith, nat_tests)
+digits_word (d ∷ ds) a = (grind (arith, nat_tests, a.0), digits_word ds a.1)
 
 sign_word : (z : ℤ) (r : ℕ) → IsWord (sign_text z r)
 sign_word (pos n) r = tt
@@ -55,23 +51,14 @@ pub record IsPart (text : List ℕ) : Type 0 where
 
 two : (d u : ℕ) (ds us : List ℕ) → (d == 99) ≡ false → IsPart ((d ∷ ds) ++ u ∷ us)
 two d u [] us h = record { first = d; second = u; rest = us; is = refl; no_call = h }
-two d u (e ∷ ds) us h = record {
-  first = d;
-  second = e;
-  rest = ds ++ u ∷ us;
-  is = refl;
-  no_call =
-      h;
-}
+two d u (e ∷ ds) us h =
+    record { first = d; second = e; rest = ds ++ u ∷ us; is = refl; no_call = h }
 
 begins_part : (ds rest : List ℕ) → 0 < length ds → AllDigits 10 ds → 0 < length rest
     → IsPart (ds ++ rest)
 begins_part [] rest h a l = absurd (omega (arith, h))
 begins_part (d ∷ ds) [] h a l = absurd (omega (arith, l))
-begins_part (d ∷ ds) (u ∷ us) h a l = two d u ds us (no_call d a.0)
-  where
-    no_call : (d : ℕ) → digit_value d < 10 → (d == 99) ≡ false
-    no_call d h = grind (arith, nat_tests)
+begins_part (d ∷ ds) (u ∷ us) h a l = two d u ds us (grind (arith, nat_tests, a.0))
 
 signed_part : (z : ℤ) (r : ℕ) (ds rest : List ℕ) → 0 < length ds → AllDigits 10 ds → 0 < length rest
     → IsPart (sign_text z r ++ (ds ++ rest))
@@ -179,15 +166,7 @@ without_end (c ∷ []) = refl
 without_end (c ∷ d ∷ cs) = ap (option_map (λ body. c ∷ body)) (without_end (d ∷ cs))
 
 alone : (text : List ℕ) → IsPart text → css_value text ≡ part_value text
-alone text p = rw p.is (by (p.first == 48) (p.first == 99) p.no_call)
-  where
-    by : (a b : Bool) → b ≡ false → (if a && false then Some nothing
-        else of_body (p.first ∷ p.second ∷ p.rest)
-        (if b && bytes_eq (take 4 (p.second ∷ p.rest)) (codes "alc(")
-        then before_close (drop 5 (p.first ∷ p.second ∷ p.rest)) else None))
-        ≡ part_value (p.first ∷ p.second ∷ p.rest)
-    by true b h = rw h refl
-    by false b h = rw h refl
+alone text p = rw p.is (grind (arith, p.no_call))
 
 added_nothing : (a : Amounts) → amounts_sum a nothing ≡ a
 added_nothing a = rw (+ℤ_idr a.ratio, +ℤ_idr a.em, +ℤ_idr a.abs) refl
@@ -218,14 +197,7 @@ live_parts : (ts : List Term) → filter (λ p. not (is_zero p.number)) (map as_
     ≡ map as_part (live ts)
 unfolding live
 live_parts [] = refl
-live_parts (t ∷ ts) = by (is_zero t.z) (live_parts ts)
-  where
-    by : (b : Bool) → filter (λ p. not (is_zero p.number)) (map as_part ts) ≡ map as_part (live ts)
-        → cond (not b) (as_part t ∷ filter (λ p. not (is_zero p.number)) (map as_part ts))
-        (filter (λ p. not (is_zero p.number)) (map as_part ts))
-        ≡ map as_part (cond (not b) (t ∷ live ts) (live ts))
-    by true h = h
-    by false h = ap (λ l. as_part t ∷ l) h
+live_parts (t ∷ ts) = grind (arith, live_parts ts)
 
 live_total : (ts : List Term) → total (live ts) ≡ total ts
 unfolding live
@@ -254,49 +226,34 @@ opposite_fits (pos zero) q = q
 opposite_fits (pos (suc n)) q = q
 opposite_fits (negsuc n) q = q
 
+module _ (k : ℕ) (u : List ℕ) (amount : ℤ → Amounts) (unit_word : IsWord u)
+    (some_unit : 0 < length u) (turned : (a : ℤ) → negative_amounts (amount a) ≡ amount (neg_ℤ a))
+    (none : amount (pos 0) ≡ nothing)
+    (worth : (z : ℤ) → IsQuantity z → part_value (fixed_text k z ++ u) ≡ Some (amount (round z)))
+  where
+    abbrev unit_term : (z : ℤ) → IsQuantity z → Term
+    unit_term z q = record {
+      text = λ n. fixed_text k n ++ u;
+      amount = amount;
+      z = z;
+      value = worth z q;
+      word = text_word k u unit_word some_unit z q;
+      part = text_part k u unit_word some_unit z q;
+      opposite_value = worth (neg_ℤ z) (opposite_fits z q);
+      opposite_word = text_word k u unit_word some_unit (neg_ℤ z) (opposite_fits z q);
+      turns = turned;
+      zero_is = none;
+    }
+
 abbrev abs_term : (z : ℤ) → IsQuantity z → Term
-abs_term z q = record {
-  text = abs_text;
-  amount = of_abs;
-  z = z;
-  value = abs_value z q;
-  word = text_word 4 (codes "pt") (refl, (refl, tt)) (omega arith) z q;
-  part = text_part 4 (codes "pt") (refl, (refl, tt)) (omega arith) z q;
-  opposite_value = abs_value (neg_ℤ z) (opposite_fits z q);
-  opposite_word = text_word 4 (codes "pt") (refl, (refl, tt)) (omega arith) (neg_ℤ z)
-      (opposite_fits z q);
-  turns = λ a. refl;
-  zero_is = refl;
-}
+abs_term =
+    unit_term 4 (codes "pt") of_abs (refl, (refl, tt)) (omega arith) (λ a. refl) refl abs_value
 
 abbrev em_term : (z : ℤ) → IsQuantity z → Term
-em_term z q = record {
-  text = em_text;
-  amount = of_em;
-  z = z;
-  value = em_value z q;
-  word = text_word 4 (codes "em") (refl, (refl, tt)) (omega arith) z q;
-  part = text_part 4 (codes "em") (refl, (refl, tt)) (omega arith) z q;
-  opposite_value = em_value (neg_ℤ z) (opposite_fits z q);
-  opposite_word = text_word 4 (codes "em") (refl, (refl, tt)) (omega arith) (neg_ℤ z)
-      (opposite_fits z q);
-  turns = λ a. refl;
-  zero_is = refl;
-}
+em_term = unit_term 4 (codes "em") of_em (refl, (refl, tt)) (omega arith) (λ a. refl) refl em_value
 
 abbrev ratio_term : (z : ℤ) → IsQuantity z → Term
-ratio_term z q = record {
-  text = ratio_text;
-  amount = of_ratio;
-  z = z;
-  value = ratio_value z q;
-  word = text_word 2 (codes "%") (refl, tt) (omega arith) z q;
-  part = text_part 2 (codes "%") (refl, tt) (omega arith) z q;
-  opposite_value = ratio_value (neg_ℤ z) (opposite_fits z q);
-  opposite_word = text_word 2 (codes "%") (refl, tt) (omega arith) (neg_ℤ z) (opposite_fits z q);
-  turns = λ a. refl;
-  zero_is = refl;
-}
+ratio_term = unit_term 2 (codes "%") of_ratio (refl, tt) (omega arith) (λ a. refl) refl ratio_value
 
 pub length_value : LengthValue
 length_value em abs p q =

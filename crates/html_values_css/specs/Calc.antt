@@ -1,11 +1,11 @@
--- What a sum has written, and what stood before it.
+-- The text that a sum has written, and the text before it.
 use Rattle.std.specs.Prelude.{◌≡◌, ◌≤◌, ℕ, ℤ, List, ◌++◌, codes, take, drop, length, chars, string_bytes}
 use Rattle.html_values_css.specs.Sums.{Part, Parts, Zero, One, More, following_part}
 use Rattle.html_values_css.specs.Writer.{WriterState}
 use Rattle.html_values_css.specs.declared.sink.Warning.{Warning}
 use Rattle.html_values_css.specs.declared.writer.CssWriter.{CssWriter}
 
--- what stood in the writer before a sum, and what the sum has written, as a writer of its own
+-- the text of the writer before a sum, and what the sum has written, as a writer of its own
 abbrev pub text_before : {S : Type 0} → ℕ → CssWriter S → List ℕ
 text_before start w = chars (take start (string_bytes w.text))
 
@@ -17,12 +17,12 @@ written_from start w = record {
   sink = w.sink;
 }
 
--- nothing before the start of the sum is changed
+-- nothing before the start of the sum changes
 pub record KeepsFront {S : Type 0} (start : ℕ) (old new : CssWriter S) : Type 0 where
   pub within : start ≤ length (string_bytes new.text)
   pub front : take start (string_bytes new.text) ≡ take start (string_bytes old.text)
 
--- the part of a value, whose type says what its number, its text and its negation are
+-- the part of a value, whose type gives its number, its text and its negation
 abbrev pub part_of : {T : Type 0} → (T → ℤ) → (T → List ℕ) → (T → List Warning) → (T → T) → T → Part
 part_of number text warnings opposite x = record {
   number = number x;
@@ -32,7 +32,7 @@ part_of number text warnings opposite x = record {
   opposite_warnings = warnings (opposite x);
 }
 
--- what one more part appends
+-- the text that one more part appends
 abbrev pub next_part_text : Parts → Part → List ℕ
 next_part_text Zero p = p.text
 next_part_text One p = following_part p

@@ -18,7 +18,7 @@ separator_text Slash = codes " / "
 abbrev pub before_argument : Bool → Separator → List ℕ
 before_argument has_argument separator = if has_argument then separator_text separator else []
 
--- what a writer keeps through a refused call
+-- what a writer keeps when a call fails
 abbrev pub KeepsWriter : {S : Type 0} → WriterState S → WriterState S → Type 0
 KeepsWriter old new = StartsWith new.text old.text × (new.failed ≡ old.failed) × (new.sink ≡ old.sink)
 

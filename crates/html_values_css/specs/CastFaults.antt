@@ -1,5 +1,4 @@
--- Numbers of the faults of casts, when one is the first, and that it is decided whether two are
--- equal.
+-- Numbers of the faults of casts, when one is the first, and that equality is decidable.
 use Rattle.std.specs.Prelude.{◌≡◌, ℕ, ◌==◌, List, ◌∷◌, if◌then◌else◌, refl}
 use native.Mathlib.Decide.{ℕ_discrete}
 use Rattle.html_names.specs.Equal.{discrete_by}
@@ -17,7 +16,7 @@ number_of BadImageSource = 21
 number_of SeparatorInItem = 22
 number_of YearRange = 23
 
--- the fault that is answered is the first of the list, unless memory ran out
+-- the returned fault is the first of the list, unless memory ran out
 abbrev pub IsFirst : CastFault → List CastFault → Type 0
 IsFirst OutOfMemory fs = Unit {0}
 IsFirst f fs = (rest : List CastFault) × (fs ≡ f ∷ rest)

@@ -3,7 +3,7 @@ use Rattle.std.specs.Prelude.{ℕ, ◌/◌, ◌%◌, ◌==◌, List, [], ◌∷�
 use Rattle.std.specs.Fmt.{digit_glyph}
 use Rattle.html_values_css.specs.declared.paint.Rgba.{Rgba}
 
--- a byte in two small hexadecimal digits
+-- a byte in two lowercase hexadecimal digits
 abbrev pub hex_byte : ℕ → List ℕ
 hex_byte n = digit_glyph false (n / 16) ∷ digit_glyph false (n % 16) ∷ []
 

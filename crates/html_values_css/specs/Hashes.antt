@@ -1,4 +1,4 @@
--- Equal properties are hashed alike.
+-- Equal properties have equal hashes.
 use Rattle.std.specs.Prelude.{◌≡◌, List, true}
 use Rattle.std.proofs.Common.{ap}
 use Rattle.html_names.specs.Texts.{TextPair}

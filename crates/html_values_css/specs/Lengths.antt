@@ -1,5 +1,5 @@
--- What the css text of a length is worth (CSS Values 4: dimensions, percentages and `calc()`), in
--- whole millionths.
+-- The value of a length's css text (CSS Values 4: dimensions, percentages and `calc()`), in whole
+-- millionths.
 use Rattle.std.specs.Prelude.{◌≡◌, ℕ, suc, ◌≤◌, ◌<◌, ◌+◌, ◌*◌, ◌/◌, nat_lt, ◌==◌, ℤ, pos, negsuc, neg_ℤ, ◌+ℤ◌, List, [], ◌∷◌, codes, take, drop, bytes_eq, Bool, if◌then◌else◌, Option, Some, None, option_map}
 use Rattle.std.specs.List.{take_while, prefix_len}
 use Rattle.std.specs.Char.{digit_value}
@@ -31,7 +31,7 @@ both None b = None
 abbrev pub is_digit : ℕ → Bool
 is_digit c = nat_lt (digit_value c) 10
 
--- the digits that a text begins with, and what follows them
+-- the leading digits of a text, and the text behind them
 abbrev pub digits_of : List ℕ → List ℕ
 digits_of text = take_while is_digit text
 
@@ -68,7 +68,7 @@ part_value (c ∷ cs) =
     if c == 45 then option_map negative_amounts (unsigned_value (digits_of cs) (after_digits cs))
     else unsigned_value (digits_of (c ∷ cs)) (after_digits (c ∷ cs))
 
--- the words of a sum: a part, and then signs and parts
+-- the words of a sum: a part, then signs and parts
 abbrev pub value_with_sign : List ℕ → Option Amounts → Option Amounts
 value_with_sign sign value = if bytes_eq sign (codes "+") then value
     else (if bytes_eq sign (codes "-") then option_map negative_amounts value else None)
@@ -82,13 +82,13 @@ abbrev pub sum_value : List (List ℕ) → Option Amounts
 sum_value [] = None
 sum_value (part ∷ words) = both (part_value part) (terms words)
 
--- a text without the `)` at its end
+-- a text without its trailing `)`
 abbrev pub before_close : List ℕ → Option (List ℕ)
 before_close [] = None
 before_close (c ∷ []) = if c == 41 then Some [] else None
 before_close (c ∷ d ∷ cs) = option_map (λ body. c ∷ body) (before_close (d ∷ cs))
 
--- what stands in `calc(..)`
+-- the content of `calc(..)`
 abbrev pub calc_body : List ℕ → Option (List ℕ)
 calc_body text = if bytes_eq (take 5 text) (codes "calc(") then before_close (drop 5 text) else None
 
@@ -109,7 +109,7 @@ abbrev pub round : ℤ → ℤ
 round (pos n) = pos (nearest_hundred n)
 round (negsuc n) = neg_ℤ (pos (nearest_hundred (suc n)))
 
--- the text of a length is worth the sum of its parts, each rounded to the decimals that it is
+-- the value of a length's text is the sum of its parts, each rounded to the decimals that it is
 -- written with
 abbrev pub LengthValue : Type 0
 LengthValue = (em abs : ℤ) → IsQuantity em → IsQuantity abs → css_value (length_text em abs)

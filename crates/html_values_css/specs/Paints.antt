@@ -13,19 +13,19 @@ paint_text (Solid c) = color_text c
 paint_text Gradient = []
 paint_text Tiling = []
 
--- a paint that fails warns of what it is
+-- a paint that fails has its own warning
 abbrev pub paint_warnings : Paint → List Warning
 paint_warnings (Solid c) = []
 paint_warnings Gradient = warning.Gradient ∷ []
 paint_warnings Tiling = warning.Tiling ∷ []
 
--- so the list of warnings gains at most that
+-- so the list of warnings gains at most that one
 abbrev pub PaintWarns : (old new : List Warning) → Paint → Type 0
 PaintWarns old new (Solid c) = new ≡ old
 PaintWarns old new Gradient = AddsAtMost old new warning.Gradient
 PaintWarns old new Tiling = AddsAtMost old new warning.Tiling
 
--- and the sink's outcome is the call's
+-- and the call ends as the sink does
 abbrev pub PaintGives : {S : Type 0} → SinkAnswers S → (old new : S) → Result (Unit {0}) AllocError
     → Paint → Type 0
 PaintGives gives old new r (Solid c) = Unit {0}

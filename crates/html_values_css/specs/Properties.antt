@@ -26,7 +26,7 @@ list_view = map property_view
 abbrev pub by_name : List ℕ → List ℕ → Ordering
 by_name a b = slice_cmp nat_cmp (encodes a) (encodes b)
 
--- each name stands before the names after it, so no name stands twice
+-- each name comes before the names after it, so no name is repeated
 abbrev pub IsListed : List TextPair → Type 0
 IsListed pairs = IsStrictlySortedBy by_name (keys_of pairs)
 
@@ -34,7 +34,7 @@ IsListed pairs = IsStrictlySortedBy by_name (keys_of pairs)
 abbrev pub value_of : List TextPair → List ℕ → Option (List ℕ)
 value_of pairs name = lookup (is_at (by_name name)) pairs
 
--- with the value of a name, where its order puts it, or instead of the value that the name had
+-- with the value of a name, at the index for its order, or instead of the value that the name had
 abbrev pub with_value : List TextPair → List ℕ → List ℕ → List TextPair
 with_value pairs name value = insert_entry by_name pairs name value
 

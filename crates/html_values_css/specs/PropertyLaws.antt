@@ -1,4 +1,4 @@
--- What holds of every property map.
+-- Laws of all property maps.
 use Rattle.std.specs.Prelude.{◌≡◌, ℕ, List, [], ◌∷◌, bytes_eq, Some, None, if◌then◌else◌}
 use Rattle.std.specs.List.{IsDistinct}
 use Rattle.std.specs.List.Sorted.{IsPermutation}
@@ -6,7 +6,7 @@ use Rattle.std.specs.Map.{keys_of}
 use Rattle.html_names.specs.Texts.{TextPair}
 use Rattle.html_values_css.specs.Properties.{IsListed, value_of, with_value, without, inline_text}
 
--- the properties after these are pushed, one after another
+-- the properties after pushing these, one after another
 abbrev pub properties_after : List TextPair → List TextPair → List TextPair
 properties_after old [] = old
 properties_after old (p ∷ ps) = properties_after (with_value old p.0 p.1) ps
@@ -18,19 +18,19 @@ AnyOrder = (old first second : List TextPair) → IsListed old → IsDistinct by
     → (properties_after old first ≡ properties_after old second) × (inline_text (properties_after old first)
     ≡ inline_text (properties_after old second))
 
--- a push gives that name its value, and no other name another
+-- a push sets the value of that name, and no other value
 abbrev pub PushSets : Type 0
 PushSets = (pairs : List TextPair) (name value other : List ℕ)
     → value_of (with_value pairs name value) other
     ≡ (if bytes_eq other name then Some value else value_of pairs other)
 
--- after a remove that name has no value, and the others have theirs
+-- after a remove that name has no value, and the others keep theirs
 abbrev pub RemoveClears : Type 0
 RemoveClears = (pairs : List TextPair) (name other : List ℕ) → IsListed pairs
     → value_of (without pairs name) other ≡ (if bytes_eq other name then None
     else value_of pairs other)
 
--- the values of the names decide the list
+-- the values of the names determine the list
 abbrev pub ValuesDecide : Type 0
 ValuesDecide = (a b : List TextPair) → IsListed a → IsListed b
     → ((name : List ℕ) → value_of a name ≡ value_of b name) → a ≡ b

@@ -19,7 +19,7 @@ is_negative (negsuc n) = true
 abbrev pub nearest_hundreds : ℤ → ℕ
 nearest_hundreds z = (unsigned_abs z + 50) / 100
 
--- the digits of n parts of 10^k, without the zeros at the end
+-- the digits of n parts of 10^k, without trailing zeros
 abbrev pub fraction_digits : ℕ → ℕ → List ℕ
 fraction_digits zero n = []
 fraction_digits (suc k) zero = []

@@ -6,7 +6,7 @@ use Rattle.html_values_css.specs.declared.sink.Warning.{Warning}
 pub use Rattle.html_values_css.specs.declared.calc.Parts.{Parts}
 pub use Rattle.html_values_css.specs.declared.calc.Parts.TheVariants.{Zero, One, More}
 
--- a part: its number, its text, its warnings, and the last two of the part negated
+-- a part: its number, its text, its warnings, and the last two of the negated part
 pub record Part : Type 0 where
   pub number : ℤ
   pub text : List ℕ
@@ -14,11 +14,11 @@ pub record Part : Type 0 where
   pub opposite_text : List ℕ
   pub opposite_warnings : List Warning
 
--- a part as one that follows others
+-- a part behind others
 abbrev pub following_part : Part → List ℕ
 following_part p = if is_negative p.number then codes " - " ++ p.opposite_text else codes " + " ++ p.text
 
--- none is `0`, one stands alone, and more stand in `calc`
+-- none is `0`, one is alone, and more are in `calc`
 abbrev pub whole_sum : List Part → List ℕ
 whole_sum [] = codes "0"
 whole_sum (p ∷ []) = p.text
@@ -45,7 +45,7 @@ abbrev pub rel_text : (ratio em abs : ℤ) → List ℕ
 rel_text ratio em abs = sum_text (quantity_part ratio_text ratio ∷ quantity_part em_text em ∷
     quantity_part abs_text abs ∷ [])
 
--- What a sum has written so far, step by step. How many parts it has after one more:
+-- The text that a sum has written so far, step by step. The number of its parts after one more:
 abbrev pub next : Parts → Parts
 next Zero = One
 next One = More
@@ -63,7 +63,7 @@ with_part More own p = own ++ following_part p
 abbrev pub next_text : Parts → List ℕ → Part → List ℕ
 next_text parts own p = if is_zero p.number then own else with_part parts own p
 
--- what that part warns of
+-- the warnings of that part
 abbrev pub part_warnings : Parts → Part → List Warning
 part_warnings Zero p = p.warnings
 part_warnings One p = if is_negative p.number then p.opposite_warnings else p.warnings
@@ -72,13 +72,13 @@ part_warnings More p = if is_negative p.number then p.opposite_warnings else p.w
 abbrev pub next_warnings : Parts → Part → List Warning
 next_warnings parts p = if is_zero p.number then [] else part_warnings parts p
 
--- what closes the sum
+-- the text that closes the sum
 abbrev pub sum_end : Parts → List ℕ
 sum_end Zero = codes "0"
 sum_end One = []
 sum_end More = codes ")"
 
--- what a sum with these parts writes, step by step, from what it has written so far
+-- the text that a sum with these parts writes, step by step, after what it has written so far
 abbrev pub written_sum : Parts → List ℕ → List Part → List ℕ
 written_sum parts own [] = own ++ sum_end parts
 written_sum parts own (p ∷ ps) = written_sum (next_parts parts p) (next_text parts own p) ps

@@ -1,4 +1,4 @@
--- What a css writer holds, and what a call adds.
+-- The state of a css writer, and what a call adds.
 use Rattle.std.specs.Prelude.{◌≡◌, ℕ, List, [], ◌∷◌, ◌++◌, Bool, true, false, ◌||◌, Result, OnOk, OnErr}
 use Rattle.std.specs.declared.alloc.AllocError.{AllocError}
 use Rattle.html_names.specs.Texts.{text_view}
@@ -21,13 +21,13 @@ writer_state w = record { text = text_of w; failed = w.failed; sink = w.sink }
 abbrev pub empty : {S : Type 0} → S → WriterState S
 empty sink = record { text = []; failed = false; sink = sink }
 
--- a value fails where it warns
+-- a value fails if it warns
 abbrev pub fails : List Warning → Bool
 fails [] = false
 fails (w ∷ ws) = true
 
--- The text grows by `text`, or by a beginning of whatever where the call is refused. The sink is
--- handed the warnings. Where there are none, the flag stays.
+-- The text grows by `text`, or if the call fails by the beginning of any text. The sink receives
+-- the warnings. If there are none, the flag stays.
 pub record Emits {S : Type 0} (takes : SinkAnswers S) (r : Result (Unit {0}) AllocError)
     (old new : WriterState S) (text : List ℕ) (warnings : List Warning) : Type 0 where
   pub appended : OnOk r (new.text ≡ old.text ++ text)
@@ -36,8 +36,8 @@ pub record Emits {S : Type 0} (takes : SinkAnswers S) (r : Result (Unit {0}) All
   pub steady : warnings ≡ [] → new.failed ≡ old.failed
   pub given : Hands takes r old.sink warnings new.sink
 
--- A step of a sum: what the sum itself has written becomes `text`; where the step is refused, it
--- has still what it had at its beginning.
+-- A step of a sum: the text that the sum itself has written becomes `text`; if the step fails, it
+-- still begins with what it was.
 pub record SumsUp {S : Type 0} (takes : SinkAnswers S) (r : Result (Unit {0}) AllocError)
     (old new : WriterState S) (text : List ℕ) (warnings : List Warning) : Type 0 where
   pub written : OnOk r (new.text ≡ text)

@@ -10,7 +10,7 @@ use crate::writer::CssWriter;
 use html_names::Refused;
 use std::alloc::{AllocError, Global};
 
-/// Properties that are being made of values. What a value warns of goes to the sink.
+/// Properties that are being built from values. Warnings of values go to the sink.
 ///
 /// A value that fails changes only the warnings: an earlier value of that name stays. See
 /// [`Properties::build`] for an example.
@@ -21,7 +21,7 @@ pub struct PropertiesBuilder<S> {
 }
 
 impl Properties {
-    /// Begins with no properties.
+    /// Starts a builder without properties.
     ///
     /// ```
     /// use html_values::{Abs, Paint, Properties, Rgba};
@@ -45,7 +45,7 @@ impl Properties {
 }
 
 impl<S: WarningSink> PropertiesBuilder<S> {
-    /// Begins with no properties.
+    /// Creates a builder without properties.
     pub fn new(alloc: Global, sink: S) -> PropertiesBuilder<S>
         ensures { result ≡ record { properties = []; sink = sink } }
     {
@@ -55,9 +55,9 @@ impl<S: WarningSink> PropertiesBuilder<S> {
         }
     }
 
-    /// Gives a name the css text of a value, unless the value fails. The value's warnings go to the
-    /// sink, in order. Where the sink refuses one, or an allocation fails, the properties stay, and
-    /// the sink was handed a beginning of the warnings.
+    /// Sets the value of a name to the css text of a value, unless the value fails. Passes the
+    /// value's warnings to the sink, in order. If the sink refuses one, or an allocation fails, the
+    /// properties are unchanged, and the sink has got the first of the warnings.
     pub fn push<T: ToCss>(&mut self, name: &str, value: &T) -> Result<(), AllocError>
         ensures ok { OnOk result (self.new.properties ≡ (if fails (T.warnings value.now)
             then self.old.properties else with_value self.old.properties (chars name.now)
@@ -79,8 +79,8 @@ impl<S: WarningSink> PropertiesBuilder<S> {
         }
     }
 
-    /// The same builder after `push`. Where `push` is refused, it comes back with the properties
-    /// that it had.
+    /// Calls `push` and returns the builder. If `push` fails, the error holds the builder with the
+    /// properties that it had.
     pub fn with<T: ToCss>(
         mut self,
         name: &str,
@@ -102,7 +102,7 @@ impl<S: WarningSink> PropertiesBuilder<S> {
         }
     }
 
-    /// The properties. The sink is let go.
+    /// Returns the properties and drops the sink.
     pub fn finish(self) -> Properties
     where
         S: Drop,

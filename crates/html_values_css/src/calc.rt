@@ -9,7 +9,7 @@ use std::alloc::AllocError;
 
 /// A part of a sum.
 ///
-/// Its law: `is_zero`, `is_negative` and `negated` speak of one number.
+/// Its law: `is_zero`, `is_negative` and `negated` refer to the same number.
 ///
 /// A whole implementation, with the text of the part:
 ///
@@ -62,26 +62,26 @@ pub trait CalcPart: ToCss + Drop {
     /// The number.
     ghost number: { Self → ℤ };
 
-    /// The part negated.
+    /// The negated part.
     ghost opposite: { Self → Self };
 
-    /// Whether the number is exactly zero.
+    /// Returns whether the number is exactly zero.
     fn is_zero(&self) -> bool
         ensures { result ≡ is_zero (number self.now) };
 
-    /// Whether the number is below zero.
+    /// Returns whether the number is below zero.
     fn is_negative(&self) -> bool
         ensures { result ≡ is_negative (number self.now) };
 
-    /// The part with the negated number.
+    /// Returns the part with the negated number.
     fn negated(&self) -> Self
         ensures { result ≡ opposite self.now };
 
-    /// The number of the part negated.
+    /// The number of the negated part.
     ghost negates: { (part : Self) → number (opposite part) ≡ neg_ℤ (number part) };
 }
 
-/// How many parts a sum has so far.
+/// The number of parts that a sum has so far.
 #[derive(Clone, Copy, Debug, PartialEq, Eq)]
 pub(crate) enum Parts {
     Zero,
@@ -112,7 +112,7 @@ impl Parts {
     }
 }
 
-/// A sum whose parts are still being written. Without `finish` its closing text is missing.
+/// A sum whose parts are still being written. Without `finish` it lacks its closing text.
 #[derive(Drop)]
 pub struct Calc<'a, S> {
     pub(crate) out: &'a mut CssWriter<S>,
@@ -129,7 +129,7 @@ impl<S: WarningSink> CssWriter<S> {
     ghost use Rattle.html_values_css.specs.Writer.{writer_state, text_of};
 
     /// Begins a sum: `calc(..)` around two parts or more, a single part alone, and `0` for none.
-    /// Parts of exactly zero are dropped.
+    /// Drops parts that are exactly zero.
     pub fn calc(&mut self) -> Calc<'_, S>
         ensures same_writer { result.out.ghost_name ≡ self.entry.ghost_name }
         ensures before { text_before result.start result.out.now ≡ text_of self.old }
@@ -177,7 +177,7 @@ impl<S: WarningSink> Calc<'_, S> {
         Ok(())
     }
 
-    /// Closes the sum: what it has written and its closing text follow what stood before it.
+    /// Closes the sum: appends its closing text, if it needs one.
     pub fn finish(self) -> Result<(), AllocError>
         ensures closing { Emits (TakesWarning S.warnings S.borrow S.emit_gives) result
             (writer_state self.entry.out.now) (writer_state self.exit.0.now) (sum_end self.entry.parts) [] }
@@ -198,7 +198,7 @@ impl<S: WarningSink> CssWriter<S> {
     ghost use Rattle.html_values_css.specs.Writer.{writer_state, Emits, SumsUp};
     ghost use Rattle.std.specs.Prelude.{[]};
 
-    /// Adds a part that is not zero to the sum that begins at `start`.
+    /// Adds a nonzero part to the sum that begins at `start`.
     fn add_part<T: CalcPart>(
         &mut self,
         start: usize,
@@ -249,7 +249,7 @@ impl<S: WarningSink> CssWriter<S> {
         value.emit(self)
     }
 
-    /// Puts the opening at the start of the sum, with the second part.
+    /// Inserts the opening at the start of the sum, before the second part.
     fn open_sum(&mut self, start: usize, parts: Parts) -> Result<(), AllocError>
         requires seam { ∥ IsUtf8 (take start (string_bytes self.old.text)) ∥₁ }
         requires within { start ≤ length (string_bytes self.old.text) }

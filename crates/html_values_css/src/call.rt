@@ -9,7 +9,7 @@ use crate::to_css::ToCss;
 use crate::writer::CssWriter;
 use std::alloc::AllocError;
 
-/// What stands between two arguments.
+/// The text between two arguments.
 #[derive(Clone, Copy, Debug, PartialEq, Eq)]
 pub enum Separator {
     /// ` `
@@ -29,8 +29,8 @@ impl Separator {
     }
 }
 
-/// A call whose arguments are still being written. Without `finish` the closing parenthesis is
-/// missing.
+/// A call whose arguments are still being written. Without `finish` it lacks its closing
+/// parenthesis.
 #[derive(Drop)]
 pub struct Call<'a, S> {
     out: &'a mut CssWriter<S>,
@@ -39,7 +39,7 @@ pub struct Call<'a, S> {
 }
 
 impl<S: WarningSink> CssWriter<S> {
-    /// Begins the call of that name: its arguments are separated by `separator`.
+    /// Begins a call with that name, whose arguments `separator` separates.
     pub fn call(&mut self, name: &str, separator: Separator) -> Result<Call<'_, S>, AllocError>
         ensures same_writer { IfOk result (λ c. c.out.ghost_name ≡ self.entry.ghost_name) }
         ensures opened { IfOk result (λ c. Emits (TakesWarning S.warnings S.borrow S.emit_gives) (Ok tt)
@@ -67,7 +67,7 @@ impl<S: WarningSink> CssWriter<S> {
 }
 
 impl<S: WarningSink> Call<'_, S> {
-    /// Adds an argument, after the call's own separator where it is not the first.
+    /// Adds an argument, after the call's own separator unless it is the first.
     pub fn arg<T: ToCss>(&mut self, value: &T) -> Result<(), AllocError>
         ensures same_writer { self.new.out.ghost_name ≡ self.old.out.ghost_name }
         ensures separator { self.new.separator ≡ self.old.separator }
@@ -80,7 +80,7 @@ impl<S: WarningSink> Call<'_, S> {
         self.arg_with(value, self.separator)
     }
 
-    /// Adds an argument, after that separator where it is not the first.
+    /// Adds an argument, after that separator unless it is the first.
     pub fn arg_with<T: ToCss>(&mut self, value: &T, separator: Separator) -> Result<(), AllocError>
         ensures same_writer { self.new.out.ghost_name ≡ self.old.out.ghost_name }
         ensures separator { self.new.separator ≡ self.old.separator }

@@ -10,28 +10,28 @@ pub enum CastFault {
     /// An allocation failed.
     #[error("out of memory")]
     OutOfMemory,
-    /// The type is not for values of this kind.
+    /// The type does not accept values of this kind.
     #[error("the value has the wrong kind")]
     WrongKind,
     /// The text is none of those that the type lists.
     #[error("the text is not one of the allowed ones")]
     NotInStrings,
-    /// A number below the type's least.
+    /// The number is below the type's least.
     #[error("the number is out of range")]
     NumberRange,
-    /// A text of no character or of several, where one is wanted.
+    /// The text does not have exactly one character, as required.
     #[error("expected exactly one character")]
     NotOneChar,
-    /// A direction from top to bottom, or from bottom to top.
+    /// The direction is from top to bottom, or from bottom to top.
     #[error("direction must be horizontal")]
     VerticalDir,
     /// An image's source is empty, or begins or ends with a comma.
     #[error("src must not be empty or start or end with a comma")]
     BadImageSource,
-    /// The text of a list's item has the list's separator in it.
+    /// The text of a list's item contains the list's separator.
     #[error("array item may not contain the separator")]
     SeparatorInItem,
-    /// A year outside 1 to 9999.
+    /// The year is outside 1 to 9999.
     #[error("the year is out of range")]
     YearRange,
 }
@@ -39,7 +39,7 @@ pub enum CastFault {
 impl CastFault {
     ghost use Rattle.html_values_css.specs.CastFaults.{number_of};
 
-    /// The fault's number: 0 for out of memory, and from 16 on in the order of the variants.
+    /// Returns the number: 0 for out of memory, and from 16 on in the order of the variants.
     pub fn number(&self) -> u8
         ensures { result ≡ number_of self.now }
     {

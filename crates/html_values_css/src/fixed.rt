@@ -3,8 +3,8 @@ ghost use Rattle.html_values_css.specs.Quantities.{fixed_text, fraction_digits, 
 
 use std::alloc::{AllocError, Global};
 
-/// The decimal text of a number of millionths: a whole number of hundreds of them, rounded half
-/// away from zero, whose last `decimals` digits stand behind the point, without zeros at the end.
+/// Formats a number of millionths, rounded to whole hundreds of them, half away from zero. The last
+/// `decimals` digits of the hundreds stand behind the point, without trailing zeros.
 #[tactic(auto, using(crate::proofs::Digits::append_steps))]
 pub(crate) fn fixed(alloc: Global, millionths: i64, decimals: u32) -> Result<String, AllocError>
     requires few { decimals < 5 }
@@ -58,7 +58,7 @@ fn push_point(text: &mut String, rest: u64, decimals: u32) -> Result<(), AllocEr
     push_fraction(text, rest, decimals)
 }
 
-/// Appends the digits of `rest` parts of 10 to the `decimals`, down to the last that is not 0.
+/// Appends `rest`, a number of parts of 10 to the `decimals`, down to its last digit other than 0.
 fn push_fraction(text: &mut String, rest: u64, decimals: u32) -> Result<(), AllocError>
     requires few { decimals < 5 }
     requires below { rest < 10 ^ decimals }

@@ -5,7 +5,7 @@ use std::fmt;
 
 /// Properties as the text of a `style` attribute: `name: value`, joined by `; `.
 ///
-/// Its text is what `Display` writes.
+/// `Display` writes the text.
 #[derive(Clone, Copy)]
 pub struct Inline<'a>(pub(crate) &'a [Property]);
 

@@ -1,4 +1,4 @@
-//! What holds of every css value, as contracts of functions that do nothing.
+//! Laws of all css values, as contracts of functions that do nothing.
 
 ghost use Rattle.html_values_css.specs.Lengths.{LengthValue, Nearest, RelValue};
 ghost use Rattle.html_values_css.specs.Properties.{property_view};
@@ -11,19 +11,19 @@ use crate::{
     Dir, Length, Paint, Properties, Property, Quantity, Rel, Rgba, Separator, Warning, WarningSink,
 };
 
-/// A push gives its name that value, and no other name another.
+/// A push sets the value of its name, and no other value.
 #[tactic(auto, using(crate::proofs::Pushes::push_sets))]
 pub fn push_sets()
     ensures { PushSets }
 {}
 
-/// The values of the names decide the list of properties.
+/// The values of the names determine the list of properties.
 #[tactic(auto, using(crate::proofs::Pushes::values_decide))]
 pub fn values_decide()
     ensures { ValuesDecide }
 {}
 
-/// After a remove its name has no value, and the others have theirs.
+/// After a remove, the name has no value, and the others keep theirs.
 #[tactic(auto, using(crate::proofs::Pushes::remove_clears))]
 pub fn remove_clears()
     ensures { RemoveClears }
@@ -35,13 +35,13 @@ pub fn any_order()
     ensures { AnyOrder }
 {}
 
-/// The css text of a length is worth, unit by unit, its parts, each rounded to four decimals.
+/// The css text of a length equals, unit by unit, its parts, each rounded to four decimals.
 #[tactic(auto, using(crate::proofs::Worth::length_value))]
 pub fn length_value()
     ensures { LengthValue }
 {}
 
-/// The css text of a relative length is worth, unit by unit, its parts, each rounded: the ratio to
+/// The css text of a relative length equals, unit by unit, its parts, each rounded: the ratio to
 /// two decimals of a percent, the others to four decimals.
 #[tactic(auto, using(crate::proofs::Worth::rel_value))]
 pub fn rel_value()
@@ -53,88 +53,88 @@ pub fn rounds_to_nearest()
     ensures { Nearest }
 {}
 
-/// What a sum writes part by part is its text.
+/// A sum that is written part by part has its text.
 #[tactic(auto, using(crate::proofs::Summing::sums))]
 pub fn sum_is_written()
     ensures { SumWritten }
 {}
 
-/// A vector that is given warnings has them at its end, in order.
+/// A vector that receives warnings has them at its end, in order.
 #[tactic(auto, using(crate::proofs::Giving::given_vector))]
 pub fn given_vector()
     ensures { GivenVector }
 {}
 
-/// After a call that hands warnings to a sink, the sink's list begins as before, and a sink that is
-/// a borrow is the same borrow.
+/// After a call that passes warnings to a sink, the sink's list begins as before, and a sink that
+/// is a borrow is the same borrow.
 pub fn hands_begin<S: WarningSink>(_sink: &S)
     ensures { HandsBegin S.warnings S.borrow S.emit_gives }
 {}
 
-/// Quantities of one unit are equal where their numbers are.
+/// Quantities of one unit are equal if their numbers are.
 pub fn equal_quantities<U: Copy + PartialEq>(a: Quantity<U>, b: Quantity<U>) -> bool
     ensures { IsTrue result ↔ (a ≡ b) }
 {
     a == b
 }
 
-/// Lengths are equal where all their fields are.
+/// Lengths are equal if all their fields are.
 pub fn equal_lengths(a: Length, b: Length) -> bool
     ensures { IsTrue result ↔ (a ≡ b) }
 {
     a == b
 }
 
-/// Relative lengths are equal where all their fields are.
+/// Relative lengths are equal if all their fields are.
 pub fn equal_rels(a: Rel, b: Rel) -> bool
     ensures { IsTrue result ↔ (a ≡ b) }
 {
     a == b
 }
 
-/// Colours are equal where all their fields are.
+/// Colours are equal if all their fields are.
 pub fn equal_colours(a: Rgba, b: Rgba) -> bool
     ensures { IsTrue result ↔ (a ≡ b) }
 {
     a == b
 }
 
-/// Paints are equal where all their fields are.
+/// Paints are equal if all their fields are.
 pub fn equal_paints(a: Paint, b: Paint) -> bool
     ensures { IsTrue result ↔ (a ≡ b) }
 {
     a == b
 }
 
-/// Directions are equal where all their fields are.
+/// Directions are equal if they are the same.
 pub fn equal_directions(a: Dir, b: Dir) -> bool
     ensures { IsTrue result ↔ (a ≡ b) }
 {
     a == b
 }
 
-/// Warnings are equal where all their fields are.
+/// Warnings are equal if they are the same.
 pub fn equal_warnings(a: Warning, b: Warning) -> bool
     ensures { IsTrue result ↔ (a ≡ b) }
 {
     a == b
 }
 
-/// Separators are equal where all their fields are.
+/// Separators are equal if they are the same.
 pub fn equal_separators(a: Separator, b: Separator) -> bool
     ensures { IsTrue result ↔ (a ≡ b) }
 {
     a == b
 }
 
-/// Properties of one name and one value are equal where both texts are.
+/// Properties are equal if their names and values are.
 pub fn equal_property(a: &Property, b: &Property) -> bool
     ensures { IsTrue result ↔ (property_view a.now ≡ property_view b.now) }
 {
     a == b
 }
 
-/// Property maps are equal where their lists of names and values are.
+/// Property maps are equal if their lists of names and values are.
 pub fn equal_properties(a: &Properties, b: &Properties) -> bool
     ensures { IsTrue result ↔ (a.now ≡ b.now) }
 {

@@ -22,7 +22,7 @@ pub struct Length {
 pub struct Rel {
     /// The ratio of the other length.
     pub rel: Ratio,
-    /// What is added.
+    /// The length that is added.
     pub abs: Length,
 }
 

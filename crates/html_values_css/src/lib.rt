@@ -1,7 +1,7 @@
-//! Values of css: quantities, colours, the texts that they have, and maps of properties; and why casts
-//! fail, which the layers above say too. A part of html_values, which passes these names on.
+//! Css values: quantities, colours, their texts, and maps of properties; and why casts fail, which
+//! the layers above report too. A part of html_values, which re-exports these names.
 //!
-//! A contract sees a text as a list of characters, and a quantity as a whole number of millionths.
+//! In contracts a text is a list of characters, and a quantity a whole number of millionths.
 //!
 //! ```
 //! use html_values::{Abs, Em, Length, Paint, ToCss, Warning};

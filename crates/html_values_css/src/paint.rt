@@ -11,7 +11,7 @@ use std::alloc::{AllocError, Global};
 
 /// A colour in bytes of red, green, blue and alpha. Alpha 255 is opaque.
 ///
-/// Its css text is `#rrggbb`, and `aa` where it is not opaque.
+/// Its css text is `#rrggbb`, followed by `aa` unless it is opaque.
 #[derive(Clone, Copy, Debug, PartialEq, Eq, Hash)]
 pub struct Rgba {
     /// Red.
@@ -73,10 +73,10 @@ impl ToCss for Rgba {
     }
 }
 
-/// What something is painted with.
+/// A paint: a colour or more.
 ///
-/// The css text of a solid colour is the colour's. A gradient and a tiling have none: they fail
-/// with their warning.
+/// The css text of a solid colour is the colour's. Gradients and tilings have none: they fail with
+/// their warning.
 #[derive(Clone, Copy, Debug, PartialEq, Eq, Hash)]
 pub enum Paint {
     /// One colour.

@@ -12,9 +12,9 @@ use std::cmp::Ordering;
 use std::hash::{Hash, Hasher};
 use std::marker::Model;
 
-/// Css properties, listed by the byte order of their names. No name stands twice.
+/// Css properties, sorted by the bytes of their names. No name occurs twice.
 ///
-/// A contract sees the list of names and values.
+/// In contracts it is the list of names and values.
 ///
 /// ```
 /// use html_values::Properties;
@@ -45,7 +45,7 @@ impl Model for Properties {
 }
 
 impl Properties {
-    /// No properties.
+    /// Creates an empty list of properties.
     pub fn new(alloc: Global) -> Properties
         ensures { result ≡ [] }
     {
@@ -54,10 +54,10 @@ impl Properties {
         }
     }
 
-    /// No properties, with room for so many. It fails only where the allocation does.
+    /// Creates an empty list with room for so many properties. Fails only if the allocation does.
     ///
-    /// A list that grows takes room for four at once; whoever makes many short ones says how many
-    /// properties each has.
+    /// A growing list allocates room for four at once; give the capacity when you make many short
+    /// ones.
     pub fn with_capacity(alloc: Global, capacity: usize) -> Result<Properties, AllocError>
         ensures { IfOk result (λ properties. properties ≡ []) }
     {
@@ -66,8 +66,8 @@ impl Properties {
         })
     }
 
-    /// Gives a name that value, instead of the one that it had. Where an allocation fails, the
-    /// properties stay and the value comes back.
+    /// Sets the value of a name, replacing an earlier one. If an allocation fails, the properties
+    /// are unchanged and the error holds the value.
     pub fn push(&mut self, name: &str, value: String) -> Result<(), Refused<String>>
         ensures ok { OnOk result (self.new
             ≡ with_value self.old (chars name.now) (text_view value)) }
@@ -77,14 +77,14 @@ impl Properties {
         put(&mut self.list, name, value)
     }
 
-    /// Takes a name and its value out. It allocates nothing.
+    /// Removes a name and its value. Allocates nothing.
     pub fn remove(&mut self, name: &str)
         ensures { self.new ≡ without self.old (chars name.now) }
     {
         take_out(&mut self.list, name);
     }
 
-    /// These properties, with that value for a name. Where an allocation fails, both come back.
+    /// Sets the value of a name. If an allocation fails, the error holds properties and value.
     pub fn with(
         mut self,
         name: &str,
@@ -105,7 +105,7 @@ impl Properties {
         *self.list.allocator()
     }
 
-    /// The properties in the order of their names.
+    /// Returns the properties in the order of their names.
     pub fn as_slice(&self) -> &[Property]
         ensures all { list_view result.now ≡ self.now }
         ensures listed { IsListed self.now }
@@ -113,7 +113,7 @@ impl Properties {
         &self.list
     }
 
-    /// The properties as the text of a `style` attribute.
+    /// Returns the properties as the text of a `style` attribute.
     pub fn to_inline(&self) -> Inline<'_>
         ensures shown { list_view result.0.now ≡ self.now }
         ensures characters { chars (encodes (inline_text self.now)) ≡ inline_text self.now }
@@ -121,7 +121,7 @@ impl Properties {
         Inline(&self.list)
     }
 
-    /// A copy.
+    /// Returns a copy.
     pub fn try_clone(&self) -> Result<Properties, AllocError>
         ensures { IfOk result (λ copy. copy ≡ self.now) }
     {
@@ -171,7 +171,7 @@ fn search(list: &[Property], name: &str) -> Result<usize, usize>
     list.binary_search_by(|property| compare(property, name))
 }
 
-/// How the property's name compares to another, byte by byte.
+/// Compares the property's name to another, byte by byte.
 fn compare(property: &Property, name: &str) -> Ordering
     ensures { result ≡ by_name (property_name property.now) (chars name.now) }
 {

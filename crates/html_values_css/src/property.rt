@@ -13,14 +13,14 @@ pub struct Property {
 }
 
 impl Property {
-    /// The property of that name and that value.
+    /// Creates a property with that name and value.
     pub fn new(name: String, value: String) -> Property
         ensures { result ≡ record { name = name; value = value } }
     {
         Property { name, value }
     }
 
-    /// A copy.
+    /// Returns a copy.
     pub fn try_clone(&self) -> Result<Property, AllocError>
         ensures { IfOk result (λ copy. property_view copy ≡ property_view self.now) }
     {

@@ -9,29 +9,29 @@ use crate::writer::CssWriter;
 use std::alloc::AllocError;
 use std::marker::{Model, PhantomData};
 
-/// The most millionths that a quantity has, in size.
+/// The greatest absolute value of a quantity, in millionths.
 const MOST_MILLIONTHS: u64 = 1_000_000_000_000_000;
 
-/// What a quantity is counted in.
+/// A unit of quantities.
 pub trait Unit: Copy {
     /// The unit's css text.
     ghost unit_text: { List ℕ };
 
-    /// How many decimals a css text has at most.
+    /// The most decimals of a css text.
     ghost most_decimals: { ℕ };
 
-    /// The unit's css text.
+    /// Returns the unit's css text.
     fn text() -> &'static str
         ensures text { result.now ≡ unit_text }
         ensures ascii { IsTrue (is_ascii result.now) };
 
-    /// How many decimals a css text has at most: 4 or fewer.
+    /// Returns the most decimals of a css text: 4 or fewer.
     fn decimals() -> u32
         ensures value { result ≡ most_decimals }
         ensures few { result < 5 };
 }
 
-/// A number of whole millionths of a unit, at most 10^15 of them in size.
+/// A number of whole millionths of a unit, with an absolute value of at most 10^15.
 ///
 /// Its css text is the number in decimals, rounded half away from zero, and the unit.
 #[derive(Clone, Copy, Debug, PartialEq, Eq, PartialOrd, Ord, Hash)]
@@ -40,7 +40,7 @@ pub struct Quantity<U> {
     unit: PhantomData<U>,
 }
 
-/// An absolute length, in points. Its css text has at most 4 decimals, and then `pt`.
+/// An absolute length in points. Its css text has at most 4 decimals, and then `pt`.
 pub type Abs = Quantity<Points>;
 
 /// A length relative to the font size, in ems. Its css text has at most 4 decimals, and then `em`.
@@ -49,7 +49,7 @@ pub type Em = Quantity<Ems>;
 /// A ratio. Its css text is a percentage with at most 2 decimals.
 pub type Ratio = Quantity<Whole>;
 
-/// An angle, in degrees. Its css text has at most 4 decimals, and then `deg`.
+/// An angle in degrees. Its css text has at most 4 decimals, and then `deg`.
 pub type Angle = Quantity<Degrees>;
 
 /// The unit of absolute lengths: a 72nd of an inch.
@@ -138,8 +138,8 @@ impl<U> Model for Quantity<U> {
 }
 
 impl<U> Quantity<U> {
-    /// n millionths of the unit. For a number of which nothing is known there is
-    /// [`try_from_millionths`](Quantity::try_from_millionths).
+    /// Creates a quantity of n millionths of the unit. Use
+    /// [`try_from_millionths`](Quantity::try_from_millionths) for numbers without a known bound.
     pub fn from_millionths(millionths: i64) -> Quantity<U>
         requires { IsQuantity millionths }
         ensures { result ≡ millionths }
@@ -150,7 +150,7 @@ impl<U> Quantity<U> {
         }
     }
 
-    /// n millionths of the unit, unless they are more than 10^15 in size.
+    /// Creates a quantity of n millionths of the unit, unless their absolute value exceeds 10^15.
     ///
     /// ```
     /// use html_values::Abs;
@@ -170,7 +170,7 @@ impl<U> Quantity<U> {
         }
     }
 
-    /// How many millionths of the unit it is.
+    /// Returns the number of millionths of the unit.
     pub fn millionths(self) -> i64
         ensures value { result ≡ self }
         ensures bounded { IsQuantity result }

@@ -7,7 +7,7 @@ ghost use Rattle.html_values_css.specs.Sink.{AddsAtMost, KeepsWarning, TakesWarn
 use std::alloc::AllocError;
 use thiserror::Error;
 
-/// What was ignored during the export.
+/// Something that export ignored.
 #[derive(Clone, Copy, Debug, PartialEq, Eq, Error)]
 pub enum Warning {
     /// A gradient as a colour.
@@ -18,12 +18,12 @@ pub enum Warning {
     Tiling,
 }
 
-/// Where warnings go.
+/// A receiver of warnings.
 ///
-/// Its law: after `emit` the list of warnings is the one before, with at most that warning at its
-/// end. What else a sink does, `emit_gives` says.
+/// Its law: after `emit` the list of warnings is the one before, with at most that warning
+/// appended. `emit_gives` says what else a sink does.
 ///
-/// A whole implementation, which keeps what it is handed:
+/// A whole implementation, which stores what it receives:
 ///
 /// ```
 /// ghost use Rattle.std.specs.Prelude.{None};
@@ -54,23 +54,23 @@ pub enum Warning {
 /// }
 /// ```
 pub trait WarningSink {
-    /// The warnings so far, where the sink keeps them.
+    /// The warnings so far, if the sink stores them.
     ghost warnings: { Self → List Warning };
 
-    /// What `emit` makes of a sink: the sink before, the warning, the outcome, the sink after.
+    /// What `emit` does to a sink: the sink before, the warning, the outcome, the sink after.
     ghost emit_gives: { Self → Warning → Result (Unit {0}) AllocError → Self → Type 0 };
 
-    /// Which borrow it is, where the sink is one.
+    /// The borrow that the sink is, if it is one.
     ghost borrow: { Self → Option GName };
 
-    /// Takes a warning.
+    /// Receives a warning.
     fn emit(&mut self, warning: Warning) -> Result<(), AllocError>
         ensures adds { AddsAtMost (warnings self.old) (warnings self.new) warning }
         ensures gives { emit_gives self.old warning result self.new }
         ensures same_borrow { borrow self.new ≡ borrow self.old };
 }
 
-/// The warning is added, unless an allocation fails.
+/// Appends the warning, unless an allocation fails.
 impl WarningSink for Vec<Warning> {
     ghost warnings = { λ v. v.items };
 
@@ -84,7 +84,7 @@ impl WarningSink for Vec<Warning> {
     }
 }
 
-/// Nothing is kept.
+/// Drops the warning.
 impl WarningSink for () {
     ghost warnings = { λ _. [] };
 
@@ -97,7 +97,7 @@ impl WarningSink for () {
     }
 }
 
-/// Does what the sink behind the reference does.
+/// Does what the referenced sink does.
 impl<S: WarningSink> WarningSink for &mut S {
     ghost warnings = { λ s. S.warnings s.now };
 

@@ -12,8 +12,8 @@ use std::alloc::{AllocError, Global};
 
 /// A value that has a text in css.
 ///
-/// Its law: the text and the warnings are decided by the value alone; `emit` appends that text and
-/// nothing else, and hands those warnings to the writer's sink and no others. A value that warns
+/// Its law: the value alone determines the text and the warnings; `emit` appends that text and
+/// nothing else, and passes those warnings and no others to the writer's sink. A value that warns
 /// fails: it has no proper text.
 ///
 /// A whole implementation, which writes two texts:
@@ -46,16 +46,16 @@ pub trait ToCss {
     /// The value's text.
     ghost text: { Self → List ℕ };
 
-    /// What the value warns of, in order. It is empty where the value has a proper text.
+    /// The warnings of the value, in order; none if the value has a proper text.
     ghost warnings: { Self → List Warning };
 
-    /// Appends the value's text, and hands its warnings to the writer's sink.
+    /// Appends the value's text, and passes its warnings to the writer's sink.
     fn emit<S: WarningSink>(&self, out: &mut CssWriter<S>) -> Result<(), AllocError>
         ensures { Emits (TakesWarning S.warnings S.borrow S.emit_gives) result
             (writer_state out.old) (writer_state out.new) (text self.now) (warnings self.now) };
 
-    /// The value's text. Its warnings go to the sink, in order. Where the sink refuses one, or an
-    /// allocation fails, the sink was handed a beginning of them.
+    /// Returns the value's text. Passes its warnings to the sink, in order. If the sink refuses
+    /// one, or an allocation fails, the sink has got the first of them.
     fn to_css<S: WarningSink>(&self, alloc: Global, sink: &mut S) -> Result<String, AllocError>
         ensures text { IfOk result (λ css. text_view css ≡ text self.now) }
         ensures given { Hands (TakesWarning S.warnings S.borrow S.emit_gives) result

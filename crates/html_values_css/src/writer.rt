@@ -11,9 +11,9 @@ use crate::sink::{Warning, WarningSink};
 use crate::to_css::ToCss;
 use std::alloc::{AllocError, Global};
 
-/// A text of css that grows, and where its warnings go.
+/// A growing text of css, and the sink of its warnings.
 ///
-/// After a call that is refused, the text and the warnings still begin with what stood before.
+/// After a call that fails, the text and the warnings still begin with what they had before.
 #[derive(Drop)]
 pub struct CssWriter<S> {
     pub(crate) text: String,
@@ -22,7 +22,7 @@ pub struct CssWriter<S> {
 }
 
 impl<S: WarningSink> CssWriter<S> {
-    /// A writer with an empty text.
+    /// Creates a writer with an empty text.
     #[tactic(auto, using(std::proofs::StrCases::chars_of_empty))]
     pub fn new(alloc: Global, sink: S) -> CssWriter<S>
         ensures { writer_state result ≡ empty sink }
@@ -34,14 +34,14 @@ impl<S: WarningSink> CssWriter<S> {
         }
     }
 
-    /// The text so far.
+    /// Returns the text so far.
     pub fn text(&self) -> &str
         ensures { chars result.now ≡ text_of self.now }
     {
         self.text.as_str()
     }
 
-    /// Whether `fail` was called.
+    /// Returns whether `fail` was called.
     pub fn failed(&self) -> bool
         ensures { result ≡ self.now.failed }
     {
@@ -84,7 +84,7 @@ impl<S: WarningSink> CssWriter<S> {
         value.emit(self)
     }
 
-    /// Hands a warning to the sink, and sets `failed`.
+    /// Passes a warning to the sink, and sets `failed`.
     pub fn fail(&mut self, warning: Warning) -> Result<(), AllocError>
         ensures emits { Emits (TakesWarning S.warnings S.borrow S.emit_gives) result
             (writer_state self.old) (writer_state self.new) [] (warning ∷ []) }

@@ -1,5 +1,5 @@
-//! For tests: how they end, and what they assert by. A failure is passed on by `?`, since a library may
-//! not end the process. A test that calls a few small functions is proved in a second or two; the time
+//! For tests: their results, and assertions. `?` passes a failure on, since a library may not end
+//! the process. A test that calls a few small functions is proved in a second or two; the time
 //! grows with the square of what one function does itself.
 //!
 //! ```
@@ -14,15 +14,15 @@ use std::fmt::Debug;
 use std::process::Abort;
 use std::test::Fail;
 
-/// The runtime of a test: what asserts by it may end the test, and takes its memory.
+/// The runtime of a test: assertions with it may end the test, and it has the test's memory.
 pub trait Tester: Abort + AllocGlobal {}
 
 impl<R: Abort + AllocGlobal> Tester for R {}
 
-/// How a test ends.
+/// The result of a test.
 pub type TestResult = Result<(), Fail>;
 
-/// Asserts that a text is the one that is wanted.
+/// Asserts that a text is the expected one.
 pub fn assert_text(text: &str, wanted: &str) -> TestResult {
     if text == wanted {
         return Ok(());
@@ -30,7 +30,7 @@ pub fn assert_text(text: &str, wanted: &str) -> TestResult {
     Err(Fail::new(format_args!("{text:?} in place of {wanted:?}")))
 }
 
-/// Asserts that a number is the one that is wanted.
+/// Asserts that a number is the expected one.
 pub fn assert_number(number: usize, wanted: usize) -> TestResult {
     if number == wanted {
         return Ok(());
@@ -38,7 +38,7 @@ pub fn assert_number(number: usize, wanted: usize) -> TestResult {
     Err(Fail::new(format_args!("{number} in place of {wanted}")))
 }
 
-/// Asserts what a value is shown as for programmers.
+/// Asserts how a value is shown to programmers.
 pub fn assert_debug<T: Debug>(alloc: Global, value: &T, wanted: &str) -> TestResult {
     assert_text(&format!(in alloc; "{value:?}")?, wanted)
 }

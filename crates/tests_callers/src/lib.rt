@@ -1,5 +1,5 @@
-//! Tests of what callers write: the guide's functions, word for word (`guide`), and each way to hand faults
-//! on (`styles`). All of it stands on the crates that users name alone, and on tests_frames.
+//! Tests of what callers write: the guide's functions, word for word (`guide`), and each way to
+//! pass faults on (`styles`). They use only the crates that users name, and tests_frames.
 #![tactic(auto)]
 
 #[cfg(test)]

@@ -1,6 +1,6 @@
-//! A function that makes several calls passes the fault of each on by `?`. Each function here is generic
-//! over the fault that it returns, and is called with that of this project, with `anyhow::Error`, and
-//! with that of tests. Together they make a call for each type of fault that a public call has.
+//! Functions that make several calls and pass the fault of each on by `?`. Each is generic over the
+//! fault that it returns, and is called with that of this project, with `anyhow::Error`, and with
+//! that of tests. Together they make a call for each type of fault of public calls.
 
 use std::alloc::{AllocError, AllocFailed, Global};
 use std::test::Fail;

@@ -1,10 +1,10 @@
-//! What tests of css assert by.
+//! Assertions for tests of css.
 
 use html_values_css::{Properties, ToCss, Warning};
 use std::alloc::Global;
 use tests_asserts::{TestResult, Tester, assert_text};
 
-/// Asserts that the value has that text, and warns of nothing.
+/// Asserts that the value has that text, and no warnings.
 pub(crate) fn assert_css<T: ToCss>(rt: &impl Tester, value: &T, wanted: &str) -> TestResult {
     let mut warnings = Vec::new(rt.alloc());
     let css = value.to_css(rt.alloc(), &mut warnings)?;

@@ -1,4 +1,4 @@
-//! Css texts, where their warnings go, and maps of properties, where growths of memory are refused.
+//! Css texts, sinks of their warnings, and maps of properties, when growths of memory are refused.
 
 use html_names::Refused;
 use html_names::property::Display;
@@ -10,13 +10,13 @@ use std::alloc::{AllocError, Global};
 use tests_asserts::TestResult;
 use tests_growth::{refuses, refuses_copy, refuses_given, refuses_kept, refuses_lent};
 
-/// How many letters fill the text of a writer that got them one by one.
+/// The number of letters that fill the text of a writer that got them one by one.
 const FULL: usize = 32;
 
-/// How many warnings fill a list that was made for them.
+/// The number of warnings that fill a list made for them.
 const MOST_WARNINGS: usize = 32;
 
-/// Asserts that a call on a sink that has no room for a further warning is refused at first.
+/// Asserts that a call on a sink without room for another warning is refused at first.
 fn assert_warns<F: Fn(&mut Vec<Warning>) -> Result<(), AllocError>>(
     alloc: Global,
     call: F,
@@ -32,7 +32,7 @@ fn assert_text<V: ToCss>(alloc: Global, value: &V) -> TestResult {
 }
 
 /// Asserts that a call on a writer with room for that many letters is refused at first, and leaves
-/// the text that was there.
+/// the text as it was.
 fn assert_written<F: Fn(&mut CssWriter<()>) -> Result<(), AllocError>>(
     alloc: Global,
     room: usize,
@@ -109,7 +109,7 @@ fn summed(out: &mut CssWriter<()>) -> Result<(), AllocError> {
     sum.finish()
 }
 
-/// Several pieces are written with room for all that come before a piece.
+/// Writes several pieces, with room for all that come before a piece.
 #[test]
 fn writers_and_sinks(rt: HostRuntime) -> TestResult {
     let alloc = rt.alloc();
@@ -165,7 +165,7 @@ fn maps(rt: HostRuntime) -> TestResult {
     refuses_copy(alloc, Property { name, value }, Property::try_clone)
 }
 
-/// A builder that has a colour, where it was given back.
+/// A builder with a colour, if it was returned.
 type Started = Option<PropertiesBuilder<()>>;
 
 fn started(alloc: Global) -> Result<Started, AllocError> {
@@ -176,7 +176,7 @@ fn is_there(started: &Started) -> bool {
     started.is_some()
 }
 
-/// Whether there are a colour and a width.
+/// Returns whether there are a colour and a width.
 fn is_built(builder: PropertiesBuilder<()>) -> bool {
     matches!(
         builder.finish().as_slice(),

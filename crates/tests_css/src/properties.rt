@@ -1,4 +1,4 @@
-//! Maps of properties, and what builds them.
+//! Maps of properties, and their builders.
 
 use crate::asserts::{assert_inline, assert_warned};
 use html_values_css::{Abs, Paint, Properties, PropertiesBuilder, Property, Warning};

@@ -63,7 +63,7 @@ const LENGTHS: [(i64, i64, &str); 5] = [
     (0, 10, "0pt"),
 ];
 
-/// The length of so many millionths of an em and of a point.
+/// The length of that many millionths of an em and of a point.
 fn length(em: i64, abs: i64) -> Option<Length> {
     let em = Em::try_from_millionths(em)?;
     let abs = Abs::try_from_millionths(abs)?;
@@ -101,7 +101,7 @@ fn add_sum(out: &mut CssWriter<()>, em: Em, abs: Abs, is_finished: bool) -> Resu
     if is_finished { sum.finish() } else { Ok(()) }
 }
 
-/// A sum of one part stands alone, and one that is not finished is open.
+/// A sum of one part is not wrapped, and an unfinished one stays open.
 #[test]
 fn sums(rt: HostRuntime) -> TestResult {
     let (zero, one) = (Em::from_millionths(0), Em::from_millionths(1_000_000));

@@ -7,7 +7,7 @@ use std::collections::BTreeMap;
 use tests_asserts::{TestResult, Tester, assert_text};
 use tests_given::{document_of, info_of, output_of};
 
-/// The root is one of the nodes, also where it is changed.
+/// The root is one of the nodes, even after it changed.
 #[test]
 fn outputs(rt: HostRuntime) -> TestResult {
     let mut output = output_of(rt.alloc())?;
@@ -30,7 +30,7 @@ fn information_is_compared(rt: HostRuntime) -> TestResult {
     Ok(())
 }
 
-/// Gives element 1 an anchor, empties the root, and takes the title away.
+/// Gives element 1 an anchor, empties the root, and removes the title.
 fn change(rt: &impl Tester, document: &mut HtmlDocument) -> TestResult {
     let mut anchors = BTreeMap::new(rt.alloc());
     anchors.insert(Location(1), String::from_str(rt.alloc(), "loc-1")?)?;
@@ -40,7 +40,7 @@ fn change(rt: &impl Tester, document: &mut HtmlDocument) -> TestResult {
     Ok(())
 }
 
-/// Positions stay where the root is changed.
+/// Positions stay when the root changes.
 #[test]
 fn documents(rt: HostRuntime) -> TestResult {
     let mut document = document_of(rt.alloc())?;

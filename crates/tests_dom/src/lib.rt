@@ -1,5 +1,5 @@
-//! Tests of trees, flat trees, positions and documents, over public calls: one call of each, what the
-//! definitions mean, large trees, and growths of memory that are refused.
+//! Tests of trees, flat trees, positions and documents, over public calls: one call of each, the
+//! meaning of the definitions, large trees, and refused growths of memory.
 #![tactic(auto)]
 
 #[cfg(test)]

@@ -22,7 +22,7 @@ fn nodes(alloc: Global, words: &[&str]) -> Result<Vec<HtmlNode>, AllocError> {
     Ok(nodes)
 }
 
-/// Words, and the DOM indices of their nodes. Neighbouring texts are one, also those on both sides
+/// Words, and the DOM indices of their nodes. Neighbouring texts are one, even those on both sides
 /// of a tag, and empty ones count.
 static INDICES: [(&[&str], &[usize]); 3] = [
     (
@@ -62,7 +62,7 @@ fn assert_path(rt: &impl Tester, introspector: &HtmlIntrospector, location: u64,
     assert!(rt; position(rt, introspector, location).path() == wanted);
 }
 
-/// A text and a frame, which holds a start tag of 3, which links to 4, and a group, which holds one
+/// A text and a frame that holds a start tag of 3, which links to 4, and a group, which holds one
 /// of 5 and a link to 6.
 fn framed(alloc: Global) -> Result<Vec<HtmlNode>, AllocError> {
     let tag = FrameItem::Tag(start(5, None));
@@ -81,7 +81,7 @@ fn assert_point(rt: &impl Tester, introspector: &HtmlIntrospector, location: u64
     assert!(rt; position(rt, introspector, location).point() == Some(wanted));
 }
 
-/// A group does not move what is in it.
+/// A group does not move its items.
 #[test]
 fn tags_in_frames_have_points_and_targets(rt: HostRuntime) -> TestResult {
     let alloc = rt.alloc();
@@ -95,7 +95,7 @@ fn tags_in_frames_have_points_and_targets(rt: HostRuntime) -> TestResult {
     assert_debug(alloc, introspector.frame_link_targets(), "{Location(6)}")
 }
 
-/// That many `span`, each after a text, and a start tag.
+/// That many `span`s, each after a text, and a start tag.
 fn row(alloc: Global, length: u32) -> Result<Vec<HtmlNode>, AllocError> {
     let mut nodes = Vec::new(alloc);
     for _ in 0..length {
@@ -125,7 +125,7 @@ fn assert_element_at(rt: &impl Tester, root: &HtmlElement, path: &[usize], wante
     assert!(rt; found == wanted);
 }
 
-/// A tag and a `b`, which holds a text and an `a`.
+/// A tag and a `b` that holds a text and an `a`.
 #[test]
 fn paths_lead_to_elements(rt: HostRuntime) -> TestResult {
     let alloc = rt.alloc();
@@ -144,7 +144,7 @@ fn paths_lead_to_elements(rt: HostRuntime) -> TestResult {
     Ok(())
 }
 
-/// Paths, and the span of the element to which each leads.
+/// Paths, and the span of the element that each leads to.
 static PATHS: [(&[usize], Option<u64>); 9] = [
     (&[], Some(1)),
     (&[0], None),

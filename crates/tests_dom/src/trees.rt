@@ -52,7 +52,7 @@ fn element<'a>(rt: &impl Tester, tree: &'a FlatTree, place: usize) -> &'a FlatEl
     element.expect(rt, "an element")
 }
 
-/// The list ends before the text, the item in it before the next one, and that one at once. Names are
+/// The list ends before the text, the first item before the second, and that one at once. Names are
 /// numbered in the order in which they come, and a repeated one keeps its number.
 #[test]
 fn flat_trees(rt: HostRuntime) -> TestResult {

@@ -1,4 +1,4 @@
-//! What is written, and what tests assert of it.
+//! Written texts, and assertions about them.
 
 use html_dom_tree::{HtmlElement, Span};
 use html_names::HtmlTag;
@@ -21,7 +21,8 @@ fn shown(alloc: Global, answer: Result<String, ExportFault>) -> Result<String, A
     }
 }
 
-/// Asserts what writing the element returns: a text, which is read back, or a fault with its fields.
+/// Asserts the result of writing the element: a text, which is read back, or a fault with its
+/// fields.
 pub(crate) fn assert_answer<F: FrameWriter>(
     rt: &impl Tester,
     root: &HtmlElement,
@@ -36,7 +37,7 @@ pub(crate) fn assert_answer<F: FrameWriter>(
     assert_text(&shown(rt.alloc(), answer)?, wanted)
 }
 
-/// An element of span 1 whose texts have the spans 2, 3 and so on.
+/// An element with span 1, whose texts have the spans 2, 3 and so on.
 pub(crate) fn element(alloc: Global, name: &str, texts: &[&str]) -> Result<HtmlElement, Fail> {
     let mut element = HtmlElement::new(alloc, HtmlTag::intern(alloc, name)?).spanned(Span(1));
     let mut span = 2u64;

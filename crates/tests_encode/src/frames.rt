@@ -13,8 +13,8 @@ use tests_asserts::{TestResult, Tester};
 use tests_given::point;
 use typst_html_encode::{FrameFault, FrameWriter, HtmlOptions};
 
-/// Writes one text where pretty writing is on, and another where it is off, and refuses the pictures
-/// of one number.
+/// Writes one text in pretty writing and another in plain writing, and refuses the pictures with
+/// one number.
 #[derive(Clone, Copy)]
 struct TwoTexts<'a> {
     plain: &'a str,
@@ -51,7 +51,7 @@ impl FrameWriter for Exhausted {
     }
 }
 
-/// A frame of that picture, which holds a tag and a link, for which nothing is written.
+/// A frame with that picture, which holds a tag and a link that are not written.
 fn frame(alloc: Global, picture: u64, span: Span) -> Result<HtmlNode, AllocError> {
     let location = Location(7);
     let tag = FrameItem::Tag(Tag::End { location });
@@ -62,8 +62,8 @@ fn frame(alloc: Global, picture: u64, span: Span) -> Result<HtmlNode, AllocError
     Ok(HtmlNode::from(frame))
 }
 
-/// An element of span 1 with as many frames: of the pictures 1, 2 and so on, and of the spans 3, 5
-/// and so on.
+/// An element with span 1 and that many frames, with the pictures 1, 2 and so on, and the spans 3,
+/// 5 and so on.
 fn with_frames(alloc: Global, name: &str, count: u8) -> Result<HtmlElement, Fail> {
     let mut element = element(alloc, name, &[])?;
     for number in 1..=u64::from(count) {
@@ -73,8 +73,8 @@ fn with_frames(alloc: Global, name: &str, count: u8) -> Result<HtmlElement, Fail
     Ok(element)
 }
 
-/// An element and how many frames it has, what is written for each where pretty writing is off and
-/// where it is on, the picture that is refused, and the answer.
+/// An element and its number of frames, the text of each in plain and in pretty writing, the
+/// picture that is refused, and the result.
 type Row = (
     &'static str,
     u8,
@@ -122,8 +122,8 @@ static PLAIN_ROWS: [Row; 2] = [
     ),
 ];
 
-/// The lines of a frame are joined by the indents of its level, and a last line feed is dropped.
-/// Where pretty writing is off inside an element, the writer of a frame is told so.
+/// The indents of its level join the lines of a frame, and a last line feed is dropped. Where
+/// pretty writing is off inside an element, the writer of a frame learns it.
 static PRETTY_ROWS: [Row; 3] = [
     (
         "div",
@@ -151,7 +151,7 @@ static PRETTY_ROWS: [Row; 3] = [
     ),
 ];
 
-/// Frames are no text, and a frame is a child: both are told before it is written.
+/// Frames are no text, and a frame is a child: both are reported before it is written.
 static REFUSED_ROWS: [Row; 6] = [
     ("div", 2, "<svg/>", "", 2, "FrameRefused { span: Span(5) }"),
     ("span", 3, "<svg/>", "", 3, "FrameRefused { span: Span(7) }"),
@@ -171,7 +171,7 @@ fn frames_are_their_writers_texts(rt: HostRuntime) -> TestResult {
     Ok(())
 }
 
-/// One has no memory, and one refuses all that it is asked for.
+/// One writer has no memory, and one refuses all frames.
 #[test]
 fn writers_that_write_nothing(rt: HostRuntime) -> TestResult {
     let div = with_frames(rt.alloc(), "div", 2)?;
@@ -191,8 +191,8 @@ fn lines(alloc: Global, line: &str, count: u32, between: &str) -> Result<String,
     Ok(text)
 }
 
-/// Asserts what is written for two frames of as many lines, where each is the same: what stands before
-/// the first, between two lines, and after the last.
+/// Asserts the text for two equal frames of that many lines: the texts before the first line,
+/// between two lines, and after the last.
 fn assert_lines(
     rt: &impl Tester,
     options: &HtmlOptions,

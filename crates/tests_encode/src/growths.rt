@@ -1,4 +1,4 @@
-//! Texts of trees, plain and pretty, where growths of memory are refused.
+//! Texts of trees, plain and pretty, when growths of memory are refused.
 
 use html_dom_tree::HtmlElement;
 use tests_asserts::TestResult;

@@ -9,7 +9,7 @@ use tests_given::nested;
 use tests_reading::reads_back;
 use typst_html_encode::{HtmlOptions, html_in_bundle};
 
-/// Asserts how many bytes are written for the element, and that the text is read back.
+/// Asserts the length in bytes of the element's text, and that the text is read back.
 fn assert_length(
     rt: &impl Tester,
     root: &HtmlElement,
@@ -22,10 +22,9 @@ fn assert_length(
     Ok(())
 }
 
-/// Of 5,000 `div`, one in another, there are 15 characters of the document type, and 5 and 6 of each
-/// element's tags. In pretty text a line feed stands after each line beside that, and 2 spaces a level
-/// before it: the n-th element from outside stands on level n - 1, and all but the innermost have two
-/// lines.
+/// For 5,000 nested `div`s there are 15 characters of the document type, and 5 and 6 for each
+/// element's tags. Pretty text adds a line feed after each line, and 2 spaces a level before it:
+/// the n-th element from outside has level n - 1, and all but the innermost have two lines.
 #[test]
 fn elements_5000_deep(rt: HostRuntime) -> TestResult {
     let inner = HtmlElement::new(rt.alloc(), tag::div);
@@ -34,8 +33,8 @@ fn elements_5000_deep(rt: HostRuntime) -> TestResult {
     assert_length(&rt, &root, &PRETTY, 55_015 + 10_000 + 49_980_002)
 }
 
-/// Of a `ul` with 100,000 `li`, each with the text `x`, there are 15 and 9 characters, and 10 for each
-/// item. In pretty text there are 3 of an indent before each item beside that, and 3 line feeds.
+/// For a `ul` with 100,000 `li`, each with the text `x`, there are 15 and 9 characters, and 10 for
+/// each item. Pretty text adds 3 of an indent before each item, and 3 line feeds.
 #[test]
 fn a_list_of_100000(rt: HostRuntime) -> TestResult {
     let mut list = HtmlElement::new(rt.alloc(), tag::ul);

@@ -1,5 +1,5 @@
-//! Tests of writing trees: texts, frames, faults, sizes, and growths of memory that are refused, over
-//! public calls.
+//! Tests of writing trees: texts, frames, faults, sizes, and refused growths of memory, over public
+//! calls.
 #![tactic(auto)]
 
 #[cfg(test)]

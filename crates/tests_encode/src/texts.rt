@@ -7,16 +7,16 @@ use tests_asserts::{TestResult, Tester};
 use tests_given::{attrs_of, css_of};
 use typst_html_encode::HtmlOptions;
 
-/// Asserts what writing the element returns, in which no frame is. New options are plain.
+/// Asserts the result of writing an element without frames. New options are plain.
 fn assert_plain(rt: &impl Tester, root: &HtmlElement, wanted: &str) -> TestResult {
     assert_answer(rt, root, &HtmlOptions::default(), &(), wanted)
 }
 
-/// An element and its texts, and what writing it returns.
+/// An element and its texts, and the result of writing it.
 type Row = (&'static str, &'static [&'static str], &'static str);
 
 /// Elements with the flag: each character of their texts is a reference, by a name or a number. A
-/// carriage return and a noncharacter have none. On `pre` and on raw text the flag may be forged.
+/// carriage return and a noncharacter have none. The flag may be forged on `pre` and on raw text.
 static KEPT: [Row; 6] = [
     ("p", &["a"], "<!DOCTYPE html><p>&#x61;</p>"),
     (
@@ -46,7 +46,7 @@ fn texts_with_and_without_the_flag(rt: HostRuntime) -> TestResult {
     assert_plain(&rt, &root, "<!DOCTYPE html><p>&amp;&lt;>\"'</p>")
 }
 
-/// Elements that hold a tag alone, which is a child, and is not written. A name may be one's own.
+/// Elements that hold only a tag, a child that is not written. A name may be the caller's own.
 static WITH_TAGS: [(&str, &str); 3] = [
     ("p", "<!DOCTYPE html><p></p>"),
     ("1X", "<!DOCTYPE html><1X></1X>"),
@@ -64,9 +64,8 @@ fn a_tag_is_a_child_and_is_not_written(rt: HostRuntime) -> TestResult {
     Ok(())
 }
 
-/// The attributes of a `p` with the css `display: block`, and what is written of them once that css
-/// is in its `style` values: it comes before the first style, in place of an empty one, or as a last
-/// attribute.
+/// The attributes of a `p` with the css `display: block`, and their text once that css is in its
+/// `style` values: before the first style, replacing an empty one, or as a last attribute.
 static STYLES: [(&[(&str, &str)], &str); 4] = [
     (
         &[("style", "color: red")],

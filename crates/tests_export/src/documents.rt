@@ -1,4 +1,4 @@
-//! What is known of a document.
+//! The information about a document.
 
 use html_dom_document::{DocumentInfo, Locale};
 use std::alloc::{AllocError, Global};

@@ -112,7 +112,7 @@ fn assert_href(rt: &impl Abort, nodes: &[HtmlNode], place: usize, wanted: &str) 
     assert_eq!(rt; href.as_str(), wanted);
 }
 
-/// To a frame, and to a place in it.
+/// Links to a frame, and to a place in it.
 #[test]
 fn links_lead_into_frames(rt: HostRuntime) {
     let mut items = Vec::new(rt.alloc());
@@ -167,7 +167,7 @@ fn ids_of_frames_count(rt: HostRuntime) {
     }
 }
 
-/// A link to that name, and behind it a frame with the `id` `a` and an anchor of the name `b`.
+/// A link to that name, then a frame with the `id` `a` and an anchor with the name `b`.
 fn framed(rt: &impl Abort, alloc: Global, href: &str) -> Result<HtmlElement, AllocError> {
     let link = HtmlElement::new(alloc, tag::a).with_attr(attr::href, text_of(rt, alloc, href))?;
     let frame = frame_of(rt, alloc, "a", "b");

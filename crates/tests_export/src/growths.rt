@@ -1,5 +1,5 @@
-//! Public calls that take memory: their first growth is refused, their second, and so on until a run
-//! succeeds.
+//! Public calls that take memory: their first growth is refused, then their second, and so on until
+//! a run succeeds.
 
 mod reading;
 mod texts;

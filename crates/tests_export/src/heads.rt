@@ -1,4 +1,4 @@
-//! Documents with nodes of one's own in the head.
+//! Documents with nodes of the caller's in the head.
 
 use html_dom_document::DocumentInfo;
 use html_dom_tree::{HtmlElement, HtmlNode, Location};
@@ -19,7 +19,7 @@ fn link_of(alloc: Global, id: &str) -> Result<HtmlElement, AllocError> {
     })
 }
 
-/// Its css is written, and its id is no anchor's.
+/// Its css is written, and no anchor gets its id.
 #[test]
 fn own_nodes(rt: HostRuntime) -> TestResult {
     let alloc = rt.alloc();
@@ -38,7 +38,7 @@ fn own_nodes(rt: HostRuntime) -> TestResult {
     Ok(())
 }
 
-/// A root of the items' own has a head of its own.
+/// A root that the items bring has a head of its own.
 #[test]
 fn own_root(rt: HostRuntime) -> TestResult {
     let alloc = rt.alloc();

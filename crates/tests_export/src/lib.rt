@@ -1,6 +1,6 @@
-//! Tests of documents of items: what is known of them, their frames, and calls on documents and pages
-//! whose growths of memory are refused, over public calls. What items become is told by the rows of
-//! `tests_rows`.
+//! Tests of documents made from items: their information, their frames, and calls on documents and
+//! pages whose growths of memory are refused, over public calls. The rows of `tests_rows` say what
+//! items become.
 #![tactic(auto)]
 
 #[cfg(test)]

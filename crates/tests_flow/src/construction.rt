@@ -11,7 +11,7 @@ use html_values::{CastFault, Value};
 use std::alloc::{AllocError, Global};
 use tests_asserts::{TestResult, assert_text};
 
-/// A value of an argument, as it stands in a table.
+/// The value of an argument, as a table has it.
 #[derive(Clone, Copy)]
 enum Sample {
     None,
@@ -21,10 +21,10 @@ enum Sample {
     Hole,
 }
 
-/// An argument, as it stands in a table: its name or nothing, its span and its value.
+/// An argument, as a table has it: its name or nothing, its span and its value.
 type Row = (&'static str, u64, Sample);
 
-/// The value that a table means, of which a hole is a body without a role.
+/// The value that a table means, in which a hole is a body without a role.
 fn value_of(alloc: Global, sample: Sample) -> Result<ArgValue, AllocError> {
     Ok(match sample {
         Sample::None => ArgValue::Plain(Value::None),
@@ -93,7 +93,7 @@ fn show_fault(shown: &mut String, fault: &ConstructFault) -> Result<(), AllocErr
     }
 }
 
-/// What constructing returns, in words, and then the spans of the arguments that are left.
+/// Shows the result of constructing in words, and then the spans of the arguments that are left.
 fn shown(alloc: Global, info: &ElementInfo, args: &mut Args) -> Result<String, AllocError> {
     let mut shown = String::new(alloc);
     match construct(alloc, info, args) {

@@ -1,5 +1,5 @@
-//! Tests of elements that arguments make, and growths of memory that are refused, over public calls. What
-//! items become is told by the rows of `tests_rows`.
+//! Tests of elements made from arguments, and of refused growths of memory, over public calls. The
+//! rows of `tests_rows` say what items become.
 #![tactic(auto)]
 
 #[cfg(test)]

@@ -1,4 +1,4 @@
-//! Documents, and what is known of them.
+//! Documents, and information about them.
 
 use crate::nodes::{element_of, text_of};
 use html_dom_document::{DocumentInfo, HtmlDocument, HtmlOutput, Locale};
@@ -28,7 +28,7 @@ pub fn info_of(alloc: Global) -> Result<DocumentInfo, AllocError> {
     })
 }
 
-/// A text, and then an `html` around a `div`, in which an element starts.
+/// A text, then an `html` around a `div` in which an element starts.
 pub fn output_of(alloc: Global) -> Result<HtmlOutput, AllocError> {
     let inner = vec![in alloc; HtmlNode::from(element_of(alloc)?)]?;
     let root = HtmlElement::new(alloc, tag::html).with_children(inner);
@@ -38,7 +38,7 @@ pub fn output_of(alloc: Global) -> Result<HtmlOutput, AllocError> {
     Ok(HtmlOutput::new(nodes, 1))
 }
 
-/// A document of that root, and of information of each kind.
+/// A document with that root, and with information of each kind.
 pub fn document_of(alloc: Global) -> Result<HtmlDocument, AllocError> {
     Ok(HtmlDocument::new(alloc, output_of(alloc)?, info_of(alloc)?)?)
 }

@@ -5,7 +5,7 @@ use html_dom_tree::{Frame, FrameItem, HtmlFrame, Location, Point, Span, Tag};
 use html_values_css::Abs;
 use std::alloc::{AllocError, Global};
 
-/// The start of that element, which links to another, if it links to one.
+/// The start tag of that element, with a link to another, if any.
 pub fn start(location: u64, dest: Option<u64>) -> Tag {
     Tag::Start {
         location: Location(location),
@@ -14,7 +14,7 @@ pub fn start(location: u64, dest: Option<u64>) -> Tag {
     }
 }
 
-/// The start of an element with a label, which links to another.
+/// The start tag of an element with a label, with a link to another.
 pub fn start_of(alloc: Global) -> Result<Tag, AllocError> {
     Ok(Tag::Start {
         location: Location(1),
@@ -23,7 +23,7 @@ pub fn start_of(alloc: Global) -> Result<Tag, AllocError> {
     })
 }
 
-/// So many points to the right and down.
+/// A point, that many points to the right and down.
 pub fn point(right: u8, down: u8) -> Point {
     Point {
         x: Abs::from_millionths(i64::from(right) * 1_000_000),

@@ -1,4 +1,4 @@
-//! For tests: trees and documents that calls are made on.
+//! For tests: trees and documents as arguments of calls.
 //!
 //! ```
 //! let element = element_of(alloc)?;

@@ -1,4 +1,4 @@
-//! Nodes, and what they have.
+//! Nodes, and their parts.
 
 use crate::frames::{html_frame_of, start_of};
 use html_dom_tree::{HtmlAttrs, HtmlElement, HtmlNode, Span};
@@ -34,7 +34,7 @@ pub fn text_of(alloc: Global, text: &str, span: u64) -> Result<HtmlNode, AllocEr
     Ok(HtmlNode::text(String::from_str(alloc, text)?, Span(span)))
 }
 
-/// The element in that many `div`, one in another.
+/// The element in that many nested `div`s.
 pub fn nested(alloc: Global, inner: HtmlElement, levels: u32) -> Result<HtmlElement, AllocError> {
     let mut element = inner;
     for _ in 0..levels {

@@ -1,5 +1,5 @@
-//! Calls that are refused their first growth, their second, and so on until a run succeeds. Each way
-//! in which a call takes a value has a loop of its own, so that no closure wraps a call.
+//! Calls that are refused their first growth, then their second, and so on until a run succeeds.
+//! Each way in which a call takes a value has a loop of its own, so that no closure wraps a call.
 
 use crate::memory::Memory;
 use crate::shown::{is_shown, shown_of};
@@ -9,34 +9,34 @@ use std::fmt::Debug;
 use std::test::Fail;
 use tests_asserts::TestResult;
 
-/// How often a call is tried at most.
+/// The greatest number of attempts of a call.
 const MOST_ATTEMPTS: usize = 100_000;
 
-/// How many values are enough for a call that consumes one each time and does not give it back: what a
-/// refused attempt frees is there for the next.
+/// The number of values that are enough for a call that consumes one each time and does not return
+/// it: what a refused attempt frees is there for the next.
 pub const SPARES: usize = 40;
 
-/// What a call makes of which a test asks no more than whether it is right.
+/// The result of a call, of which a test needs to know only whether it is right.
 pub trait Made: Drop {
-    /// Whether it is right.
+    /// Returns whether it is right.
     fn is_right(&self) -> bool;
 }
 
-/// It is what has been asked already.
+/// The test has asked already.
 impl Made for bool {
     fn is_right(&self) -> bool {
         *self
     }
 }
 
-/// Nothing is asked.
+/// The test asks nothing.
 impl Made for () {
     fn is_right(&self) -> bool {
         true
     }
 }
 
-/// The attempts of a call, of which the first finds no memory.
+/// The attempts of a call, the first of which finds no memory.
 #[derive(Drop)]
 struct Attempts {
     memory: Memory,
@@ -53,7 +53,7 @@ impl Attempts {
         })
     }
 
-    /// After a refused attempt, which has to keep what it was given: frees a little for the next one.
+    /// Ends a refused attempt, which must keep its arguments, and frees a little memory.
     fn refuse(&mut self, is_kept: bool) -> TestResult {
         if !is_kept {
             return Err(Fail::new("a call that is refused changes what it is given"));
@@ -63,7 +63,7 @@ impl Attempts {
         Ok(())
     }
 
-    /// The same of an attempt that has to fail by a fault that is shown by that text.
+    /// Ends an attempt that must fail with a fault that is shown as that text, in the same way.
     fn refuse_by<E: Debug>(&mut self, fault: &E, refusal: &str, is_kept: bool) -> TestResult {
         if !is_shown(fault, refusal) {
             return Err(Fail::new("a call fails by another fault than that of memory"));
@@ -71,7 +71,7 @@ impl Attempts {
         self.refuse(is_kept)
     }
 
-    /// After an attempt that was not refused, which has to make what is right, and not to be the first.
+    /// Ends an attempt that was not refused: it must be right, and not the first.
     fn end(self, is_right: bool) -> TestResult {
         if !is_right {
             return Err(Fail::new("what is made is wrong"));
@@ -82,14 +82,14 @@ impl Attempts {
         Ok(())
     }
 
-    /// After so many attempts that were all refused.
+    /// Ends the attempts if all were refused.
     fn give_up(self) -> TestResult {
         Err(Fail::new("each growth is refused"))
     }
 }
 
-/// Asserts that a call that consumes what it is given is refused at first, gives it back as it was each
-/// time, and what it makes is right once it is refused no more.
+/// Asserts that a call that consumes its argument is refused at first, returns it as it was each
+/// time, and has a right result once it is no longer refused.
 pub fn refuses_given<T: Debug + Drop, R: Made, F: Fn(T) -> Result<R, Refused<T>>>(
     alloc: Global,
     given: T,
@@ -112,8 +112,8 @@ pub fn refuses_given<T: Debug + Drop, R: Made, F: Fn(T) -> Result<R, Refused<T>>
     attempts.give_up()
 }
 
-/// Asserts that a call is refused at first, fails by "out of memory" and leaves what it borrows as it
-/// was each time, and what it makes is right once it is refused no more.
+/// Asserts that a call is refused at first, fails with "out of memory" and leaves its borrowed
+/// argument unchanged each time, and has a right result once it is no longer refused.
 pub fn refuses_lent<T, R, E, F>(alloc: Global, mut lent: T, call: F) -> TestResult
 where
     T: Debug + Drop,
@@ -133,7 +133,7 @@ where
     attempts.give_up()
 }
 
-/// The same of what has no text by which it is shown, and is held to that test.
+/// Does the same with an argument that no text shows, and that this test checks.
 pub fn refuses_kept<T, R, E, K, F>(alloc: Global, mut lent: T, is_kept: K, call: F) -> TestResult
 where
     T: Drop,
@@ -155,8 +155,8 @@ where
     attempts.give_up()
 }
 
-/// Asserts that a call that is given nothing is refused at first, fails by "out of memory" each time,
-/// and what it makes is right once it is refused no more.
+/// Asserts that a call without arguments is refused at first, fails with "out of memory" each time,
+/// and has a right result once it is no longer refused.
 pub fn refuses<R: Made, E: From<AllocError> + Debug + Drop, F: Fn() -> Result<R, E>>(
     alloc: Global,
     call: F,
@@ -174,8 +174,8 @@ pub fn refuses<R: Made, E: From<AllocError> + Debug + Drop, F: Fn() -> Result<R,
     attempts.give_up()
 }
 
-/// The same of a call that consumes what it is given and does not give it back: each attempt takes
-/// another of these values, which were made while memory was there.
+/// Does the same with a call that consumes its argument and does not return it: each attempt takes
+/// another of these values, which were made while there was memory.
 pub fn refuses_taken<T, R, E, F>(alloc: Global, values: Vec<T>, call: F) -> TestResult
 where
     T: Drop,
@@ -195,8 +195,8 @@ where
     attempts.give_up()
 }
 
-/// Asserts that copies of the value are refused at first, and the first that is not is shown as the
-/// value is.
+/// Asserts that copies of the value are refused at first, and that the first copy is shown like the
+/// value.
 pub fn refuses_copy<T: Debug + Drop, F: Fn(&T) -> Result<T, AllocError>>(
     alloc: Global,
     value: T,
@@ -215,7 +215,7 @@ pub fn refuses_copy<T: Debug + Drop, F: Fn(&T) -> Result<T, AllocError>>(
     attempts.give_up()
 }
 
-/// The text by which a fault of memory is shown.
+/// Returns the text that shows a fault of memory.
 fn refusal_of<E: From<AllocError> + Debug + Drop>(alloc: Global) -> Result<String, AllocError> {
     shown_of(alloc, &E::from(AllocError))
 }

@@ -1,5 +1,5 @@
-//! For tests: a call that takes memory is made with none, and then with a little more each time, until
-//! it succeeds.
+//! For tests: makes a call that takes memory with none, and then with a little more each time,
+//! until it succeeds.
 //!
 //! ```
 //! let text = String::from_str(alloc, "a text")?;

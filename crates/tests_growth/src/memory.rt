@@ -1,36 +1,36 @@
-//! All the memory there is, so that a call finds none, and then a little more each time.
+//! Takes all memory, so that a call finds none, and then returns a little more each time.
 
 use std::alloc::{AllocError, Global};
 
-/// How many blocks are held at most.
+/// The greatest number of blocks.
 const MOST_BLOCKS: usize = 400_000;
 
 /// The size of the largest block that is tried.
 const LARGEST: usize = 1 << 46;
 
-/// The size of a block that is freed for a further attempt: no smaller one frees less.
+/// The size of a block that is freed for another attempt: no smaller one frees less.
 const SMALLEST: usize = 24;
 
 /// How often a size is halved on the way from the largest to 32 bytes.
 const HALVES: usize = 42;
 
-/// How many sizes are tried, each 16 bytes above the one before: the allocator keeps freed blocks of
-/// these for the next ones of exactly their sizes.
+/// The number of sizes that are tried, each 16 bytes above the one before: the allocator keeps
+/// freed blocks of these for the next ones of exactly their sizes.
 const KEPT_SIZES: usize = 65;
 
-/// How many blocks of `SPARE_SIZE` are held back, to be taken in small blocks.
+/// The number of blocks of `SPARE_SIZE` that are held back, to be taken in small blocks.
 const SPARES: usize = 8;
 
 const SPARE_SIZE: usize = 1 << 16;
 
-/// All the memory there is, in blocks.
+/// All memory, in blocks.
 #[derive(Drop)]
 pub(crate) struct Memory {
     blocks: Vec<Vec<u8>>,
 }
 
 impl Memory {
-    /// Takes all the memory there is, the last of it in small blocks.
+    /// Takes all memory, the last of it in small blocks.
     pub(crate) fn take(alloc: Global) -> Result<Memory, AllocError> {
         let blocks = Vec::with_capacity(alloc, MOST_BLOCKS)?;
         let mut memory = Memory { blocks };
@@ -44,7 +44,7 @@ impl Memory {
         Ok(memory)
     }
 
-    /// Takes blocks of half the size each time that no more are there.
+    /// Takes blocks of half the size whenever no more are there.
     fn take_halves(&mut self, alloc: Global) {
         let mut size = LARGEST;
         for _ in 0..HALVES {
@@ -53,8 +53,8 @@ impl Memory {
         }
     }
 
-    /// Takes what a call has freed: blocks of each size that is kept for the next one of that size,
-    /// the smallest first.
+    /// Takes the memory that a call has freed: blocks of each size that is kept for the next one of
+    /// that size, the smallest first.
     pub(crate) fn take_small(&mut self, alloc: Global) {
         let mut size = SMALLEST;
         for _ in 0..KEPT_SIZES {

@@ -1,9 +1,9 @@
-//! Values that are held to the text by which they were shown before, for which no memory is taken.
+//! Values that are compared to the text that showed them before, without taking memory.
 
 use std::alloc::{AllocError, Global};
 use std::fmt::{self, Debug, Write};
 
-/// What is left of a text that is to be written.
+/// The rest of a text that must be written.
 #[derive(Drop)]
 struct Left<'a> {
     text: &'a str,
@@ -21,13 +21,13 @@ impl fmt::Write for Left<'_> {
     }
 }
 
-/// Whether `{:?}` shows the value by that text.
+/// Returns whether `{:?}` shows the value as the text.
 pub fn is_shown<T: Debug>(value: &T, text: &str) -> bool {
     let mut left = Left { text };
     write!(left, "{value:?}").is_ok() && left.text.is_empty()
 }
 
-/// The text by which the value is shown.
+/// Returns the text that shows the value.
 pub fn shown_of<T: Debug>(alloc: Global, value: &T) -> Result<String, AllocError> {
     format!(in alloc; "{value:?}")
 }

@@ -1,4 +1,4 @@
-//! For tests: items that calls are made on.
+//! For tests: items as arguments of calls.
 //!
 //! ```
 //! let items = blocks_of(alloc)?;

@@ -2,7 +2,7 @@
 
 use html_names::charsets;
 
-/// The characters that are not shown by default: first and last of each range.
+/// The ignorable characters: first and last of each range.
 static IGNORABLE: [u32; 34] = [
     0xad, 0xad, 0x34f, 0x34f, 0x61c, 0x61c, 0x115f, 0x1160, 0x17b4, 0x17b5, 0x180b, 0x180f, 0x200b,
     0x200f, 0x202a, 0x202e, 0x2060, 0x206f, 0x3164, 0x3164, 0xfe00, 0xfe0f, 0xfeff, 0xfeff, 0xffa0,
@@ -26,8 +26,8 @@ fn ignorable_characters(rt: HostRuntime) {
 
 const CHARACTERS: &str = "aZ7-_\u{e9}\u{2029} \"'>/=&<\0\t\n\u{c}\r\u{1f}\u{9f}\u{fdd0}\u{1ffff}";
 
-/// Those of them that may stand in a tag name, in an attribute name, in a text, in an ordinary
-/// element's text, and in a value.
+/// Those of `CHARACTERS` that may stand in a tag name, in an attribute name, in a text, in an
+/// ordinary element's text, and in a value.
 static CLASSES: [&str; 5] = [
     "aZ7-",
     "aZ7-_\u{e9}\u{2029}&<",

@@ -1,4 +1,4 @@
-//! Names, numbers for them, and the text that is being written, where growths of memory are refused.
+//! Names, numbers for them, and a text under construction, when growths of memory are refused.
 
 use html_names::output::Output;
 use html_names::{HtmlAttr, HtmlTag, NameTable, attr, laws, tag};
@@ -6,7 +6,7 @@ use std::alloc::{AllocError, Global};
 use tests_asserts::TestResult;
 use tests_growth::{refuses, refuses_copy, refuses_kept};
 
-/// How many letters fill the text of an `Output` that got them one by one.
+/// The number of letters that fill the text of an `Output` that got them one by one.
 const FULL: usize = 32;
 
 const OWN_NAME: &str = "an-own-name";
@@ -26,7 +26,7 @@ fn made_names(rt: HostRuntime) -> TestResult {
     )
 }
 
-/// Whether the names that had numbers have kept them.
+/// Returns whether the names that had numbers have kept them.
 fn has_first_names(table: &NameTable) -> bool {
     table.tags() > 0
         && table.attrs() > 0
@@ -34,7 +34,7 @@ fn has_first_names(table: &NameTable) -> bool {
         && *table.attr_at(0) == attr::class
 }
 
-/// Whether these are the only names that have numbers.
+/// Returns whether these are the only names that have numbers.
 fn has_no_more(table: &NameTable) -> bool {
     has_first_names(table) && table.tags() == 1 && table.attrs() == 1
 }
@@ -63,7 +63,7 @@ const CALLS: [Call; 4] = [
     Call::AtNumber,
 ];
 
-/// Whether a refused call leaves the names that have numbers, and one that asks for a number no other.
+/// Whether a refused call leaves the numbered names, and one that requests a number adds none.
 fn is_kept(call: Call, table: &NameTable) -> bool {
     match call {
         Call::Number => has_no_more(table),
@@ -105,7 +105,7 @@ fn numbered_attributes(rt: HostRuntime) -> TestResult {
     Ok(())
 }
 
-/// What is added to a text with room for so many letters.
+/// What is added to a text with room for that many letters.
 #[derive(Clone, Copy, Debug)]
 enum Added {
     Char,

@@ -1,4 +1,4 @@
-//! Names made of texts, what they are shown as, and what is wrong with a text.
+//! Names made from texts, how they are shown, and what is wrong with a text.
 
 use html_names::{HtmlAttr, HtmlTag, NameFault, Refused, attr, tag};
 use std::alloc::Global;
@@ -109,7 +109,7 @@ fn numbers_and_texts_of_faults(rt: HostRuntime) -> TestResult {
     assert_text(&refused.to_string(rt.alloc())?, "out of memory")
 }
 
-/// The name of the text, or the number 7 that comes back.
+/// Returns the name of the text, or the number 7 that the error holds.
 fn refused(alloc: Global, text: &str) -> Result<HtmlTag, NameFault> {
     if text.is_empty() {
         return Err(Refused { back: 7u8 })?;

@@ -1,10 +1,10 @@
-//! Numbers of names: known and own ones, and what is asked by number.
+//! Numbers of names: known and own ones, and their properties by number.
 
 use html_names::property::Display;
 use html_names::{HtmlAttr, HtmlTag, NameTable};
 use tests_asserts::{TestResult, Tester, assert_number, assert_text};
 
-/// Asserts that the table gives the tag of that text that number, and the tag back for it.
+/// Asserts that the table has that number for the tag of that text, and the tag for that number.
 fn assert_tag(rt: &impl Tester, names: &mut NameTable, text: &str, number: usize) -> TestResult {
     let tag = HtmlTag::intern(rt.alloc(), text)?;
     assert_number(names.tag(&tag)?, number)?;
@@ -19,7 +19,7 @@ fn assert_attr(rt: &impl Tester, names: &mut NameTable, text: &str, number: usiz
     assert_text(names.attr_at(number).resolve(), text)
 }
 
-/// Tags in the order in which they are given, and their numbers.
+/// Tags in order, and their numbers.
 static TAGS: (&str, [usize; 9]) = (
     "p my-el p wbr a my-el my-em P wbr",
     [0, 1, 0, 2, 3, 1, 4, 5, 2],

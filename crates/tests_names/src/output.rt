@@ -1,4 +1,4 @@
-//! A text that is being written.
+//! A text under construction.
 
 use html_names::output::Output;
 use std::alloc::AllocError;

@@ -1,13 +1,13 @@
-//! Tells of pages which nodes of their trees are misnested, to be compared with the trees that other parsers
-//! make of them (`tools/nested_trees`).
+//! Reports which nodes of pages' trees are misnested, to be compared with the trees that other
+//! parsers make of the pages (`tools/nested_trees`).
 //!
 //! ```text
 //! cd crates/tests_nests && rt try -- data/pages.json
 //! ```
 //!
-//! A line of a file is the text of a page in JSON, as `html` writes it. It gives a line with the path of each
-//! misnested node and why it is one: `[[[1,0,1],"ClosesParagraph"]]`. Of a text that no tree has, the line is
-//! where reading stops.
+//! Each line of a file is the text of a page in JSON, as `html` writes it. It makes a line with the
+//! path of each misnested node and its rule: `[[[1,0,1],"ClosesParagraph"]]`. If the text is not
+//! read, the line is where reading stops.
 #![tactic(auto)]
 
 use anyhow::{Context, Result, ensure};
@@ -19,7 +19,7 @@ use std::{env, fs};
 use typst_html_encode::{HtmlOptions, html_in_bundle};
 use typst_html_read::read_html;
 
-/// How deep elements may stand in one another.
+/// The greatest depth of elements.
 const DEEPEST: usize = 2000;
 
 fn main(rt: HostRuntime) -> Result<()> {
@@ -34,7 +34,7 @@ fn main(rt: HostRuntime) -> Result<()> {
     Ok(())
 }
 
-/// The line of a page.
+/// Returns the line of a page.
 fn page_line(alloc: Global, spelled: &str) -> Result<String> {
     let page = Value::from_str(alloc, spelled)?;
     let text = page.as_str().context("no text")?;

@@ -1,13 +1,13 @@
-//! Reads pages, and prints the tree of each as a line of JSON, to be compared with those of other parsers
-//! (`tools/page_corpus`).
+//! Reads pages, and prints the tree of each as a line of JSON, to be compared with those of other
+//! parsers (`tools/page_corpus`).
 //!
 //! ```text
 //! cd crates/tests_pages && rt try -- data/list.html
 //! ```
 //!
-//! An element is its name, its attributes and its children, of which a text is one:
-//! `["p",[["class","a"]],["b & c",["br",[],[]]]]`. Of a page that is not read, the line is why and where:
-//! `"a name that no element of this project has at 3:14"`.
+//! An element is its name, its attributes and its children, which may be texts:
+//! `["p",[["class","a"]],["b & c",["br",[],[]]]]`. For a page that is not read, the line is why and
+//! where: `"a name that no element of this project has at 3:14"`.
 #![tactic(auto)]
 
 use anyhow::{Context, Result};
@@ -17,7 +17,7 @@ use std::alloc::Global;
 use std::{env, fs};
 use typst_html_parse::read_page_bytes;
 
-/// How deep elements may stand in one another.
+/// The greatest depth of elements.
 const DEEPEST: usize = 1000;
 
 fn main(rt: HostRuntime) -> Result<()> {
@@ -29,7 +29,7 @@ fn main(rt: HostRuntime) -> Result<()> {
     Ok(())
 }
 
-/// The line of a page.
+/// Returns the line of a page.
 fn page_line(alloc: Global, page: &[u8]) -> Result<String> {
     let mut line = String::new(alloc);
     let (root, _) = match read_page_bytes(alloc, page, DEEPEST) {
@@ -44,9 +44,8 @@ fn page_line(alloc: Global, page: &[u8]) -> Result<String> {
     Ok(line)
 }
 
-// Each node stands first among the parameters: its depth shows that the calls end.
+// The node comes first among the parameters: its depth proves that the recursion ends.
 
-/// Adds an element.
 #[cycle(tree)]
 fn push_element(element: &HtmlElement, alloc: Global, line: &mut String) -> Result<()> {
     line.push('[')?;

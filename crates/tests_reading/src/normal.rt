@@ -4,9 +4,9 @@ use html_dom_tree::{HtmlElement, HtmlNode, Span};
 use std::alloc::{AllocError, Global};
 use std::mem;
 
-/// The normal form of an element: what its plain text spells. Tags are dropped, texts without an
-/// element between them are one, and empty ones are none; of an element its name, its attributes
-/// and its children are kept. Frames are dropped too.
+/// Returns the normal form of an element, which its plain text spells: drops tags, joins
+/// neighbouring texts, and drops empty ones; keeps an element's name, attributes and children.
+/// Drops frames too.
 #[cycle(normal)]
 pub fn normal_of(alloc: Global, element: &HtmlElement) -> Result<HtmlElement, AllocError> {
     let mut normal = HtmlElement::new(alloc, element.tag.try_clone()?);
@@ -34,7 +34,7 @@ fn normal_nodes(alloc: Global, nodes: &[HtmlNode]) -> Result<Vec<HtmlNode>, Allo
     Ok(normals)
 }
 
-/// Adds a text, unless it is empty.
+/// Appends a text, unless it is empty.
 fn add_text(nodes: &mut Vec<HtmlNode>, text: String) -> Result<(), AllocError> {
     if !text.is_empty() {
         nodes.push(HtmlNode::text(text, Span(0)))?;

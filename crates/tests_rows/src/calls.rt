@@ -1,58 +1,61 @@
-//! What a row gives, by its first word. `N` is a number, and words in brackets may be left out.
+//! The output of a row, by its first word. `N` is a number, and words in brackets may be left out.
 //!
-//! Of the name of an element:
+//! For the name of an element:
 //!
-//! - `kinds`: its default display, and the kinds that it is of
+//! - `kinds`: its default display, and its kinds
 //!
-//! Of the name of an attribute:
+//! For the name of an attribute:
 //!
 //! - `attribute`: `known`, `handler`, both or `-`
 //!
-//! Of an address:
+//! For an address:
 //!
 //! - `address`: `script` or `-`
 //!
-//! Of items, of which `tests_rows_items` says how they are spelled:
+//! For items, whose spelling `tests_rows_items` describes:
 //!
-//! - `nodes LEVEL SPACE [depth=N] [limit=N] [role=TEXT]`, where the level is `block` or `inline` and white
-//!   space `normal` or `pre`: what stands in a `body` of the nodes that they become. The depth is 0, the
-//!   limit 50, and there is no role where they are not said.
+//! - `nodes LEVEL SPACE [depth=N] [limit=N] [role=TEXT]`, where the level is `block` or `inline`
+//!   and white space `normal` or `pre`: the content of a `body` with their nodes. By default the
+//!   depth is 0, the limit 50, and there is no role.
 //! - `block-fragment`, `inline-fragment`, `math-fragment`, each `[depth=N] [limit=N]`: the same by the call
 //!   of that name, with the span 9
 //! - `spans`: the spans of these nodes, those of children in brackets
-//! - `bare`: for each lone space 1 where it may stay bare and else 0, and how many nodes were looked at
+//! - `bare`: 1 or 0 for each lone space that is bare or not, and the number of nodes looked at
+//! - `fragment-text LEVEL [limit=N]`: their text by themselves, at that level
 //! - `items-text`: what is visible of their document, written plain and pretty
 //!
-//! Of items, or of an object with `items`, `footnotes`, and what is known of a document (`title`,
+//! For items, or an object with `items`, `footnotes`, `head`, and information about a document (`title`,
 //! `description`, `authors`, `keywords`, `lang`, `region`) as `html_tool_spell` reads it, each with
 //! `[limit=N]`:
 //!
-//! - `document`: what stands in the body, or the whole text where more is known than nothing
+//! - `document`: the content of the body, or the whole text if there is information
 //! - `links`: the same with links resolved
 //! - `anchors`: each link target and its anchor
 //! - `positions`: each location below 100 and its path
 //! - `dead-links`: span and destination of each
 //! - `distinct-ids`: whether the ids differ
 //!
-//! Of a page, whose text behind the document type the input is:
+//! For a page, of which the input is the text behind the document type:
 //!
-//! - `read [limit=N]`: the text of the tree that is read, `same` where that is the input; `none at N, L:C`
-//!   where nothing is read from there on: how many bytes of the page stand before, line and column;
+//! - `read [limit=N]`: the text of the tree that is read, or `same` if that is the input;
+//!   `none at N, L:C` if reading stops there: the offset in bytes, line and column;
 //!   `too deep at N, L:C`
-//! - `page-text`: what is visible: each text in brackets, objects, `/` for a line break, `|` for an edge
+//! - `page-text`: what is visible: texts in brackets, objects, `/` for a line break, `|` for an
+//!   edge
 //! - `dead-fragments`, `repeated-ids`: path and name of each
 //! - `misnested`: path and rule of each
 //!
-//! Of a page as it comes:
+//! For a whole page:
 //!
-//! - `as-browsers [limit=N]`: the text of the tree that `read_page_bytes` reads, and behind each ` ! ` an error
-//!   that was gone over, with its line and column; or `refused, `, why and where
-//! - `page-places`: the elements of that tree, in document order, each with the place that its span tells
+//! - `as-browsers [limit=N]`: the text of the tree that `read_page_bytes` reads, and after each
+//!   ` ! ` a recovered error, with its line and column; or `refused, `, why and where
+//! - `page-places`: the elements of that tree, in document order, each with the place of its span
 //!
-//! Of an input, by the library for C, what it replies and what its buffer has then, which had `room=N` points:
+//! For an input of the library for C, its reply and its buffer, which had `room=N` points:
 //!
-//! - `c-write [kind=N] [layout=N]`, `c-document [layout=N] [links=N] [limit=N]`, `c-dead-links [limit=N]`,
-//!   `c-check [limit=N]`, `c-links [limit=N]`, with the limit 50 and else 0 where no number is said
+//! - `c-write [kind=N] [layout=N]`, `c-document [layout=N] [links=N] [limit=N]`,
+//!   `c-dead-links [limit=N]`, `c-check [limit=N]`, `c-links [limit=N]`, by default with limit 50
+//!   and else 0
 //! - `c-version`: the version of these calls
 //!
 //! A refusal is `refused`, its number, `at` and its span.
@@ -75,6 +78,7 @@ impl Caller for Library {
             "block-fragment" | "inline-fragment" | "math-fragment" => nodes::fragment(
                 alloc, row, call,
             ),
+            "fragment-text" => documents::fragment_text(alloc, row),
             "kinds" => kinds::of_name(alloc, row),
             "attribute" => kinds::of_attribute(alloc, row),
             "address" => checks::is_script(alloc, row),

@@ -1,4 +1,4 @@
-//! Links that lead nowhere, ids that come twice, and nodes that browsers would not leave where they are.
+//! Dead links, repeated ids, and nodes that browsers would not leave where they are.
 
 use crate::documents::{document_of, linked_of, separate};
 use crate::pages::root_of;
@@ -10,7 +10,7 @@ use html_dom_nest::misnested;
 use std::alloc::Global;
 use tests_rows_run::Row;
 
-/// The same before and after links were given an `href`.
+/// The result must be the same before and after links get an `href`.
 pub(crate) fn dead_link_list(alloc: Global, row: &Row<'_>) -> Result<String> {
     let before = dead_links_of(alloc, document_of(alloc, row)?)?;
     let after = dead_links_of(alloc, linked_of(alloc, row)?)?;
@@ -31,7 +31,7 @@ fn add_link(text: &mut String, link: &DeadLink) -> Result<()> {
     Ok(write!(text, "{} to {}", link.span.0, link.dest.0)?)
 }
 
-/// The same before and after links were given an `href`.
+/// The result must be the same before and after links get an `href`.
 pub(crate) fn have_distinct_ids(alloc: Global, row: &Row<'_>) -> Result<String> {
     let before = are_distinct_in(alloc, document_of(alloc, row)?)?;
     let after = are_distinct_in(alloc, linked_of(alloc, row)?)?;

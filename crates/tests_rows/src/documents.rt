@@ -1,26 +1,28 @@
-//! What items become as documents.
+//! The documents that items become.
 
 ghost use Rattle.std.specs.Prelude.{◌≤◌};
 
 use crate::runs::{PLAIN, inner_text};
-use anyhow::{Context, Result, ensure};
+use anyhow::{Context, Result, bail, ensure};
 use html_dom_document::{DocumentInfo, HtmlDocument, HtmlIntrospector};
 use html_dom_link::resolve_links;
 use html_dom_tree::Location;
-use html_flow_convert::is_depth_limit;
+use html_flow_convert::{ConversionLevel, is_depth_limit};
 use html_tool_spell::{SpelledDocument, document_in};
 use serde_json::Value;
 use std::alloc::Global;
 use tests_frames::OneText;
-use tests_rows_items::items_of;
+use tests_rows_items::{items_in, items_of};
 use tests_rows_run::Row;
 use typst_html_encode::{ExportFault, HtmlOptions};
-use typst_html_export::{export, export_linked, html_document};
+use typst_html_export::{
+    export, export_fragment, export_linked, export_with_head, html_document_with_head,
+};
 
-/// How deep the bodies of items may stand where that is not said.
+/// The greatest depth of bodies, unless a row gives one.
 const DEPTH_LIMIT: usize = 50;
 
-/// Locations below that one are looked for.
+/// The search for locations ends below this one.
 const LOCATIONS: u64 = 100;
 
 #[derive(Drop)]
@@ -49,8 +51,9 @@ impl Given {
             info,
             items,
             footnotes,
+            head,
         } = &self.spelled;
-        html_document(self.alloc, items, info, footnotes, self.limit)
+        html_document_with_head(self.alloc, items, info, head, footnotes, self.limit)
     }
 }
 
@@ -65,7 +68,7 @@ pub(crate) fn linked_of(alloc: Global, row: &Row<'_>) -> Result<HtmlDocument> {
     Ok(document)
 }
 
-/// The document that a JSON text spells: of items alone, or of an object.
+/// Returns the document that a JSON text spells: of items alone, or of an object.
 fn spelled_in(alloc: Global, json: &[u8]) -> Result<SpelledDocument> {
     let value = Value::from_slice(alloc, json)?;
     if value.as_object().is_some() {
@@ -77,6 +80,7 @@ fn spelled_in(alloc: Global, json: &[u8]) -> Result<SpelledDocument> {
         info: DocumentInfo::new(alloc),
         items: items_of(alloc, &value)?,
         footnotes: Vec::new(alloc),
+        head: Vec::new(alloc),
     })
 }
 
@@ -87,7 +91,7 @@ fn text_or_refusal(alloc: Global, text: Result<String, ExportFault>) -> Result<S
     }
 }
 
-/// A refusal: its number and its span, the name of an element that is not alone, all spans of footnotes.
+/// Shows a refusal: number and span, an element's name if it is not alone, spans of footnotes.
 fn refusal(alloc: Global, fault: &ExportFault) -> Result<String> {
     let mut text = format!(in alloc; "refused {} at {}", fault.number(), fault.span().0)?;
     match fault {
@@ -110,13 +114,36 @@ pub(crate) fn text(alloc: Global, row: &Row<'_>, linked: bool) -> Result<String>
         info,
         items,
         footnotes,
+        head,
     } = spelled;
     let (options, frames) = (HtmlOptions::default(), OneText::new(alloc)?);
-    let text = match linked {
-        false => export(alloc, items, info, footnotes, *limit, &options, &frames),
-        true => export_linked(alloc, items, info, footnotes, *limit, &options, &frames),
+    let text = if linked {
+        ensure!(head.is_empty(), "no call resolves links and takes a head");
+        export_linked(alloc, items, info, footnotes, *limit, &options, &frames)
+    } else if head.is_empty() {
+        export(alloc, items, info, footnotes, *limit, &options, &frames)
+    } else {
+        export_with_head(
+            alloc, items, info, head, footnotes, *limit, &options, &frames,
+        )
     };
     text_or_refusal(alloc, text)
+}
+
+/// The text of items by themselves, or why there is none.
+pub(crate) fn fragment_text(alloc: Global, row: &Row<'_>) -> Result<String> {
+    let level = match row.words.as_slice() {
+        [_, "block", ..] => ConversionLevel::Block,
+        [_, "inline", ..] => ConversionLevel::Inline,
+        _ => bail!("a level is wanted"),
+    };
+    let items = items_in(alloc, &row.input)?;
+    let limit = row.number("limit", DEPTH_LIMIT)?;
+    ensure!(is_depth_limit(limit), "no limit");
+    match export_fragment(alloc, &items, level, limit, &OneText::new(alloc)?) {
+        Ok(text) => Ok(text),
+        Err(fault) => refusal(alloc, &fault),
+    }
 }
 
 pub(crate) fn anchors(alloc: Global, row: &Row<'_>) -> Result<String> {

@@ -1,4 +1,4 @@
-//! Kinds and default displays of elements, and what attributes are, by their names.
+//! Kinds and default displays of elements, and kinds of attributes, by their names.
 
 use anyhow::Result;
 use html_names::property::Display;

@@ -1,24 +1,24 @@
-//! Runs the rows of files, and prints what differs. With no words it takes each `NAME.rows` of the folder
-//! that it runs in.
+//! Runs the rows of files, and prints what differs. Without arguments, it takes each `NAME.rows` in
+//! its current folder.
 //!
 //! ```text
 //! cd crates/tests_rows && rt try -- data/trees.rows data/links.rows
 //! ```
 //!
-//! A row is a line of three fields, `words | input | output`, cut at the first two ` | `. Lines that
-//! begin with `#` are comments. A row that gives something else than its output is printed with its file
-//! and its line.
+//! A row is a line of three fields, `words | input | output`, cut at the first two ` | `. Lines
+//! that begin with `#` are comments. If a row has another output, it is printed with its file and
+//! line.
 //!
-//! - The input stands as it is, unless `escaped` is the last of the words: then it is read as the output
-//!   is, and `\xff` is a byte.
+//! - The input is taken as it is, unless `escaped` is the last of the words: then it is read like
+//!   the output, and `\xff` is a byte.
 //! - In the output `\n`, `\r`, `\t`, `\\` and `\u{20}` stand for characters.
-//! - In both, `⟨500*<p>⟩` stands for so many copies, in which each `%` is the number of the copy, from 1;
-//!   `⟨100..fdcf⟩` for each character from U+0100 to U+FDCF.
+//! - In both, `⟨500*<p>⟩` stands for that many copies, in which each `%` is the number of the copy,
+//!   from 1; `⟨100..fdcf⟩` for each character from U+0100 to U+FDCF.
 //!
-//! A row whose first word names no call of the library is a run of the program with these words, and its
-//! output is what [`runs`] says; of a call it is what [`calls`] says.
+//! A row whose first word names no call of the library is a run of the program with these words,
+//! whose output [`runs`] describes; [`calls`] describes that of a call.
 //!
-//! The status is 0 where all rows give their outputs, and 1 where not.
+//! Exits with 0 if all rows have their outputs, and with 1 otherwise.
 #![tactic(auto)]
 
 mod calls;

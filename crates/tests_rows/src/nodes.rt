@@ -1,4 +1,4 @@
-//! What items become as nodes.
+//! The nodes that items become.
 
 use crate::runs::inner_text;
 use anyhow::{Result, bail, ensure};
@@ -15,7 +15,7 @@ use tests_rows_items::items_in;
 use tests_rows_run::Row;
 use typst_html_encode::{HtmlOptions, html_in_bundle};
 
-/// How deep the bodies of items may stand where that is not said.
+/// The greatest depth of bodies, unless a row gives one.
 const DEPTH_LIMIT: usize = 50;
 
 fn nodes_of(
@@ -94,8 +94,8 @@ fn add_spans(spans: &mut String, nodes: &[HtmlNode]) -> Result<(), AllocError> {
     Ok(())
 }
 
-/// For each lone space of the row's items 1 if it is bare and else 0, and how many nodes were looked
-/// at. The items become nodes where white space stays, so that each text is one.
+/// Returns 1 or 0 for each lone space of the row's items that is bare or not, and the number of
+/// nodes looked at. The items become nodes where white space stays, so that each text is one.
 pub(crate) fn bare(alloc: Global, row: &Row<'_>) -> Result<String> {
     let nodes = nodes_of(alloc, row, ConversionLevel::Inline, Whitespace::Pre)??;
     let found = bare_spaces(alloc, &FlatTree::from_nodes(alloc, &nodes)?)?;

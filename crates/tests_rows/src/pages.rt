@@ -1,4 +1,4 @@
-//! Pages that are read, and what is visible of them.
+//! Pages that are read, and their visible text.
 
 use crate::runs::inner_text;
 use anyhow::{Result, ensure};
@@ -15,7 +15,7 @@ use typst_html_page::{Shown, page_text};
 use typst_html_parse::{PageFault, Places, read_page_bytes};
 use typst_html_read::{ReadFault, read_html};
 
-/// How deep elements may stand where that is not said.
+/// The greatest depth of elements, unless a row gives one.
 const DEEPEST: usize = 10_000;
 
 const DOCUMENT_TYPE: &str = "<!DOCTYPE html>";
@@ -81,7 +81,7 @@ fn visible_text(alloc: Global, root: &HtmlElement) -> Result<String> {
     Ok(text)
 }
 
-/// What `read_page_bytes` reads, as browsers do: the tree's text, and each error that was gone over.
+/// Returns what `read_page_bytes` reads, as browsers do: the tree's text, and recovered errors.
 pub(crate) fn as_browsers(alloc: Global, row: &Row<'_>) -> Result<String> {
     let limit = row.number("limit", DEEPEST)?;
     ensure!(is_depth_limit(limit), "no limit");
@@ -98,7 +98,7 @@ pub(crate) fn as_browsers(alloc: Global, row: &Row<'_>) -> Result<String> {
     Ok(told)
 }
 
-/// The elements of a page that `read_page_bytes` reads, each with the place that its span tells.
+/// Returns the elements of a page that `read_page_bytes` reads, each with the place of its span.
 pub(crate) fn element_places(alloc: Global, row: &Row<'_>) -> Result<String> {
     let (root, _) = read_page_bytes(alloc, &row.input, DEEPEST)?;
     let mut places = Places::new(str::from_utf8(&row.input)?);

@@ -1,4 +1,4 @@
-//! Calls of the library for C, and what they reply.
+//! Calls of the library for C, and their replies.
 
 use anyhow::Result;
 use std::alloc::Global;
@@ -8,7 +8,7 @@ use typst_html_c::{
     typst_html_unused, typst_html_version, typst_html_write,
 };
 
-/// The reply to a call whose buffer is full of points, and what the buffer has then.
+/// Returns the reply to a call whose buffer is full of points, and the buffer after it.
 pub(crate) fn reply(alloc: Global, row: &Row<'_>, call: &str) -> Result<String> {
     let mut output = Vec::from_elem(alloc, b'.', row.number("room", 0)?)?;
     let reply = reply_to(alloc, row, call, &mut output)?;

@@ -2,19 +2,19 @@
 //!
 //! The output of a run is
 //!
-//! - `refused 12 at 4` where the number and the span of a refusal are written,
-//! - `bad input at 2` where the form is left, `bad input at line 1 column 5` where the input is no
-//!   JSON, or `wrong words` where the words are wrong and nothing is read,
-//! - else the text: of a tree all behind the document type; of items what stands in the body, if all
-//!   around it is as it is where nothing is known of a document, else the whole text. The line feeds
-//!   that `--pretty` writes at the beginning and at the end are left away too.
+//! - `refused 12 at 4` if the number and the span of a refusal are written,
+//! - `bad input at 2` if the form is left, `bad input at line 1 column 5` if the input is no JSON,
+//!   or `wrong words` if the words are wrong and nothing is read,
+//! - else the text: for a tree everything behind the document type; for items the content of the
+//!   body, if all around it is as in a document without information, else the whole text. The line
+//!   feeds that `--pretty` writes at the beginning and at the end are left out, too.
 
 use anyhow::{Context, Result, ensure};
 use html_tool_run::{Status, run, wanted_task};
 use std::alloc::Global;
 use tests_rows_run::Row;
 
-/// What stands before and behind the body of a document of which nothing is known.
+/// The text before and behind the body of a document without information.
 pub(crate) const PLAIN: (&str, &str) = (
     concat!(
         r#"<!DOCTYPE html><html lang="en"><head><meta charset="utf-8">"#,
@@ -56,7 +56,7 @@ fn words_of(alloc: Global, row: &Row<'_>) -> Result<Vec<String>> {
     Ok(words)
 }
 
-/// What is told of a run with right words that wrote the text.
+/// Returns the output of a run with right words that wrote the text.
 fn output_of(alloc: Global, row: &Row<'_>, status: Status, text: &str) -> Result<String> {
     match status {
         Status::Done => inner_text(alloc, text, frame_of(&row.words)),
@@ -73,7 +73,7 @@ fn line(text: &str) -> Result<&str> {
     text.strip_suffix('\n').context("no line")
 }
 
-/// What stands around the part of a text that is compared.
+/// Returns the text around the part that is compared.
 fn frame_of(words: &[&str]) -> (&'static str, &'static str) {
     match words {
         ["tree"] => ("<!DOCTYPE html>", ""),
@@ -83,7 +83,7 @@ fn frame_of(words: &[&str]) -> (&'static str, &'static str) {
     }
 }
 
-/// What stands between these two in a text, or else the whole text.
+/// Returns the part of a text between these two, or else the whole text.
 pub(crate) fn inner_text(
     alloc: Global,
     text: &str,

@@ -1,8 +1,8 @@
 //! Items that a JSON value spells: a list of `["text",t]`, `["space"]`, `["break"]`, `["hole"]`,
 //! `["start",n]`, `["start",n,destination]`, `["start",n,destination,label]`, `["end",n]`,
 //! `["frame"]`, `["box",items]`, `["block",items]` and `["el",tag,[[name,value],..],items]`, with
-//! `null` for a body that is absent. An item may stand in `["role",text,item]`, in `["norole",item]`,
-//! or an element in `["css",name,value,item]`. The spans are the numbers of the items in the order of
+//! `null` for no body. An item may be wrapped in `["role",text,item]` or `["norole",item]`, and an
+//! element in `["css",name,value,item]`. The spans are the numbers of the items in the order of
 //! writing, from 1.
 
 use anyhow::{Context, Result, bail};
@@ -13,12 +13,12 @@ use html_values_css::Abs;
 use serde_json::Value;
 use std::alloc::Global;
 
-/// The items of a JSON text.
+/// Returns the items of a JSON text.
 pub fn items_in(alloc: Global, json: &[u8]) -> Result<Vec<Pair>> {
     items_of(alloc, &Value::from_slice(alloc, json)?)
 }
 
-/// The items that a value spells.
+/// Returns the items that a value spells.
 pub fn items_of(alloc: Global, value: &Value) -> Result<Vec<Pair>> {
     body_of(alloc, value, &mut 0)?.context("items are wanted")
 }
@@ -117,7 +117,7 @@ fn next_span(number: &mut u64) -> Span {
     Span(*number)
 }
 
-/// An item without a body.
+/// Makes an item without a body.
 fn leaf(alloc: Global, kind: &str, fields: &[Value], span: Span) -> Result<Item> {
     let item = match (kind, fields) {
         ("text", [text]) => Item::Text(string_of(alloc, text)?, span),
@@ -134,7 +134,7 @@ fn leaf(alloc: Global, kind: &str, fields: &[Value], span: Span) -> Result<Item>
     Ok(item)
 }
 
-/// A start tag with what is known of it: a destination, or a destination and a label.
+/// Makes a start tag from its fields: a destination, or a destination and a label.
 fn start(alloc: Global, location: &Value, known: &[Value]) -> Result<Tag> {
     let (dest, label) = match known {
         [] => (None, None),

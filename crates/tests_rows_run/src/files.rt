@@ -1,4 +1,4 @@
-//! Files of rows, each of which is run.
+//! Files of rows, and their runs.
 
 use crate::row::Row;
 use anyhow::{Context, Result, ensure};
@@ -6,25 +6,25 @@ use std::alloc::Global;
 use std::process::ExitCode;
 use std::{env, fs};
 
-/// How many characters of a text are printed at most.
+/// The greatest number of characters of a text that are printed.
 const MOST_PRINTED: usize = 2000;
 
-/// What runs a row.
+/// A runner of rows.
 pub trait Caller {
-    /// What the row gives.
+    /// Returns the output of the row.
     fn output(&self, alloc: Global, row: &Row<'_>) -> Result<String>;
 }
 
-/// How many rows were run, and how many of them gave something else than their output.
+/// The number of rows that were run, and of those with another output.
 #[derive(Clone, Copy)]
 struct Counts {
     rows: u64,
     wrong: u64,
 }
 
-/// Runs the rows of the files that the program's words name, or else of each `NAME.rows` of the folder
-/// that it runs in, and prints what differs and how many rows there are. The code is a success where each
-/// row gives its output. It fails where a file is not read, a line is no row, or there is none.
+/// Runs the rows of the files that the program's arguments name, or else of each `NAME.rows` in the
+/// current folder, and prints what differs and the number of rows. Returns success if each row has
+/// its output. Fails if a file is not read, a line is no row, or there is none.
 pub fn run_files<C: Caller>(rt: &HostRuntime, caller: &C) -> Result<ExitCode> {
     let mut counts = Counts { rows: 0, wrong: 0 };
     for name in &names(rt)? {
@@ -40,7 +40,7 @@ pub fn run_files<C: Caller>(rt: &HostRuntime, caller: &C) -> Result<ExitCode> {
     Ok(ExitCode::FAILURE)
 }
 
-/// The names of the files with rows: the words, or else all in this folder, sorted.
+/// Returns the names of the files with rows: the arguments, or else all in this folder, sorted.
 fn names(rt: &HostRuntime) -> Result<Vec<String>> {
     let mut names: Vec<String> = env::args(rt)?.collect(rt.alloc())?;
     if names.len() > 1 {

@@ -1,4 +1,4 @@
-//! For `tests_rows`: how a line is read as a row, and how the rows of files are run.
+//! For `tests_rows`: reads lines as rows, and runs the rows of files.
 //!
 //! ```
 //! let row = Row::from_line(alloc, "page-text | <p>a</p> | |[a]|")?.context("a row")?;

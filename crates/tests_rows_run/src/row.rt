@@ -3,19 +3,19 @@
 use anyhow::{Context, Result, bail, ensure};
 use std::alloc::Global;
 
-/// What is done with an input, and what it gives.
+/// A call or run, its input and its output.
 #[derive(Drop)]
 pub struct Row<'a> {
-    /// The words of the program, or a call of the library and how it is made.
+    /// The arguments of the program, or a call of the library and its options.
     pub words: Vec<&'a str>,
     /// Its bytes, which may be no text.
     pub input: Vec<u8>,
-    /// What it gives.
+    /// The output.
     pub output: String,
 }
 
 impl<'a> Row<'a> {
-    /// The row that a line spells, or `None` for a comment and for an empty line.
+    /// Returns the row that a line spells, or `None` for a comment and for an empty line.
     pub fn from_line(alloc: Global, line: &'a str) -> Result<Option<Row<'a>>> {
         if line.is_empty() || line.starts_with('#') {
             return Ok(None);
@@ -33,12 +33,12 @@ impl<'a> Row<'a> {
         }))
     }
 
-    /// The input as a text.
+    /// Returns the input as a text.
     pub fn text(&self) -> Result<&str> {
         Ok(str::from_utf8(&self.input)?)
     }
 
-    /// The number that a word such as `limit=50` gives, or else that one.
+    /// Returns the number in a word such as `limit=50`, or else this one.
     pub fn number(&self, name: &str, otherwise: usize) -> Result<usize> {
         match self.value(name) {
             None => Ok(otherwise),
@@ -46,7 +46,7 @@ impl<'a> Row<'a> {
         }
     }
 
-    /// What stands behind the `=` of a word with that name.
+    /// Returns the text behind the `=` of the word with that name.
     pub fn value(&self, name: &str) -> Option<&str> {
         for word in &self.words {
             if let Some((before, value)) = word.split_once('=')
@@ -59,7 +59,7 @@ impl<'a> Row<'a> {
     }
 }
 
-/// The three fields of a line. An empty output leaves a bar at the line's end.
+/// Returns the three fields of a line. An empty output leaves a bar at the line's end.
 fn fields(line: &str) -> Option<(&str, &str, &str)> {
     let (words, rest) = line.split_once(" | ")?;
     match rest.split_once(" | ") {
@@ -90,7 +90,7 @@ fn spelled_bytes(alloc: Global, field: &str, is_escaped: bool) -> Result<Vec<u8>
     Ok(bytes)
 }
 
-/// Adds so many copies, in which each `%` is the number of the copy.
+/// Appends that many copies, in which each `%` is the number of the copy.
 fn add_copies(alloc: Global, bytes: &mut Vec<u8>, times: u64, copy: &[u8]) -> Result<()> {
     for number in 1..=times {
         if copy.contains(&b'%') {
@@ -113,7 +113,7 @@ fn add_numbered(bytes: &mut Vec<u8>, copy: &[u8], number: &[u8]) -> Result<()> {
     Ok(())
 }
 
-/// Adds each character of a range such as `100..fdcf`.
+/// Appends each character of a range such as `100..fdcf`.
 fn add_range(bytes: &mut Vec<u8>, range: &str) -> Result<()> {
     let (first, last) = range
         .split_once("..")
@@ -130,8 +130,8 @@ fn plain_bytes(alloc: Global, text: &str, is_escaped: bool) -> Result<Vec<u8>> {
         bytes.extend_from_slice(text.as_bytes())?;
         return Ok(bytes);
     }
-    // A backslash stands before each part but the first. One before an empty part stands for itself
-    // with the next one, and the part behind that is plain.
+    // A backslash precedes each part but the first. One before an empty part, together with the
+    // next one, stands for itself, and the part behind that is plain.
     let mut is_plain = true;
     for part in text.split('\\') {
         if is_plain {
@@ -148,7 +148,7 @@ fn plain_bytes(alloc: Global, text: &str, is_escaped: bool) -> Result<Vec<u8>> {
     Ok(bytes)
 }
 
-/// Adds what an escape stands for, and the text behind it.
+/// Appends the character of an escape, and the text behind it.
 fn add_escaped(bytes: &mut Vec<u8>, text: &str) -> Result<()> {
     let mut chars = text.chars();
     let kind = chars.next();
@@ -157,7 +157,7 @@ fn add_escaped(bytes: &mut Vec<u8>, text: &str) -> Result<()> {
     Ok(())
 }
 
-/// Adds what an escape of that kind stands for. What stands behind it is left.
+/// Appends the character of an escape of that kind, and returns the text behind it.
 fn add_escape<'a>(bytes: &mut Vec<u8>, kind: Option<char>, rest: &'a str) -> Result<&'a str> {
     match kind {
         Some('n') => bytes.push(b'\n')?,
@@ -170,14 +170,14 @@ fn add_escape<'a>(bytes: &mut Vec<u8>, kind: Option<char>, rest: &'a str) -> Res
     Ok(rest)
 }
 
-/// Adds the byte of two digits.
+/// Appends the byte of two digits.
 fn add_byte<'a>(bytes: &mut Vec<u8>, rest: &'a str) -> Result<&'a str> {
     let (code, behind) = rest.split_at_checked(2).context("two digits are wanted")?;
     bytes.push(u8::from_str_radix(code, 16)?)?;
     Ok(behind)
 }
 
-/// Adds the character whose code stands in braces.
+/// Appends the character whose code is in braces.
 fn add_braced<'a>(bytes: &mut Vec<u8>, rest: &'a str) -> Result<&'a str> {
     let code = rest.strip_prefix('{').context("a `{` is wanted")?;
     let (code, behind) = code.split_once('}').context("a `}` is wanted")?;

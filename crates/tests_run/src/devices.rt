@@ -1,4 +1,4 @@
-//! Readers and writers that fail, or give and take little at a time.
+//! Readers and writers that fail, or read and write little at a time.
 
 mod readers;
 mod writers;
@@ -9,7 +9,7 @@ const INPUT: &str = r#"["el","p",[],[["text","x"]]]"#;
 
 const OUTPUT: &str = "<!DOCTYPE html><p>x</p>";
 
-/// A run: the program's words, its input, how it ends, and all that is written.
+/// A run: the program's arguments, its input, its status, and its output.
 struct Case {
     words: &'static [&'static str],
     input: &'static str,

@@ -1,5 +1,5 @@
-//! Tests of a run of the program over readers and writers of their own, and of reading texts that are
-//! changed. Inputs and what is written for them are the rows of `tests_rows`.
+//! Tests of runs of the program with readers and writers of their own, and of reading texts that
+//! are changed. The rows of `tests_rows` have inputs and their outputs.
 #![tactic(auto)]
 
 #[cfg(test)]

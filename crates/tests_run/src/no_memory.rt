@@ -1,4 +1,4 @@
-//! The program, which ends with status 3 and writes nothing where memory fails.
+//! The program ends with status 3 and writes nothing if memory runs out.
 
 use crate::runs::words;
 use html_tool_run::{Status, run};
@@ -6,7 +6,7 @@ use std::alloc::{AllocError, Global};
 use tests_asserts::TestResult;
 use tests_growth::refuses_lent;
 
-/// How many bytes are written at most.
+/// The greatest number of bytes that are written.
 const ROOM: usize = 4096;
 
 const TREE: &str =
@@ -17,7 +17,7 @@ const ITEMS: &str = concat!(
     r##"["start",1,2],["end",1]]],["start",2],["el","p",[],[["text","three"]]],["end",2]]"##,
 );
 
-/// Whether a run with those words on that input writes, where memory does not fail.
+/// Returns whether a run with those arguments on that input writes, if there is memory.
 fn is_written(
     alloc: Global,
     words: &[String],
@@ -32,7 +32,7 @@ fn is_written(
     }
 }
 
-/// The runs that are refused: the words and the input.
+/// The runs that are refused: the arguments and the input.
 static RUNS: [(&[&str], &str); 4] = [
     (&["tree"], TREE),
     (&["tree", "--pretty"], TREE),

@@ -1,12 +1,12 @@
-//! Texts that are hostile to the reader: one that is as deep as can be, each beginning of a page, and a
-//! page with one character in the place of another.
+//! Texts that are hostile to the reader: one of the greatest depth, each beginning of a page, and a
+//! page with one character replaced.
 
 use std::alloc::Global;
 use std::process::Abort;
 use tests_reading::{reads_again, reads_same};
 use typst_html::{HtmlElement, Place, ReadFault, read_html};
 
-/// How deep elements stand in one another at most.
+/// The greatest depth of elements.
 const DEEPEST: usize = 10_000;
 
 #[test]
@@ -60,7 +60,7 @@ const PAGE: &str = concat!(
     "</body></html>\n\t\r \n",
 );
 
-/// Whether the text is white space that may stand behind the root.
+/// Returns whether the text is white space that may stand behind the root.
 fn is_blank(text: &str) -> bool {
     text.chars().all(|c| matches!(c, '\t' | '\n' | '\r' | ' '))
 }
@@ -75,8 +75,8 @@ fn tree_of(rt: &impl Abort, alloc: Global, text: &str) -> Option<HtmlElement> {
     }
 }
 
-/// Asserts that the page up to there is read where it is whole but for white space, and that what is
-/// read does not depend on that.
+/// Asserts that the beginning of the page is read exactly if only white space is missing, and then
+/// as the whole page's tree.
 fn assert_cut(rt: &impl Abort, alloc: Global, before: &str, behind: &str, whole: &HtmlElement) {
     match tree_of(rt, alloc, before) {
         None => assert!(rt; !is_blank(behind), "{before}"),
@@ -95,8 +95,8 @@ fn beginnings_of_a_page(rt: HostRuntime) {
     }
 }
 
-/// Asserts that the page with that character in the place of one is read, if at all, as what reads the
-/// same again.
+/// Asserts that the page with one character replaced is read, if at all, as a tree whose text reads
+/// the same again.
 fn assert_changed(rt: &impl Abort, alloc: Global, before: &str, c: char, behind: &str) {
     let page = format!(in alloc; "{before}{c}{behind}").expect(rt, "memory for a page");
     let is_read = tree_of(rt, alloc, &page).is_some();

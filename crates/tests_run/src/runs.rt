@@ -29,7 +29,7 @@ pub(crate) fn answer<R: Read>(
     (status, out)
 }
 
-/// Asserts how a run of `tree` on the reader ends, and what is written.
+/// Asserts the status of a run of `tree` on the reader, and its output.
 pub(crate) fn assert_run<R: Read>(
     rt: &impl Abort,
     alloc: Global,

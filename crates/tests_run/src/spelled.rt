@@ -1,4 +1,4 @@
-//! What JSON values spell, apart from a run.
+//! The values that JSON spells, apart from a run.
 
 use html_tool_run::{Fault, InputPlace, element_in, items_in};
 use serde_json::Value;
@@ -22,7 +22,7 @@ fn elements_and_items_are_spelled(rt: HostRuntime) {
     assert_eq!(rt; items.len(), 3);
 }
 
-/// A value that is refused is as it was, and spells the same again.
+/// A refused value is unchanged, and spells the same again.
 #[test]
 fn a_refused_value_stays(rt: HostRuntime) {
     let alloc = rt.alloc();

@@ -65,7 +65,7 @@ fn outputs_are_written(rt: HostRuntime) -> Result<(), Fail> {
 /// A page with an end tag that closes nothing.
 const PAGE: &str = "<!doctype html><p>a</b>";
 
-/// Asserts that a page is read as that one.
+/// Asserts that a page is read as this one.
 fn assert_read(root: &HtmlElement, notes: &PageNotes) -> Result<(), Fail> {
     let place = Place {
         offset: 19,
@@ -103,7 +103,7 @@ fn offsets_have_places(rt: HostRuntime) {
     assert!(rt; Places::new("a\r\nb").at(offset) == place);
 }
 
-/// Asserts that a root is told, and what is told of it.
+/// Asserts that the root is reported, and how.
 fn assert_no_page(found: &[Misnested]) -> Result<(), Fail> {
     match found {
         [node] if node.path.is_empty() && node.why == Misnesting::NoPage => Ok(()),

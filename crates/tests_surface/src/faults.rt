@@ -1,4 +1,4 @@
-//! Numbers, spans and texts of faults, and what `?` makes of those of the layers below.
+//! Numbers, spans and texts of faults, and the faults that `?` makes of those of the layers below.
 
 use html_tool_run::{Fault, WriteFailed};
 use std::alloc::{AllocError, AllocFailed};
@@ -9,7 +9,7 @@ use typst_html::{
     PageRefusal, Place, ReadFault, Refused, Span,
 };
 
-/// What is made of faults of the layers below: numbers, spans and texts.
+/// The faults made of those of the layers below: numbers, spans and texts.
 const MADE: &str = "\
     8 at 7: items are nested too deeply\n\
     8 at 3: items are nested too deeply\n\
@@ -116,7 +116,7 @@ fn faults_with_texts_of_their_own(rt: HostRuntime) -> Result<(), Fail> {
     assert_text(&shown, OWN)
 }
 
-/// What pages are refused for, and its numbers.
+/// The refusals of pages, with their numbers.
 const REFUSALS: &str = "\
     8: elements are nested too deeply\n\
     26: U+0000\n\

@@ -1,4 +1,4 @@
-//! Each public name stands where users look for it.
+//! Each public name is where users look for it.
 
 /// Trees and items, in html_dom and html_flow.
 mod trees {

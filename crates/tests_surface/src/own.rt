@@ -1,4 +1,4 @@
-//! Whole implementations of a user's own, of each trait that users may implement.
+//! Whole implementations by a user, of each trait that users may implement.
 
 mod attr;
 mod frame;

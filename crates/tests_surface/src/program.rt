@@ -1,4 +1,4 @@
-//! What runs of the program are made of.
+//! The parts of the program's runs.
 
 use html_tool_run::{LastCall, Recorded, Status, Task, WriteFailed, wanted_task, words_of};
 use std::alloc::Global;
@@ -25,7 +25,7 @@ fn recorded_writers_write(rt: HostRuntime) {
     assert!(rt; writer.into_writer().as_slice() == b"abc".as_slice());
 }
 
-/// A device of which no call succeeds.
+/// A device on which no call succeeds.
 #[derive(Drop)]
 struct Broken;
 
@@ -47,7 +47,7 @@ fn recorded_writers_fail(rt: HostRuntime) {
     assert!(rt; writer.last() == LastCall::Failed);
 }
 
-/// What stands behind the name of the program, and what these words ask for.
+/// The arguments behind the name of the program, and the task that they request.
 const WORDS: [(&[&str], Option<(Task, bool)>); 3] = [
     (&["html_tool", "tree"], Some((Task::Tree, false))),
     (&["html_tool", "doc", "--pretty"], Some((Task::Doc, true))),

@@ -1,4 +1,4 @@
-//! The traits of public types. Each function that does nothing is there for its bounds.
+//! The traits of public types. Functions that do nothing are there for their bounds.
 
 use html_tool_run::{Fault, InputPlace, LastCall, Settings, Status, Task, WriteFailed};
 use std::alloc::{AllocError, Global};
@@ -198,7 +198,7 @@ fn parts_and_faults_differ(rt: HostRuntime) {
     );
 }
 
-/// Asserts that what is kept under a key is found by an equal one, and by no other.
+/// Asserts that an equal key finds the value under a key, and no other does.
 fn assert_key<K: Eq + Hash + Drop>(
     rt: &impl Abort,
     alloc: Global,

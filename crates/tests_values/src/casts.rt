@@ -14,7 +14,7 @@ fn strings(alloc: Global, texts: &[&str]) -> Result<AttrType, AllocError> {
     Ok(AttrType::Strings(allowed))
 }
 
-/// Values, and what a cast to presence returns.
+/// Values, and the result of a cast to presence.
 static PRESENCES: [(Sample, &str); 4] = [
     (Bool(true), "''"),
     (Bool(false), "nothing"),
@@ -44,7 +44,7 @@ static NUMBER_OR_AUTO: [(Sample, &str); 3] = [
     (Int(3), "'3'"),
 ];
 
-/// Unions refuse by their first type.
+/// A union refuses by its first type.
 #[test]
 fn unions(rt: HostRuntime) -> TestResult {
     let auto = strings(rt.alloc(), &["auto"])?;
@@ -86,8 +86,8 @@ fn separated_by_commas(rt: HostRuntime) -> TestResult {
     Ok(())
 }
 
-/// Arrays, and what a cast to texts between spaces returns: items with a space are refused, and the
-/// first wrong item decides.
+/// Arrays, and the result of a cast to texts between spaces: items with a space are refused, and
+/// the first wrong item decides.
 static BY_SPACES: [(&[Sample], &str); 3] = [
     (&[Text("a"), Text("b")], "'a b'"),
     (&[Text("a b")], "22"),

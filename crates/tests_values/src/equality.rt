@@ -1,4 +1,4 @@
-//! What `==` tells apart.
+//! What `==` distinguishes.
 
 use html_values::civil::{date, time};
 use html_values::laws::{

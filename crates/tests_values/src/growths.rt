@@ -1,4 +1,4 @@
-//! Values of attributes: their texts, and what values are cast to, where growths of memory are refused.
+//! Values of attributes: their texts, and the results of casts, when growths of memory are refused.
 
 use html_values::civil::date;
 use html_values::{
@@ -18,7 +18,7 @@ const RED: Rgba = Rgba {
     a: 128,
 };
 
-/// Asserts that the value's text is refused at first, and then that one.
+/// Asserts that the value's text is refused at first, and is then the expected one.
 fn assert_text<V: IntoAttr>(alloc: Global, value: &V, wanted: &str) -> TestResult {
     refuses(alloc, || -> Result<bool, AllocError> {
         Ok(value.into_attr(alloc)?.as_str() == wanted)
@@ -65,7 +65,7 @@ fn other_texts(rt: HostRuntime) -> TestResult {
     )
 }
 
-/// Asserts that a cast of the value is refused at first, and then gives that text.
+/// Asserts that a cast of the value is refused at first, and then returns that text.
 fn assert_cast(alloc: Global, attr_type: &AttrType, value: &Value, wanted: &str) -> TestResult {
     refuses(alloc, || -> Result<bool, CastFault> {
         let text = attr_type.cast(alloc, value)?;
@@ -77,7 +77,7 @@ fn assert_native(alloc: Global, native: NativeType, value: Value, wanted: &str) 
     assert_cast(alloc, &AttrType::Native(native), &value, wanted)
 }
 
-/// Types, values that take no memory, and the texts that casts of these to those give.
+/// Types, values that take no memory, and the texts that casts of these to those return.
 const CASTS: [(NativeType, Value, &str); 12] = [
     (NativeType::NoValue, Value::None, "none"),
     (NativeType::NoneUndefined, Value::None, "undefined"),

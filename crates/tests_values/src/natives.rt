@@ -1,4 +1,4 @@
-//! Casts to types of one kind of values: what a cast to the type returns for the value.
+//! Casts to types of one kind of values.
 
 use crate::samples::Sample::{Auto, Bool, Image, Int, Text};
 use crate::samples::{Sample, assert_array_casts, assert_cast, assert_casts};
@@ -8,7 +8,7 @@ use html_values::{AttrType, Datetime, Dir, Moment, NativeType, Rgba, Value};
 use std::alloc::Global;
 use tests_asserts::TestResult;
 
-/// Types, values, and what casts of the values to the types return.
+/// Types, values, and the results of casting the values to the types.
 static CASTS: [(NativeType, Sample, &str); 37] = [
     // None.
     (NativeType::NoValue, Sample::None, "'none'"),
@@ -68,7 +68,7 @@ static IMAGES: [(Sample, &str); 9] = [
     (Image("x,y", None), "'x,y'"),
 ];
 
-/// Arrays, and what they are as sizes of icons.
+/// Arrays, and the result of casting them to sizes of icons.
 static SIZES: [(&[Sample], &str); 6] = [
     (&[Int(16), Int(16)], "'16x16'"),
     (&[Int(0), Int(7)], "'0x7'"),
@@ -119,7 +119,7 @@ static DATES: [(i16, i8, i8, &str); 5] = [
     (-1, 1, 1, "23"),
 ];
 
-/// Hours, minutes, seconds and nanoseconds, and what casts of them return.
+/// Hours, minutes, seconds and nanoseconds, and the results of casting them.
 static TIMES: [(i8, i8, i8, i32, &str); 3] = [
     (8, 5, 0, 0, "'08:05'"),
     (8, 5, 30, 0, "'08:05:30'"),

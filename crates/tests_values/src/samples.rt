@@ -1,10 +1,10 @@
-//! Values as they stand in tables, and what casts of them return.
+//! Values as tables have them, and the results of casting them.
 
 use html_values::{AttrType, CastFault, Dir, Value};
 use std::alloc::{AllocError, Global};
 use tests_asserts::{TestResult, assert_text};
 
-/// A value of a document, as it stands in a table.
+/// A value of a document, as a table has it.
 #[derive(Clone, Copy)]
 pub(crate) enum Sample {
     None,
@@ -39,7 +39,7 @@ pub(crate) fn array_of(alloc: Global, samples: &[Sample]) -> Result<Value, Alloc
     Ok(Value::Array(items))
 }
 
-/// What a cast returns, in words: a text in quotes, `nothing`, or a fault's number.
+/// Shows the result of a cast in words: a text in quotes, `nothing`, or a fault's number.
 fn shown(alloc: Global, answer: Result<Option<String>, CastFault>) -> Result<String, AllocError> {
     match answer {
         Ok(Some(text)) => format!(in alloc; "'{text}'"),

@@ -30,7 +30,7 @@ fn durations(rt: HostRuntime) -> TestResult {
     Ok(())
 }
 
-/// Values, of which casts show the others.
+/// Values; casts show the others.
 #[test]
 fn words(rt: HostRuntime) -> TestResult {
     assert_attr(rt.alloc(), &NoneValue, "none")?;

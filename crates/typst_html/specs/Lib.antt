@@ -1,4 +1,4 @@
--- The words of its parts and of the layers below, which the contracts of what it passes on are in.
+-- The definitions of its parts and of the layers below that the contracts of its re-exports use.
 pub use Rattle.typst_html_encode.specs.Collapsing
 pub use Rattle.typst_html_encode.specs.Conversions
 pub use Rattle.typst_html_encode.specs.FaultViews

@@ -1,4 +1,4 @@
-//! Laws of all layers, each the contract of a function.
+//! Laws of all layers, as contracts of functions.
 
 pub use html_dom::laws as dom;
 pub use html_flow::laws as flow;

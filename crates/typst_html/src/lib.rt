@@ -1,9 +1,9 @@
-//! Documents of items and their HTML text, and with them all that users of this project name: each
-//! public name of `html_names`, `html_values`, `html_dom` and `html_flow` stands here too.
+//! Documents made from items, and their HTML text. Re-exports everything that users of this project
+//! name: each public name of `html_names`, `html_values`, `html_dom` and `html_flow`.
 //!
-//! Examples here and in those crates are bodies of tests, which take `rt: HostRuntime` and answer
-//! `Result<(), Fail>`, with `Fail` of `std::test`, and end in `Ok(())`. Where an example implements a
-//! trait, it is a part of a file.
+//! Examples here and in those crates are bodies of tests, which take `rt: HostRuntime`, return
+//! `Result<(), Fail>`, with `Fail` of `std::test`, and end in `Ok(())`. An example that implements
+//! a trait is a part of a file.
 //!
 //! ```
 //! use typst_html::{DocumentInfo, HtmlElem, HtmlOptions, Item, Pair, Span, export, tag};
@@ -144,8 +144,10 @@ pub use typst_html_encode::ExportFault;
 pub use typst_html_encode::FrameFault;
 pub use typst_html_encode::FrameWriter;
 pub use typst_html_encode::HtmlOptions;
+pub use typst_html_encode::html_fragment;
 pub use typst_html_encode::html_in_bundle;
 pub use typst_html_export::export;
+pub use typst_html_export::export_fragment;
 pub use typst_html_export::export_linked;
 pub use typst_html_export::export_with_head;
 pub use typst_html_export::has_own_root;

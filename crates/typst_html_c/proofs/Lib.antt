@@ -1,5 +1,4 @@
 mod DeadLinks
 pub mod Pages
-mod Emptiness
 mod Faults
 mod LeftNodes

@@ -5,7 +5,7 @@ use Rattle.serde_json.specs.Data.{Data}
 use Rattle.serde_json.specs.View.{items_of}
 use Rattle.serde_json.specs.Written.{items_text}
 use Rattle.html_dom_check.specs.PlacedTexts.{Placed}
-use Rattle.html_dom_tree.specs.Tree.{NodeView, ElementView}
+use Rattle.html_dom_tree.specs.Tree.{ElementView}
 use Rattle.html_dom_tree.specs.Views.{element_view}
 use Rattle.typst_html_parse.specs.PlaceViews.{text_of}
 use Rattle.typst_html_parse.specs.declared.fault.PageFault.{PageFault}
@@ -15,13 +15,11 @@ use Rattle.typst_html_read.specs.declared.place.Place.{Place}
 use Rattle.typst_html_c.specs.CallReplies.{without_text}
 use Rattle.typst_html_c.specs.FindingLists.{element_place, findings_behind}
 use Rattle.typst_html_c.specs.PageFindings.{page_findings}
-use Rattle.typst_html_c.specs.PageLinks.{of_elements, own_hrefs, own_ids, own_names, page_links}
+use Rattle.typst_html_c.specs.PageLinks.{page_links}
 use Rattle.typst_html_c.specs.PageTold.{Told, placed}
 use Rattle.typst_html_c.specs.declared.lists.FindingList.{FindingList}
 use Rattle.typst_html_c.specs.declared.page.Page.{Page}
 use Rattle.typst_html_c.specs.declared.reply.Reply.{Reply}
-use Rattle.typst_html_c.specs.declared.texts.Wanted.{Wanted}
-use Rattle.typst_html_c.specs.declared.texts.Wanted.TheVariants as wanted
 use Rattle.typst_html_c.specs.declared.told.Asked.{Asked}
 use Rattle.typst_html_c.specs.declared.told.Asked.TheVariants as asked
 
@@ -33,12 +31,6 @@ place_in page = element_place (text_of page.places) (element_view page.root.now)
 abbrev pub text_with : FindingList → List Placed → List ℕ
 text_with list ps = string_bytes list.text ++ items_text list.later (items_of
     (findings_behind (place_in list.page) (string_bytes list.name) list.previous.items ps))
-
--- the texts of elements that are wanted
-abbrev pub texts_at : Wanted → NodeView → List (List ℕ)
-texts_at wanted.Ids = of_elements own_ids
-texts_at wanted.Names = of_elements own_names
-texts_at wanted.Hrefs = of_elements own_hrefs
 
 -- what a call is to tell
 abbrev pub asked_data : Asked → (text : List ℕ) → ElementView → Data

@@ -24,7 +24,6 @@ mod misnested;
 mod numbers;
 mod page;
 mod reply;
-mod texts;
 mod told;
 
 use dead_links::dead_links_text;
@@ -38,11 +37,11 @@ use std::alloc::Global;
 use told::{Asked, reply_to_page};
 
 /// The version of these calls. It grows by one where a call or a status changes its meaning.
-const VERSION: u32 = 6;
+const VERSION: u32 = 7;
 
 /// The version of these calls, to be compared with the one of the header that a caller was made by.
 pub fn typst_html_version() -> u32
-    ensures { result ≡ 6 }
+    ensures { result ≡ 7 }
 {
     VERSION
 }
@@ -96,7 +95,7 @@ fn text_of_settings(
 }
 
 /// Makes the HTML text of the document that the input spells in JSON, an object: what is known of the
-/// document, its items and its footnotes. It is plain (layout 0) or pretty (layout 1), its links stay
+/// document, its items, its footnotes and nodes for its head. It is plain (layout 0) or pretty (layout 1), its links stay
 /// as they are (links 0) or get the `href` of their destination (links 1), and bodies may stand as
 /// deep as the limit says, from 1 to 10,000. The text is copied into the buffer, where it fits.
 ///
@@ -105,8 +104,8 @@ fn text_of_settings(
 /// [`typst_html_dead_links`] lists them all.
 ///
 /// The members are those of [`text_of_document`]: `title`, `description`, `authors`, `keywords`,
-/// `lang`, `region`, `items` and `footnotes`. Another member, layout, number for links or limit is bad
-/// input. Buffers and replies are those of [`typst_html_write`].
+/// `lang`, `region`, `items`, `footnotes` and `head`. Another member, layout, number for links or limit is
+/// bad input. Buffers and replies are those of [`typst_html_write`].
 pub fn typst_html_document(
     alloc: Global,
     layout: u8,
@@ -167,8 +166,8 @@ fn unused_of(alloc: Global, limit: u32, input: &[u8]) -> Result<String, Fault>
 /// {"unused":["title","lang"]}
 /// ```
 ///
-/// They stand in the order `title`, `description`, `authors`, `keywords`, `lang`, `region`; a list of no
-/// texts tells nothing. Input and limit are those of [`typst_html_document`], which refuses whatever is
+/// They stand in the order `title`, `description`, `authors`, `keywords`, `lang`, `region`, `head`; an
+/// empty list tells nothing. Input and limit are those of [`typst_html_document`], which refuses whatever is
 /// refused here; buffers and replies are those of [`typst_html_write`].
 pub fn typst_html_unused(alloc: Global, limit: u32, input: &[u8], output: &mut [u8]) -> Reply
     ensures answered { RepliesAt (unused_call_answer limit input.now) output.old result output.new }

@@ -1,48 +1,35 @@
 -- Changes of attributes that bring no `href`: others behind them, a changed value, a `style`, a role.
-use Rattle.std.proofs.Common.{◌≡◌, ℕ, Bool, true, false, List, [], ◌∷◌, ◌++◌, ◌&&◌, Option, Some, None, codes, bytes_eq, refl, ap, ◌∙◌}
+use Rattle.std.proofs.Common.{◌≡◌, ℕ, Bool, true, false, List, [], ◌∷◌, ◌++◌, ◌&&◌, Option, Some, None, inl, inr, codes, bytes_eq, refl, ap, ◌∙◌}
 use Rattle.std.specs.Prelude.{if◌then◌else◌, is_some}
+use Rattle.std.proofs.lemmas.Bool.{cases_Bool}
 use Rattle.html_values_css.specs.Properties.{inline_text}
-use Rattle.html_dom_tree.specs.Attributes.{first, has_name, with_value}
+use Rattle.html_dom_tree.specs.Attributes.{first, has_name, or_else, with_value}
 use Rattle.html_dom_tree.specs.Styled.{attrs_with_style, head_with_style, styled_attrs}
 use Rattle.html_dom_tree.specs.Tree.{TextPair, Head}
 use Rattle.html_dom_check.specs.Hyperlinks.{is_hyperlink, HeadIsNoHyperlink}
 use Rattle.html_flow_convert.specs.Converted.{RoleText, passes_role, role_pairs, element_head}
 use Rattle.html_flow_convert.specs.Items.{ElemHead}
+use Rattle.typst_html_spaces.proofs.MadeHeads.{first-append}
 
 more_behind : (attrs more : List TextPair) (name : List ℕ) → has_name more name ≡ false →
     has_name (attrs ++ more) name ≡ has_name attrs name
-more_behind [] more name lacks = lacks
-more_behind (p ∷ ps) more name lacks =
-    by (bytes_eq p.0 name) (more_behind ps more name lacks)
+more_behind attrs more name lacks =
+    ap is_some (first-append attrs more name) ∙ by (first attrs name)
   where
-    by : (is_name : Bool) → has_name (ps ++ more) name ≡ has_name ps name →
-        is_some (if is_name then Some p.1 else first (ps ++ more) name)
-        ≡ is_some (if is_name then Some p.1 else first ps name)
-    by true e = refl
-    by false e = e
+    by : (o : Option (List ℕ)) → is_some (or_else o (first more name)) ≡ is_some o
+    by None = lacks
+    by (Some value) = refl
 
 new_value : (attrs : List TextPair) (changed value name : List ℕ) →
     has_name (with_value attrs changed value) name ≡ has_name attrs name
 new_value [] changed value name = refl
-new_value (p ∷ ps) changed value name =
-    by (bytes_eq p.0 changed) (new_value ps changed value name)
-  where
-    same : (is_name : Bool) (old new : List ℕ) (o : Option (List ℕ)) →
-        is_some (if is_name then Some new else o) ≡ is_some (if is_name then Some old else o)
-    same true old new o = refl
-    same false old new o = refl
-
-    later : (is_name : Bool) → has_name (with_value ps changed value) name ≡ has_name ps name →
-        is_some (if is_name then Some p.1 else first (with_value ps changed value) name)
-        ≡ is_some (if is_name then Some p.1 else first ps name)
-    later true e = refl
-    later false e = e
-
-    by : (here : Bool) → has_name (with_value ps changed value) name ≡ has_name ps name →
-        has_name (if here then (p.0, value) ∷ ps else p ∷ with_value ps changed value) name
-        ≡ has_name (p ∷ ps) name
-    by true e = same (bytes_eq p.0 name) p.1 value (first ps name)
-    by false e = later (bytes_eq p.0 name) e
+new_value (p ∷ ps) changed value name = elim (cases_Bool (bytes_eq p.0 changed)) [
+  | inl c ↦ elim (cases_Bool (bytes_eq p.0 name)) [ inl n ↦ rw (c, n) refl | inr n ↦ rw (c, n) refl ]
+  | inr c ↦ elim (cases_Bool (bytes_eq p.0 name)) [
+    | inl n ↦ rw (c, n) refl
+    | inr n ↦ rw (c, n) (new_value ps changed value name)
+  ]
+]
 
 new_style : (css attrs : List TextPair) →
     has_name (styled_attrs css attrs) (codes "href") ≡ has_name attrs (codes "href")

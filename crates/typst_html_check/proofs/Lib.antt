@@ -1,4 +1,3 @@
 pub mod KeptHeads
 pub mod MadeDocuments
-pub mod MadeNodes
 pub mod SoundLinks

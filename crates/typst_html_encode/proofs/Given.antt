@@ -2,10 +2,9 @@
 use Rattle.std.proofs.Common.{◌≡◌, ℕ, ◌<◌, true, List, sym, length, get_or, subst}
 use Rattle.std.specs.List.{list_all}
 use Rattle.html_names.specs.NameTables.{NamesView}
-use Rattle.html_dom_flat.specs.FlatViews.{FlatPair, is_pair_given, is_given, is_node_given, are_given}
+use Rattle.html_dom_flat.specs.FlatViews.{FlatPair, is_pair_given, is_given}
 use Rattle.html_dom_flat.specs.declared.flat_node.FlatElement.{FlatElement}
-use Rattle.html_dom_flat.specs.declared.flat_node.FlatNode.{FlatNode}
-use Rattle.html_dom_flat.proofs.Elements.{given_pairs, given_pair, node_given_at}
+use Rattle.html_dom_flat.proofs.Elements.{given_pairs, given_pair}
 
 -- the number of an attribute of a given element
 pub pair_given : (names : NamesView) (e : FlatElement) (pairs : List FlatPair) (i : ℕ)
@@ -15,9 +14,3 @@ pair_given names e pairs i d pair given all below is =
     subst (λ p. p.0 < length names.attrs) (sym is) (given_pair names pairs i d
     (subst (λ ps. list_all (is_pair_given names) ps ≡ true) (sym all) (given_pairs names e given))
     below)
-
-pub node_given : (names : NamesView) (nodes : List FlatNode) (i : ℕ) (d node : FlatNode) →
-    are_given names nodes ≡ true → i < length nodes → node ≡ get_or nodes i d →
-    is_node_given names node ≡ true
-node_given names nodes i d node given below is =
-    subst (λ n. is_node_given names n ≡ true) (sym is) (node_given_at names nodes i given d below)

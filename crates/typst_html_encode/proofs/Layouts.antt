@@ -2,6 +2,7 @@
 use Rattle.std.proofs.Common.{◌≡◌, ℕ, List, [], ◌∷◌, ◌++◌, Bool, true, false, ◌||◌, refl, ap, sym, ◌∙◌, append_assoc, append-nil}
 use Rattle.std.specs.Prelude.{if◌then◌else◌}
 use Rattle.typst_html_encode.specs.Layout.{by_lines}
+use Rattle.std.proofs.Math.Bool.{and_comm}
 
 abbrev pub begun : List (List ℕ) → Bool
 begun [] = false
@@ -32,3 +33,6 @@ last_first false false true true = refl
 last_first false false true false = refl
 last_first false false false true = refl
 last_first false false false false = refl
+
+-- two tests in either order
+pub ruleset either_order = (and_comm)

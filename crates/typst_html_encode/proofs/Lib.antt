@@ -2,6 +2,7 @@ pub mod BlankReferences
 pub mod Closings
 pub mod Escapes
 pub mod Firsts
+pub mod Fragments
 pub mod Given
 pub mod Indents
 pub mod IndentsCollapse
@@ -20,9 +21,7 @@ pub mod ReadingBack
 pub mod References
 pub mod Runs
 pub mod Same
-pub mod NextSiblings
 pub mod Stretches
 pub mod TagsBack
 pub mod Turns
-pub mod Visits
 pub mod Walk

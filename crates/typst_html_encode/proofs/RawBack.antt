@@ -26,7 +26,7 @@ begins_own (d ∷ b) c rest = let same = eq-eqb (to_ascii_lowercase d)
     (to_ascii_lowercase d) refl in rw same (begins_own b c rest)
 
 -- a text whose end is a closing tag, and an ending character after it
-ends_holds : (name text : List ℕ) (c : ℕ) (rest : List ℕ) → is_tag_end c ≡ true →
+pub ends_holds : (name text : List ℕ) (c : ℕ) (rest : List ℕ) → is_tag_end c ≡ true →
     ends_closing name text ≡ true → holds_closing name (text ++ c ∷ rest) ≡ true
 ends_holds name text c rest e h =
     let n = length text - length (closing name) in
@@ -41,7 +41,7 @@ ends_holds name text c rest e h =
     ap (holds_closing name) split ∙ holds_at (closing name) a (b ++ c ∷ rest)
     (omega (arith, length-append b (c ∷ rest))) first
 
-abbrev is_not_less : ℕ → Bool
+abbrev pub is_not_less : ℕ → Bool
 is_not_less c = if c == 60 then false else true
 
 lower_not_less : (c : ℕ) → is_tag_char c ≡ true → is_not_less (to_ascii_lowercase c) ≡ true
@@ -51,7 +51,7 @@ name_no_end : (c : ℕ) → is_tag_char c ≡ true → is_tag_end c ≡ false
 unfolding is_tag_end
 name_no_end c h = grind (arith, nat_tests)
 
-tag_ends : (is_tag_end 47 ≡ true) × (is_tag_end 60 ≡ false) × (is_tag_end 62 ≡ true)
+pub tag_ends : (is_tag_end 47 ≡ true) × (is_tag_end 60 ≡ false) × (is_tag_end 62 ≡ true)
 unfolding is_tag_end
 tag_ends = (refl, refl, refl)
 
@@ -73,7 +73,7 @@ not_closing (x ∷ y ∷ xs) ys h e =
     let rest : xs ++ 60 ∷ [] ≡ ys = ap (drop 2) e in
     false≢true (last_passes is_not_less xs 60 (rw rest h))
 
-no_end_at_less : (name t : List ℕ) → all is_tag_char name ≡ true →
+pub no_end_at_less : (name t : List ℕ) → all is_tag_char name ≡ true →
     ends_closing name (t ++ 60 ∷ []) ≡ false
 no_end_at_less name t h =
     false_from_ne_true _ (λ e.

@@ -29,23 +29,35 @@ common_plain escaping.Reference c h = refl
 common_plain e c h = by_table (is_plain e) c h
     (agree_below_at (λ d. is_common d && is_plain e d) is_common 128 c refl (common_small c h))
 
+-- a character that is plain, and one that is not
+pub plain_stands : (e : Escaping) (c : ℕ) → is_plain e c ≡ true → stands_as_is e c ≡ true
+plain_stands e c h = (and_parts (stands_as_is e c) (not (is_bad e c)) h).0
+
+pub plain_good : (e : Escaping) (c : ℕ) → is_plain e c ≡ true → is_bad e c ≡ false
+plain_good e c h = not-true (is_bad e c) (and_parts (stands_as_is e c) (not (is_bad e c)) h).1
+
+pub good_stands : (e : Escaping) (c : ℕ) → is_bad e c ≡ false →
+    stands_as_is e c ≡ is_plain e c
+good_stands e c good = rw good (stands_alone (stands_as_is e c)) where
+  stands_alone : (b : Bool) → b ≡ (b && true)
+  stands_alone true = refl
+  stands_alone false = refl
+
+pub ruleset plain_chars = (plain_stands, good_stands)
+
 pub escaped_plain : (e : Escaping) (cs ds : List ℕ) → all (is_plain e) cs ≡ true →
     escaped_text e (cs ++ ds) ≡ cs ++ escaped_text e ds
 escaped_plain e [] ds h = refl
 escaped_plain e (c ∷ cs) ds h =
     let both = and_parts (is_plain e c) (all (is_plain e) cs) h in
-    let as_is : stands_as_is e c ≡ true =
-    (and_parts (stands_as_is e c) (not (is_bad e c)) both.0).0 in
-    rw (as_is, escaped_plain e cs ds both.1) refl
+    rw (plain_stands e c both.0, escaped_plain e cs ds both.1) refl
 
 pub faults_plain : (e : Escaping) (span : ℕ) (cs ds : List ℕ) → all (is_plain e) cs ≡ true →
     text_faults e span (cs ++ ds) ≡ text_faults e span ds
 faults_plain e span [] ds h = refl
 faults_plain e span (c ∷ cs) ds h =
     let both = and_parts (is_plain e c) (all (is_plain e) cs) h in
-    let good : is_bad e c ≡ false =
-    not-true (is_bad e c) (and_parts (stands_as_is e c) (not (is_bad e c)) both.0).1 in
-    rw (good, faults_plain e span cs ds both.1) refl
+    rw (plain_good e c both.0, faults_plain e span cs ds both.1) refl
 
 pub common_ascii : (bs : List ℕ) → all is_common bs ≡ true → IsAscii bs
 common_ascii [] h = IsAscii-nil

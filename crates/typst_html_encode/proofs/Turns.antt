@@ -1,33 +1,48 @@
 -- One turn of a walk over a flat tree: it leaves an element, or comes to a node.
-use Rattle.std.proofs.Common.{◌≡◌, ℕ, ◌+◌, ◌-◌, ◌==◌, Bool, true, false, List, [], ◌∷◌, ◌++◌, take, drop, length, refl, sym, ap, ◌∙◌, arith, append_assoc, append-nil, add-zero, subst}
-use Rattle.std.specs.Prelude.{IsFalse}
-use Rattle.std.proofs.lemmas.Bool.Decides.{nat_tests}
-use Rattle.std.proofs.Math.Seq.{take-append_seam, drop-append_seam}
-use Rattle.html_dom_tree.specs.Tree.{Head, NodeView, tag_node, text_node, element_node, frame_node, NodesView, none, node}
+use Rattle.std.proofs.Common.{◌≡◌, ℕ, ◌<◌, ◌&&◌, Bool, true, false, List, [], ◌∷◌, ◌++◌, refl, sym, ap, ◌∙◌, arith, append_assoc, append-nil, subst}
+use Rattle.html_dom_tree.specs.Tree.{Head, NodeView, element_node, NodesView, none, node}
+use Rattle.html_dom_flat.specs.Flat.{nodes_count}
+use Rattle.html_dom_flat.proofs.Flats.{count_some}
 use Rattle.typst_html_encode.proofs.Firsts.{first_of_more}
-use Rattle.typst_html_encode.proofs.Walk.{entered_text, entered_faults, skipped_text, skipped_faults, skipped_named, first_in_node, rest_flat_first, rest_ends_after, rest_text_first, rest_faults_first, rest_named_first, rest_open_with}
-use Rattle.typst_html_encode.proofs.Runs.{left_empty}
-use Rattle.typst_html_encode.specs.ExportFaults.{IsFirst, node_faults, nodes_faults}
+use Rattle.typst_html_encode.proofs.Walk.{entered_text, entered_faults, skipped_text, skipped_faults, skipped_named, first_in_node, rest_text, rest_faults, RestIsNamed, rest_size, rest_text_first, rest_faults_first, rest_named_first}
+use Rattle.typst_html_encode.specs.ExportFaults.{IsFirst, nodes_faults}
 use Rattle.typst_html_encode.specs.FrameWriters.{Frames}
 use Rattle.typst_html_encode.specs.Layout.{indent_where, due_after, margin_inside}
 use Rattle.typst_html_encode.specs.ReadingBack.{NodeIsNamed, NodesAreNamed}
-use Rattle.typst_html_encode.specs.Text.{end_tag_text, node_text, nodes_text}
-use Rattle.typst_html_encode.specs.WriterWalk.{first_text, first_faults, FirstIsNamed, is_element_entered, node_is_entered, node_with, place_after, OpenElementView, open_element, opening, Rest, outside, inside, rest_elements, rest_flat, RestEnds, outside_text, rest_text, rest_faults, RestIsNamed, rest_nodes, rest_with, next_pre_span, next_margin, next_has_indent, EndsLater, IsAt}
+use Rattle.typst_html_encode.specs.Text.{end_tag_text, nodes_text}
+use Rattle.typst_html_encode.specs.WriterWalk.{first_text, first_faults, FirstIsNamed, is_element_entered, node_is_entered, OpenElementView, open_element, outside_text, next_pre_span, next_margin, next_has_indent}
 use Rattle.typst_html_encode.specs.declared.fault.ExportFault.{ExportFault}
 use Rattle.typst_html_encode.specs.declared.layout.Margin.{Margin}
-use Rattle.html_dom_flat.specs.Flat.{FlatNodeView, flat_tag, flat_text, flat_frame, flat_element, node_count, nodes_count, node_flat, nodes_flat, spelled_nodes}
-use Rattle.html_dom_flat.proofs.Flats.{count_some, spelled_flat, length_all}
 
-nothing_left : (ns : NodesView) → nodes_count ns ≡ 0 → ns ≡ none
-unfolding nodes_count
-nothing_left none e = refl
-nothing_left (node n ns) e = absurd (omega (arith, e, count_some n))
+-- a walk over nodes has written a text: with the text of what is left it is the text of the nodes
+pub record IsAt (frames : Frames) (outer : Margin) (whole : NodesView) (start : List ℕ)
+    (due : Bool) (left : NodesView) (opened : List OpenElementView) (text : List ℕ) : Type 0 where
+  pub told : text ++ rest_text frames outer due left opened
+      ≡ start ++ outside_text frames outer whole
+  pub clean : rest_faults frames outer left opened ≡ nodes_faults frames false outer.pretty whole
+  pub named : RestIsNamed left opened → NodesAreNamed whole
 
-nothing_flat : (ns : NodesView) (place : ℕ) → nodes_flat place ns ≡ [] → ns ≡ none
-nothing_flat ns place e = nothing_left ns (sym (length_all place ns) ∙ ap length e)
+-- what is written in a turn that comes to a node, and its faults
+pub record WritesNode (frames : Frames) (outer : Margin) (opened : List OpenElementView)
+    (due : Bool) (n : NodeView) (text new_text : List ℕ) : Type 0 where
+  pub told : new_text ≡ text
+      ++ (indent_where (next_has_indent opened due n) (next_margin outer opened).level
+      ++ first_text frames (next_pre_span opened) (next_margin outer opened) n)
+  pub clean : first_faults frames (next_pre_span opened) (next_margin outer opened).pretty n ≡ []
+  pub named : FirstIsNamed n
 
-ends_now : (past place : ℕ) → past ≡ place → IsFalse (past == place) → ⊥
-ends_now past place e later = grind (arith, nat_tests, e, later)
+pub wrote : {frames : Frames} {outer : Margin} {opened : List OpenElementView} {due : Bool}
+    {n : NodeView} {text pushed new_text : List ℕ} {indented pre_span : Bool} {m : Margin} →
+    indented ≡ next_has_indent opened due n → pre_span ≡ next_pre_span opened →
+    m ≡ next_margin outer opened → pushed ≡ text ++ indent_where indented m.level →
+    new_text ≡ pushed ++ first_text frames pre_span m n →
+    first_faults frames pre_span m.pretty n ≡ [] → FirstIsNamed n →
+    WritesNode frames outer opened due n text new_text
+wrote {text = text} is_indented is_pre_span is_margin began went clean named = record {
+  told = rw (← is_indented, ← is_pre_span, ← is_margin, went, began) (append_assoc text _ _);
+  clean = rw (← is_pre_span, ← is_margin) clean;
+  named = named;
+}
 
 begun : (text indent first inner end left new_text all : List ℕ) →
     new_text ≡ text ++ (indent ++ first) →
@@ -36,326 +51,145 @@ begun : (text indent first inner end left new_text all : List ℕ) →
 begun text indent first inner end left new_text all wrote told =
     rw (wrote, append_assoc, append_assoc) (rw (append_assoc first, append_assoc inner) at told)
 
--- what stands in a node
-abbrev pub node_children : NodeView → NodesView
-node_children (tag_node t) = none
-node_children (text_node s span) = none
-node_children (element_node h ns) = ns
-node_children (frame_node f) = none
-
-pub count_children : (n : NodeView) → node_count n ≡ 1 + nodes_count (node_children n)
-unfolding node_count
-count_children (tag_node t) = refl
-count_children (text_node s span) = refl
-count_children (element_node h ns) = refl
-count_children (frame_node f) = refl
-
--- a node that comes next in a flat list
-
-pub record Comes (place : ℕ) (f : FlatNodeView) (fs others : List FlatNodeView) (n : NodeView)
-    : Type 0 where
-  pub is : n ≡ node_with f (node_children n)
-  pub flat : fs ≡ nodes_flat (place + 1) (node_children n) ++ others
-  pub after : place_after place f ≡ place + node_count n
-
-pub comes : (n : NodeView) (place : ℕ) (f : FlatNodeView) (fs others : List FlatNodeView) →
-    f ∷ fs ≡ node_flat place n ++ others → Comes place f fs others n
-unfolding node_flat node_count
-comes (tag_node t) place f fs others e =
-    let is : f ≡ flat_tag t = cc in
-    rw is (record { is = refl; flat = cc; after = refl })
-comes (text_node s span) place f fs others e =
-    let is : f ≡ flat_text s span = cc in
-    rw is (record { is = refl; flat = cc; after = refl })
-comes (element_node h ns) place f fs others e =
-    let is : f ≡ flat_element h (place + 1 + nodes_count ns) = cc in
-    rw is (record { is = refl; flat = cc; after = omega arith })
-comes (frame_node g) place f fs others e =
-    let is : f ≡ flat_frame g = cc in
-    rw is (record { is = refl; flat = cc; after = refl })
-
-module _ {place : ℕ} {f : FlatNodeView} {fs others : List FlatNodeView} {n : NodeView}
-    (c : Comes place f fs others n) where
-  abbrev inner : List FlatNodeView
-  inner = nodes_flat (place + 1) (node_children n)
-
-  inner_count : place_after place f - (place + 1) ≡ length inner
-  inner_count =
-      let long = length_all (place + 1) (node_children n) in
-      omega (arith, c.after, count_children n, long)
-
-  pub children_taken : take (place_after place f - (place + 1)) fs ≡ inner
-  children_taken = rw (inner_count, c.flat) (take-append_seam inner others)
-
-  pub children_spelled :
-      spelled_nodes (place + 1) (take (place_after place f - (place + 1)) fs) ≡ node_children n
-  children_spelled =
-      ap (spelled_nodes (place + 1)) children_taken ∙ spelled_flat (place + 1) (node_children n)
-
-  pub others_left : drop (place_after place f - (place + 1)) fs ≡ others
-  others_left = rw (inner_count, c.flat) (drop-append_seam inner others)
-
--- what is left is not nothing, and its first node is that of the list
-pub next_node : (rest : Rest) (place : ℕ) (f : FlatNodeView) (fs : List FlatNodeView) →
-    f ∷ fs ≡ rest_flat place rest → RestEnds place rest → EndsLater place (rest_elements rest) →
-    (n : NodeView) × (ns : NodesView) × (rest_nodes rest ≡ node n ns)
-unfolding nodes_flat nodes_count
-next_node (outside none) place f fs e ends later = cc
-next_node (outside (node n ns)) place f fs e ends later = (n, ns, refl)
-next_node (inside h past margin due none rest) place f fs e ends later =
-    absurd (ends_now past place (omega (arith, ends.0)) later)
-next_node (inside h past margin due (node n ns) rest) place f fs e ends later = (n, ns, refl)
-
--- what is written in a turn that comes to a node, and its faults
-abbrev pub turn_text : Frames → (outer : Margin) → List OpenElementView → (due : Bool)
-    → NodeView → List ℕ
-turn_text frames outer opened due n =
-    indent_where (next_has_indent opened due n) (next_margin outer opened).level
-    ++ first_text frames (next_pre_span opened) (next_margin outer opened) n
-
-abbrev pub turn_faults : Frames → (outer : Margin) → List OpenElementView → NodeView
-    → List ExportFault
-turn_faults frames outer opened n =
-    first_faults frames (next_pre_span opened) (next_margin outer opened).pretty n
-
-pub record WritesNode (frames : Frames) (outer : Margin) (opened : List OpenElementView)
-    (due : Bool) (n : NodeView) (text new_text : List ℕ) : Type 0 where
-  pub told : new_text ≡ text ++ turn_text frames outer opened due n
-  pub clean : turn_faults frames outer opened n ≡ []
-  pub named : FirstIsNamed n
-
-none_open : (place : ℕ) (rest : Rest) → [] ≡ rest_flat place rest → RestEnds place rest →
-    EndsLater place (rest_elements rest) → rest_elements rest ≡ []
+-- what is left falls in size
+pub size_after : {all ns : NodesView} {n : NodeView} (os : List OpenElementView) →
+    all ≡ node n ns → rest_size ns os < rest_size all os
 unfolding nodes_count
-none_open place (outside ns) flat_is ends later = refl
-none_open place (inside h past margin after ns rest) flat_is ends later =
-    let e = nothing_flat ns place
-    (left_empty (nodes_flat place ns) (rest_flat past rest) (sym flat_is)) in
-    let count = ap (λ ms. place + nodes_count ms) e in
-    absurd (ends_now past place (ends.0 ∙ count ∙ add-zero place) later)
+size_after {n = n} [] is = rw is (omega (arith, count_some n))
+size_after {n = n} (o ∷ os) is = rw is (omega (arith, count_some n))
 
-finished_rest : (frames : Frames) (outer : Margin) (whole : NodesView) (start : List ℕ)
-    (place : ℕ) (due : Bool) (text : List ℕ) (rest : Rest) → [] ≡ rest_elements rest →
-    [] ≡ rest_flat place rest →
-    text ++ rest_text frames outer due rest ≡ start ++ outside_text frames outer whole →
-    rest_faults frames outer rest ≡ nodes_faults frames false outer.pretty whole →
-    (RestIsNamed rest → NodesAreNamed whole) →
-    (text ≡ start ++ outside_text frames outer whole)
-    × (nodes_faults frames false outer.pretty whole ≡ []) × NodesAreNamed whole
-unfolding nodes_faults NodesAreNamed
-finished_rest frames outer whole start place due text (inside h past margin after ns rest)
-    opened_are flat_is told clean named = cc
-finished_rest frames outer whole start place due text (outside ns)
-    opened_are flat_is told clean named =
-    let e = nothing_flat ns place (sym flat_is) in (
-      sym (append-nil text) ∙ rw e at told,
-      sym (rw e at clean),
-      named (subst NodesAreNamed (sym e) tt),
-    )
+size_of_inside : (h : Head) (inside ns : NodesView) (margin : Margin) (due : Bool)
+    (os : List OpenElementView) →
+    rest_size inside (open_element h margin due ns ∷ os)
+    < rest_size (node (element_node h inside) ns) os
+unfolding nodes_count
+size_of_inside h inside ns margin due [] = omega arith
+size_of_inside h inside ns margin due (o ∷ os) = omega arith
 
-module _ {frames : Frames} {outer : Margin} {whole : NodesView} {start : List ℕ} where
-  leaves_rest : (place : ℕ) (due : Bool) (o : OpenElementView) (os : List OpenElementView)
-      (flat : List FlatNodeView) (text new_text : List ℕ) (rest : Rest) →
-      o ∷ os ≡ rest_elements rest → flat ≡ rest_flat place rest → RestEnds place rest →
-      text ++ rest_text frames outer due rest ≡ start ++ outside_text frames outer whole →
-      rest_faults frames outer rest ≡ nodes_faults frames false outer.pretty whole →
-      (RestIsNamed rest → NodesAreNamed whole) →
-      o.past ≡ place →
-      new_text ≡ text ++ (indent_where o.margin.pretty o.margin.level ++ end_tag_text o.name) →
-      IsAt frames outer whole start place o.due_after os flat new_text
-  unfolding nodes_flat nodes_count nodes_text nodes_faults NodesAreNamed
-  leaves_rest place due o os flat text new_text (outside ns)
-      opened_are flat_is ends told clean named here wrote = cc
-  leaves_rest place due o os flat text new_text (inside h past margin after (node n ns) rest)
-      opened_are flat_is ends told clean named here wrote =
-      let is : o ≡ open_element h past margin after = cc in
-      let at : past ≡ place = sym (ap (λ x. x.past) is) ∙ here in
-      absurd (omega (arith, at, ends.0, count_some n))
-  leaves_rest place due o os flat text new_text (inside h past margin after none rest)
-      opened_are flat_is ends told clean named here wrote =
-      let is : o ≡ open_element h past margin after = cc in
-      let others : os ≡ rest_elements rest = cc in
-      let at : past ≡ place = sym (ap (λ x. x.past) is) ∙ here in
-      record {
-        rest = rest;
-        opened_are = others;
-        flat_is = flat_is ∙ ap (λ p. rest_flat p rest) at;
-        ends = subst (λ p. RestEnds p rest) at ends.1;
-        told = rw (wrote, is, append_assoc, append_assoc) told;
-        clean = clean;
-        named = λ r. named (tt, r);
-      }
+pub size_inside : {h : Head} {inside ns all : NodesView} {n : NodeView} {margin : Margin}
+    {due : Bool} {o : OpenElementView} {os opened : List OpenElementView} →
+    all ≡ node n ns → n ≡ element_node h inside → o ≡ open_element h margin due ns →
+    opened ≡ o ∷ os → rest_size inside opened < rest_size all os
+size_inside {h} {inside} {ns} {margin = margin} {due} {os = os} is element opening opened_are =
+    rw (is, element, opened_are, opening) (size_of_inside h inside ns margin due os)
 
-  -- the walk leaves the innermost open element
-  pub leaves : {place : ℕ} {due : Bool} {opened : List OpenElementView} {o : OpenElementView}
-      {os : List OpenElementView} {flat : List FlatNodeView} {text new_text : List ℕ} →
-      IsAt frames outer whole start place due opened flat text → opened ≡ o ∷ os →
-      o.past ≡ place →
-      new_text ≡ text ++ (indent_where o.margin.pretty o.margin.level ++ end_tag_text o.name) →
-      IsAt frames outer whole start place o.due_after os flat new_text
-  leaves s first here wrote =
-      leaves_rest _ _ _ _ _ _ _ s.rest (sym first ∙ s.opened_are) s.flat_is s.ends s.told s.clean
-      s.named here wrote
+module _ {frames : Frames} {outer : Margin} {whole : NodesView} {start : List ℕ} {due : Bool} where
+  pub starts : {left : NodesView} {opened : List OpenElementView} → left ≡ whole → opened ≡ [] →
+      IsAt frames outer whole start due left opened start
+  starts is none_open =
+      rw (is, none_open) (record { told = refl; clean = refl; named = λ r. r })
 
-  -- nothing is left at the end of the list, where no element is open that does not end there
-  pub finished : {place : ℕ} {due : Bool} {opened : List OpenElementView} {text : List ℕ} →
-      IsAt frames outer whole start place due opened [] text → EndsLater place opened →
+  -- nothing is left
+  pub finished : {left : NodesView} {opened : List OpenElementView} {text : List ℕ} →
+      IsAt frames outer whole start due left opened text → left ≡ none → opened ≡ [] →
       (text ≡ start ++ outside_text frames outer whole)
       × (nodes_faults frames false outer.pretty whole ≡ []) × NodesAreNamed whole
-  finished {place} s later =
-      let none_left = none_open place s.rest s.flat_is s.ends
-      (subst (EndsLater place) s.opened_are later) in
-      finished_rest _ _ _ _ _ _ _ s.rest (sym none_left) s.flat_is s.told s.clean s.named
+  unfolding nodes_faults NodesAreNamed
+  finished {left} {opened} {text} stands is none_open =
+      let done : IsAt frames outer whole start due none [] text
+      = subst (λ os. IsAt frames outer whole start due none os text) none_open
+      (subst (λ ns. IsAt frames outer whole start due ns opened text) is stands) in
+      (sym (append-nil text) ∙ done.told, sym done.clean, done.named tt)
 
-  -- the walk comes to a node of the list
-  module _ {place : ℕ} {due : Bool} {opened : List OpenElementView} {f : FlatNodeView}
-      {fs : List FlatNodeView} {text : List ℕ} {kids : NodesView}
-      (stands : IsAt frames outer whole start place due opened (f ∷ fs) text)
-      (later : EndsLater place opened)
-      (kids_are : kids ≡ spelled_nodes (place + 1) (take (place_after place f - (place + 1)) fs))
-    where
-      abbrev here : NodeView
-      here = node_with f kids
+  -- the walk leaves the innermost open element
+  pub leaves : {left : NodesView} {opened os : List OpenElementView} {o : OpenElementView}
+      {text new_text : List ℕ} →
+      IsAt frames outer whole start due left opened text → left ≡ none → opened ≡ o ∷ os →
+      new_text ≡ text ++ (indent_where o.margin.pretty o.margin.level ++ end_tag_text o.name) →
+      IsAt frames outer whole start o.due_after o.after os new_text
+  unfolding nodes_text nodes_faults NodesAreNamed
+  leaves {left} {opened} {os} {o} {text} stands is first wrote =
+      let here : IsAt frames outer whole start due none (o ∷ os) text
+      = subst (λ xs. IsAt frames outer whole start due none xs text) first
+      (subst (λ ns. IsAt frames outer whole start due ns opened text) is stands) in
+      record {
+        told = rw (wrote, append_assoc, append_assoc) here.told;
+        clean = here.clean;
+        named = λ r. here.named (tt, r);
+      }
 
-      abbrev after : ℕ
-      after = place_after place f
+  -- the walk comes to a node
+  module _ {left others : NodesView} {n : NodeView} {opened : List OpenElementView}
+      {text : List ℕ} (stands : IsAt frames outer whole start due left opened text)
+      (is : left ≡ node n others) where
+    abbrev margin : Margin
+    margin = next_margin outer opened
 
-      record Next : Type 0 where
-        others : NodesView
-        first : rest_nodes stands.rest ≡ node here others
-        comes_is : let left = rest_flat (place + node_count here) (rest_with others stands.rest) in
-            Comes place f fs left here
+    here : IsAt frames outer whole start due (node n others) opened text
+    here = subst (λ ns. IsAt frames outer whole start due ns opened text) is stands
 
-      next : Next
-      next =
-          let found = next_node stands.rest place f fs stands.flat_is stands.ends
-          (subst (EndsLater place) stands.opened_are later) in
-          let flat = stands.flat_is
-          ∙ rest_flat_first frames outer found.0 found.1 stands.rest place found.2 in
-          let left = λ (n : NodeView).
-          rest_flat (place + node_count n) (rest_with found.1 stands.rest) in
-          let c = comes found.0 place f fs (left found.0) flat in
-          let kids_there = kids_are ∙ children_spelled c in
-          let is : found.0 ≡ here = c.is ∙ ap (node_with f) (sym kids_there) in
-          record {
-            others = found.1;
-            first = found.2 ∙ ap (λ n. node n found.1) is;
-            comes_is = subst (λ n. Comes place f fs (left n) n) is c;
-          }
-
-      pub place_is : after ≡ place + node_count here
-      place_is = next.comes_is.after
-
-      -- the rest behind the node
-      abbrev left : Rest
-      left = rest_with next.others stands.rest
-
-      left_are : drop (after - (place + 1)) fs ≡ rest_flat after left
-      left_are = others_left next.comes_is ∙ ap (λ p. rest_flat p left) (sym place_is)
-
-      abbrev margin : Margin
-      margin = next_margin outer opened
-
-      -- the text before the node's own, and the text after it
-      text_left : text ++ (indent_where (next_has_indent opened due here) margin.level
-          ++ (node_text frames (next_pre_span opened) margin here
-          ++ rest_text frames outer (due_after due here) left))
-          ≡ start ++ outside_text frames outer whole
-      text_left =
-          let behind = rest_text frames outer (due_after due here) left in
-          let first = rest_text_first frames outer here next.others stands.rest due next.first in
-          subst (λ os. text
-          ++ (indent_where (next_has_indent os due here) (next_margin outer os).level
-          ++ (node_text frames (next_pre_span os) (next_margin outer os) here ++ behind))
-          ≡ start ++ outside_text frames outer whole) (sym stands.opened_are)
-          (ap (λ t. text ++ t) (sym first) ∙ stands.told)
-
-      faults_left : node_faults frames (next_pre_span opened) margin.pretty here
-          ++ rest_faults frames outer left
-          ≡ nodes_faults frames false outer.pretty whole
-      faults_left =
-          let first = rest_faults_first frames outer here next.others stands.rest next.first in
-          subst (λ os. node_faults frames (next_pre_span os) (next_margin outer os).pretty here
-          ++ rest_faults frames outer left ≡ nodes_faults frames false outer.pretty whole)
-          (sym stands.opened_are) (sym first ∙ stands.clean)
-
-      opened_after : opened ≡ rest_elements left
-      opened_after = stands.opened_are ∙ sym (rest_open_with next.others stands.rest)
-
-      ends_after : RestEnds after left
-      ends_after = subst (λ p. RestEnds p left) (sym place_is)
-          (rest_ends_after frames outer here next.others stands.rest place next.first stands.ends)
-
-      named_after : NodeIsNamed here → RestIsNamed left → NodesAreNamed whole
-      named_after one others = stands.named
-          (rest_named_first frames outer here next.others stands.rest next.first one others)
-
-      pub passes : {new_text : List ℕ} → node_is_entered here ≡ false →
-          WritesNode frames outer opened due here text new_text →
-          IsAt frames outer whole start after (due_after due here) opened
-          (drop (after - (place + 1)) fs) new_text
-      passes skipped w =
-          let pre_span = next_pre_span opened in
-          let one_text = skipped_text frames pre_span margin here skipped in
-          let one_faults = skipped_faults frames pre_span margin.pretty here skipped in
-          record {
-            rest = left;
-            opened_are = opened_after;
-            flat_is = left_are;
-            ends = ends_after;
-            told = rw (w.told, append_assoc, append_assoc) (rw one_text at text_left);
-            clean = rw (one_faults, w.clean) at faults_left;
-            named = named_after
-                (skipped_named frames pre_span margin.pretty here skipped w.named w.clean);
-          }
-
-      pub refused : (e : ExportFault) → IsFirst e (turn_faults frames outer opened here) →
-          IsFirst e (nodes_faults frames false outer.pretty whole)
-      refused e is =
-          let pre_span = next_pre_span opened in
-          let one = first_in_node frames pre_span margin.pretty here e is in
-          subst (IsFirst e) faults_left
-          (first_of_more e (node_faults frames pre_span margin.pretty here) _ one)
-
-  -- the walk enters an element of the list
-  module _ {place : ℕ} {due : Bool} {opened : List OpenElementView} {h : Head} {past : ℕ}
-      {fs : List FlatNodeView} {text : List ℕ} {kids : NodesView}
-      (stands : IsAt frames outer whole start place due opened (flat_element h past ∷ fs) text)
-      (later : EndsLater place opened)
-      (kids_are : kids ≡ spelled_nodes (place + 1) (take (past - (place + 1)) fs)) where
-    abbrev element : NodeView
-    element = element_node h kids
-
-    pub enters : {new_text : List ℕ} → is_element_entered h ≡ true →
-        WritesNode frames outer opened due element text new_text →
-        IsAt frames outer whole start (place + 1) true
-        (opening h past kids (next_margin outer opened) due ∷ opened) fs new_text
-    unfolding NodeIsNamed
-    enters {new_text} entered w =
-        let next_is = next stands later kids_are in
-        let m = next_margin outer opened in
-        let one_text = entered_text frames (next_pre_span opened) m h kids entered in
-        let one_faults = entered_faults frames (next_pre_span opened) m.pretty h kids entered in
-        let others = rest_with next_is.others stands.rest in
-        let texts = text_left stands later kids_are in
-        let faults = faults_left stands later kids_are in
-        record {
-          rest = inside h past (margin_inside m h kids) (due_after due element) kids others;
-          opened_are = ap (λ os. opening h past kids m due ∷ os)
-              (opened_after stands later kids_are);
-          flat_is = next_is.comes_is.flat
-              ∙ ap (λ p. nodes_flat (place + 1) kids ++ rest_flat p others)
-              (sym next_is.comes_is.after);
-          ends = (
-            omega (arith, next_is.comes_is.after, count_children element),
-            ends_after stands later kids_are,
-          );
-          told = begun text (indent_where (next_has_indent opened due element) m.level)
-              (first_text frames (next_pre_span opened) m element)
-              (nodes_text frames h.pre_span true (margin_inside m h kids) kids)
-              (end_tag_text h.name) (rest_text frames outer (due_after due element) others) new_text
-              (start ++ outside_text frames outer whole) w.told
-              (rw one_text at texts);
+    pub passes : {m : Margin} {next_due : Bool} {new_text : List ℕ} →
+        node_is_entered n ≡ false → WritesNode frames outer opened due n text new_text →
+        m ≡ margin → next_due ≡ (m.pretty && due_after due n) →
+        IsAt frames outer whole start next_due others opened new_text
+    passes skipped w is_margin is_due =
+        let pre_span = next_pre_span opened in
+        let one_text = skipped_text frames pre_span margin n skipped in
+        let one_faults = skipped_faults frames pre_span margin.pretty n skipped in
+        let texts = rw (rest_text_first frames outer n others opened due) at here.told in
+        let faults = rw (rest_faults_first frames outer n others opened) at here.clean in
+        rw (is_due, is_margin) (record {
+          told = rw (w.told, append_assoc, append_assoc) (rw one_text at texts);
           clean = rw (one_faults, w.clean) at faults;
-          named = λ r. named_after stands later kids_are (w.named, r.0) r.1;
-        }
+          named = λ r. here.named (rest_named_first frames outer n others opened
+              (skipped_named frames pre_span margin.pretty n skipped w.named w.clean) r);
+        })
+
+    pub refused : {m : Margin} {pre_span : Bool} (e : ExportFault) →
+        pre_span ≡ next_pre_span opened → m ≡ margin →
+        IsFirst e (first_faults frames pre_span m.pretty n) →
+        IsFirst e (nodes_faults frames false outer.pretty whole)
+    refused e is_pre_span is_margin first =
+        let at = next_pre_span opened in
+        let faults = rw (rest_faults_first frames outer n others opened) at here.clean in
+        subst (IsFirst e) faults (first_of_more e _ _
+        (first_in_node frames at margin.pretty n e (rw (← is_pre_span, ← is_margin) first)))
+
+  -- the walk enters an element
+  enters_here : {inside others : NodesView} {h : Head} {opened : List OpenElementView}
+      {text new_text : List ℕ} →
+      IsAt frames outer whole start due (node (element_node h inside) others) opened text →
+      is_element_entered h ≡ true →
+      WritesNode frames outer opened due (element_node h inside) text new_text →
+      let m = next_margin outer opened in
+      let next_due = m.pretty && due_after due (element_node h inside) in
+      IsAt frames outer whole start true inside
+      (open_element h (margin_inside m h inside) next_due others ∷ opened) new_text
+  unfolding NodeIsNamed
+  enters_here {inside} {others} {h} {opened} {text} {new_text} here entered w =
+      let element = element_node h inside in
+      let m = next_margin outer opened in
+      let pre_span = next_pre_span opened in
+      let one_text = entered_text frames pre_span m h inside entered in
+      let one_faults = entered_faults frames pre_span m.pretty h inside entered in
+      let texts = rw (rest_text_first frames outer element others opened due) at here.told in
+      let faults = rw (rest_faults_first frames outer element others opened) at here.clean in
+      record {
+        told = begun text (indent_where (next_has_indent opened due element) m.level)
+            (first_text frames pre_span m element)
+            (nodes_text frames h.pre_span true (margin_inside m h inside) inside)
+            (end_tag_text h.name)
+            (rest_text frames outer (m.pretty && due_after due element) others opened)
+            new_text (start ++ outside_text frames outer whole) w.told
+            (rw one_text at texts);
+        clean = rw (one_faults, w.clean) at faults;
+        named = λ r. here.named (rest_named_first frames outer element others opened
+            (w.named, r.0) r.1);
+      }
+
+  pub enters : {left inside others : NodesView} {n : NodeView} {h : Head} {m : Margin}
+      {next_due : Bool} {o : OpenElementView} {opened new_opened : List OpenElementView}
+      {text new_text : List ℕ} → IsAt frames outer whole start due left opened text →
+      left ≡ node n others → n ≡ element_node h inside → is_element_entered h ≡ true →
+      WritesNode frames outer opened due n text new_text → m ≡ next_margin outer opened →
+      next_due ≡ (m.pretty && due_after due n) →
+      o ≡ open_element h (margin_inside m h inside) next_due others →
+      new_opened ≡ o ∷ opened →
+      IsAt frames outer whole start true inside new_opened new_text
+  enters {left} {inside} {others} {n} {h} {opened = opened} {text = text} {new_text} stands is
+      element entered w is_margin is_due opening opened_are =
+      let first : left ≡ node (element_node h inside) others
+      = is ∙ ap (λ x. node x others) element in
+      rw (opened_are, opening, is_due, is_margin, element) (enters_here
+      (subst (λ ns. IsAt frames outer whole start due ns opened text) first stands) entered
+      (subst (λ x. WritesNode frames outer opened due x text new_text) element w))

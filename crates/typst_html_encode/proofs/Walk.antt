@@ -1,5 +1,5 @@
--- One turn of a walk over a flat tree.
-use Rattle.std.proofs.Common.{◌≡◌, ℕ, ◌+◌, ◌&&◌, not, Bool, true, false, List, [], ◌++◌, refl, sym, ap, ◌∙◌, append_assoc, append-nil, add_assoc, subst}
+-- What a walk over a flat tree writes for a node, and what it has left.
+use Rattle.std.proofs.Common.{◌≡◌, ℕ, ◌+◌, ◌*◌, ◌&&◌, not, Bool, true, false, List, [], ◌∷◌, ◌++◌, refl, sym, ap, ◌∙◌, append_assoc, append-nil, subst}
 use Rattle.std.specs.Prelude.{if◌then◌else◌, Result}
 use Rattle.html_dom_tree.specs.Tree.{Head, NodeView, tag_node, text_node, element_node, frame_node, NodesView, none, node}
 use Rattle.typst_html_encode.proofs.Firsts.{first_of_more}
@@ -13,12 +13,12 @@ use Rattle.typst_html_encode.specs.FrameWriters.{Frames}
 use Rattle.typst_html_encode.specs.Layout.{raw_text, due_after, indent_where, margin_inside, is_pretty_inside}
 use Rattle.typst_html_encode.specs.ReadingBack.{NodeIsNamed, NodesAreNamed, ElementIsNamed}
 use Rattle.typst_html_encode.specs.Text.{element_text, start_tag_text, end_tag_text, ends_at_once, feed_text, escaped_text, nodes_raw_text, node_text, nodes_text}
-use Rattle.typst_html_encode.specs.WriterWalk.{is_element_entered, first_text, first_faults, FirstIsNamed, Rest, outside, inside, node_is_entered, rest_elements, rest_flat, RestEnds, outside_text, rest_text, rest_faults, RestIsNamed, rest_nodes, rest_with, next_pre_span, next_margin, next_has_indent}
+use Rattle.typst_html_encode.specs.WriterWalk.{is_element_entered, first_text, first_faults, FirstIsNamed, node_is_entered, OpenElementView, outside_text, next_pre_span, next_margin, next_has_indent}
 use Rattle.typst_html_encode.specs.Endings.{Adds}
 use Rattle.typst_html_encode.specs.declared.escape.Escaping.TheVariants as escaping
 use Rattle.typst_html_encode.specs.declared.fault.ExportFault.{ExportFault}
 use Rattle.typst_html_encode.specs.declared.layout.Margin.{Margin}
-use Rattle.html_dom_flat.specs.Flat.{FlatNodeView, node_count, nodes_count, node_flat, nodes_flat}
+use Rattle.html_dom_flat.specs.Flat.{nodes_count}
 
 -- a node that the walk enters, and one that it does not
 
@@ -129,68 +129,78 @@ first_in_node frames pre_span pretty (element_node h ns) e is =
     first_in_element frames pre_span pretty h ns e (is_element_entered h) refl is
 first_in_node frames pre_span pretty x e is = is
 
--- the first node of what is left, and what comes after it
+-- what a walk has left to write: nodes in the innermost open element, and what is after each
 
-first_flat : (n : NodeView) (ns : NodesView) (place : ℕ) (others : List FlatNodeView) →
-    nodes_flat place (node n ns) ++ others
-    ≡ node_flat place n ++ (nodes_flat (place + node_count n) ns ++ others)
-unfolding nodes_flat
-first_flat n ns place others = append_assoc (node_flat place n) _ others
+-- an indent may be due before the first node
+abbrev pub rest_text : Frames → (outer : Margin) → (due : Bool) → NodesView → List OpenElementView
+    → List ℕ
+rest_text frames outer due ns [] = outside_text frames outer ns
+rest_text frames outer due ns (o ∷ os) = nodes_text frames o.pre_span due o.margin ns
+    ++ (end_tag_text o.name ++ rest_text frames outer o.due_after o.after os)
+
+abbrev pub rest_faults : Frames → (outer : Margin) → NodesView → List OpenElementView
+    → List ExportFault
+rest_faults frames outer ns [] = nodes_faults frames false outer.pretty ns
+rest_faults frames outer ns (o ∷ os) =
+    nodes_faults frames o.pre_span o.margin.pretty ns ++ rest_faults frames outer o.after os
+
+abbrev pub RestIsNamed : NodesView → List OpenElementView → Type 0
+RestIsNamed ns [] = NodesAreNamed ns
+RestIsNamed ns (o ∷ os) = NodesAreNamed ns × RestIsNamed o.after os
+
+-- falls in each turn
+abbrev pub rest_size : NodesView → List OpenElementView → ℕ
+rest_size ns [] = 2 * nodes_count ns
+rest_size ns (o ∷ os) = 2 * nodes_count ns + (1 + rest_size o.after os)
+
+-- where writing is plain it makes no difference whether an indent is due
+plain_due : (frames : Frames) (pre_span : Bool) (margin : Margin) (ns : NodesView)
+    (due other : Bool) → margin.pretty ≡ false →
+    nodes_text frames pre_span due margin ns ≡ nodes_text frames pre_span other margin ns
+unfolding nodes_text
+plain_due frames pre_span margin none due other plain = refl
+plain_due frames pre_span margin (node n ns) due other plain =
+    let others = plain_due frames pre_span margin ns (due_after due n) (due_after other n) plain in
+    rw (others, plain) refl
+
+due_if_pretty : (frames : Frames) (pre_span : Bool) (margin : Margin) (ns : NodesView)
+    (due pretty : Bool) → margin.pretty ≡ pretty →
+    nodes_text frames pre_span due margin ns
+    ≡ nodes_text frames pre_span (pretty && due) margin ns
+due_if_pretty frames pre_span margin ns due true is = refl
+due_if_pretty frames pre_span margin ns due false is =
+    plain_due frames pre_span margin ns due false is
 
 module _ (frames : Frames) (outer : Margin) (n : NodeView) (ns : NodesView) where
-  pub rest_flat_first : (rest : Rest) (place : ℕ) → rest_nodes rest ≡ node n ns →
-      rest_flat place rest
-      ≡ node_flat place n ++ rest_flat (place + node_count n) (rest_with ns rest)
-  unfolding nodes_flat
-  rest_flat_first (outside ms) place e = ap (nodes_flat place) e
-  rest_flat_first (inside h past margin due ms rest) place e =
-      ap (λ xs. nodes_flat place xs ++ rest_flat past rest) e
-      ∙ first_flat n ns place (rest_flat past rest)
-
-  pub rest_ends_after : (rest : Rest) (place : ℕ) → rest_nodes rest ≡ node n ns →
-      RestEnds place rest → RestEnds (place + node_count n) (rest_with ns rest)
-  unfolding nodes_count
-  rest_ends_after (outside ms) place e ends = tt
-  rest_ends_after (inside h past margin due ms rest) place e ends = (
-    ends.0 ∙ ap (λ xs. place + nodes_count xs) e
-        ∙ sym (add_assoc place (node_count n) (nodes_count ns)),
-    ends.1,
-  )
-
-  pub rest_text_first : (rest : Rest) (due : Bool) → rest_nodes rest ≡ node n ns →
-      let margin = next_margin outer (rest_elements rest) in
-      rest_text frames outer due rest
-      ≡ indent_where (next_has_indent (rest_elements rest) due n) margin.level
-      ++ (node_text frames (next_pre_span (rest_elements rest)) margin n
-      ++ rest_text frames outer (due_after due n) (rest_with ns rest))
+  pub rest_text_first : (os : List OpenElementView) (due : Bool) →
+      let margin = next_margin outer os in
+      rest_text frames outer due (node n ns) os
+      ≡ indent_where (next_has_indent os due n) margin.level
+      ++ (node_text frames (next_pre_span os) margin n
+      ++ rest_text frames outer (margin.pretty && due_after due n) ns os)
   unfolding nodes_text
-  rest_text_first (outside ms) due e = ap (outside_text frames outer) e
-  rest_text_first (inside h past margin after ms rest) due e =
-      ap (λ xs. nodes_text frames h.pre_span due margin xs
-      ++ (end_tag_text h.name ++ rest_text frames outer after rest)) e
-      ∙ rw (append_assoc, append_assoc) refl
+  rest_text_first [] due = refl
+  rest_text_first (o ∷ os) due =
+      rw (
+        append_assoc,
+        append_assoc,
+        due_if_pretty frames o.pre_span o.margin ns (due_after due n) o.margin.pretty refl,
+      ) refl
 
-  pub rest_faults_first : (rest : Rest) → rest_nodes rest ≡ node n ns →
-      rest_faults frames outer rest
-      ≡ node_faults frames (next_pre_span (rest_elements rest))
-      (next_margin outer (rest_elements rest)).pretty n ++ rest_faults frames outer (rest_with ns rest)
+  pub rest_faults_first : (os : List OpenElementView) →
+      rest_faults frames outer (node n ns) os
+      ≡ node_faults frames (next_pre_span os) (next_margin outer os).pretty n
+      ++ rest_faults frames outer ns os
   unfolding nodes_faults
-  rest_faults_first (outside ms) e = ap (nodes_faults frames false outer.pretty) e
-  rest_faults_first (inside h past margin after ms rest) e =
-      ap (λ xs. nodes_faults frames h.pre_span margin.pretty xs ++ rest_faults frames outer rest) e
-      ∙ append_assoc (node_faults frames h.pre_span margin.pretty n)
-      (nodes_faults frames h.pre_span margin.pretty ns) (rest_faults frames outer rest)
+  rest_faults_first [] = refl
+  rest_faults_first (o ∷ os) = append_assoc (node_faults frames o.pre_span o.margin.pretty n)
+      (nodes_faults frames o.pre_span o.margin.pretty ns) (rest_faults frames outer o.after os)
 
-  pub rest_named_first : (rest : Rest) → rest_nodes rest ≡ node n ns → NodeIsNamed n →
-      RestIsNamed (rest_with ns rest) → RestIsNamed rest
+  pub rest_named_first : (os : List OpenElementView) → NodeIsNamed n → RestIsNamed ns os →
+      RestIsNamed (node n ns) os
   unfolding NodesAreNamed
-  rest_named_first (outside ms) e one others = subst NodesAreNamed (sym e) (one, others)
-  rest_named_first (inside h past margin after ms rest) e one others =
-      (subst NodesAreNamed (sym e) (one, others.0), others.1)
-
-pub rest_open_with : (ns : NodesView) (rest : Rest) → rest_elements (rest_with ns rest) ≡ rest_elements rest
-rest_open_with ns (outside ms) = refl
-rest_open_with ns (inside h past margin due ms rest) = refl
+  rest_named_first [] one others = (one, others)
+  rest_named_first (o ∷ os) one others = ((one, others.0), others.1)
 
 -- a walk over an element alone writes that element
 module _ (frames : Frames) (margin : Margin) (h : Head) (kids ns : NodesView)

@@ -1,25 +1,27 @@
--- The pure value of an element that a walk has entered.
-use Rattle.std.specs.Prelude.{◌≡◌, Bool, true, false, Option, Some, None}
-use Rattle.html_dom_tree.specs.Tree.{NodesView}
-use Rattle.html_dom_flat.specs.Flat.{FlatNodeView, flat_tag, flat_text, flat_frame, flat_element}
-use Rattle.typst_html_encode.specs.WriterWalk.{OpenElementView, opening, is_element_entered, node_is_entered, node_with}
-use Rattle.typst_html_encode.specs.declared.layout.Margin.{Margin}
+-- The pure values of the elements that a walk has entered.
+use Rattle.std.specs.Prelude.{◌≡◌, true, false, List, map, reverse, Option, Some, None}
+use Rattle.html_dom_tree.specs.Tree.{NodeView, element_node}
+use Rattle.html_dom_flat.specs.Siblings.{head_view, siblings_view}
+use Rattle.html_dom_flat.specs.declared.siblings.Element.{Element}
+use Rattle.typst_html_encode.specs.WriterWalk.{OpenElementView, is_element_entered, node_is_entered}
 use Rattle.typst_html_encode.specs.declared.open_elements.OpenElement.{OpenElement}
+use Rattle.typst_html_encode.specs.declared.open_elements.OpenElements.{OpenElements}
 
 abbrev pub open_element_view : OpenElement → OpenElementView
 open_element_view o = record {
   name = o.tag.now;
   pre_span = o.pre_span;
-  past = o.past;
   margin = o.margin;
   due_after = o.due_after;
+  after = siblings_view o.after;
 }
 
--- the element that the walk enters with a node of a flat list and these children, if it does
-abbrev pub Enters : Option OpenElement → FlatNodeView → NodesView → Margin → (due : Bool) → Type 0
-Enters None f ns margin due = node_is_entered (node_with f ns) ≡ false
-Enters (Some o) (flat_tag t) ns margin due = ⊥
-Enters (Some o) (flat_text s span) ns margin due = ⊥
-Enters (Some o) (flat_frame f) ns margin due = ⊥
-Enters (Some o) (flat_element h past) ns margin due =
-    (is_element_entered h ≡ true) × (open_element_view o ≡ opening h past ns margin due)
+-- the innermost first
+abbrev pub open_elements_view : OpenElements → List OpenElementView
+open_elements_view open_elements = reverse (map open_element_view open_elements.items.items)
+
+-- the node, if it is an element that the walk enters
+abbrev pub Enters : NodeView → Option Element → Type 0
+Enters n None = node_is_entered n ≡ false
+Enters n (Some e) = (n ≡ element_node (head_view e) (siblings_view e.children))
+    × (is_element_entered (head_view e) ≡ true)

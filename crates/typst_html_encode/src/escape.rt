@@ -1,6 +1,7 @@
 //! How texts are written.
 
-ghost use Rattle.std.specs.Prelude.{◌≡◌, ◌++◌, false, OnOk, IfOk, chars};
+ghost use Rattle.std.specs.Prelude.{◌≡◌, ◌<◌, ◌++◌, false, OnOk, IfOk, chars};
+ghost use Rattle.html_names.specs.Characters.{is_text_char};
 ghost use Rattle.typst_html_encode.specs.ExportFaults.{is_bad, is_reference, char_faults, text_faults};
 ghost use Rattle.typst_html_encode.specs.References.{reference_to};
 ghost use Rattle.typst_html_encode.specs.PlainStretches.{is_plain, PassesPlain, WritesUpTo};
@@ -29,10 +30,37 @@ pub(crate) enum Escaping {
     Raw,
 }
 
+/// For each character of ASCII the sum of 1 if it is written as it is in a text, 2 in a value, and
+/// 4 in raw text.
+static PLAIN: [u8; 128] = [
+    0, 0, 0, 0, 0, 0, 0, 0, 0, 7, 7, 0, 7, 7, 0, 0, 0, 0, 0, 0, 0, 0, 0, 0, 0, 0, 0, 0, 0, 0, 0, 0,
+    7, 7, 5, 7, 7, 7, 4, 7, 7, 7, 7, 7, 7, 7, 7, 7, 7, 7, 7, 7, 7, 7, 7, 7, 7, 7, 7, 7, 6, 7, 7, 7,
+    7, 7, 7, 7, 7, 7, 7, 7, 7, 7, 7, 7, 7, 7, 7, 7, 7, 7, 7, 7, 7, 7, 7, 7, 7, 7, 7, 7, 7, 7, 7, 7,
+    7, 7, 7, 7, 7, 7, 7, 7, 7, 7, 7, 7, 7, 7, 7, 7, 7, 7, 7, 7, 7, 7, 7, 7, 7, 7, 7, 7, 7, 7, 7, 0,
+];
+
+/// Whether the character of ASCII can be written.
+fn is_text_byte(byte: u8) -> bool
+    requires { byte < 128 }
+    ensures { result ≡ is_text_char byte }
+{
+    PLAIN[byte as usize] & 4 != 0
+}
+
+fn is_text_char(c: char) -> bool
+    ensures { result ≡ is_text_char c }
+{
+    if c.is_ascii() {
+        is_text_byte(c as u8)
+    } else {
+        is_w3c_text_char(c)
+    }
+}
+
 fn is_bad(escaping: Escaping, c: char) -> bool
     ensures { result ≡ is_bad escaping c }
 {
-    !is_w3c_text_char(c) || (matches!(escaping, Escaping::Reference) && c == '\r')
+    !is_text_char(c) || (matches!(escaping, Escaping::Reference) && c == '\r')
 }
 
 #[tactic(auto, unfolding(crate::specs::References::numeric), using(crate::proofs::BlankReferences::reference_steps))]
@@ -66,31 +94,44 @@ fn stands_as_is(escaping: Escaping, c: char) -> bool
     }
 }
 
-fn write_good(out: &mut Output, escaping: Escaping, c: char) -> Result<(), AllocError>
-    ensures { OnOk result (out.new ≡ out.old ++ char_text escaping c) }
+/// Whether the character of ASCII can be written, and is written as it is.
+fn is_plain_byte(escaping: Escaping, byte: u8) -> bool
+    requires { byte < 128 }
+    ensures { result ≡ is_plain escaping byte }
 {
-    if stands_as_is(escaping, c) {
-        out.push(c)
-    } else {
-        write_reference(out, c)
+    let ways = PLAIN[byte as usize];
+    match escaping {
+        Escaping::Text => ways & 1 != 0,
+        Escaping::Reference => false,
+        Escaping::Value => ways & 2 != 0,
+        Escaping::Raw => ways & 4 != 0,
     }
-}
-
-fn write_char(out: &mut Output, escaping: Escaping, c: char, span: Span) -> Result<(), ExportFault>
-    ensures { Adds result out.old out.new (char_text escaping c) (char_faults escaping span.0 c) }
-{
-    if is_bad(escaping, c) {
-        return Err(ExportFault::Unencodable { c, span });
-    }
-    write_good(out, escaping, c)?;
-    Ok(())
 }
 
 /// Whether the character can be written, and is written as it is.
 fn is_plain(escaping: Escaping, c: char) -> bool
     ensures { result ≡ is_plain escaping c }
 {
-    stands_as_is(escaping, c) && !is_bad(escaping, c)
+    if c.is_ascii() {
+        is_plain_byte(escaping, c as u8)
+    } else {
+        stands_as_is(escaping, c) && !is_bad(escaping, c)
+    }
+}
+
+#[tactic(auto, using(crate::proofs::Stretches::plain_chars))]
+fn write_char(out: &mut Output, escaping: Escaping, c: char, span: Span) -> Result<(), ExportFault>
+    ensures { Adds result out.old out.new (char_text escaping c) (char_faults escaping span.0 c) }
+{
+    if is_bad(escaping, c) {
+        return Err(ExportFault::Unencodable { c, span });
+    }
+    if is_plain(escaping, c) {
+        out.push(c)?;
+    } else {
+        write_reference(out, c)?;
+    }
+    Ok(())
 }
 
 /// The text from its first character on that can't be written or is not written as it is, where
@@ -119,6 +160,12 @@ fn write_plain<'a>(
     ensures { IfOk result (λ rest. WritesUpTo escaping out.old out.new text.now rest.now) }
 {
     if matches!(escaping, Escaping::Reference) {
+        return Ok(text);
+    }
+    let Some(first) = text.as_bytes().first() else {
+        return Ok(text);
+    };
+    if *first < 128 && !is_plain_byte(escaping, *first) {
         return Ok(text);
     }
     let rest = past_plain(escaping, text);

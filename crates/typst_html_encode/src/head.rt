@@ -3,49 +3,40 @@
 ghost use Rattle.std.specs.Prelude.{◌≡◌};
 ghost use Rattle.html_names.specs.Displays.{default_display};
 ghost use Rattle.html_names.specs.Kinds.{is_foreign_self_closing};
+ghost use Rattle.html_dom_flat.specs.Siblings.{head_view};
 ghost use Rattle.typst_html_encode.specs.Content.{content_kind};
-ghost use Rattle.typst_html_encode.specs.Siblings.{head_view};
 ghost use Rattle.typst_html_encode.specs.Text.{ends_at_once};
 
 use crate::content::ContentKind;
-use crate::siblings::ElementHead;
-use html_names::HtmlTag;
+use html_dom_flat::Element;
 use html_names::property::Display;
 
-impl<'a> ElementHead<'a> {
-    pub(crate) fn tag(&self) -> &'a HtmlTag
-        ensures { result.now ≡ (head_view self.now).name }
-    {
-        self.names.tag_at(self.flat.tag)
-    }
+pub(crate) fn is_foreign_self_closing(element: &Element) -> bool
+    ensures { result ≡ is_foreign_self_closing (head_view element.now).name }
+{
+    element.names().is_foreign_self_closing(element.flat.tag)
+}
 
-    pub(crate) fn is_foreign_self_closing(&self) -> bool
-        ensures { result ≡ is_foreign_self_closing (head_view self.now).name }
-    {
-        self.names.is_foreign_self_closing(self.flat.tag)
-    }
+pub(crate) fn ends_at_once(element: &Element) -> bool
+    ensures { result ≡ ends_at_once (head_view element.now) }
+{
+    is_foreign_self_closing(element) || element.names().is_void(element.flat.tag)
+}
 
-    pub(crate) fn ends_at_once(&self) -> bool
-        ensures { result ≡ ends_at_once (head_view self.now) }
-    {
-        self.is_foreign_self_closing() || self.names.is_void(self.flat.tag)
-    }
+pub(crate) fn default_display(element: &Element) -> Option<Display>
+    ensures { result ≡ default_display (head_view element.now).name }
+{
+    element.names().default_for(element.flat.tag)
+}
 
-    pub(crate) fn default_display(&self) -> Option<Display>
-        ensures { result ≡ default_display (head_view self.now).name }
-    {
-        self.names.default_for(self.flat.tag)
-    }
-
-    pub(crate) fn content_kind(&self) -> ContentKind
-        ensures { result ≡ content_kind (head_view self.now).name }
-    {
-        if self.names.is_raw(self.flat.tag) {
-            ContentKind::Raw
-        } else if self.names.is_escapable_raw(self.flat.tag) {
-            ContentKind::EscapableRaw
-        } else {
-            ContentKind::Nodes
-        }
+pub(crate) fn content_kind(element: &Element) -> ContentKind
+    ensures { result ≡ content_kind (head_view element.now).name }
+{
+    if element.names().is_raw(element.flat.tag) {
+        ContentKind::Raw
+    } else if element.names().is_escapable_raw(element.flat.tag) {
+        ContentKind::EscapableRaw
+    } else {
+        ContentKind::Nodes
     }
 }

@@ -1,25 +1,22 @@
 //! Where pretty writing puts indents. The rules are this project's; the CSS defaults they go by are
 //! those of HTML Standard 15.3.
 
-ghost use Rattle.std.specs.Prelude.{◌≡◌, ◌==◌, IfOk, IsTrue, true, bytes_eq, chars, codes};
+ghost use Rattle.std.specs.Prelude.{◌≡◌, ◌==◌, ◌&&◌, IfOk, IsTrue, true, bytes_eq, chars, codes};
 ghost use Rattle.std.specs.List.{list_any};
 ghost use Rattle.html_names.specs.Names.{is_ascii};
 ghost use Rattle.html_dom_tree.specs.Attributes.{first};
-ghost use Rattle.html_dom_tree.specs.Tree.{none};
 ghost use Rattle.html_dom_tree.specs.Views.{text_view};
-ghost use Rattle.html_dom_flat.specs.FlatViews.{flat_node_view, is_node_given};
-ghost use Rattle.typst_html_encode.specs.Siblings.{head_view, node_view, siblings_view};
-ghost use Rattle.typst_html_encode.specs.WriterWalk.{node_with};
+ghost use Rattle.html_dom_flat.specs.Siblings.{head_view, node_view, siblings_view};
 ghost use Rattle.typst_html_encode.specs.Layout.{deeper, margin_inside, is_of_lines};
 ghost use Rattle.typst_html_encode.specs.Layout.{allows_pretty_inside, wants_pretty_around};
 ghost use Rattle.typst_html_encode.specs.Layout.{node_wants_pretty, nodes_want_pretty, is_pretty_inside};
 ghost use Rattle.typst_html_encode.specs.Layout.{is_text, has_indent, due_after};
 ghost use Rattle.typst_html_encode.specs.Layout.{has_other_type, is_by_lines, keeps_lines};
 
-use crate::siblings::{Element, ElementHead, Node, Siblings};
-use html_dom_flat::FlatNode;
+use crate::head::default_display;
+use html_dom_flat::{Element, Node, Siblings};
 use html_names::property::Display;
-use html_names::{HtmlTag, NameTable, attr, tag};
+use html_names::{HtmlTag, attr, tag};
 use std::alloc::AllocError;
 
 /// How far in a node stands.
@@ -46,7 +43,7 @@ impl Margin {
 
     pub(crate) fn inside(self, element: &Element) -> Margin
         ensures { result ≡
-            margin_inside self (head_view element.now.head) (siblings_view element.now.children) }
+            margin_inside self (head_view element.now) (siblings_view element.now.children) }
     {
         Margin {
             pretty: self.pretty && is_pretty_inside(element),
@@ -67,12 +64,12 @@ fn is_of_lines(display: Option<Display>) -> bool
 }
 
 #[tactic(auto, unfolding(html_names::specs::Tables::known_tags, crate::specs::Layout::allows_pretty_inside))]
-fn allows_pretty_inside(head: &ElementHead) -> bool
-    ensures { result ≡ allows_pretty_inside (head_view head.now).name }
+fn allows_pretty_inside(element: &Element) -> bool
+    ensures { result ≡ allows_pretty_inside (head_view element.now).name }
 {
-    let tag = head.tag();
+    let tag = element.tag();
     (tag::mathml::is_mathml(tag) && !tag::mathml::is_token(tag))
-        || (is_of_lines(head.default_display()) && *tag != tag::pre)
+        || (is_of_lines(default_display(element)) && *tag != tag::pre)
         || *tag == tag::head
 }
 
@@ -84,12 +81,12 @@ fn is_text(text: &String, expected: &'static str) -> bool
 }
 
 #[tactic(auto, unfolding(html_names::specs::Tables::known_attrs), using(crate::proofs::Given::pair_given))]
-fn shows_as_block(head: &ElementHead) -> bool
+fn shows_as_block(element: &Element) -> bool
     ensures { result ≡
-        is_text (codes "block") (first (head_view head.now).attrs (codes "display")) }
+        is_text (codes "block") (first (head_view element.now).attrs (codes "display")) }
 {
-    let names = head.names;
-    for (number, value) in &head.flat.attrs {
+    let names = element.children.names;
+    for (number, value) in &element.flat.attrs {
         if *names.attr_at(*number) == attr::mathml::display {
             return is_text(value, "block");
         }
@@ -101,87 +98,81 @@ fn shows_as_block(head: &ElementHead) -> bool
 #[tactic(auto,
     unfolding(html_names::specs::Tables::known_tags, crate::specs::Layout::wants_pretty_around),
     using(crate::proofs::Layouts::last_first))]
-fn wants_pretty_around(head: &ElementHead) -> bool
-    ensures { result ≡ wants_pretty_around (head_view head.now) }
+fn wants_pretty_around(element: &Element) -> bool
+    ensures { result ≡ wants_pretty_around (head_view element.now) }
 {
-    let tag = head.tag();
+    let tag = element.tag();
     if *tag == tag::mathml::math {
-        return shows_as_block(head);
+        return shows_as_block(element);
     }
-    allows_pretty_inside(head)
+    allows_pretty_inside(element)
         || tag::mathml::is_mathml(tag)
         || *tag == tag::pre
         || tag::is_metadata_content(tag)
 }
 
 /// Whether a node wants pretty writing: a frame, or an element that wants lines of its own.
-fn node_wants_pretty(names: &NameTable, flat: &FlatNode) -> bool
-    requires { is_node_given names.now flat.now ≡ true }
-    ensures { result ≡ node_wants_pretty (node_with (flat_node_view names.now flat.now) none) }
+fn node_wants_pretty(node: &Node) -> bool
+    ensures { result ≡ node_wants_pretty (node_view node.now) }
 {
-    match flat {
-        FlatNode::Tag(_) | FlatNode::Text(_, _) => false,
-        FlatNode::Element(flat) => wants_pretty_around(&ElementHead { names, flat }),
-        FlatNode::Frame(_) => true,
+    match node {
+        Node::Tag(_) | Node::Text(_, _) => false,
+        Node::Element(element) => wants_pretty_around(element),
+        Node::Frame(_) => true,
     }
 }
 
-#[tactic(auto, using(crate::proofs::NextSiblings::next_left))]
 fn nodes_want_pretty(siblings: &Siblings) -> bool
     ensures { result ≡ nodes_want_pretty (siblings_view siblings.now) }
 {
-    let mut index = 0;
-    while index < siblings.nodes.len() {
-        let flat = &siblings.nodes[index];
-        if node_wants_pretty(siblings.names, flat) {
+    let mut left = *siblings;
+    while let Some((node, others)) = left.split_first() {
+        if node_wants_pretty(&node) {
             return true;
         }
-        index = match flat {
-            FlatNode::Element(element) => element.past - siblings.first,
-            _ => index + 1,
-        };
+        left = others;
     }
     false
 }
 
-#[tactic(auto, unfolding(crate::specs::Layout::is_pretty_inside))]
+#[tactic(auto, unfolding(crate::specs::Layout::is_pretty_inside), using(crate::proofs::Layouts::either_order))]
 fn is_pretty_inside(element: &Element) -> bool
-    ensures { result ≡ is_pretty_inside (head_view element.now.head)
+    ensures { result ≡ is_pretty_inside (head_view element.now)
         (siblings_view element.now.children) }
 {
-    allows_pretty_inside(&element.head) && nodes_want_pretty(&element.children)
+    nodes_want_pretty(&element.children) && allows_pretty_inside(element)
 }
 
 /// Whether an indent stands before the child: one is due, or the child wants it.
 pub(crate) fn has_indent(due: bool, child: &Node) -> bool
     ensures { result ≡ has_indent due (node_view child.now) }
 {
-    let names = child.children.names;
-    match child.flat {
-        FlatNode::Tag(_) => false,
-        FlatNode::Text(_, _) | FlatNode::Frame(_) => due,
-        FlatNode::Element(flat) => due || wants_pretty_around(&ElementHead { names, flat }),
+    match child {
+        Node::Tag(_) => false,
+        Node::Text(_, _) | Node::Frame(_) => due,
+        Node::Element(element) => due || wants_pretty_around(element),
     }
 }
 
-pub(crate) fn due_after(due: bool, child: &Node) -> bool
-    ensures { result ≡ due_after due (node_view child.now) }
+/// Whether an indent is due after the child: never where writing is plain.
+pub(crate) fn due_after(margin: Margin, due: bool, child: &Node) -> bool
+    ensures { result ≡ (margin.pretty && due_after due (node_view child.now)) }
 {
-    let names = child.children.names;
-    match child.flat {
-        FlatNode::Tag(_) => due,
-        FlatNode::Text(_, _) | FlatNode::Frame(_) => false,
-        FlatNode::Element(flat) => wants_pretty_around(&ElementHead { names, flat }),
-    }
+    margin.pretty
+        && match child {
+            Node::Tag(_) => due,
+            Node::Text(_, _) | Node::Frame(_) => false,
+            Node::Element(element) => wants_pretty_around(element),
+        }
 }
 
 /// Whether a script is of another type than JavaScript.
 #[tactic(auto, unfolding(html_names::specs::Tables::known_attrs), using(crate::proofs::Given::pair_given))]
-fn has_other_type(head: &ElementHead) -> bool
-    ensures { result ≡ has_other_type (head_view head.now).attrs }
+fn has_other_type(element: &Element) -> bool
+    ensures { result ≡ has_other_type (head_view element.now).attrs }
 {
-    let names = head.names;
-    for (number, value) in &head.flat.attrs {
+    let names = element.children.names;
+    for (number, value) in &element.flat.attrs {
         if *names.attr_at(*number) == attr::type_ && !is_text(value, "text/javascript") {
             return true;
         }
@@ -191,10 +182,10 @@ fn has_other_type(head: &ElementHead) -> bool
 
 /// Whether pretty writing puts the text of a raw element on lines of its own.
 #[tactic(auto, unfolding(html_names::specs::Tables::known_tags, crate::specs::Layout::is_by_lines))]
-pub(crate) fn is_by_lines(head: &ElementHead) -> bool
-    ensures { result ≡ is_by_lines (head_view head.now) }
+pub(crate) fn is_by_lines(element: &Element) -> bool
+    ensures { result ≡ is_by_lines (head_view element.now) }
 {
-    *head.tag() == tag::style || !has_other_type(head)
+    *element.tag() == tag::style || !has_other_type(element)
 }
 
 fn holds_backquote(text: &str) -> bool

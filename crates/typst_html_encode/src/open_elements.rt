@@ -1,50 +1,60 @@
 //! The elements that a walk has entered and not left.
 
 ghost use Rattle.std.specs.Prelude.{◌≡◌, ◌∷◌, [], OnOk, IfOk, IfSome, IfNone};
-ghost use Rattle.typst_html_encode.specs.OpenElements.{open_element_view};
-ghost use Rattle.typst_html_encode.specs.Siblings.{node_view};
-ghost use Rattle.typst_html_encode.specs.WriterWalk.{EndsLater, next_pre_span, next_margin, next_has_indent};
+ghost use Rattle.html_dom_flat.specs.Siblings.{head_view, node_view, siblings_view};
+ghost use Rattle.typst_html_encode.specs.Layout.{margin_inside};
+ghost use Rattle.typst_html_encode.specs.OpenElements.{open_element_view, open_elements_view};
+ghost use Rattle.typst_html_encode.specs.WriterWalk.{open_element, next_pre_span, next_margin, next_has_indent};
 
 use crate::layout::{Margin, has_indent};
-use crate::siblings::Node;
+use html_dom_flat::{Element, Node, Siblings};
 use html_names::HtmlTag;
 use std::alloc::{AllocError, Global};
-use std::marker::Model;
 
 /// An element that the walk has entered.
 #[derive(Clone, Copy)]
 pub(crate) struct OpenElement<'a> {
     pub(crate) tag: &'a HtmlTag,
-    /// Whether the texts directly in it are written as references alone.
-    pub(crate) pre_span: bool,
-    /// The place after the last node in it.
-    pub(crate) past: usize,
     /// Its level, and whether its children are written pretty.
     pub(crate) margin: Margin,
+    /// The siblings after it.
+    pub(crate) after: Siblings<'a>,
+    /// Whether an indent is due after it.
     pub(crate) due_after: bool,
+    /// Whether the texts directly in it are written as references alone.
+    pub(crate) pre_span: bool,
+}
+
+impl<'a> OpenElement<'a> {
+    pub(crate) fn new(
+        element: &Element<'a>,
+        margin: Margin,
+        due_after: bool,
+        after: Siblings<'a>,
+    ) -> OpenElement<'a>
+        ensures { let h = head_view element.now in
+            let inside = margin_inside margin h (siblings_view element.now.children) in
+            open_element_view result ≡ open_element h inside due_after (siblings_view after.entry) }
+    {
+        OpenElement {
+            tag: element.tag(),
+            pre_span: element.flat.pre_span,
+            margin: margin.inside(element),
+            due_after,
+            after,
+        }
+    }
 }
 
 /// The elements that the walk has entered and not left.
-///
-/// A contract sees them as a list, the innermost first.
 #[derive(Drop)]
 pub(crate) struct OpenElements<'a> {
     items: Vec<OpenElement<'a>>,
 }
 
-impl<'a> Model for OpenElements<'a> {
-    ghost use Rattle.std.specs.Prelude.{List, map, reverse};
-    ghost use Rattle.typst_html_encode.specs.OpenElements.{open_element_view};
-    ghost use Rattle.typst_html_encode.specs.WriterWalk.{OpenElementView};
-
-    ghost Value = { List OpenElementView };
-
-    ghost view = { λ open_elements. reverse (map open_element_view open_elements.items.items) };
-}
-
 impl<'a> OpenElements<'a> {
     pub(crate) fn new(alloc: Global) -> Self
-        ensures { result ≡ [] }
+        ensures { open_elements_view result ≡ [] }
     {
         OpenElements {
             items: Vec::new(alloc),
@@ -52,35 +62,23 @@ impl<'a> OpenElements<'a> {
     }
 
     pub(crate) fn push(&mut self, element: OpenElement<'a>) -> Result<(), AllocError>
-        ensures { OnOk result (self.new ≡ open_element_view element.entry ∷ self.old) }
+        ensures { OnOk result (open_elements_view self.new
+            ≡ open_element_view element.entry ∷ open_elements_view self.old) }
     {
         self.items.push(element)?;
         Ok(())
     }
 
-    fn pop(&mut self) -> Option<OpenElement<'a>>
-        ensures some { IfSome result (λ element. self.old ≡ open_element_view element ∷ self.new) }
-        ensures none { IfNone result (self.old ≡ []) }
-        ensures left { IfNone result (self.new ≡ []) }
+    pub(crate) fn pop(&mut self) -> Option<OpenElement<'a>>
+        ensures some { IfSome result (λ element. open_elements_view self.old
+            ≡ open_element_view element ∷ open_elements_view self.new) }
+        ensures none { IfNone result (open_elements_view self.old ≡ []) }
     {
         self.items.pop()
     }
 
-    pub(crate) fn pop_at(&mut self, place: usize) -> Option<OpenElement<'a>>
-        ensures some { IfSome result (λ element. self.old ≡ open_element_view element ∷ self.new) }
-        ensures at { IfSome result (λ element. element.past ≡ place) }
-        ensures kept { IfNone result (self.new ≡ self.old) }
-        ensures later { IfNone result (EndsLater place self.old) }
-    {
-        if self.items.last()?.past == place {
-            self.pop()
-        } else {
-            None
-        }
-    }
-
     pub(crate) fn pre_span(&self) -> bool
-        ensures { result ≡ next_pre_span self.now }
+        ensures { result ≡ next_pre_span (open_elements_view self.now) }
     {
         match self.items.last() {
             None => false,
@@ -89,16 +87,16 @@ impl<'a> OpenElements<'a> {
     }
 
     pub(crate) fn margin(&self, outer: Margin) -> Result<Margin, AllocError>
-        ensures { IfOk result (λ margin. margin ≡ next_margin outer self.now) }
+        ensures { IfOk result (λ margin. margin ≡ next_margin outer (open_elements_view self.now)) }
     {
         match self.items.last() {
             None => Ok(outer),
-            Some(element) => element.margin.deeper(),
+            Some(element) => Ok(element.margin.deeper()?),
         }
     }
 
     pub(crate) fn has_indent(&self, due: bool, node: &Node) -> bool
-        ensures { result ≡ next_has_indent self.now due (node_view node.now) }
+        ensures { result ≡ next_has_indent (open_elements_view self.now) due (node_view node.now) }
     {
         match self.items.last() {
             None => false,

@@ -1,14 +1,10 @@
 //! Raw text, which ends where its element's closing tag stands.
 
 ghost use Rattle.std.specs.Prelude.{◌≡◌, ◌++◌, OnOk, chars};
-ghost use Rattle.html_names.specs.NameTables.{NamesView};
-ghost use Rattle.html_dom_tree.specs.Tree.{none};
-ghost use Rattle.html_dom_flat.specs.FlatViews.{flat_node_view};
+ghost use Rattle.html_dom_flat.specs.Siblings.{head_view, node_view, siblings_view};
 ghost use Rattle.typst_html_encode.specs.ExportFaults.{node_raw_faults, nodes_raw_faults, raw_content_faults};
 ghost use Rattle.typst_html_encode.specs.Layout.{lines_text, raw_text};
-ghost use Rattle.typst_html_encode.specs.Siblings.{head_view, siblings_view};
 ghost use Rattle.typst_html_encode.specs.Text.{escaped_text, node_raw_text, nodes_raw_text};
-ghost use Rattle.typst_html_encode.specs.WriterWalk.{node_with};
 ghost use Rattle.typst_html_encode.specs.Endings.{Adds, Gives};
 
 use crate::closing::holds_closing;
@@ -16,8 +12,7 @@ use crate::escape::{Escaping, write_text};
 use crate::fault::ExportFault;
 use crate::indent::{push_indent, push_lines};
 use crate::layout::{Margin, is_by_lines, keeps_lines};
-use crate::siblings::{Element, Siblings};
-use html_dom_flat::FlatNode;
+use html_dom_flat::{Element, Node, Siblings};
 use html_names::HtmlTag;
 use html_names::output::Output;
 use std::alloc::{AllocError, Global};
@@ -29,8 +24,8 @@ pub(crate) fn write_raw(
 ) -> Result<(), ExportFault>
     ensures { let children = siblings_view element.now.children in
         Adds result out.old out.new
-        (raw_text margin (head_view element.now.head) (nodes_raw_text children))
-        (raw_content_faults (head_view element.now.head) children) }
+        (raw_text margin (head_view element.now) (nodes_raw_text children))
+        (raw_content_faults (head_view element.now) children) }
 {
     let text = checked_text(element)?;
     write_joined(out, element, text.as_str(), margin)?;
@@ -41,13 +36,13 @@ pub(crate) fn write_raw(
 fn checked_text(element: &Element) -> Result<String, ExportFault>
     ensures { let children = siblings_view element.now.children in
         Gives result (nodes_raw_text children)
-        (raw_content_faults (head_view element.now.head) children) }
+        (raw_content_faults (head_view element.now) children) }
 {
-    let alloc = *element.head.flat.attrs.allocator();
+    let alloc = *element.flat.attrs.allocator();
     let text = joined(alloc, &element.children)?;
-    if holds_closing(element.head.tag().resolve(), text.as_str()) {
+    if holds_closing(element.tag().resolve(), text.as_str()) {
         return Err(ExportFault::RawClosing {
-            span: element.head.flat.span,
+            span: element.flat.span,
         });
     }
     Ok(text)
@@ -72,22 +67,26 @@ pub(crate) fn write_children(
         (escaped_text escaping (nodes_raw_text (siblings_view children.now)))
         (nodes_raw_faults escaping (siblings_view children.now)) }
 {
-    for node in children.nodes {
-        write_child(out, escaping, node)?;
+    let mut left = *children;
+    while let Some((child, others)) = left.split_first() {
+        write_child(out, escaping, &child)?;
+        left = others;
     }
     Ok(())
 }
 
-fn write_child(out: &mut Output, escaping: Escaping, child: &FlatNode) -> Result<(), ExportFault>
-    ensures { (names : NamesView) → let n = node_with (flat_node_view names child.now) none in
-        Adds result out.old out.new
-        (escaped_text escaping (node_raw_text n)) (node_raw_faults escaping n) }
+fn write_child(out: &mut Output, escaping: Escaping, child: &Node) -> Result<(), ExportFault>
+    ensures { Adds result out.old out.new
+        (escaped_text escaping (node_raw_text (node_view child.now)))
+        (node_raw_faults escaping (node_view child.now)) }
 {
     match child {
-        FlatNode::Tag(_) => Ok(()),
-        FlatNode::Text(text, span) => write_text(out, escaping, text.as_str(), *span),
-        FlatNode::Element(element) => Err(ExportFault::RawChild { span: element.span }),
-        FlatNode::Frame(frame) => Err(ExportFault::RawChild { span: frame.span }),
+        Node::Tag(_) => Ok(()),
+        Node::Text(text, span) => write_text(out, escaping, text.as_str(), *span),
+        Node::Element(element) => Err(ExportFault::RawChild {
+            span: element.flat.span,
+        }),
+        Node::Frame(frame) => Err(ExportFault::RawChild { span: frame.span }),
     }
 }
 
@@ -98,10 +97,10 @@ fn write_joined(
     margin: Margin,
 ) -> Result<(), AllocError>
     ensures { OnOk result (out.new ≡ out.old
-        ++ raw_text margin (head_view element.now.head) (chars text.now)) }
+        ++ raw_text margin (head_view element.now) (chars text.now)) }
 {
-    if margin.pretty && is_by_lines(&element.head) {
-        write_lines(out, element.head.tag(), text, margin)
+    if margin.pretty && is_by_lines(element) {
+        write_lines(out, element.tag(), text, margin)
     } else {
         out.push_str(text)
     }

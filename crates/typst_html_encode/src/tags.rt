@@ -2,18 +2,18 @@
 
 ghost use Rattle.std.specs.Prelude.{◌≡◌, ◌++◌, OnOk};
 ghost use Rattle.html_dom_tree.specs.Views.{text_view};
+ghost use Rattle.html_dom_flat.specs.Siblings.{head_view, siblings_view};
 ghost use Rattle.typst_html_encode.specs.ExportFaults.{text_faults, attrs_faults};
 ghost use Rattle.typst_html_encode.specs.Reader.{drops_feed};
 ghost use Rattle.typst_html_encode.specs.ReadingBack.{PairsAreNamed, HeadIsNamed};
-ghost use Rattle.typst_html_encode.specs.Siblings.{head_view, siblings_view};
 ghost use Rattle.typst_html_encode.specs.Text.{value_text, attrs_text, tag_close, start_tag_text};
 ghost use Rattle.typst_html_encode.specs.Text.{end_tag_text, begins_with_feed, feed_text};
 ghost use Rattle.typst_html_encode.specs.Endings.{Adds};
 
 use crate::escape::{Escaping, write_text};
 use crate::fault::ExportFault;
-use crate::siblings::{Element, ElementHead, Siblings};
-use html_dom_flat::FlatNode;
+use crate::head::is_foreign_self_closing;
+use html_dom_flat::{Element, Node, Siblings};
 use html_dom_tree::Span;
 use html_names::output::Output;
 use html_names::{HtmlTag, tag};
@@ -36,39 +36,39 @@ fn write_value(out: &mut Output, value: &String, span: Span) -> Result<(), Expor
 }
 
 #[tactic(auto, using(crate::proofs::Given::pair_given))]
-fn write_attrs(out: &mut Output, head: &ElementHead) -> Result<(), ExportFault>
-    ensures writes { let head = head_view head.now in
+fn write_attrs(out: &mut Output, element: &Element) -> Result<(), ExportFault>
+    ensures writes { let head = head_view element.now in
         Adds result out.old out.new (attrs_text head.attrs) (attrs_faults head.span head.attrs) }
-    ensures named { OnOk result (PairsAreNamed (head_view head.now).attrs) }
+    ensures named { OnOk result (PairsAreNamed (head_view element.now).attrs) }
 {
-    let names = head.names;
-    for (number, value) in &head.flat.attrs {
+    let names = element.children.names;
+    for (number, value) in &element.flat.attrs {
         out.push(' ')?;
         out.push_str(names.attr_at(*number).resolve())?;
-        write_value(out, value, head.flat.span)?;
+        write_value(out, value, element.flat.span)?;
     }
     Ok(())
 }
 
-fn write_tag_close(out: &mut Output, head: &ElementHead) -> Result<(), AllocError>
-    ensures { OnOk result (out.new ≡ out.old ++ tag_close (head_view head.now).name) }
+fn write_tag_close(out: &mut Output, element: &Element) -> Result<(), AllocError>
+    ensures { OnOk result (out.new ≡ out.old ++ tag_close (head_view element.now).name) }
 {
-    if head.is_foreign_self_closing() {
+    if is_foreign_self_closing(element) {
         out.push_ascii("/>")
     } else {
         out.push_ascii(">")
     }
 }
 
-pub(crate) fn write_start(out: &mut Output, head: &ElementHead) -> Result<(), ExportFault>
-    ensures writes { let head = head_view head.now in
+pub(crate) fn write_start(out: &mut Output, element: &Element) -> Result<(), ExportFault>
+    ensures writes { let head = head_view element.now in
         Adds result out.old out.new (start_tag_text head) (attrs_faults head.span head.attrs) }
-    ensures named { OnOk result (HeadIsNamed (head_view head.now)) }
+    ensures named { OnOk result (HeadIsNamed (head_view element.now)) }
 {
     out.push('<')?;
-    out.push_str(head.tag().resolve())?;
-    write_attrs(out, head)?;
-    write_tag_close(out, head)?;
+    out.push_str(element.tag().resolve())?;
+    write_attrs(out, element)?;
+    write_tag_close(out, element)?;
     Ok(())
 }
 
@@ -83,20 +83,21 @@ pub(crate) fn write_end(out: &mut Output, tag: &HtmlTag) -> Result<(), AllocErro
 
 /// Whether the first child that is neither a tag nor an empty text begins with a line feed or a
 /// carriage return.
-#[tactic(auto, unfolding(html_dom_flat::specs::Flat::spelled_nodes))]
 fn begins_with_feed(children: &Siblings) -> bool
     ensures { result ≡ begins_with_feed (siblings_view children.now) }
 {
-    for node in children.nodes {
-        match node {
-            FlatNode::Tag(_) => {}
-            FlatNode::Text(text, _) => {
+    let mut left = *children;
+    while let Some((child, others)) = left.split_first() {
+        match child {
+            Node::Tag(_) => {}
+            Node::Text(text, _) => {
                 if let Some(c) = text.as_str().chars().next() {
                     return c == '\n' || c == '\r';
                 }
             }
-            FlatNode::Element(_) | FlatNode::Frame(_) => return false,
+            Node::Element(_) | Node::Frame(_) => return false,
         }
+        left = others;
     }
     false
 }
@@ -109,11 +110,12 @@ fn drops_feed(tag: &HtmlTag) -> bool
 }
 
 /// Writes a line feed where a reader would drop the text's own.
+#[tactic(auto, using(crate::proofs::Layouts::either_order))]
 pub(crate) fn write_feed(out: &mut Output, element: &Element) -> Result<(), AllocError>
     ensures { OnOk result (out.new ≡
-        out.old ++ feed_text (head_view element.now.head) (siblings_view element.now.children)) }
+        out.old ++ feed_text (head_view element.now) (siblings_view element.now.children)) }
 {
-    if drops_feed(element.head.tag()) && begins_with_feed(&element.children) {
+    if begins_with_feed(&element.children) && drops_feed(element.tag()) {
         out.push('\n')?;
     }
     Ok(())

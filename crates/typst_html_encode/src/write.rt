@@ -3,11 +3,11 @@
 ghost use Rattle.std.specs.Prelude.{◌≡◌, ◌++◌, OnOk, Some, chars, false};
 ghost use Rattle.html_dom_tree.specs.FrameViews.{html_frame_view};
 ghost use Rattle.html_dom_flat.specs.FlatTrees.{tree_nodes};
+ghost use Rattle.html_dom_flat.specs.Siblings.{element_view, head_view, node_view, siblings_view};
 ghost use Rattle.typst_html_encode.specs.ExportFaults.{void_faults, frame_faults, nodes_faults};
 ghost use Rattle.typst_html_encode.specs.Layout.{indent_where, frame_text};
 ghost use Rattle.typst_html_encode.specs.OpenElements.{open_element_view, Enters};
 ghost use Rattle.typst_html_encode.specs.ReadingBack.{HeadIsNamed, NodesAreNamed};
-ghost use Rattle.typst_html_encode.specs.Siblings.{head_view, flat_element_view, node_flat_view, node_view, siblings_view};
 ghost use Rattle.typst_html_encode.specs.Text.{escaping_of, end_tag_text};
 ghost use Rattle.typst_html_encode.specs.WriterWalk.{first_text, first_faults, FirstIsNamed};
 ghost use Rattle.typst_html_encode.specs.WriterWalk.{outside_text, element_first_text, element_first_faults};
@@ -17,19 +17,18 @@ use crate::content::ContentKind;
 use crate::escape::{Escaping, write_text};
 use crate::fault::ExportFault;
 use crate::frame::{FrameFault, FrameWriter};
+use crate::head::{content_kind, ends_at_once};
 use crate::indent::{push_indent_if, push_lines};
 use crate::layout::{Margin, due_after};
-use crate::node::node_at;
 use crate::open_elements::{OpenElement, OpenElements};
 use crate::raw;
-use crate::siblings::{Element, ElementHead, Node};
 use crate::tags::{write_end, write_feed, write_start};
-use html_dom_flat::{FlatNode, FlatTree};
+use html_dom_flat::{Element, FlatTree, Node, Siblings};
 use html_dom_tree::HtmlFrame;
 use html_names::output::Output;
 use std::alloc::{AllocError, Global};
 
-/// Nodes that stand in no element have the margin `outer`.
+/// Nodes that are inside no element have the margin `outer`.
 pub(crate) fn write_tree<F: FrameWriter>(
     alloc: Global,
     out: &mut Output,
@@ -42,28 +41,27 @@ pub(crate) fn write_tree<F: FrameWriter>(
         (nodes_faults (F.drawing frames.now) false outer.pretty ns) }
     ensures named { OnOk result (NodesAreNamed (tree_nodes tree.now)) }
 {
-    let names = tree.names();
-    let nodes = tree.nodes();
     let mut open_elements = OpenElements::new(alloc);
+    let mut left = Siblings::of(tree);
     let mut due = false;
-    let mut place = 0;
     loop {
-        if let Some(element) = open_elements.pop_at(place) {
-            write_close(out, &element)?;
-            due = element.due_after;
-        } else if place < nodes.len() {
-            let node = node_at(names, nodes, place);
+        if let Some((node, others)) = left.split_first() {
             let margin = open_elements.margin(outer)?;
             push_indent_if(out, open_elements.has_indent(due, &node), margin.level)?;
             write_first(alloc, out, &node, open_elements.pre_span(), margin, frames)?;
-            if let Some(element) = entered(&node, margin, due) {
-                open_elements.push(element)?;
+            let next_due = due_after(margin, due, &node);
+            if let Some(element) = entered(&node) {
+                open_elements.push(OpenElement::new(&element, margin, next_due, others))?;
+                left = element.children;
                 due = true;
-                place += 1;
             } else {
-                due = due_after(due, &node);
-                place = node.past;
+                left = others;
+                due = next_due;
             }
+        } else if let Some(element) = open_elements.pop() {
+            write_close(out, &element)?;
+            left = element.after;
+            due = element.due_after;
         } else {
             return Ok(());
         }
@@ -78,30 +76,17 @@ fn write_close(out: &mut Output, element: &OpenElement) -> Result<(), AllocError
     write_end(out, element.tag)
 }
 
-fn entered<'a>(node: &Node<'a>, margin: Margin, due: bool) -> Option<OpenElement<'a>>
-    ensures { Enters result (node_flat_view node.now) (siblings_view node.now.children) margin due }
+/// The node, if it is an element that the walk enters.
+fn entered<'a>(node: &Node<'a>) -> Option<Element<'a>>
+    ensures { Enters (node_view node.now) result }
 {
-    let FlatNode::Element(flat) = node.flat else {
+    let Node::Element(element) = node else {
         return None;
     };
-    let head = ElementHead {
-        names: node.children.names,
-        flat,
-    };
-    if head.ends_at_once() || !matches!(head.content_kind(), ContentKind::Nodes) {
+    if ends_at_once(element) || !matches!(content_kind(element), ContentKind::Nodes) {
         return None;
     }
-    let element = Element {
-        head,
-        children: node.children,
-    };
-    Some(OpenElement {
-        tag: head.tag(),
-        pre_span: flat.pre_span,
-        past: flat.past,
-        margin: margin.inside(&element),
-        due_after: due_after(due, node),
-    })
+    Some(*element)
 }
 
 /// Writes a node, or the start of an element that the walk enters.
@@ -118,55 +103,46 @@ fn write_first<F: FrameWriter>(
         (first_faults (F.drawing frames.now) pre_span margin.pretty (node_view node.now)) }
     ensures named { OnOk result (FirstIsNamed (node_view node.now)) }
 {
-    match node.flat {
-        FlatNode::Tag(_) => Ok(()),
-        FlatNode::Text(text, span) => {
+    match node {
+        Node::Tag(_) => Ok(()),
+        Node::Text(text, span) => {
             write_text(out, escaping(pre_span), text.as_str(), *span)?;
             Ok(())
         }
-        FlatNode::Element(flat) => {
-            let children = node.children;
-            let head = ElementHead {
-                names: children.names,
-                flat,
-            };
-            write_element(out, &Element { head, children }, margin)?;
-            Ok(())
-        }
-        FlatNode::Frame(frame) => write_frame(alloc, out, frame, margin, frames),
+        Node::Element(element) => write_element(out, element, margin),
+        Node::Frame(frame) => write_frame(alloc, out, frame, margin, frames),
     }
 }
 
 /// Writes an element whose children are not written one by one, and else its start.
 fn write_element(out: &mut Output, element: &Element, margin: Margin) -> Result<(), ExportFault>
     ensures writes { Adds result out.old out.new
-        (element_first_text margin (flat_element_view element.now))
-        (element_first_faults (flat_element_view element.now)) }
-    ensures named { OnOk result (HeadIsNamed (head_view element.now.head)) }
+        (element_first_text margin (element_view element.now))
+        (element_first_faults (element_view element.now)) }
+    ensures named { OnOk result (HeadIsNamed (head_view element.now)) }
 {
-    write_start(out, &element.head)?;
-    if element.head.ends_at_once() {
+    write_start(out, element)?;
+    if ends_at_once(element) {
         return refuse_children(element);
     }
     write_feed(out, element)?;
-    match element.head.content_kind() {
+    match content_kind(element) {
         ContentKind::Raw => raw::write_raw(out, element, margin)?,
         ContentKind::EscapableRaw => raw::write_children(out, Escaping::Text, &element.children)?,
         ContentKind::Nodes => return Ok(()),
     }
-    write_end(out, element.head.tag())?;
+    write_end(out, element.tag())?;
     Ok(())
 }
 
-#[tactic(auto, unfolding(html_dom_flat::specs::Flat::spelled_nodes))]
 fn refuse_children(element: &Element) -> Result<(), ExportFault>
     ensures { Passes result
-        (void_faults (head_view element.now.head).span (siblings_view element.now.children)) }
+        (void_faults (head_view element.now).span (siblings_view element.now.children)) }
 {
-    match element.children.nodes.first() {
+    match element.children.split_first() {
         None => Ok(()),
         Some(_) => Err(ExportFault::VoidChildren {
-            span: element.head.flat.span,
+            span: element.flat.span,
         }),
     }
 }

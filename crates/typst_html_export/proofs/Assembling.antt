@@ -5,7 +5,7 @@ use Rattle.html_dom_tree.specs.Tree.{NodeView, NodesView}
 use Rattle.html_dom_document.specs.Documents.{InfoView}
 use Rattle.html_flow_convert.specs.Depth.{items_too_deep}
 use Rattle.html_flow_convert.specs.Items.{ItemsView, no_items, item}
-use Rattle.typst_html_export.specs.Assembled.{Outline, own_html, own_body, nothing_own, own_among_others, document_outline, first_own, shown_count, styled_output, item_spans, note_faults, outline_faults, depth_faults, assembly_faults}
+use Rattle.typst_html_export.specs.Assembled.{Outline, own_html, document_outline, first_own, shown_count, styled_output, item_spans, note_faults, outline_faults, depth_faults, assembly_faults}
 use Rattle.typst_html_export.specs.OwnHead.{assembled_output_with_head, output_with_head}
 use Rattle.typst_html_export.specs.Roots.{styled_root}
 use Rattle.typst_html_export.proofs.Firsts.{none_after_none}
@@ -39,9 +39,7 @@ styled_by (own_html place) info head content notes e =
     let found = own_found (shown_count content) (first_own content) place e in
     ap (λ ns. record { nodes = ns; root = place })
     (lone_styled content place found.1.1 (own_stands content place e))
-styled_by own_body info head content notes e = refl
-styled_by nothing_own info head content notes e = refl
-styled_by (own_among_others name span) info head content notes e = refl
+styled_by o info head content notes e = refl
 
 pub assembled_styled : (info : InfoView) (head : List NodeView) (content notes : NodesView)
     → styled_root (assembled_output_with_head info head content notes)

@@ -1,8 +1,8 @@
 -- The `href` of a link holds printable ASCII alone, so it is a clean value, whatever name it leads to
 -- and whatever places there are.
-use Rattle.std.proofs.Common.{◌≡◌, ◌<◌, ℕ, zero, suc, Bool, true, false, ◌&&◌, ◌||◌, List, [], ◌∷◌, Option, None, Some, inl, inr, refl, sym, subst, arith}
-use Rattle.std.specs.Prelude.{eqb, option_map}
-use Rattle.std.proofs.lemmas.Bool.{and_parts, cases_Bool, eqb-true, eqb-false, false≢true}
+use Rattle.std.proofs.Common.{◌≡◌, ◌<◌, ℕ, Bool, true, false, ◌||◌, List, [], ◌∷◌, Option, None, Some, refl, subst, arith}
+use Rattle.std.specs.Prelude.{option_map}
+use Rattle.std.proofs.lemmas.Bool.{agree_below_at}
 use Rattle.std.proofs.lemmas.Bool.Decides.{nat_tests}
 use Rattle.std.proofs.lemmas.List.Elements.{All-head, All-tail}
 use Rattle.html_names.specs.Characters.{all, is_text_char}
@@ -11,35 +11,14 @@ use Rattle.html_dom_link.specs.Spellings.{href_with, is_in_fragment_set, leading
 use Rattle.html_dom_link.proofs.SpelledNames.{ArePlain, leading_is_plain}
 use Rattle.typst_html_spaces.specs.CleanNodes.{IsCleanValue}
 
--- a test of the numbers below a bound
-
-abbrev all_below : (ℕ → Bool) → ℕ → Bool
-all_below p zero = true
-all_below p (suc n) = p n && all_below p n
-
-holds_below : (p : ℕ → Bool) (n : ℕ) → all_below p n ≡ true → (b : ℕ) → b < n → p b ≡ true
-holds_below p zero e b h = absurd (omega (arith, h))
-holds_below p (suc n) e b h =
-    let both = and_parts (p n) (all_below p n) e in
-    elim (cases_Bool (eqb b n)) [
-      | inl t ↦ subst (λ k. p k ≡ true) (sym (eqb-true b n t)) both.0
-      | inr f ↦ let other = eqb-false b n f in
-          holds_below p n both.1 b (omega (arith, h, other))
-    ]
-
-other_part : (a b : Bool) → (a || b) ≡ true → a ≡ false → b ≡ true
-other_part false b e f = e
-other_part true b e f = absurd (false≢true (sym f))
-
 -- a character that a browser leaves as it is is a text character
 
 within : (c : ℕ) → is_in_fragment_set c ≡ false → c < 127
 within c e = grind (arith, nat_tests)
 
 plain_is_text : (c : ℕ) → is_in_fragment_set c ≡ false → is_text_char c ≡ true
-plain_is_text c e =
-    other_part (is_in_fragment_set c) (is_text_char c)
-    (holds_below (λ k. is_in_fragment_set k || is_text_char k) 127 refl c (within c e)) e
+plain_is_text c e = rw e at (agree_below_at (λ k. is_in_fragment_set k || is_text_char k) (λ k. true)
+    127 c refl (within c e))
 
 plain_are_text : (cs : List ℕ) → ArePlain cs → all is_text_char cs ≡ true
 plain_are_text [] each = refl

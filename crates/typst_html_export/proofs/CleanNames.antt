@@ -1,18 +1,18 @@
 -- Names that are made of clean labels are clean: they are the label or `loc`, a hyphen and digits.
 use Rattle.std.proofs.Common.{◌≡◌, ℕ, ◌+◌, ◌%◌, ◌<◌, ◌^◌, Bool, true, false, ◌&&◌, ◌==◌, List, [], ◌∷◌, ◌++◌, codes, Option, Some, None, refl, arith}
 use Rattle.std.specs.Prelude.{decimal, if◌then◌else◌}
-use Rattle.std.proofs.lemmas.Bool.{and_parts, false≢true, agree_below_at}
+use Rattle.std.proofs.lemmas.Bool.{agree_below_at}
 use Rattle.std.proofs.lemmas.Fmt.{decimal_by_steps}
 use Rattle.html_names.specs.Characters.{all, is_text_char}
 use Rattle.html_names.proofs.Basics.{all_append}
 use Rattle.html_dom_tree.specs.Tags.{starts, ends}
 use Rattle.html_dom_tree.specs.Tree.{tag_node, text_node, element_node, frame_node, NodesView, none, node}
 use Rattle.html_dom_link.specs.NewNames.{Name, name_with_number, first_free, stem_of, first_number, free_name, new_name}
-use Rattle.html_dom_link.specs.Events.{Start, Event, other_start, target_start, end_tag, element, text, html_frame, Targets, start_event, events}
+use Rattle.html_dom_link.specs.Events.{Start, Event, target_start, end_tag, Targets, start_event, events}
 use Rattle.html_dom_link.specs.Groups.{serves, waiting_after, cut_at, cuts, own_name, first_label, label_of, label_for}
 use Rattle.html_dom_link.specs.Namings.{made_for, used_after, namings}
 use Rattle.html_dom_link.proofs.Numbers.{free_within, first_is_low}
-use Rattle.typst_html_spaces.specs.CleanNodes.{is_clean_text, is_clean_content, is_clean_head, is_clean_node, are_clean_nodes, IsCleanValue}
+use Rattle.typst_html_spaces.specs.CleanNodes.{is_clean_text, IsCleanValue, AreCleanNodes}
 use Rattle.typst_html_spaces.proofs.Each.{Each, Each-append}
 use Rattle.typst_html_export.proofs.AnchoredRoots.{Passing, MadePasses}
 
@@ -63,12 +63,8 @@ abbrev StartIsClean : Start → Type 0
 StartIsClean s = is_clean_text s.label ≡ true
 
 abbrev EventIsClean : Event → Type 0
-EventIsClean other_start = Unit {0}
 EventIsClean (target_start s) = StartIsClean s
-EventIsClean (end_tag l) = Unit {0}
-EventIsClean (element id) = Unit {0}
-EventIsClean text = Unit {0}
-EventIsClean (html_frame id inside) = Unit {0}
+EventIsClean e = Unit {0}
 
 all_or_none : (b : Bool) (group : List Start) → Each StartIsClean group →
     Each StartIsClean (if b then group else [])
@@ -129,29 +125,23 @@ start_is_clean : (is_target : Bool) (l : ℕ) (label : Option Name) → is_clean
 start_is_clean true l label e = e
 start_is_clean false l label e = tt
 
-events_are_clean : (x : Targets) (ns : NodesView) (p : Bool) → are_clean_nodes p ns ≡ true →
+events_are_clean : (x : Targets) (ns : NodesView) (p : Bool) → AreCleanNodes p ns →
     Each EventIsClean (events x ns)
-unfolding events is_clean_node
-events_are_clean x none p e = tt
-events_are_clean x (node (tag_node (starts l label dest)) ns) p e =
-    let both = and_parts (is_clean_text label) (are_clean_nodes p ns) e in
-    (start_is_clean (x.is_target l) l label both.0, events_are_clean x ns p both.1)
-events_are_clean x (node (tag_node (ends l)) ns) p e = (tt, events_are_clean x ns p e)
-events_are_clean x (node (text_node s span) ns) p e =
-    (tt, events_are_clean x ns p (and_parts (is_clean_content p s) (are_clean_nodes p ns) e).1)
-events_are_clean x (node (element_node h kids) ns) p e =
-    let both = and_parts (is_clean_head h kids && are_clean_nodes h.pre_span kids)
-    (are_clean_nodes p ns) e in
-    let own = and_parts (is_clean_head h kids) (are_clean_nodes h.pre_span kids) both.0 in (
-      tt,
-      Each-append EventIsClean (events x kids) (events x ns)
-          (events_are_clean x kids h.pre_span own.1) (events_are_clean x ns p both.1),
-    )
-events_are_clean x (node (frame_node f) ns) p e = absurd (false≢true e)
+unfolding events
+events_are_clean x none p c = tt
+events_are_clean x (node (tag_node (starts l label dest)) ns) p c =
+    (start_is_clean (x.is_target l) l label c.0, events_are_clean x ns p c.1)
+events_are_clean x (node (tag_node (ends l)) ns) p c = (tt, events_are_clean x ns p c.1)
+events_are_clean x (node (text_node s span) ns) p c = (tt, events_are_clean x ns p c.1)
+events_are_clean x (node (element_node h kids) ns) p c = (
+  tt,
+  Each-append EventIsClean (events x kids) (events x ns)
+      (events_are_clean x kids h.pre_span c.0.1) (events_are_clean x ns p c.1),
+)
+events_are_clean x (node (frame_node f) ns) p c = absurd c.0
 
 -- of clean nodes, while no start tag waits
 pub clean_namings : (x : Targets) (used : Name → Bool) (ns : NodesView) (p : Bool) →
-    are_clean_nodes p ns ≡ true →
-    Each (MadePasses IsCleanValue) (namings used (cuts [] (events x ns)))
-clean_namings x used ns p e =
-    namings_are_clean (events x ns) [] used (events_are_clean x ns p e) tt
+    AreCleanNodes p ns → Each (MadePasses IsCleanValue) (namings used (cuts [] (events x ns)))
+clean_namings x used ns p c =
+    namings_are_clean (events x ns) [] used (events_are_clean x ns p c) tt

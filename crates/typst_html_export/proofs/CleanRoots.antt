@@ -11,7 +11,7 @@ use Rattle.html_names.specs.Names.{stands_in}
 use Rattle.html_names.specs.Texts.{TextPair}
 use Rattle.html_names.proofs.Basics.{all_append}
 use Rattle.html_dom_tree.specs.Styled.{styled_node, styled_nodes}
-use Rattle.html_dom_tree.specs.Tree.{Head, NodeView, tag_node, text_node, element_node, frame_node, NodesView, none, node, ElementView}
+use Rattle.html_dom_tree.specs.Tree.{Head, NodeView, text_node, element_node, NodesView, none, node, ElementView}
 use Rattle.html_dom_tree.specs.Views.{nodes_of}
 use Rattle.html_dom_document.specs.Documents.{LocaleView, InfoView}
 use Rattle.typst_html_encode.specs.FaultViews.{export_fault_view}
@@ -29,7 +29,8 @@ use Rattle.html_dom_link.specs.Namings.{namings}
 use Rattle.html_dom_link.specs.Links.{Anchors, Hrefs, anchor_hrefs, dest_before, is_open, nodes_with_links, open_dest, root_with_links}
 use Rattle.html_dom_link.specs.NewNames.{Name, element_names}
 use Rattle.typst_html_spaces.specs.CleanItems.{are_clean_items}
-use Rattle.typst_html_spaces.specs.CleanNodes.{is_clean_text, are_clean_values, are_clean_nodes, IsCleanValue}
+use Rattle.typst_html_spaces.specs.CleanNodes.{is_clean_text, are_clean_values, IsCleanValue, AreCleanNodes}
+use Rattle.typst_html_spaces.specs.DeepNodes.{Wanted, HoldsOf, HoldsOfAll}
 use Rattle.typst_html_spaces.proofs.Anchored.{anchors_keep_clean_nodes}
 use Rattle.typst_html_spaces.proofs.CleanItems.{clean_items_make_clean_nodes}
 use Rattle.typst_html_spaces.proofs.CleanNodes.{plain_clean, no_faults_of, no_attrs_faults, clean_nodes_are_written}
@@ -48,38 +49,29 @@ use Rattle.typst_html_export.proofs.PlainRoots.{root_over, linked_root_is}
 
 -- what stands before all tags gets no anchor
 
-abbrev mutual
-  IsQuiet : NodeView → Type 0
-  IsQuiet (tag_node t) = ⊥
-  IsQuiet (text_node s span) = Unit {0}
-  IsQuiet (element_node h ns) = AreQuiet ns
-  IsQuiet (frame_node f) = ⊥
+abbrev quiet : Wanted
+quiet = record { head = λ h b. Unit {0}; text = λ p s. Unit {0}; tag = λ t. ⊥; frame = ⊥ }
 
-  AreQuiet : NodesView → Type 0
-  AreQuiet none = Unit {0}
-  AreQuiet (node n ns) = IsQuiet n × AreQuiet ns
-
-quiet_kept : (x : Targets) (ns : NodesView) → AreQuiet ns → (used : Name → Bool)
-    (more : List Event) →
+quiet_kept : (x : Targets) (ns : NodesView) (p : Bool) → HoldsOfAll quiet p ns →
+    (used : Name → Bool) (more : List Event) →
     (nodes_with_anchors (namings used (cuts [] (events x ns ++ more))) ns ≡ ns)
     × (drop (nodes_size ns) (namings used (cuts [] (events x ns ++ more)))
     ≡ namings used (cuts [] more))
 unfolding events nodes_with_anchors nodes_size
-quiet_kept x none q used more = (refl, refl)
-quiet_kept x (node (tag_node t) ns) q used more = absurd q.0
-quiet_kept x (node (text_node s span) ns) q used more =
-    let after = quiet_kept x ns q.1 used more in
+quiet_kept x none p q used more = (refl, refl)
+quiet_kept x (node (text_node s span) ns) p q used more =
+    let after = quiet_kept x ns p q.1 used more in
     (ap (node (text_node s span)) after.0, after.1)
-quiet_kept x (node (element_node h kids) ns) q used more =
-    let inside = quiet_kept x kids q.0 used (events x ns ++ more) in
-    let after = quiet_kept x ns q.1 used more in
+quiet_kept x (node (element_node h kids) ns) p q used more =
+    let inside = quiet_kept x kids h.pre_span q.0.1 used (events x ns ++ more) in
+    let after = quiet_kept x ns p q.1 used more in
     let both = append_assoc (events x kids) (events x ns) more in (
       rw (both, inside.0, inside.1, after.0) refl,
       rw both (sym (drop-drop (nodes_size ns) (nodes_size kids)
           (namings used (cuts [] (events x kids ++ (events x ns ++ more)))))
           ∙ (ap (drop (nodes_size ns)) inside.1 ∙ after.1)),
     )
-quiet_kept x (node (frame_node f) ns) q used more = absurd q.0
+quiet_kept x (node n ns) p q used more = absurd q.0
 
 -- nor an `href`, for which a tag stands before an element
 
@@ -90,40 +82,39 @@ no_dest h dest e = by_test (is_open h)
     by_test true = e
     by_test false = refl
 
-quiet_unlinked : (hrefs : Hrefs) (ns : NodesView) (before : List NodeView) → AreQuiet ns →
-    dest_before before ≡ None → nodes_with_links hrefs before ns ≡ ns
+quiet_unlinked : (hrefs : Hrefs) (ns : NodesView) (before : List NodeView) (p : Bool) →
+    HoldsOfAll quiet p ns → dest_before before ≡ None → nodes_with_links hrefs before ns ≡ ns
 unfolding nodes_with_links
-quiet_unlinked hrefs none before q e = refl
-quiet_unlinked hrefs (node (tag_node t) ns) before q e = absurd q.0
-quiet_unlinked hrefs (node (text_node s span) ns) before q e =
-    ap (node (text_node s span)) (quiet_unlinked hrefs ns (text_node s span ∷ before) q.1 refl)
-quiet_unlinked hrefs (node (element_node h kids) ns) before q e =
-    let inside = quiet_unlinked hrefs kids [] q.0 refl in
-    let after = quiet_unlinked hrefs ns (element_node h kids ∷ before) q.1 refl in
+quiet_unlinked hrefs none before p q e = refl
+quiet_unlinked hrefs (node (text_node s span) ns) before p q e =
+    ap (node (text_node s span)) (quiet_unlinked hrefs ns (text_node s span ∷ before) p q.1 refl)
+quiet_unlinked hrefs (node (element_node h kids) ns) before p q e =
+    let inside = quiet_unlinked hrefs kids [] h.pre_span q.0.1 refl in
+    let after = quiet_unlinked hrefs ns (element_node h kids ∷ before) p q.1 refl in
     rw (no_dest h (dest_before before) e, inside, after) refl
-quiet_unlinked hrefs (node (frame_node f) ns) before q e = absurd q.0
+quiet_unlinked hrefs (node n ns) before p q e = absurd q.0
 
 -- a root of a quiet head and of a body of clean nodes
 abbrev root_of_both : (top h g : Head) (kids inside : NodesView) → ElementView
 root_of_both top h g kids inside =
     (top, node (element_node h kids) (node (element_node g inside) none))
 
-body_anchored : (x : Targets) (top h g : Head) (kids inside : NodesView) → AreQuiet kids →
-    are_clean_nodes false inside ≡ true →
+body_anchored : (x : Targets) (top h g : Head) (kids inside : NodesView) → HoldsOfAll quiet false kids →
+    AreCleanNodes false inside →
     (new : NodesView) × (element_with_anchors x (root_of_both top h g kids inside)
-    ≡ root_of_both top h g kids new) × (are_clean_nodes false new ≡ true)
+    ≡ root_of_both top h g kids new) × AreCleanNodes false new
 unfolding element_with_anchors nodes_with_anchors events
 body_anchored x top h g kids inside q c =
     let used : Name → Bool = stands_in (element_names (root_of_both top h g kids inside)) in
     let es = events x inside ++ [] in
-    let kept = quiet_kept x kids q used (events x (node (element_node g inside) none)) in
+    let kept = quiet_kept x kids false q used (events x (node (element_node g inside) none)) in
     let passing : Each (MadePasses IsCleanValue) (namings used (cuts [] es)) =
     subst (λ fs. Each (MadePasses IsCleanValue) (namings used (cuts [] fs)))
     (sym (append-nil (events x inside))) (clean_namings x used inside false c) in (
       nodes_with_anchors (namings used (cuts [] es)) inside,
       rw (kept.0, kept.1) refl,
       anchors_keep_clean_nodes false inside (nodes_with_anchors (namings used (cuts [] es)) inside)
-          (nodes_are_anchored IsCleanValue inside (namings used (cuts [] es)) passing) c,
+          (nodes_are_anchored (λ a value. IsCleanValue value) inside (namings used (cuts [] es)) passing) c,
     )
 
 -- elements
@@ -141,19 +132,19 @@ element_written frames pre_span pretty h ns values at_once raw escapable inside 
 -- entries of a head
 
 record IsEntry (n : NodeView) : Type 0 where
-  quiet : IsQuiet (styled_node n)
+  quiet : HoldsOf quiet false (styled_node n)
   written : (frames : Frames) (pretty : Bool) → node_faults frames false pretty (styled_node n) ≡ []
 
 meta_entry : (attrs : List TextPair) → are_clean_values attrs ≡ true →
     IsEntry (made_node (codes "meta") attrs none)
 unfolding styled_node node_faults is_void is_foreign_self_closing stands_in
 meta_entry attrs e =
-    record { quiet = tt; written = λ frames pretty. rw (no_attrs_faults 0 attrs e) refl }
+    record { quiet = (tt, tt); written = λ frames pretty. rw (no_attrs_faults 0 attrs e) refl }
 
 title_entry : (t : List ℕ) → all is_text_char t ≡ true → IsEntry (title_node t)
 unfolding styled_node node_faults is_void is_foreign_self_closing is_raw is_escapable_raw stands_in
 title_entry t e = record {
-  quiet = (tt, tt);
+  quiet = (tt, (tt, tt));
   written = λ frames pretty. rw (no_faults_of (escaping_of false) 0 t (plain_clean t e)) refl;
 }
 
@@ -237,7 +228,8 @@ all_entries info parts =
       ),
     )
 
-entries_quiet : (ns : List NodeView) → Each IsEntry ns → AreQuiet (styled_nodes (nodes_of ns))
+entries_quiet : (ns : List NodeView) → Each IsEntry ns →
+    HoldsOfAll quiet false (styled_nodes (nodes_of ns))
 unfolding styled_nodes
 entries_quiet [] e = tt
 entries_quiet (n ∷ ns) e = (e.0.quiet, entries_quiet ns e.1)
@@ -293,7 +285,7 @@ abbrev entries_of : InfoView → NodesView
 entries_of info = styled_nodes (nodes_of (charset_node ∷ viewport_node ∷ entry_nodes info))
 
 root_is_made : (info : InfoView) (ns : NodesView) →
-    root_over info ns ≡ made_root (lang_text info.locale) (entries_of info) (styled_nodes ns)
+    root_over info (entry_nodes info) ns ≡ made_root (lang_text info.locale) (entries_of info) (styled_nodes ns)
 unfolding styled_node
 root_is_made info ns = refl
 
@@ -301,7 +293,7 @@ root_is_made info ns = refl
 abbrev HasCleanBody : InfoView → ElementView → Type 0
 HasCleanBody info root = (inside : NodesView)
     × (root ≡ made_root (lang_text info.locale) (entries_of info) inside)
-    × (are_clean_nodes false inside ≡ true)
+    × AreCleanNodes false inside
 
 clean_body : (info : InfoView) (items : ItemsView) → InfoParts info → is_plain_flow items ≡ true →
     are_clean_items items ≡ true → HasCleanBody info (linked_root info items no_items)
@@ -326,12 +318,12 @@ unfolding nodes_with_links
 body_linked info root is_place anchor parts b =
     let entries = charset_node ∷ viewport_node ∷ entry_nodes info in
     let hrefs = anchor_hrefs is_place anchor in
-    let quiet = entries_quiet entries (all_entries info parts) in
-    let kept = quiet_unlinked hrefs (entries_of info) [] quiet refl in (
+    let still = entries_quiet entries (all_entries info parts) in
+    let kept = quiet_unlinked hrefs (entries_of info) [] false still refl in (
       nodes_with_links hrefs [] b.0,
       ap (root_with_links hrefs) b.1 ∙ rw kept refl,
       anchors_keep_clean_nodes false b.0 (nodes_with_links hrefs [] b.0)
-          (links_are_anchored IsCleanValue hrefs (href_is_clean is_place anchor) [] b.0) b.2,
+          (links_are_anchored (λ a value. IsCleanValue value) hrefs (href_is_clean is_place anchor) [] b.0) b.2,
     )
 
 clean_body_written : (frames : Frames) (options : HtmlOptions) (info : InfoView)

@@ -5,8 +5,10 @@ pub mod CleanLinks
 pub mod CleanNames
 pub mod CleanRoots
 pub mod Counted
+pub mod Entries
 pub mod FaultsInOrder
 pub mod Firsts
+pub mod Fragments
 pub mod LinkedRoots
 pub mod Nodes
 pub mod Notes

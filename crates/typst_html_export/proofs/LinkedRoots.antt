@@ -4,24 +4,26 @@ use Rattle.std.proofs.Common.{◌≡◌, ℕ, List, [], ◌∷◌, Option, None,
 use Rattle.html_dom_tree.specs.Tree.{TextPair, Head, NodeView, tag_node, text_node, element_node, frame_node, NodesView, none, node}
 use Rattle.typst_html_encode.specs.ReadingBack.{PairsAreNamed, NodeIsNamed, NodesAreNamed}
 use Rattle.html_dom_link.specs.Links.{Hrefs, attrs_with_href, dest_before, href_of, node_with_links, nodes_with_links, open_dest}
-use Rattle.typst_html_spaces.specs.Anchored.{Anchored, at_end, at_tag, at_text, at_element, of_element, at_frame, new_href, IsAny}
+use Rattle.typst_html_spaces.specs.Anchored.{NewAttribute, new_href, nothing, given, Anchored, IsAny}
+use Rattle.typst_html_spaces.specs.Changed.{at_end, at_tag, at_text, at_element, at_frame}
 use Rattle.typst_html_spaces.proofs.Anchored.{anchors_are_unseen}
 use Rattle.typst_html_spaces.proofs.ReadableNodes.{anchors_keep_frame_free}
 use Rattle.typst_html_export.specs.LinkedRoots.{AnchorsKeepAtoms, LinksKeepAtoms, LinksKeepFrames, LinksKeepNames}
 use Rattle.typst_html_export.proofs.AnchoredRoots.{root_anchored}
 
-module _ (P : List ℕ → Type 0) (hrefs : Hrefs)
-    (each : (location : ℕ) (href : List ℕ) → hrefs location ≡ Some href → P href) where
+module _ (P : NewAttribute → List ℕ → Type 0) (hrefs : Hrefs)
+    (each : (location : ℕ) (href : List ℕ) → hrefs location ≡ Some href → P new_href href) where
   head_linked : (href : Option (List ℕ)) (h : Head) (kids new ns ms : NodesView) →
-      ((text : List ℕ) → href ≡ Some text → P text) →
+      ((text : List ℕ) → href ≡ Some text → P new_href text) →
       Anchored P kids new → Anchored P ns ms →
       Anchored P (node (element_node h kids) ns)
       (node (element_node (record h { attrs = attrs_with_href href h.attrs }) new) ms)
-  head_linked None h kids new ns ms holds q r = at_element q r
+  head_linked None h kids new ns ms holds q r = at_element nothing q r
   head_linked (Some href) h kids new ns ms holds q r =
-      of_element new_href href (holds href refl) q r
+      at_element (given new_href href (holds href refl)) q r
 
-  each_given : (dest : Option ℕ) (href : List ℕ) → href_of hrefs dest ≡ Some href → P href
+  each_given : (dest : Option ℕ) (href : List ℕ) → href_of hrefs dest ≡ Some href →
+      P new_href href
   each_given None href is = cc
   each_given (Some location) href is = each location href is
 

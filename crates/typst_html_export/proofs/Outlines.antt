@@ -9,7 +9,7 @@ use Rattle.html_dom_tree.specs.Views.{node_view, nodes_view}
 use Rattle.html_dom_tree.specs.declared.node.HtmlNode.{HtmlNode}
 use Rattle.html_dom_document.specs.Documents.{is_element_at}
 use Rattle.html_dom_document.specs.Places.{is_html}
-use Rattle.typst_html_export.specs.Assembled.{Outline, own_html, own_body, nothing_own, own_among_others, own_head, is_own, own_after, first_own, shown_count, outline_by, document_outline}
+use Rattle.typst_html_export.specs.Assembled.{Outline, own_html, own_body, own_among_others, own_head, is_own, own_after, first_own, shown_count, outline_by, document_outline}
 use Rattle.html_names.proofs.Basics.{from_place}
 
 after_after : (k : ℕ) (found : Option (ℕ × Head))
@@ -95,9 +95,7 @@ found_stands (node (frame_node f) ns) p h e =
 
 abbrev html_place : Outline → ℕ
 html_place (own_html place) = place
-html_place own_body = 0
-html_place nothing_own = 0
-html_place (own_among_others name span) = 0
+html_place o = 0
 
 pub own_found : (shown : ℕ) (found : Option (ℕ × Head)) (place : ℕ)
     → own_html place ≡ outline_by shown found

@@ -47,9 +47,7 @@ no_nodes_change_nothing info items notes =
 
 has_place : (o : Outline) → is_root o ≡ true → (place : ℕ) × (o ≡ own_html place)
 has_place (own_html place) own = (place, refl)
-has_place own_body own = absurd (true≢false (sym own))
-has_place nothing_own own = absurd (true≢false (sym own))
-has_place (own_among_others name span) own = absurd (true≢false (sym own))
+has_place o own = absurd (true≢false (sym own))
 
 -- neither the nodes nor what is known of a document stand around a root of its own
 own_output : (o : Outline) (info : InfoView) (head : List NodeView) (content notes : NodesView)

@@ -1,6 +1,5 @@
 -- The root of a document that is made of items in plain flow, without footnotes.
-use Rattle.std.proofs.Common.{◌≡◌, ℕ, true, false, List, [], ◌∷◌, ◌++◌, Option, None, Some, codes, refl, ap, ◌∙◌, append-nil}
-use Rattle.std.proofs.lemmas.Bool.{and_parts}
+use Rattle.std.proofs.Common.{◌≡◌, true, false, List, [], ◌∷◌, None, Some, codes, refl, ap, ◌∙◌, append-nil}
 use Rattle.html_names.specs.Kinds.{is_raw}
 use Rattle.html_names.specs.Names.{stands_in}
 use Rattle.html_dom_tree.specs.Styled.{head_with_style, styled_node, styled_nodes}
@@ -18,34 +17,30 @@ use Rattle.html_flow_convert.specs.Converted.{item_nodes}
 use Rattle.html_flow_convert.specs.Depth.{item_too_deep}
 use Rattle.html_flow_convert.specs.Items.{ItemsView, no_items}
 use Rattle.html_flow_convert.specs.LoneNode.{node_list}
-use Rattle.typst_html_spaces.specs.PlainFlow.{is_plain_flow, is_plain_name}
-use Rattle.typst_html_spaces.specs.PlainNodes.{is_plain_node, are_plain_nodes}
+use Rattle.typst_html_spaces.specs.DeepNodes.{HoldsOf, of_heads}
+use Rattle.typst_html_spaces.specs.PlainFlow.{is_plain_flow}
+use Rattle.typst_html_spaces.specs.PlainNodes.{ArePlainNodes}
+use Rattle.typst_html_spaces.proofs.Each.{Each}
 use Rattle.typst_html_spaces.proofs.PlainNodes.{makes_plain_nodes, names_are_inside}
 use Rattle.typst_html_spaces.specs.ReadableNodes.{AreReadable}
 use Rattle.typst_html_spaces.proofs.ReadableNodes.{styled_readable}
-use Rattle.typst_html_export.specs.Assembled.{own_head, first_own, nothing_own, document_outline, outline_by, shown_count, both_nodes, body_node, document_nodes, document_output, assembled_document}
-use Rattle.typst_html_export.specs.DocumentHead.{title_nodes, description_nodes, list_meta_nodes, entry_nodes, head_node, lang_text}
+use Rattle.typst_html_export.specs.Assembled.{first_own, nothing_own, document_outline, outline_by, shown_count, both_nodes, body_node, document_nodes, document_output, assembled_document}
+use Rattle.typst_html_export.specs.DocumentHead.{made_node, charset_node, viewport_node, entry_nodes, lang_text}
 use Rattle.typst_html_export.specs.Linked.{linked_document}
 use Rattle.typst_html_export.specs.SpacesInDocuments.{PlainDocumentsAreMade}
+use Rattle.typst_html_export.proofs.Entries.{of_entries}
 
 -- plain nodes leave the document its own root and body
 
-plain_not_own : (n : NodeView) → is_plain_node n ≡ true → own_head n ≡ None
-unfolding is_plain_node
-plain_not_own (element_node h ns) e =
-    let names = names_are_inside h.name (and_parts (is_plain_name h.name) (are_plain_nodes ns) e).0 in
-    rw (names.0, names.1) refl
-plain_not_own x e = refl
-
-no_own : (ns : NodesView) → are_plain_nodes ns ≡ true → first_own ns ≡ None
-unfolding is_plain_node first_own
-no_own none e = refl
-no_own (node n ns) e =
-    let both = and_parts (is_plain_node n) (are_plain_nodes ns) e in
-    rw (plain_not_own n both.0, no_own ns both.1) refl
+no_own : (ns : NodesView) → ArePlainNodes ns → first_own ns ≡ None
+unfolding first_own
+no_own none r = refl
+no_own (node (element_node h kids) ns) r =
+    let names = names_are_inside h.name r.0.0 in rw (names.0, names.1, no_own ns r.1) refl
+no_own (node x ns) r = rw (no_own ns r.1) refl
 
 module _ (items : ItemsView) (e : is_plain_flow items ≡ true) where
-  made_plain : are_plain_nodes (document_nodes items) ≡ true
+  made_plain : ArePlainNodes (document_nodes items)
   made_plain = (makes_plain_nodes None items e).0
 
   pub plain_outline : document_outline (document_nodes items) ≡ nothing_own
@@ -69,26 +64,32 @@ pub no_notes : (ns : NodesView) → both_nodes ns (document_nodes no_items) ≡ 
 unfolding node_list item_nodes blank_front after_front nodes_by_answers
 no_notes ns = ap nodes_of (append-nil (node_list ns)) ∙ nodes_of_list ns
 
--- the root that is made, with styles
+-- the root that is made with these entries in its head, with styles
 
-abbrev pub root_over : InfoView → NodesView → ElementView
-root_over info ns = (
+abbrev head_of : (entries : List NodeView) → NodeView
+head_of entries = made_node (codes "head") [] (nodes_of (charset_node ∷ viewport_node ∷ entries))
+
+abbrev pub root_over : InfoView → (entries : List NodeView) → NodesView → ElementView
+root_over info entries ns = (
   head_with_style (record (new_element (codes "html")).0 {
     attrs = (codes "lang", lang_text info.locale) ∷ [];
   }),
-  styled_nodes (node (head_node info) (node (body_node ns) none)),
+  styled_nodes (node (head_of entries) (node (body_node ns) none)),
 )
 
 output_is : (info : InfoView) (items : ItemsView) → is_plain_flow items ≡ true →
     document_output info items no_items
-    ≡ record { nodes = node (node_of (root_over info (document_nodes items))) none; root = 0 }
+    ≡ record {
+      nodes = node (node_of (root_over info (entry_nodes info) (document_nodes items))) none;
+      root = 0;
+    }
 unfolding styled_node
 output_is info items e = rw (plain_outline items e, no_notes (document_nodes items)) refl
 
-pub body_is : (info : InfoView) (ns : NodesView) →
-    body_children (root_over info ns).1 ≡ Some (styled_nodes ns)
+pub body_is : (info : InfoView) (entries : List NodeView) (ns : NodesView) →
+    body_children (root_over info entries ns).1 ≡ Some (styled_nodes ns)
 unfolding styled_node
-body_is info ns = refl
+body_is info entries ns = refl
 
 -- it can be read back: there is no frame and no raw element
 
@@ -97,42 +98,22 @@ pub made_not_raw : (is_raw (codes "html") ≡ false) × (is_raw (codes "head") �
 unfolding is_raw stands_in
 made_not_raw = (refl, refl, refl, refl)
 
-pub both_readable : (ns more : List NodeView) → AreReadable (nodes_of ns) →
-    AreReadable (nodes_of more) → AreReadable (nodes_of (ns ++ more))
-both_readable [] more r s = s
-both_readable (n ∷ ns) more r s = (r.0, both_readable ns more r.1 s)
+pub entries_readable : (info : InfoView) →
+    Each (HoldsOf (of_heads (λ h. is_raw h.name ≡ false) ⊥) false) (entry_nodes info)
+entries_readable = of_entries (HoldsOf (of_heads (λ h. is_raw h.name ≡ false) ⊥) false)
+    (λ t. (made_not_raw.2, (tt, tt))) (λ name content. (made_not_raw.3, tt))
 
-title_readable : (t : Option (List ℕ)) → AreReadable (nodes_of (title_nodes t))
-title_readable None = tt
-title_readable (Some t) = ((made_not_raw.2, (tt, tt)), tt)
-
-description_readable : (t : Option (List ℕ)) → AreReadable (nodes_of (description_nodes t))
-description_readable None = tt
-description_readable (Some t) = ((made_not_raw.3, tt), tt)
-
-list_readable : (name : List ℕ) (ts : List (List ℕ)) → AreReadable (nodes_of (list_meta_nodes name ts))
-list_readable name [] = tt
-list_readable name (t ∷ ts) = ((made_not_raw.3, tt), tt)
-
-pub entries_readable : (info : InfoView) → AreReadable (nodes_of (entry_nodes info))
-entries_readable info =
-    both_readable (title_nodes info.title) _ (title_readable info.title)
-    (both_readable (description_nodes info.description) _ (description_readable info.description)
-    (both_readable (list_meta_nodes (codes "authors") info.author) _
-    (list_readable (codes "authors") info.author)
-    (list_readable (codes "keywords") info.keywords)))
-
-pub root_readable : (info : InfoView) (ns : NodesView) → AreReadable ns →
-    AreReadable (root_over info ns).1
-root_readable info ns r =
-    styled_readable (node (head_node info) (node (body_node ns) none)) (
-      (made_not_raw.1, ((made_not_raw.3, tt), ((made_not_raw.3, tt), entries_readable info))),
+pub root_readable : (info : InfoView) (entries : List NodeView) (ns : NodesView) →
+    AreReadable (nodes_of entries) → AreReadable ns → AreReadable (root_over info entries ns).1
+root_readable info entries ns own r =
+    styled_readable (node (head_of entries) (node (body_node ns) none)) (
+      (made_not_raw.1, ((made_not_raw.3, tt), ((made_not_raw.3, tt), own))),
       ((body_is_not_raw, r), tt),
     )
 
 pub assembled_root_is : (info : InfoView) (items : ItemsView) → is_plain_flow items ≡ true →
     document_root (assembled_document info items no_items)
-    ≡ root_over info (document_nodes items)
+    ≡ root_over info (entry_nodes info) (document_nodes items)
 assembled_root_is info items e = ap (λ o. given_root (root_of o)) (output_is info items e)
 
 -- the root with anchors
@@ -145,11 +126,12 @@ with_new_root o root is change = rw is refl
 
 pub linked_root_is : (info : InfoView) (items : ItemsView) → is_plain_flow items ≡ true →
     (x : Targets) × (document_root (linked_document info items no_items)
-    ≡ element_with_anchors x (root_over info (document_nodes items)))
+    ≡ element_with_anchors x (root_over info (entry_nodes info) (document_nodes items)))
 linked_root_is info items e =
     let d : DocumentView = assembled_document info items no_items in
     let x : Targets = document_targets d.introspector.is_link_target d in (
       x,
-      with_new_root (document_output info items no_items) (root_over info (document_nodes items))
-          (output_is info items e) (λ root. element_with_anchors x root),
+      with_new_root (document_output info items no_items)
+          (root_over info (entry_nodes info) (document_nodes items)) (output_is info items e)
+          (λ root. element_with_anchors x root),
     )

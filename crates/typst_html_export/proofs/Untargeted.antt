@@ -6,7 +6,7 @@ use Rattle.std.specs.BTreeMap.{BTreeMap, IsEmpty}
 use Rattle.std.specs.BTreeSet.{BTreeSet, btree_set_len}
 use Rattle.std.specs.Prelude.{String}
 use Rattle.std.specs.declared.alloc.Global.{Global}
-use Rattle.html_dom_tree.specs.Tree.{tag_node, text_node, element_node, frame_node, NodesView, none, node}
+use Rattle.html_dom_tree.specs.Tree.{element_node, NodesView, none, node}
 use Rattle.html_dom_tree.specs.declared.introspection.Location.{Location}
 use Rattle.html_dom_document.specs.Introspectors.{has_location, location_text}
 use Rattle.html_dom_document.specs.Documents.{DocumentView, document_root, element_at, given_root, is_element_at, with_element}
@@ -17,11 +17,9 @@ use Rattle.typst_html_export.specs.Linked.{document_with_anchors}
 put_again : (ns : NodesView) (i : ℕ) → is_element_at ns i ≡ true →
     with_element ns i (given_root (element_at ns i)) ≡ ns
 put_again none i there = refl
-put_again (node (tag_node t) ns) zero there = cc
-put_again (node (text_node s span) ns) zero there = cc
-put_again (node (element_node h kids) ns) zero there = refl
-put_again (node (frame_node f) ns) zero there = cc
 put_again (node n ns) (suc i) there = ap (node n) (put_again ns i there)
+put_again (node (element_node h kids) ns) zero there = refl
+put_again (node n ns) zero there = cc
 
 pub nothing_in : (set : BTreeSet Location) → btree_set_len set ≡ 0 → (l : ℕ) → has_location set l ≡ false
 nothing_in set short l = let no_keys = nil_from_length set.keys short in rw no_keys refl

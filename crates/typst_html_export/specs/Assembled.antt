@@ -1,5 +1,5 @@
--- Documents made of items (this project's rules; `html`, `head` and `body` are those of HTML
--- Standard 4.1 to 4.3): what stands around the nodes, and what is refused.
+-- Documents made from items (this project's rules; `html`, `head` and `body` are those of HTML
+-- Standard 4.1 to 4.3): what surrounds the nodes, and what is refused.
 use Rattle.std.specs.Prelude.{ℕ, ◌+◌, Bool, ◌||◌, ◌==◌, List, [], ◌∷◌, ◌++◌, codes, bytes_eq, if◌then◌else◌, Option, Some, None, option_map, map}
 use Rattle.html_dom_tree.specs.Attributes.{or_else}
 use Rattle.html_dom_tree.specs.Styled.{styled_nodes}
@@ -17,7 +17,7 @@ use Rattle.html_flow_convert.specs.declared.convert.Whitespace.TheVariants.{Norm
 use Rattle.typst_html_encode.specs.FaultViews.{ExportFaultView, too_deep, not_alone, footnotes}
 use Rattle.typst_html_export.specs.DocumentHead.{made_node, head_node, lang_text}
 
--- an element that a document has of its own where one of its nodes is that
+-- an element that a document has of its own if it is among its nodes
 abbrev pub is_own : Head → Bool
 is_own h = is_html h || bytes_eq h.name (codes "body")
 
@@ -27,23 +27,23 @@ own_head (text_node s span) = None
 own_head (element_node h ns) = if is_own h then Some h else None
 own_head (frame_node f) = None
 
--- an element with the number of nodes before it, where so many more stand before it
+-- an element with the number of nodes before it, after so many more
 abbrev pub own_after : ℕ → ℕ × Head → ℕ × Head
 own_after more own = (own.0 + more, own.1)
 
--- the first `html` or `body`, and how many nodes stand before it
+-- the first `html` or `body`, and its index
 unfoldable pub first_own : NodesView → Option (ℕ × Head)
 first_own none = None
 first_own (node n ns) =
     or_else (option_map (λ h. (0, h)) (own_head n)) (option_map (own_after 1) (first_own ns))
 
--- how many nodes are no tags
+-- the number of nodes other than tags
 unfoldable pub shown_count : NodesView → ℕ
 shown_count none = 0
 shown_count (node n ns) = if is_tag n then shown_count ns else shown_count ns + 1
 
--- what a document has of its own: its root, at that place among the nodes; its body; nothing; or an
--- element of that name and span that does not stand alone
+-- what a document has of its own: its root, at that index among the nodes; its body; nothing; or an
+-- element of that name and span that is not alone
 pub data Outline : Type 0 where
   own_html : (place : ℕ) → Outline
   own_body : Outline
@@ -59,14 +59,14 @@ outline_by shown (Some own) =
 abbrev pub document_outline : NodesView → Outline
 document_outline ns = outline_by (shown_count ns) (first_own ns)
 
--- nodes, and then others
+-- nodes, then others
 abbrev pub both_nodes : NodesView → NodesView → NodesView
 both_nodes ns others = nodes_of (node_list ns ++ node_list others)
 
 abbrev pub body_node : NodesView → NodeView
 body_node ns = made_node (codes "body") [] ns
 
--- the root that is made, with these nodes after its head
+-- the new root, with these nodes after its head
 abbrev pub html_node : InfoView → NodesView → NodeView
 html_node info ns =
     made_node (codes "html") ((codes "lang", lang_text info.locale) ∷ []) (node (head_node info) ns)
@@ -74,7 +74,7 @@ html_node info ns =
 abbrev pub html_output : InfoView → NodesView → OutputView
 html_output info ns = record { nodes = node (html_node info ns) none; root = 0 }
 
--- what stands around the nodes of a document and of its footnotes
+-- the output with what surrounds the nodes of a document and of its footnotes
 abbrev pub output_by : Outline → InfoView → (content notes : NodesView) → OutputView
 output_by (own_html place) info content notes = record { nodes = content; root = place }
 output_by own_body info content notes = html_output info content
@@ -92,7 +92,7 @@ styled_output o = record o { nodes = styled_nodes o.nodes }
 abbrev pub document_nodes : ItemsView → NodesView
 document_nodes items = converted_nodes Block Normal None items
 
--- the document around nodes, of what is known of it, and of footnotes
+-- the document around nodes, from its information and footnotes
 abbrev pub output_around : InfoView → (content : NodesView) (notes : ItemsView) → OutputView
 output_around info content notes =
     styled_output (assembled_output info content (document_nodes notes))
@@ -111,7 +111,7 @@ abbrev pub item_spans : ItemsView → List ℕ
 item_spans no_items = []
 item_spans (item i role items) = item_span i ∷ item_spans items
 
--- footnotes have no place beside an element of the document's own, even where they have no nodes
+-- footnotes have no place beside an element of the document's own, even if they have no nodes
 abbrev pub note_faults : (spans : List ℕ) → List ExportFaultView
 note_faults [] = []
 note_faults (span ∷ spans) = footnotes (span ∷ spans) ∷ []
@@ -122,17 +122,17 @@ outline_faults own_body notes = note_faults (item_spans notes)
 outline_faults nothing_own notes = []
 outline_faults (own_among_others name span) notes = not_alone name span ∷ []
 
--- of the spans of what stands too deep
+-- of the spans of bodies that are too deep
 abbrev pub depth_faults : (spans : List ℕ) → List ExportFaultView
 depth_faults = map too_deep
 
--- the faults of a document that is assembled of nodes and of footnotes, whose list has the depth 1
+-- the faults of assembling a document from nodes and footnotes, whose list has the depth 1
 abbrev pub assembly_faults : (limit : ℕ) (content : NodesView) (notes : ItemsView)
     → List ExportFaultView
 assembly_faults limit content notes =
     outline_faults (document_outline content) notes ++ depth_faults (items_too_deep 1 limit notes)
 
--- all faults for which no document is made of items, in the order in which it is refused
+-- all faults for which no document is made from items, in the order of refusal
 abbrev pub items_document_faults : (limit : ℕ) (items notes : ItemsView) → List ExportFaultView
 items_document_faults limit items notes = depth_faults (items_too_deep 0 limit items)
     ++ assembly_faults limit (document_nodes items) notes

@@ -10,10 +10,10 @@ abbrev pub GivesDocument : {A B : Type 0} (view : A → B) → Result A ExportFa
     → List ExportFaultView → Type 0
 GivesDocument = GivesBy IsFirstView
 
--- only out of memory
+-- only memory can fail
 abbrev pub FailsByMemoryAlone : {A : Type 0} → Result A ExportFault → Type 0
 FailsByMemoryAlone r = IfErr r (λ e. e ≡ OutOfMemory)
 
--- nothing is answered
+-- returns nothing
 abbrev pub Passes : Result (Unit {0}) ExportFault → List ExportFaultView → Type 0
 Passes r faults = GivesDocument (λ done. done) r tt faults

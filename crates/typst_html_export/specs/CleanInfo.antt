@@ -1,5 +1,5 @@
--- Clean information of a document: its texts hold text characters alone. Of it and of clean items
--- in plain flow a document is made that can be written.
+-- Clean information of a document: its texts have only text characters. A document with it, made
+-- from clean items in plain flow, can be written.
 use Rattle.std.specs.Prelude.{◌≡◌, ℕ, Bool, true, ◌&&◌, List, [], Option, Some, None}
 use Rattle.std.specs.List.{list_all}
 use Rattle.html_names.specs.Characters.{all, is_text_char}
@@ -31,7 +31,7 @@ CleanDocumentsAreWritten = (frames : Frames) (options : HtmlOptions) (info : Inf
     (items : ItemsView) → is_plain_flow items ≡ true → are_clean_items items ≡ true →
     is_clean_info info ≡ true → root_faults frames options (linked_root info items no_items) ≡ []
 
--- and so it can with the `href` of its links, whatever names they lead to, among whatever places
+-- and so it can with the `href` of its links, whatever names they lead to, among any places
 abbrev pub CleanLinkedDocumentsAreWritten : Type 0
 CleanLinkedDocumentsAreWritten = (frames : Frames) (options : HtmlOptions) (info : InfoView)
     (items : ItemsView) → is_plain_flow items ≡ true → are_clean_items items ≡ true →

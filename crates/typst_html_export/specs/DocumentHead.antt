@@ -1,5 +1,5 @@
--- The head of a document, and its language (HTML Standard 4.2; which entries there are is this
--- project's rule). All that is made has the span 0.
+-- The head of a document, and its language (HTML Standard 4.2; this project decides which entries
+-- there are). All generated nodes have the span 0.
 use Rattle.std.specs.Prelude.{ℕ, List, [], ◌∷◌, ◌++◌, codes, Option, Some, None}
 use Rattle.std.specs.List.{join_by}
 use Rattle.html_dom_tree.specs.Tree.{TextPair, NodeView, text_node, element_node, NodesView, none, node, new_element}
@@ -13,7 +13,7 @@ made_node name attrs ns = element_node (record (new_element name).0 { attrs = at
 abbrev pub charset_node : NodeView
 charset_node = made_node (codes "meta") ((codes "charset", codes "utf-8") ∷ []) none
 
--- an entry that has a name
+-- an entry with a name
 abbrev pub entry_node : (name content : List ℕ) → NodeView
 entry_node name content =
     made_node (codes "meta") ((codes "name", name) ∷ (codes "content", content) ∷ []) none
@@ -24,7 +24,7 @@ viewport_node = entry_node (codes "viewport") (codes "width=device-width, initia
 abbrev pub title_node : (title : List ℕ) → NodeView
 title_node title = made_node (codes "title") [] (node (text_node title 0) none)
 
--- where a text is given, even an empty one
+-- if a text is given, even an empty one
 abbrev pub title_nodes : Option (List ℕ) → List NodeView
 title_nodes None = []
 title_nodes (Some title) = title_node title ∷ []
@@ -33,11 +33,11 @@ abbrev pub description_nodes : Option (List ℕ) → List NodeView
 description_nodes None = []
 description_nodes (Some text) = entry_node (codes "description") text ∷ []
 
--- texts in one, with `, ` between
+-- texts joined by `, `
 abbrev pub joined_text : List (List ℕ) → List ℕ
 joined_text = join_by (λ text. text) (codes ", ")
 
--- where there are texts, even empty ones
+-- if there are texts, even empty ones
 abbrev pub list_meta_nodes : (name : List ℕ) → List (List ℕ) → List NodeView
 list_meta_nodes name [] = []
 list_meta_nodes name (text ∷ texts) = entry_node name (joined_text (text ∷ texts)) ∷ []
@@ -55,7 +55,7 @@ abbrev pub region_text : Option (List ℕ) → List ℕ
 region_text None = []
 region_text (Some region) = codes "-" ++ region
 
--- the language and the region (RFC 3066); English where none is known
+-- the language and the region (RFC 3066); English if none is known
 abbrev pub lang_text : Option LocaleView → List ℕ
 lang_text None = codes "en"
 lang_text (Some locale) = locale.lang ++ region_text locale.region

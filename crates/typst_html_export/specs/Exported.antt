@@ -1,4 +1,4 @@
--- The HTML text of items, and for what they have none: that of their document with anchors.
+-- The HTML text of items, and the faults that prevent it: those of their document with anchors.
 use Rattle.std.specs.Prelude.{ℕ, List, ◌++◌, map}
 use Rattle.html_dom_tree.specs.Tree.{ElementView}
 use Rattle.html_dom_document.specs.Documents.{InfoView, DocumentView, document_root}
@@ -43,7 +43,7 @@ abbrev pub export_faults : (limit : ℕ) → Frames → HtmlOptions → InfoView
 export_faults limit frames options info items notes = items_document_faults limit items notes
     ++ root_faults frames options (linked_root info items notes)
 
--- the same where links are resolved before it is written
+-- the same if links are resolved before it is written
 abbrev pub export_linked_faults : (limit : ℕ) → Frames → HtmlOptions → InfoView
     → (items notes : ItemsView) → List ExportFaultView
 export_linked_faults limit frames options info items notes = items_document_faults limit items notes

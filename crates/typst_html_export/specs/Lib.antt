@@ -3,6 +3,7 @@ pub mod Assembles
 pub mod CleanInfo
 pub mod DocumentHead
 pub mod Exported
+pub mod Fragments
 pub mod Linked
 pub mod LinkedRoots
 pub mod Outlines

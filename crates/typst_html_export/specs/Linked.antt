@@ -1,4 +1,4 @@
--- Documents of items with anchors for all locations to which links lead.
+-- Documents of items with anchors for all locations that links lead to.
 use Rattle.std.specs.Prelude.{◌≡◌, ℕ, Bool, true, List, Some}
 use Rattle.html_dom_tree.specs.FrameFree.{ElementIsFrameFree}
 use Rattle.html_names.specs.Names.{stands_in}
@@ -8,13 +8,13 @@ use Rattle.html_dom_link.specs.Answered.{first_ids}
 use Rattle.html_dom_link.specs.LinkAnchors.{document_with_new_anchors, document_anchor}
 use Rattle.typst_html_export.specs.Assembled.{assembled_document}
 
--- a document with anchors for these locations, and with what they are called
+-- a document with anchors for these locations, and with their names
 abbrev pub document_with_known_anchors : (is_target : ℕ → Bool) → DocumentView → DocumentView
 document_with_known_anchors is_target d = record (document_with_new_anchors is_target d) {
   introspector = record d.introspector { anchor = document_anchor is_target d };
 }
 
--- with anchors for all locations to which links were recorded
+-- with anchors for all locations that recorded links lead to
 abbrev pub document_with_anchors : DocumentView → DocumentView
 document_with_anchors d = document_with_known_anchors d.introspector.is_link_target d
 

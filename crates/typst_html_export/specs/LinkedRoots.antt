@@ -1,4 +1,4 @@
--- What anchors, and the `href` that leads to one, leave of any tree.
+-- What anchors, and the `href` of links, leave unchanged in any tree.
 use Rattle.std.specs.Prelude.{◌≡◌, ◌↔◌, Bool}
 use Rattle.html_dom_tree.specs.FrameFree.{ElementIsFrameFree}
 use Rattle.html_dom_tree.specs.PlainTree.{nodes_normal}
@@ -9,7 +9,7 @@ use Rattle.html_dom_link.specs.Links.{Hrefs, root_with_links}
 use Rattle.typst_html_encode.specs.Collapsing.{plains_atoms}
 use Rattle.typst_html_encode.specs.ReadingBack.{ElementIsNamed}
 
--- both trees have the same atoms, so that the same is seen of them
+-- both trees have the same atoms, so that the same is visible in them
 abbrev pub HaveSameAtoms : ElementView → ElementView → Type 0
 HaveSameAtoms e old = (preserved : Bool) →
     plains_atoms preserved (nodes_normal e.1) ≡ plains_atoms preserved (nodes_normal old.1)
@@ -18,7 +18,7 @@ HaveSameAtoms e old = (preserved : Bool) →
 abbrev pub AnchorsKeepAtoms : Type 0
 AnchorsKeepAtoms = (x : Targets) (e : ElementView) → HaveSameAtoms (element_with_anchors x e) e
 
--- and so has one with the `href` of its links
+-- and so does one with the `href` of its links
 abbrev pub LinksKeepAtoms : Type 0
 LinksKeepAtoms = (hrefs : Hrefs) (e : ElementView) → HaveSameAtoms (root_with_links hrefs e) e
 

@@ -1,4 +1,4 @@
--- What the pieces of assembly answer.
+-- The results of the parts of assembly.
 use Rattle.std.specs.Prelude.{ℕ}
 use Rattle.std.specs.Borrow.{Bor}
 use Rattle.html_dom_tree.specs.Tree.{Head}
@@ -13,6 +13,6 @@ outline_view (OwnHtml place) = assembled.own_html place
 outline_view OwnBody = assembled.own_body
 outline_view NothingOwn = assembled.nothing_own
 
--- an element at its place
+-- an element and its index
 abbrev pub own_view : ℕ × Bor HtmlElement → ℕ × Head
 own_view own = (own.0, (element_view own.1.now).0)

@@ -1,5 +1,5 @@
--- Documents of items with nodes of one's own in the head that is made: they stand at its end,
--- behind what is known of the document. A root of one's own has its own head, so it stays as it is.
+-- Documents of items with nodes of the caller's in the generated head: they stand at its end,
+-- behind the information. A root that the items bring has its own head, so it stays as it is.
 use Rattle.std.specs.Prelude.{◌≡◌, ℕ, Bool, true, false, List, [], ◌∷◌, ◌++◌, codes}
 use Rattle.html_dom_tree.specs.Tree.{NodeView, NodesView, none, node, ElementView}
 use Rattle.html_dom_tree.specs.Views.{nodes_of}
@@ -14,12 +14,12 @@ use Rattle.typst_html_export.specs.DocumentHead.{made_node, charset_node, viewpo
 use Rattle.typst_html_export.specs.Exported.{linked_root, root_faults}
 use Rattle.typst_html_export.specs.Linked.{document_with_anchors, linked_document}
 
--- the head that is made: what is known of a document, and then these nodes
+-- the generated head: the information, then these nodes
 abbrev pub head_node_with : InfoView → (head : List NodeView) → NodeView
 head_node_with info head = made_node (codes "head") []
     (nodes_of (charset_node ∷ viewport_node ∷ (entry_nodes info ++ head)))
 
--- the root that is made, with these nodes after that head
+-- the new root, with these nodes after that head
 abbrev pub html_node_with_head : InfoView → (head : List NodeView) → NodesView → NodeView
 html_node_with_head info head ns =
     made_node (codes "html") ((codes "lang", lang_text info.locale) ∷ [])
@@ -29,7 +29,7 @@ abbrev pub html_output_with_head : InfoView → (head : List NodeView) → Nodes
 html_output_with_head info head ns =
     record { nodes = node (html_node_with_head info head ns) none; root = 0 }
 
--- what stands around the nodes of a document and of its footnotes
+-- the output with what surrounds the nodes of a document and of its footnotes
 abbrev pub output_with_head : Outline → InfoView → (head : List NodeView)
     → (content notes : NodesView) → OutputView
 output_with_head (own_html place) info head content notes =
@@ -45,7 +45,7 @@ abbrev pub assembled_output_with_head : InfoView → (head : List NodeView)
 assembled_output_with_head info head content notes =
     output_with_head (document_outline content) info head content notes
 
--- the document around nodes, of what is known of it, of these nodes of its head, and of footnotes
+-- the document around nodes, from its information, these nodes for its head, and footnotes
 abbrev pub output_around_with_head : InfoView → (head : List NodeView) → (content : NodesView)
     → (notes : ItemsView) → OutputView
 output_around_with_head info head content notes =
@@ -62,7 +62,7 @@ abbrev pub assembled_document_with_head : InfoView → (head : List NodeView)
 assembled_document_with_head info head items notes =
     document_around_with_head info head (document_nodes items) notes
 
--- with anchors for all locations to which links lead
+-- with anchors for all locations that links lead to
 abbrev pub linked_document_with_head : InfoView → (head : List NodeView)
     → (items notes : ItemsView) → DocumentView
 linked_document_with_head info head items notes =
@@ -102,13 +102,13 @@ abbrev pub NoNodesChangeNothing : Type 0
 NoNodesChangeNothing = (info : InfoView) (items notes : ItemsView) →
     linked_document_with_head info [] items notes ≡ linked_document info items notes
 
--- and so it is, whatever these nodes are, where the items have a root of their own
+-- and so it is, whatever these nodes are, if the items have a root of their own
 abbrev pub OwnRootsHaveNoNodes : Type 0
 OwnRootsHaveNoNodes = (info : InfoView) (head : List NodeView) (items notes : ItemsView) →
     have_own_root items ≡ true →
     linked_document_with_head info head items notes ≡ linked_document info items notes
 
--- which then is that of no information too
+-- which then does not depend on the information either
 abbrev pub OwnRootsHaveNoInfo : Type 0
 OwnRootsHaveNoInfo = (info : InfoView) (items notes : ItemsView) → have_own_root items ≡ true →
     linked_root info items notes ≡ linked_root no_info items notes

@@ -1,4 +1,4 @@
--- Links that lead where the text of their document is read.
+-- Links that lead in the text of their document as it is read.
 use Rattle.std.specs.Prelude.{◌≡◌, ℕ, true, List, [], ◌++◌, All, Option, Some, None}
 use Rattle.html_dom_tree.specs.FrameFree.{ElementIsFrameFree}
 use Rattle.html_dom_tree.specs.PlainTree.{Plain, words, branch}
@@ -10,23 +10,23 @@ use Rattle.typst_html_encode.specs.ReadIds.{plains_texts, read_ids}
 use Rattle.typst_html_encode.specs.Reader.{read}
 use Rattle.typst_html_encode.specs.declared.options.HtmlOptions.{HtmlOptions}
 
--- the names of the places of a tree that is read, if one is
+-- the names of the places of a tree that is read, if there is one
 abbrev pub read_places : Option Plain → List (List ℕ)
 read_places None = []
 read_places (Some (words text)) = []
 read_places (Some (branch name attrs children)) =
     place_names name attrs ++ plains_texts place_names children
 
--- of a document before and after its links were resolved, and its text: each link that got an `href`
--- leads to the anchor of its destination among the places that are read, and that anchor is the first
--- `id` of an element that is read
+-- from a document before and after its links were resolved, and its text: each link that got an
+-- `href` leads to the anchor of its destination among the places that are read, and that anchor is
+-- the first `id` of an element that is read
 abbrev pub GivenLinksLeadWhenRead : (old new : DocumentView) → (text : List ℕ) → Type 0
 GivenLinksLeadWhenRead old new text =
     All (LeadsAmong new.introspector.anchor (read_places (read text)) (read_ids (read text)))
     (document_given_links old new)
 
--- a root whose text can be read: it has no frame, and pretty writing puts no raw text on lines of its
--- own that ends in a closing tag without its last character
+-- a root whose text can be read: it has no frame, and pretty writing puts no raw text on lines of
+-- its own that ends in a closing tag without its last character
 pub record DocumentIsReadable (options : HtmlOptions) (d : DocumentView) : Type 0 where
   pub frame_free : ElementIsFrameFree (document_root d)
   pub ends_well : options.pretty ≡ true → ElementEndsWell true (document_root d)

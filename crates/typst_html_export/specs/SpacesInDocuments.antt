@@ -1,4 +1,4 @@
--- Documents of items in plain flow: what is seen of their text is exactly the items' text.
+-- Documents of items in plain flow: exactly the items' text is visible in their text.
 use Rattle.std.specs.Prelude.{◌≡◌, ℕ, true, List, [], Some}
 use Rattle.html_dom_tree.specs.PlainTree.{element_normal}
 use Rattle.html_dom_tree.specs.Tree.{ElementView}
@@ -19,25 +19,25 @@ use Rattle.typst_html_spaces.specs.SeenBody.{seen_tree, seen_text}
 use Rattle.typst_html_export.specs.Assembled.{items_document_faults}
 use Rattle.typst_html_export.specs.Exported.{linked_root}
 
--- items in plain flow without footnotes, none of which stands too deep
+-- items in plain flow without footnotes, none of which is too deep
 pub record ArePlainItems (limit : ℕ) (items notes : ItemsView) : Type 0 where
   pub plain : is_plain_flow items ≡ true
   pub within : items_too_deep 0 limit items ≡ []
   pub alone : notes ≡ no_items
 
--- of them a document is made
+-- a document is made from them
 abbrev pub PlainDocumentsAreMade : Type 0
 PlainDocumentsAreMade = (limit : ℕ) (items notes : ItemsView) → ArePlainItems limit items notes →
     items_document_faults limit items notes ≡ []
 
--- what is seen of the text of a document's root, plain or pretty, is the text of these items, if
+-- exactly the text of these items is visible in the text of a document's root, plain or pretty, if
 -- the root has no fault
 abbrev pub IsSeenAs : ElementView → ItemsView → Type 0
 IsSeenAs root items = (frames : Frames) (options : HtmlOptions) → ElementIsNamed root →
     writing.document_faults frames options root ≡ [] →
     seen_text (document_text frames options root) ≡ Some (items_text items)
 
--- of a document that is made of items in plain flow, with its anchors
+-- for a document made from items in plain flow, with its anchors
 abbrev pub PlainDocumentsAreSeen : Type 0
 PlainDocumentsAreSeen = (info : InfoView) (items : ItemsView) → is_plain_flow items ≡ true →
     IsSeenAs (linked_root info items no_items) items
@@ -47,15 +47,15 @@ abbrev pub PlainLinkedDocumentsAreSeen : Type 0
 PlainLinkedDocumentsAreSeen = (info : InfoView) (items : ItemsView) → is_plain_flow items ≡ true →
     (hrefs : Hrefs) → IsSeenAs (root_with_links hrefs (linked_root info items no_items)) items
 
--- a root whose text reads as a tree with a body, in which exactly that text of items is seen: the
--- plain text, and the pretty one, in which indents stand
+-- a root whose text reads as a tree with a body in which exactly that text of items is visible: the
+-- plain text, and the pretty one, which has indents
 pub record IsReadAs (root : ElementView) (items : ItemsView) : Type 0 where
   pub frame_free : ElementIsFrameFree root
   pub ends_well : ElementEndsWell true root
   pub plain : seen_tree (Some (element_normal root)) ≡ Some (items_text items)
   pub pretty : seen_tree (Some (element_normal (element_layout root))) ≡ Some (items_text items)
 
--- so is the root of a document that is made of items in plain flow, with its anchors
+-- this holds for the root of a document made from items in plain flow, with its anchors
 abbrev pub PlainDocumentsAreRead : Type 0
 PlainDocumentsAreRead = (info : InfoView) (items : ItemsView) → is_plain_flow items ≡ true →
     IsReadAs (linked_root info items no_items) items
@@ -65,12 +65,12 @@ abbrev pub PlainLinkedDocumentsAreRead : Type 0
 PlainLinkedDocumentsAreRead = (info : InfoView) (items : ItemsView) → is_plain_flow items ≡ true →
     (hrefs : Hrefs) → IsReadAs (root_with_links hrefs (linked_root info items no_items)) items
 
--- where items in plain flow have no footnotes, that is so of a document
+-- if items in plain flow have no footnotes, this holds for a document
 abbrev pub SpacesAreLeft : DocumentView → (items notes : ItemsView) → Type 0
 SpacesAreLeft d items notes = is_plain_flow items ≡ true → notes ≡ no_items →
     IsReadAs (document_root d) items
 
--- and in a text exactly the items' text is seen
+-- and exactly the items' text is visible in a text
 abbrev pub SpacesAreSeen : (text : List ℕ) → (items notes : ItemsView) → Type 0
 SpacesAreSeen text items notes = is_plain_flow items ≡ true → notes ≡ no_items →
     seen_text text ≡ Some (items_text items)

@@ -1,4 +1,4 @@
-//! Documents made of items.
+//! Documents made from items.
 
 ghost use Rattle.std.specs.Prelude.{◌≡◌, ◌≤◌, IfOk, map, option_map};
 ghost use Rattle.html_dom_link.specs.Distinct.{IdsAreDistinct};
@@ -40,19 +40,19 @@ use std::collections::BTreeMap;
 use std::mem;
 use typst_html_encode::ExportFault;
 
-/// The document of items, with what is known of it and with footnotes, and with anchors for all
-/// locations to which links lead.
+/// Makes a document from items, information about it and footnotes, with anchors for all locations
+/// that links lead to.
 ///
-/// It is that of [`html_document_for_bundle`], in which the targets of start tags and of links in
-/// frames then get anchors as by [`create_link_anchors`], where they stand in the tree; the
-/// document's introspector knows them: each is the name of what serves its location in the tree. The
-/// positions that it knows stay those of the tree without anchors. Where all ids of the tree without
-/// anchors differ, those of the answered one do. Anchors are not seen: what is seen below the root
-/// once white space has collapsed is what is seen there without anchors. It fails as
-/// `html_document_for_bundle` does.
+/// Makes the document of [`html_document_for_bundle`], and then anchors for the targets of start
+/// tags and of links in frames, as [`create_link_anchors`] does, where they stand in the tree. The
+/// document's introspector knows them: each is the name of what serves its location in the tree.
+/// The positions that it knows stay those of the tree without anchors. If all ids of the tree
+/// without anchors differ, those of the returned one do. Anchors are invisible: once white space
+/// has collapsed, exactly what is visible below the root without anchors is visible with them.
+/// Fails as `html_document_for_bundle` does.
 ///
-/// Of items in plain flow, without footnotes and none too deep, a document is always made, out of
-/// memory aside, and once white space has collapsed exactly their text is seen in its body.
+/// For items in plain flow, without footnotes and none too deep, it fails only if an allocation
+/// fails, and once white space has collapsed exactly their text is visible in the document's body.
 ///
 /// ```
 /// use typst_html::{DocumentInfo, Item, Location, html_document, push_located};
@@ -87,7 +87,7 @@ pub fn html_document(
         (items_view items.now) (items_view footnotes.now)) →
         IfOk result (λ document. IdsAreDistinct (document_view document)) }
     // Items in plain flow, without footnotes and none too deep, become a document, out of memory
-    // aside, and in its text exactly theirs is seen.
+    // aside, and in its text exactly theirs is visible.
     ensures plain { ArePlainItems limit (items_view items.now) (items_view footnotes.now) →
         FailsByMemoryAlone result }
     ensures spaces { IfOk result (λ document. SpacesAreLeft (document_view document)
@@ -96,16 +96,16 @@ pub fn html_document(
     html_document_with_head(alloc, items, info, &[], footnotes, limit)
 }
 
-/// The document of items as [`html_document`] makes it, with nodes of one's own in its head: a
+/// Makes a document from items like [`html_document`], with nodes of your own in its head: a
 /// stylesheet, an icon, `meta`.
 ///
-/// They are copied to the end of the head that is made, behind what is made of the information. There
-/// they are nodes of the document like all others: their css becomes `style`, positions lead to them,
-/// targets among them get anchors, and no other anchor gets one of their ids.
+/// Copies them to the end of the head that is made, behind what comes from the information. There
+/// they are nodes of the document like all others: their css becomes `style`, positions lead to
+/// them, targets among them get anchors, and no other anchor gets one of their ids.
 ///
-/// Where the items have a root of their own ([`has_own_root`]), its head is theirs too: the document
-/// is that of `html_document`, in whose tree neither the information nor these nodes are. Without such
-/// nodes it is always that (`laws::own_heads`). It fails as `html_document` does, whatever the nodes
+/// If the items have a root of their own ([`has_own_root`]), its head is theirs too: the document
+/// is that of `html_document`, whose tree has neither the information nor these nodes. Without such
+/// nodes it is always that (`laws::own_heads`). Fails as `html_document` does, whatever the nodes
 /// are.
 ///
 /// ```
@@ -148,7 +148,7 @@ pub fn html_document_with_head(
         (map node_view head.now) (items_view items.now) (items_view footnotes.now)) →
         IfOk result (λ document. IdsAreDistinct (document_view document)) }
     // Items in plain flow, without footnotes and none too deep, become a document, out of memory
-    // aside, and where no node of the head is raw or a frame, in its text exactly theirs is seen.
+    // aside, and if no node of the head is raw or a frame, in its text exactly theirs is visible.
     ensures plain { ArePlainItems limit (items_view items.now) (items_view footnotes.now) →
         FailsByMemoryAlone result }
     ensures spaces { AreReadable (nodes_view head.now) →
@@ -159,7 +159,7 @@ pub fn html_document_with_head(
     Ok(with_anchors(alloc, document)?)
 }
 
-/// Where no link leads to a location, the tree is not looked at.
+/// Does not look at the tree if no link leads to a location.
 fn with_anchors(alloc: Global, mut document: HtmlDocument) -> Result<HtmlDocument, AllocError>
     ensures made { IfOk result (λ made.
         document_view made ≡ document_with_anchors (document_view document)) }
@@ -178,21 +178,21 @@ fn with_anchors(alloc: Global, mut document: HtmlDocument) -> Result<HtmlDocumen
     Ok(made)
 }
 
-/// The document of items, with what is known of it and with footnotes, without anchors.
+/// Makes a document from items, information about it and footnotes, without anchors.
 ///
-/// Items and footnotes become nodes as by [`convert_to_nodes`] at block level, the list of items at
-/// depth 0, that of footnotes at depth 1. An `html` alone, tags aside, is the root as it is; a
-/// `body` alone stays the body; otherwise a `body` is made around the nodes and then those of the
-/// footnotes. The root that is made has the language and a head of what is known. At last the css of
-/// all elements is written into their attributes `style`.
+/// Converts items and footnotes like [`convert_to_nodes`] at block level, the items at depth 0, the
+/// footnotes at depth 1. An `html` alone, tags aside, is the root as it is; a `body` alone stays
+/// the body; otherwise a new `body` holds the nodes and then those of the footnotes. A new root has
+/// the language and a head with the information. Finally writes the css of all elements into their
+/// attributes `style`.
 ///
-/// It fails where an allocation does, and by the first of these: items too deep for the limit,
-/// which is from 1 to 10,000 (`is_depth_limit`); an `html` or `body` among other nodes; footnotes
-/// beside an `html` or `body` of the document's own; footnotes too deep.
+/// Fails if an allocation fails, or by the first of these: items too deep for the limit, which is
+/// from 1 to 10,000 (`is_depth_limit`); an `html` or `body` among other nodes; footnotes beside an
+/// `html` or `body` of the document's own; footnotes too deep.
 ///
-/// Where [`HtmlDocument::new`] says so, positions lead to the elements that hold the tags. Of items
-/// in plain flow, without footnotes, exactly their text is seen in the body once white space has
-/// collapsed.
+/// Positions lead to the elements that hold the tags, where [`HtmlDocument::new`] says so. For
+/// items in plain flow, without footnotes, exactly their text is visible in the body once white
+/// space has collapsed.
 ///
 /// ```
 /// use typst_html::{DocumentInfo, HtmlElem, Item, Pair, html_document_for_bundle, tag};
@@ -218,14 +218,14 @@ pub fn html_document_for_bundle(
         (assembled_document (info_view info.now) (items_view items.now) (items_view footnotes.now))
         (items_document_faults limit (items_view items.now) (items_view footnotes.now)) }
     ensures leads { IfOk result (λ document. PositionsLead (document_view document)) }
-    // Of items in plain flow, without footnotes, exactly their text is seen.
+    // Of items in plain flow, without footnotes, exactly their text is visible.
     ensures spaces { IfOk result (λ document. SpacesAreLeft (document_view document)
         (items_view items.now) (items_view footnotes.now)) }
 {
     document_without_anchors(alloc, items, info, &[], footnotes, limit)
 }
 
-/// The document of items, with nodes of its head, without anchors.
+/// Makes the document of items, with nodes of its head, without anchors.
 fn document_without_anchors(
     alloc: Global,
     items: &[Pair],
@@ -246,12 +246,12 @@ fn document_without_anchors(
     document_around(alloc, content, info, head, footnotes, limit)
 }
 
-/// Whether the items have a root of their own: an `html` alone among their nodes, tags aside.
+/// Returns whether the items have their own root: an `html` alone among their nodes, tags aside.
 ///
 /// Their documents then have that root as it is, so that neither the information nor nodes for the
-/// head are in the tree; no call refuses that. Here it can be asked, at the price of the items' nodes,
-/// which are made and dropped. It fails where an allocation does, and else by the first fault of
-/// making the document without footnotes.
+/// head are in the tree; no call refuses that. This call checks it, at the price of making and
+/// dropping the items' nodes. Fails if an allocation fails, or by the first fault of making the
+/// document without footnotes.
 ///
 /// ```
 /// use typst_html::{HtmlElem, Item, Pair, has_own_root, tag};
@@ -282,7 +282,7 @@ fn have_root(nodes: &[HtmlNode]) -> Result<bool, ExportFault>
     }
 }
 
-/// As [`html_document`] makes it, but the items' texts, attributes and css are moved.
+/// Makes a document like [`html_document`], but moves the items' texts, attributes and css.
 pub(crate) fn document_of_items(
     alloc: Global,
     items: Vec<Pair>,
@@ -301,7 +301,7 @@ pub(crate) fn document_of_items(
     Ok(with_anchors(alloc, document)?)
 }
 
-/// The document around the nodes of its items, with nodes of its head, without anchors.
+/// Makes the document around the nodes of its items, with nodes of its head, without anchors.
 fn document_around(
     alloc: Global,
     content: Vec<HtmlNode>,
@@ -323,7 +323,7 @@ fn document_around(
     Ok(HtmlDocument::new(alloc, output, info.try_clone()?)?)
 }
 
-/// The nodes into which a document's items move.
+/// Converts a document's items, which move into the nodes.
 fn moved(alloc: Global, items: Vec<Pair>, limit: usize) -> Result<Vec<HtmlNode>, ExportFault>
     requires some_limit { 1 ≤ limit }
     requires low_limit { limit ≤ 10000 }
@@ -389,13 +389,13 @@ fn assembled(
 /// What a document has of its own.
 #[derive(Clone, Copy)]
 enum Outline {
-    /// Its root, at that place among the nodes.
+    /// Its root, at that index among the nodes.
     OwnHtml(usize),
     OwnBody,
     NothingOwn,
 }
 
-/// What a document of these nodes has of its own; an `html` or `body` among others is refused.
+/// Returns what these nodes have of their own, and refuses an `html` or `body` among others.
 fn document_outline(nodes: &[HtmlNode]) -> Result<Outline, ExportFault>
     ensures { GivesDocument outline_view result (document_outline (nodes_view nodes.now))
         (outline_faults (document_outline (nodes_view nodes.now)) no_items) }
@@ -416,7 +416,7 @@ fn document_outline(nodes: &[HtmlNode]) -> Result<Outline, ExportFault>
     }
 }
 
-/// The first `html` or `body`, and how many nodes stand before it.
+/// Returns the first `html` or `body`, and its index.
 fn first_own(nodes: &[HtmlNode]) -> Option<(usize, &HtmlElement)>
     ensures { option_map own_view result ≡ first_own (nodes_view nodes.now) }
 {
@@ -445,7 +445,6 @@ fn is_html(element: &HtmlElement) -> bool
     element.tag == tag::html
 }
 
-/// Whether the element is an `html` or `body`.
 #[tactic(auto, unfolding(html_names::specs::Tables::known_tags))]
 fn is_own(element: &HtmlElement) -> bool
     ensures { result ≡ is_own (element_view element.now).0 }
@@ -453,7 +452,7 @@ fn is_own(element: &HtmlElement) -> bool
     is_html(element) || element.tag == tag::body
 }
 
-/// How many nodes are no tags.
+/// Returns the number of nodes other than tags.
 fn shown_count(nodes: &[HtmlNode]) -> usize
     ensures { result ≡ shown_count (nodes_view nodes.now) }
 {
@@ -534,7 +533,7 @@ fn html_output(
     Ok(HtmlOutput::new(nodes, 0))
 }
 
-/// The output with the css of each element of its root in the attribute `style`.
+/// Writes the css of each element of the root into its attribute `style`.
 fn styled(alloc: Global, mut output: HtmlOutput) -> Result<HtmlOutput, AllocError>
     ensures { IfOk result (λ made. output_view made ≡ styled_root (output_view output)) }
 {

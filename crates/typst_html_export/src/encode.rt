@@ -39,10 +39,10 @@ use std::alloc::Global;
 use std::mem;
 use typst_html_encode::{ExportFault, FrameWriter, HtmlOptions, html_in_bundle, html_of};
 
-/// The HTML text of a document: that of its root, as [`html_in_bundle`] writes it.
+/// Returns the HTML text of a document: that of its root, as [`html_in_bundle`] writes it.
 ///
-/// It succeeds exactly where nothing is wrong with the root, and answers the first fault otherwise;
-/// out of memory may come before either. What the text reads as is said at [`html_in_bundle`].
+/// Succeeds exactly if nothing is wrong with the root, and otherwise returns the first fault; out
+/// of memory may come before either. [`html_in_bundle`] says what the text reads as.
 ///
 /// ```
 /// use typst_html::{DocumentInfo, HtmlElem, HtmlOptions, Item, Pair};
@@ -78,17 +78,17 @@ pub fn html<F: FrameWriter>(
     html_in_bundle(alloc, document.root(), options, frames)
 }
 
-/// The HTML text of items, with what is known of their document and with footnotes: that of their
-/// document with anchors.
+/// Returns the HTML text of items, with information about their document and with footnotes: that
+/// of their document with anchors.
 ///
-/// It is made by [`html_document`] and written by [`html`]. `limit` is from 1 to 10,000. It fails
-/// where an allocation does, and else by the first fault of making the document or, where there is
-/// none, of writing its tree.
+/// [`html_document`] makes the document, and [`html`] writes it. `limit` is from 1 to 10,000. Fails
+/// if an allocation fails, or by the first fault of making the document or, if there is none, of
+/// writing its tree.
 ///
-/// For items in plain flow, without footnotes and none too deep, the document is always made, out of
-/// memory aside, and once white space has collapsed exactly their text is seen in the body that is
-/// read. If further all texts, values, roles and labels, and the texts of `info`, hold text
-/// characters alone, and no void element has a body, there is no fault.
+/// For items in plain flow, without footnotes and none too deep, the document is always made, out
+/// of memory aside, and once white space has collapsed exactly their text is visible in the body
+/// that is read. If, further, all texts, values, roles and labels, and the texts of `info`, have
+/// only text characters, and no void element has a body, there is no fault.
 ///
 /// ```
 /// use typst_html::{DocumentInfo, HtmlOptions, Item, Pair, Span, export};
@@ -120,9 +120,9 @@ pub fn export<F: FrameWriter>(
         (export_faults limit (F.drawing frames.now) options.now
         (info_view info.now) (items_view items.now) (items_view footnotes.now)) }
 
-    // Items in plain flow are refused by faults of their document's tree alone, clean ones with
-    // clean information by none, out of memory aside. Once white space has collapsed, exactly their
-    // text is seen.
+    // Items in plain flow are refused only for faults of their document's tree, clean ones with
+    // clean information for none, out of memory aside. Once white space has collapsed, exactly
+    // their text is visible.
     ensures plain { ArePlainItems limit (items_view items.now) (items_view footnotes.now) →
         IfErr result (λ e. IsFirstView e (root_faults (F.drawing frames.now) options.now (linked_root
         (info_view info.now) (items_view items.now) (items_view footnotes.now)))) }
@@ -136,11 +136,11 @@ pub fn export<F: FrameWriter>(
     html_of_made(alloc, document, options, frames)
 }
 
-/// The HTML text of items, as [`export`] writes it, with nodes of one's own in its head: a stylesheet,
-/// an icon, `meta`.
+/// Returns the HTML text of items like [`export`], with nodes of your own in its head: a
+/// stylesheet, an icon, `meta`.
 ///
-/// The document is made by [`html_document_with_head`] and written by [`html`]. It fails as `export`
-/// does, where faults of writing may be in these nodes too.
+/// [`html_document_with_head`] makes the document, and [`html`] writes it. Fails as `export` does,
+/// and for faults of writing in these nodes too.
 ///
 /// ```
 /// use typst_html::{DocumentInfo, HtmlElement, HtmlNode, HtmlOptions};
@@ -174,9 +174,9 @@ pub fn export_with_head<F: FrameWriter>(
         (export_faults_with_head limit (F.drawing frames.now) options.now (info_view info.now)
         (map node_view head.now) (items_view items.now) (items_view footnotes.now)) }
 
-    // Items in plain flow are refused by faults of their document's tree alone, out of memory aside.
-    // Where no node of the head is raw or a frame, exactly their text is seen once white space has
-    // collapsed.
+    // Items in plain flow are refused only for faults of their document's tree, out of memory
+    // aside. If no node of the head is raw or a frame, exactly their text is visible once white
+    // space has collapsed.
     ensures plain { ArePlainItems limit (items_view items.now) (items_view footnotes.now) →
         IfErr result (λ e. IsFirstView e (root_faults (F.drawing frames.now) options.now
         (linked_root_with_head (info_view info.now) (map node_view head.now)
@@ -199,17 +199,17 @@ pub fn export_with_head<F: FrameWriter>(
     html_of_made(alloc, document, options, frames)
 }
 
-/// The HTML text of items whose links lead: that of their document with anchors, once its links are
-/// resolved.
+/// Returns the HTML text of items with links that lead: that of their document with anchors, once
+/// its links are resolved.
 ///
-/// The document is made by [`html_document`], [`resolve_links`](html_dom_link::resolve_links) gives
-/// each `a` without an `href` that stands behind a start tag with a destination the `href` of that
-/// destination's anchor, and [`html`] writes it. It fails as [`export`] does.
+/// [`html_document`] makes the document, [`resolve_links`](html_dom_link::resolve_links) gives each
+/// `a` without an `href` that stands behind a start tag with a destination the `href` of that
+/// destination's anchor, and [`html`] writes it. Fails as [`export`] does.
 ///
-/// Each link that got an `href` leads: a browser takes from it a fragment that indicates the anchor of
-/// its destination, in the tree and, where the text reads back as [`html_in_bundle`] says, in the text
-/// as it is read; where the tree's own ids differ, one of them alone is that name. A link to whose
-/// destination nothing leads stays without one, as [`dead_links`](html_dom_link::dead_links) tells of
+/// Each link that got an `href` leads: the fragment that a browser takes from it indicates its
+/// destination's anchor, in the tree and, if the text reads back as [`html_in_bundle`] says, in the
+/// text as read; if the tree's own ids differ, exactly one of them is that name. A link to whose
+/// destination nothing leads gets none; [`dead_links`](html_dom_link::dead_links) reports it for
 /// the document. Spaces stay and clean items are written, as by `export`.
 ///
 /// ```
@@ -255,7 +255,7 @@ pub fn export_linked<F: FrameWriter>(
         (items_view items.now) (items_view footnotes.now)) }
 
     // Each link that got an `href` leads, in the tree and in the text as it is read, and the names
-    // that they may lead to are texts; those that did not are dead.
+    // that they may lead to are texts; the other links are dead.
     ensures leads { let info = info_view info.now in
         let items = items_view items.now in let notes = items_view footnotes.now in
         OnOk result (GivenLinksLead (linked_document info items notes)
@@ -273,8 +273,8 @@ pub fn export_linked<F: FrameWriter>(
         OnOk result (links_without (resolved_root info items notes).1
         ≡ document_dead_links (linked_document info items notes)) }
 
-    // Where the ids of the tree differ before it has anchors, all of the written tree do, and each of
-    // these links leads to a name that stands at one place alone.
+    // If the ids of the tree differ before it has anchors, all of the written tree do, and each of
+    // these links leads to a name that only one place has.
     ensures distinct { let info = info_view info.now in
         let items = items_view items.now in let notes = items_view footnotes.now in
         IdsAreDistinct (assembled_document info items notes) →
@@ -290,11 +290,10 @@ pub fn export_linked<F: FrameWriter>(
     html_of_made(alloc, document, options, frames)
 }
 
-/// The HTML text of items, as [`export`] writes it, for whoever owns the items and does not need them
-/// any more: their texts, attributes and css are moved, where that call copies them.
+/// Consumes items and returns their HTML text, as [`export`] writes it, but moves the texts,
+/// attributes and css that that call copies.
 ///
-/// The items are gone, also where they are refused. Whoever wants to mend refused items lends them to
-/// [`export`].
+/// Drops the items, even if they are refused. To mend refused items, pass a borrow to [`export`].
 pub fn export_items<F: FrameWriter>(
     alloc: Global,
     items: Vec<Pair>,
@@ -316,7 +315,7 @@ pub fn export_items<F: FrameWriter>(
     html_of_made(alloc, document, options, frames)
 }
 
-/// The HTML text of a document that is not needed any more, as [`html`] writes it.
+/// Consumes a document and returns its HTML text, as [`html`] writes it.
 fn html_of_made<F: FrameWriter>(
     alloc: Global,
     document: HtmlDocument,

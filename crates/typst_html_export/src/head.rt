@@ -17,8 +17,7 @@ use html_names::output::Output;
 use html_names::{attr, tag};
 use std::alloc::{AllocError, Global};
 
-/// The head of a document: how it is encoded, how it is shown, what is known of it, and then nodes
-/// of its own.
+/// Makes the head of a document: encoding, viewport, information, and then nodes of its own.
 pub(crate) fn head_node(
     alloc: Global,
     info: &DocumentInfo,
@@ -107,7 +106,7 @@ fn push_list(
     Ok(())
 }
 
-/// Texts in one, with `, ` between.
+/// Joins texts with `, `.
 fn joined_text(alloc: Global, texts: &[String]) -> Result<String, AllocError>
     ensures { IfOk result (λ text. text_view text ≡ joined_text (texts_view texts.now)) }
 {
@@ -171,7 +170,7 @@ fn title_node(alloc: Global, title: &String) -> Result<HtmlNode, AllocError>
     Ok(HtmlNode::Element(element))
 }
 
-/// The language of a document, English where none is known.
+/// Returns the language of a document, or English if it is not known.
 pub(crate) fn lang_text(alloc: Global, locale: &Option<Locale>) -> Result<String, AllocError>
     ensures { IfOk result
         (λ text. text_view text ≡ lang_text (option_map locale_view locale.now)) }

@@ -1,4 +1,4 @@
-//! Laws of documents that are made of items. Each function has laws as its contract, and does
+//! Laws of documents made from items. The contract of each function has laws; the functions do
 //! nothing.
 
 ghost use Rattle.typst_html_export.specs.CleanInfo.{CleanDocumentsAreWritten, CleanLinkedDocumentsAreWritten};
@@ -6,9 +6,9 @@ ghost use Rattle.typst_html_export.specs.LinkedRoots.{AnchorsKeepAtoms, LinksKee
 ghost use Rattle.typst_html_export.specs.OwnHead.{NoNodesChangeNothing, OwnRootsHaveNoInfo, OwnRootsHaveNoNodes};
 ghost use Rattle.typst_html_export.specs.SpacesInDocuments.{PlainDocumentsAreMade, PlainDocumentsAreSeen, PlainLinkedDocumentsAreRead, PlainLinkedDocumentsAreSeen};
 
-/// Items in plain flow, without footnotes and none too deep, become a document, and what is seen of
-/// its text, plain or pretty and with its anchors, is exactly the items' text, where its root has
-/// valid names and no fault. If items and information are clean, there is no fault.
+/// Items in plain flow, without footnotes and none too deep, become a document, and exactly the
+/// items' text is visible in its text, plain or pretty and with its anchors, if its root has valid
+/// names and no fault. If items and information are clean, there is no fault.
 pub fn plain_documents()
     ensures made { PlainDocumentsAreMade }
     ensures seen { PlainDocumentsAreSeen }
@@ -17,15 +17,15 @@ pub fn plain_documents()
 
 /// The document of items in plain flow, without footnotes, with its anchors and with the `href` of
 /// its links, whatever names these lead to: the root shows exactly the items' text, plain or
-/// pretty, and so does its text where the root has valid names and no fault. If items and
-/// information are clean, there is no fault.
+/// pretty, and so does its text if the root has valid names and no fault. If items and information
+/// are clean, there is no fault.
 pub fn plain_documents_with_links()
     ensures read { PlainLinkedDocumentsAreRead }
     ensures seen { PlainLinkedDocumentsAreSeen }
     ensures clean { CleanLinkedDocumentsAreWritten }
 {}
 
-/// Anchors, and the `href` of links, change nothing of what is seen of a tree, once white space has
+/// Anchors, and the `href` of links, change nothing visible in a tree, once white space has
 /// collapsed. With the `href` of links no frame comes or goes, and valid names stay valid.
 pub fn links_are_unseen()
     ensures anchors { AnchorsKeepAtoms }
@@ -34,8 +34,8 @@ pub fn links_are_unseen()
     ensures named { LinksKeepNames }
 {}
 
-/// Nodes of one's own in the head change nothing of a document where there are none, or where its
-/// items have a root of their own. Then what is known of the document is not in its tree either.
+/// Nodes of your own in the head change nothing of a document if there are none, or if its items
+/// have a root of their own. In the latter case the information is not in its tree either.
 pub fn own_heads()
     ensures none { NoNodesChangeNothing }
     ensures own { OwnRootsHaveNoNodes }

@@ -3,7 +3,6 @@ use Rattle.std.proofs.Common.{◌≡◌, ℕ, true, false, not, ◌&&◌, ◌||�
 use Rattle.std.specs.Prelude.{None}
 use Rattle.std.proofs.lemmas.Bool.{and_left, and_right, cases_Bool, false≢true, or_left, or_parts}
 use Rattle.html_names.specs.Kinds.{is_void}
-use Rattle.html_names.specs.Names.{stands_in}
 use Rattle.html_dom_nest.specs.Ancestors.{Ancestor}
 use Rattle.html_dom_nest.specs.Contents.{has_unread_end}
 use Rattle.html_dom_nest.specs.NestingRules.{body_misnesting, is_never_read, is_selected_content}
@@ -19,28 +18,11 @@ use Rattle.typst_html_parse_open.specs.declared.modes.Mode.TheVariants.{InBody, 
 use Rattle.typst_html_parse_open.specs.declared.modes.Scope.TheVariants.{General}
 use Rattle.typst_html_parse_tree.specs.PageBodies.{element_begun, formatted, in_body_start, inserted, is_nested}
 use Rattle.typst_html_parse_tree.specs.PageTrees.{by_mode}
-use Rattle.typst_html_nest.proofs.BegunBasics.{Opens, either, first_false, head_begun, if_none, leaf_begun, not_void, one_of, second_false, skip, void_of}
+use Rattle.typst_html_nest.proofs.Opened.{Opens, head_begun, leaf_begun, not_void, one_of, void_of}
+use Rattle.typst_html_nest.proofs.Branches.{either, first_false, if_none, second_false, skip}
 use Rattle.typst_html_nest.proofs.ClosedBefore.{ClosesNone, closes_none, none_same_open, nothing_closed, nothing_formatted, select_none}
-use Rattle.typst_html_nest.proofs.KindFacts.{excluded, fails_of, not_included}
+use Rattle.typst_html_nest.proofs.KindFacts.{fails_of, names, outside_of}
 use Rattle.typst_html_nest.proofs.Ways.{IsCalm, is_body_mode}
-
--- kinds of names
-module _ (n : List ℕ) where
-  leaf_no_svg : of kind.Leaf n ≡ true → of kind.Svg n ≡ false
-  unfolding of stands_in
-  leaf_no_svg h = excluded kind.Svg kind.Leaf n refl h
-
-  leaf_no_math : of kind.Leaf n ≡ true → of kind.Math n ≡ false
-  unfolding of stands_in
-  leaf_no_math h = excluded kind.Math kind.Leaf n refl h
-
-  no_head_leaf : of kind.HeadContent n ≡ false → of kind.HeadLeaf n ≡ false
-  unfolding of stands_in
-  no_head_leaf h = not_included kind.HeadContent kind.HeadLeaf n refl h
-
-  no_column : of kind.TablePart n ≡ false → of kind.Col n ≡ false
-  unfolding of stands_in
-  no_column h = not_included kind.TablePart kind.Col n refl h
 
 -- the rules of an element of HTML in a body
 pub record StaysInBody (n : List ℕ) (around : Surroundings) : Type 0 where
@@ -87,27 +69,23 @@ module _ (tag : StartTag) (above : List Ancestor) (p q : Page) (calm : IsCalm ab
     | inr h ↦ and_left (of kind.Form n) (has (is n) p.stack) h
   ]
 
-  svg_whole : of kind.Svg n ≡ true → is_void n ≡ false
-  unfolding is_void of stands_in
-  svg_whole h = fails_of is_void kind.Svg n refl h
-
-  math_whole : of kind.Math n ≡ true → is_void n ≡ false
-  unfolding is_void of stands_in
-  math_whole h = fails_of is_void kind.Math n refl h
-
   -- the element is opened
   insert_taken : of kind.HeadContent n ≡ false → inserted tag p ≡ one_of (is_void n) q
   insert_taken head =
+      let no_leaf = outside_of (of kind.HeadContent) kind.HeadLeaf n (unfold names in refl) head in
+      let no_column = outside_of (of kind.TablePart) kind.Col n (unfold names in refl) stays.part in
       either (of kind.Leaf n) _ _ (one_of (is_void n) q)
-      (λ h. leaf_begun tag p q ops (leaf_no_svg n h) (leaf_no_math n h)
+      (λ h. leaf_begun tag p q ops (fails_of (of kind.Svg) kind.Leaf n (unfold names in refl) h)
+      (fails_of (of kind.Math) kind.Leaf n (unfold names in refl) h)
       ∙ ap (λ b. one_of b q)
       (sym (void_of n ends (or_left (of kind.Leaf n) (of kind.HeadLeaf n) h))))
       (λ leaf. either (of kind.Svg n) _ _ (one_of (is_void n) q)
-      (λ h. ops.svg h ∙ ap (λ b. one_of b q) (sym (svg_whole h)))
+      (λ h. ops.svg h
+      ∙ ap (λ b. one_of b q) (sym (fails_of is_void kind.Svg n (unfold names in refl) h)))
       (λ a. either (of kind.Math n) _ _ (one_of (is_void n) q)
-      (λ h. ops.math h ∙ ap (λ b. one_of b q) (sym (math_whole h)))
-      (λ b. ops.plain a b ∙ ap (λ v. one_of v q)
-      (sym (not_void n leaf (no_head_leaf n head) (no_column n stays.part))))))
+      (λ h. ops.math h
+      ∙ ap (λ b. one_of b q) (sym (fails_of is_void kind.Math n (unfold names in refl) h)))
+      (λ b. ops.plain a b ∙ ap (λ v. one_of v q) (sym (not_void n leaf no_leaf no_column)))))
 
   begin_taken : of kind.HeadContent n ≡ false → element_begun tag p ≡ one_of (is_void n) q
   begin_taken head =

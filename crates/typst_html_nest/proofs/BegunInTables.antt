@@ -1,33 +1,28 @@
 -- The start tag of an element that stays in a head or in a table opens it, and does nothing else.
-use Rattle.std.proofs.Common.{◌≡◌, ℕ, Bool, true, false, not, ◌&&◌, ◌||◌, List, inl, inr, refl, sym, ap, ◌∙◌}
-use Rattle.std.proofs.lemmas.Bool.{and_parts, false≢true, not-true, or_cases}
+use Rattle.std.proofs.Common.{◌≡◌, ℕ, Bool, true, false, not, ◌&&◌, ◌||◌, List, inl, inr, map, refl, sym, ap, ◌∙◌}
+use Rattle.std.specs.Prelude.{Option, Some, None}
+use Rattle.std.proofs.lemmas.Bool.{and_parts, not-true, or_cases}
 use Rattle.html_names.specs.Kinds.{is_void}
-use Rattle.html_names.specs.Names.{stands_in}
 use Rattle.html_dom_nest.specs.Contents.{has_unread_end}
 use Rattle.html_dom_nest.specs.NestingRules.{has_place, is_in_tables}
+use Rattle.html_dom_nest.specs.declared.reading.Place.{Place}
 use Rattle.html_dom_nest.specs.declared.reading.Place.TheVariants as place
-use Rattle.typst_html_parse_names.specs.PageNames.{of}
+use Rattle.typst_html_parse_names.specs.PageNames.{kind_names, of}
+use Rattle.typst_html_parse_names.specs.declared.kind.Kind.{Kind}
 use Rattle.typst_html_parse_names.specs.declared.kind.Kind.TheVariants as kind
 use Rattle.typst_html_parse_open.specs.Pages.{Page, Reads, Start, StartTag, Turn, opened, taken}
-use Rattle.typst_html_parse_tree.specs.PageBodies.{head_element, in_head, in_head_noscript, leaf}
-use Rattle.typst_html_parse_tree.specs.PageTrees.{in_columns, in_row, in_section, in_table}
-use Rattle.typst_html_nest.proofs.BegunBasics.{Opens, head_begun, leaf_begun, one_of}
-use Rattle.typst_html_nest.proofs.KindFacts.{each_of, included, passes_of}
+use Rattle.typst_html_parse_open.specs.declared.modes.Mode.{Mode}
+use Rattle.typst_html_parse_open.specs.declared.modes.Mode.TheVariants.{InHead, InHeadNoscript, InTable, InColumns, InSection, InRow}
+use Rattle.typst_html_parse_tree.specs.PageBodies.{head_element, leaf}
+use Rattle.typst_html_parse_tree.specs.PageTrees.{by_mode}
+use Rattle.typst_html_nest.proofs.Opened.{Opens, head_begun, leaf_begun, one_of}
+use Rattle.typst_html_nest.proofs.Branches.{first_true}
+use Rattle.typst_html_nest.proofs.KindFacts.{AllPass, agree_of, names, passes_of}
+use Rattle.typst_html_nest.proofs.Modes.{mode_in}
 
--- it is opened as it stands, and not closed at once
-abbrev is_whole : List ℕ → Bool
-is_whole n = not (is_void n) && (not (of kind.Svg n) && not (of kind.Math n))
-
--- and closed at once
-abbrev is_leaf : List ℕ → Bool
-is_leaf n = is_void n && (not (of kind.Svg n) && not (of kind.Math n))
-
-in_tables : (n : List ℕ) → of kind.Template n ≡ false → is_in_tables n ≡ true →
-    of kind.ScriptOrStyle n ≡ true
-in_tables n plain h = elim (or_cases (of kind.ScriptOrStyle n) (of kind.Template n) h) [
-  | inl e ↦ e
-  | inr e ↦ absurd (false≢true (sym plain ∙ e))
-]
+-- neither `svg` nor `math`
+abbrev is_html_name : List ℕ → Bool
+is_html_name n = not (of kind.Svg n) && not (of kind.Math n)
 
 module _ (tag : StartTag) (p q : Page) (ops : Opens tag p q)
     (plain : of kind.Template tag.name ≡ false) (ends : has_unread_end tag.name ≡ false) where
@@ -41,186 +36,81 @@ module _ (tag : StartTag) (p q : Page) (ops : Opens tag p q)
   abbrev result : Reads Turn
   result = taken (one_of (is_void n) q)
 
-  whole_begun : is_whole n ≡ true → taken (opened n tag.attrs p) ≡ result
-  whole_begun h =
-      let a = and_parts (not (is_void n)) (not (of kind.Svg n) && not (of kind.Math n)) h in
+  abbrev read_in : Mode → List ℕ → Reads Turn
+  read_in m l = by_mode m (Start (with_name l)) p
+
+  -- a kind of elements that the rules of a mode open as they stand
+  part : (m : Mode) (k : Kind) →
+      map (read_in m) (kind_names k) ≡ map (λ l. taken (opened l tag.attrs p)) (kind_names k) →
+      AllPass (λ l. not (is_void l) && is_html_name l) (kind_names k) → of k n ≡ true →
+      by_mode m (Start tag) p ≡ result
+  part m k same whole h =
+      let test = λ (l : List ℕ). not (is_void l) && is_html_name l in
+      let a = and_parts (not (is_void n)) (is_html_name n) (passes_of test k n whole h) in
       let b = and_parts (not (of kind.Svg n)) (not (of kind.Math n)) a.1 in
-      ap taken (ops.plain (not-true (of kind.Svg n) b.0) (not-true (of kind.Math n) b.1)
+      agree_of (read_in m) (λ l. taken (opened l tag.attrs p)) k n same h
+      ∙ ap taken (ops.plain (not-true (of kind.Svg n) b.0) (not-true (of kind.Math n) b.1)
       ∙ ap (λ v. one_of v q) (sym (not-true (is_void n) a.0)))
 
-  content_begun : of kind.HeadContent n ≡ true → taken (head_element tag p) ≡ result
-  content_begun h = ap taken (head_begun tag p q ops h ends)
+  -- or as elements of a head
+  content : (m : Mode) (k : Kind) →
+      map (read_in m) (kind_names k)
+      ≡ map (λ l. taken (head_element (with_name l) p)) (kind_names k) →
+      AllPass (of kind.HeadContent) (kind_names k) → of k n ≡ true →
+      by_mode m (Start tag) p ≡ result
+  content m k same head h =
+      agree_of (read_in m) (λ l. taken (head_element (with_name l) p)) k n same h
+      ∙ ap taken (head_begun tag p q ops (passes_of (of kind.HeadContent) k n head h) ends)
 
-  -- in the head
+  script : is_in_tables n ≡ true → of kind.ScriptOrStyle n ≡ true
+  script h = first_true (of kind.ScriptOrStyle n) (of kind.Template n) h plain
 
-  abbrev InHead : List ℕ → Type 0
-  InHead m = in_head (Start (with_name m)) p ≡ taken (head_element (with_name m) p)
+  column : of kind.Col n ≡ true → by_mode InColumns (Start tag) p ≡ result
+  column h =
+      let test = λ (l : List ℕ). is_void l && is_html_name l in
+      let a = and_parts (is_void n) (is_html_name n)
+      (passes_of test kind.Col n (unfold names in refl) h) in
+      let b = and_parts (not (of kind.Svg n)) (not (of kind.Math n)) a.1 in
+      agree_of (read_in InColumns) (λ l. taken (leaf (with_name l) p)) kind.Col n
+      (unfold names in refl) h
+      ∙ ap taken
+      (leaf_begun tag p q ops (not-true (of kind.Svg n) b.0) (not-true (of kind.Math n) b.1)
+      ∙ ap (λ v. one_of v q) (sym a.0))
 
-  head_content : of kind.HeadContent n ≡ true → in_head (Start tag) p ≡ taken (head_element tag p)
-  unfolding of stands_in
-  head_content h = each_of InHead kind.HeadContent n
-      (refl, (refl, (refl, (refl, (refl, (refl, (refl, (refl, (refl, tt))))))))) h
+  -- by the rules of the mode of that place, if it is one
+  abbrev TakenIn : Option Mode → Type 0
+  TakenIn None = Unit {0}
+  TakenIn (Some m) = by_mode m (Start tag) p ≡ result
 
-  abbrev NoscriptInHead : List ℕ → Type 0
-  NoscriptInHead m = in_head (Start (with_name m)) p ≡ taken (opened m tag.attrs p)
-
-  head_noscript : of kind.Noscript n ≡ true → in_head (Start tag) p ≡ taken (opened n tag.attrs p)
-  unfolding of stands_in
-  head_noscript h = each_of NoscriptInHead kind.Noscript n (refl, tt) h
-
-  noscript_whole : of kind.Noscript n ≡ true → is_whole n ≡ true
-  unfolding is_void of stands_in
-  noscript_whole h = passes_of is_whole kind.Noscript n refl h
-
-  pub head_taken : has_place place.Head n ≡ true → in_head (Start tag) p ≡ result
-  head_taken h =
-      elim (or_cases (of kind.HeadContent n || of kind.Noscript n) (of kind.Template n) h) [
-        | inl e ↦ elim (or_cases (of kind.HeadContent n) (of kind.Noscript n) e) [
-          | inl c ↦ head_content c ∙ content_begun c
-          | inr c ↦ head_noscript c ∙ whole_begun (noscript_whole c)
-        ]
-        | inr e ↦ absurd (false≢true (sym plain ∙ e))
+  pub place_taken : (l : Place) → has_place l n ≡ true → TakenIn (mode_in l)
+  unfolding names
+  place_taken place.Page h = tt
+  place_taken place.Head h =
+      elim (or_cases (of kind.HeadContent n) (of kind.Noscript n)
+      (first_true (of kind.HeadContent n || of kind.Noscript n) (of kind.Template n) h plain)) [
+        | inl e ↦ content InHead kind.HeadContent refl refl e
+        | inr e ↦ part InHead kind.Noscript refl refl e
       ]
-
-  abbrev InNoscript : List ℕ → Type 0
-  InNoscript m = in_head_noscript (Start (with_name m)) p ≡ taken (head_element (with_name m) p)
-
-  noscript_content : of kind.NoscriptContent n ≡ true →
-      in_head_noscript (Start tag) p ≡ taken (head_element tag p)
-  unfolding of stands_in
-  noscript_content h = each_of InNoscript kind.NoscriptContent n
-      (refl, (refl, (refl, (refl, (refl, (refl, tt)))))) h
-
-  noscript_in_head : of kind.NoscriptContent n ≡ true → of kind.HeadContent n ≡ true
-  unfolding of stands_in
-  noscript_in_head h = included kind.HeadContent kind.NoscriptContent n refl h
-
-  pub noscript_taken : has_place place.HeadNoscript n ≡ true →
-      in_head_noscript (Start tag) p ≡ result
-  noscript_taken h = noscript_content h ∙ content_begun (noscript_in_head h)
-
-  -- in tables
-
-  script_in_head : of kind.ScriptOrStyle n ≡ true → of kind.HeadContent n ≡ true
-  unfolding of stands_in
-  script_in_head h = included kind.HeadContent kind.ScriptOrStyle n refl h
-
-  abbrev InTable : List ℕ → Type 0
-  InTable m = in_table (Start (with_name m)) p ≡ taken (head_element (with_name m) p)
-
-  table_script : of kind.ScriptOrStyle n ≡ true →
-      in_table (Start tag) p ≡ taken (head_element tag p)
-  unfolding of stands_in
-  table_script h = each_of InTable kind.ScriptOrStyle n (refl, (refl, tt)) h
-
-  abbrev PartInTable : List ℕ → Type 0
-  PartInTable m = in_table (Start (with_name m)) p ≡ taken (opened m tag.attrs p)
-
-  table_caption : of kind.Caption n ≡ true → in_table (Start tag) p ≡ taken (opened n tag.attrs p)
-  unfolding of stands_in
-  table_caption h = each_of PartInTable kind.Caption n (refl, tt) h
-
-  caption_whole : of kind.Caption n ≡ true → is_whole n ≡ true
-  unfolding is_void of stands_in
-  caption_whole h = passes_of is_whole kind.Caption n refl h
-
-  table_columns : of kind.Colgroup n ≡ true → in_table (Start tag) p ≡ taken (opened n tag.attrs p)
-  unfolding of stands_in
-  table_columns h = each_of PartInTable kind.Colgroup n (refl, tt) h
-
-  columns_whole : of kind.Colgroup n ≡ true → is_whole n ≡ true
-  unfolding is_void of stands_in
-  columns_whole h = passes_of is_whole kind.Colgroup n refl h
-
-  table_section : of kind.Section n ≡ true → in_table (Start tag) p ≡ taken (opened n tag.attrs p)
-  unfolding of stands_in
-  table_section h = each_of PartInTable kind.Section n (refl, (refl, (refl, tt))) h
-
-  section_whole : of kind.Section n ≡ true → is_whole n ≡ true
-  unfolding is_void of stands_in
-  section_whole h = passes_of is_whole kind.Section n refl h
-
-  pub table_taken : has_place place.Table n ≡ true → in_table (Start tag) p ≡ result
-  table_taken h = elim (or_cases (of kind.Caption n || of kind.Colgroup n || of kind.Section n)
+  place_taken place.HeadNoscript h = content InHeadNoscript kind.NoscriptContent refl refl h
+  place_taken place.Table h =
+      elim (or_cases (of kind.Caption n || of kind.Colgroup n || of kind.Section n)
       (is_in_tables n) h) [
-        | inl e ↦ elim (or_cases (of kind.Caption n || of kind.Colgroup n) (of kind.Section n) e) [
-          | inl f ↦ elim (or_cases (of kind.Caption n) (of kind.Colgroup n) f) [
-            | inl g ↦ table_caption g ∙ whole_begun (caption_whole g)
-            | inr g ↦ table_columns g ∙ whole_begun (columns_whole g)
+        | inl c ↦ elim (or_cases (of kind.Caption n || of kind.Colgroup n) (of kind.Section n) c) [
+          | inl d ↦ elim (or_cases (of kind.Caption n) (of kind.Colgroup n) d) [
+            | inl e ↦ part InTable kind.Caption refl refl e
+            | inr e ↦ part InTable kind.Colgroup refl refl e
           ]
-          | inr f ↦ table_section f ∙ whole_begun (section_whole f)
+          | inr e ↦ part InTable kind.Section refl refl e
         ]
-        | inr e ↦ let s = in_tables n plain e in table_script s ∙ content_begun (script_in_head s)
+        | inr e ↦ content InTable kind.ScriptOrStyle refl refl (script e)
       ]
-
-  abbrev InSection : List ℕ → Type 0
-  InSection m = in_section (Start (with_name m)) p ≡ taken (head_element (with_name m) p)
-
-  section_script : of kind.ScriptOrStyle n ≡ true →
-      in_section (Start tag) p ≡ taken (head_element tag p)
-  unfolding of stands_in
-  section_script h = each_of InSection kind.ScriptOrStyle n (refl, (refl, tt)) h
-
-  abbrev RowInSection : List ℕ → Type 0
-  RowInSection m = in_section (Start (with_name m)) p ≡ taken (opened m tag.attrs p)
-
-  section_row : of kind.Tr n ≡ true → in_section (Start tag) p ≡ taken (opened n tag.attrs p)
-  unfolding of stands_in
-  section_row h = each_of RowInSection kind.Tr n (refl, tt) h
-
-  row_whole : of kind.Tr n ≡ true → is_whole n ≡ true
-  unfolding is_void of stands_in
-  row_whole h = passes_of is_whole kind.Tr n refl h
-
-  pub section_taken : has_place place.Section n ≡ true → in_section (Start tag) p ≡ result
-  section_taken h = elim (or_cases (of kind.Tr n) (is_in_tables n) h) [
-    | inl e ↦ section_row e ∙ whole_begun (row_whole e)
-    | inr e ↦ let s = in_tables n plain e in section_script s ∙ content_begun (script_in_head s)
+  place_taken place.Section h = elim (or_cases (of kind.Tr n) (is_in_tables n) h) [
+    | inl e ↦ part InSection kind.Tr refl refl e
+    | inr e ↦ content InSection kind.ScriptOrStyle refl refl (script e)
   ]
-
-  abbrev InRow : List ℕ → Type 0
-  InRow m = in_row (Start (with_name m)) p ≡ taken (head_element (with_name m) p)
-
-  row_script : of kind.ScriptOrStyle n ≡ true → in_row (Start tag) p ≡ taken (head_element tag p)
-  unfolding of stands_in
-  row_script h = each_of InRow kind.ScriptOrStyle n (refl, (refl, tt)) h
-
-  abbrev CellInRow : List ℕ → Type 0
-  CellInRow m = in_row (Start (with_name m)) p ≡ taken (opened m tag.attrs p)
-
-  row_cell : of kind.Cell n ≡ true → in_row (Start tag) p ≡ taken (opened n tag.attrs p)
-  unfolding of stands_in
-  row_cell h = each_of CellInRow kind.Cell n (refl, (refl, tt)) h
-
-  cell_whole : of kind.Cell n ≡ true → is_whole n ≡ true
-  unfolding is_void of stands_in
-  cell_whole h = passes_of is_whole kind.Cell n refl h
-
-  pub row_taken : has_place place.Row n ≡ true → in_row (Start tag) p ≡ result
-  row_taken h = elim (or_cases (of kind.Cell n) (is_in_tables n) h) [
-    | inl e ↦ row_cell e ∙ whole_begun (cell_whole e)
-    | inr e ↦ let s = in_tables n plain e in row_script s ∙ content_begun (script_in_head s)
+  place_taken place.Row h = elim (or_cases (of kind.Cell n) (is_in_tables n) h) [
+    | inl e ↦ part InRow kind.Cell refl refl e
+    | inr e ↦ content InRow kind.ScriptOrStyle refl refl (script e)
   ]
-
-  abbrev InColumns : List ℕ → Type 0
-  InColumns m = in_columns (Start (with_name m)) p ≡ taken (leaf (with_name m) p)
-
-  columns_column : of kind.Col n ≡ true → in_columns (Start tag) p ≡ taken (leaf tag p)
-  unfolding of stands_in
-  columns_column h = each_of InColumns kind.Col n (refl, tt) h
-
-  column_leaf : of kind.Col n ≡ true → is_leaf n ≡ true
-  unfolding is_void of stands_in
-  column_leaf h = passes_of is_leaf kind.Col n refl h
-
-  pub columns_taken : has_place place.Columns n ≡ true → in_columns (Start tag) p ≡ result
-  columns_taken h = elim (or_cases (of kind.Col n) (of kind.Template n) h) [
-    | inl e ↦
-        let a =
-        and_parts (is_void n) (not (of kind.Svg n) && not (of kind.Math n)) (column_leaf e) in
-        let b = and_parts (not (of kind.Svg n)) (not (of kind.Math n)) a.1 in
-        columns_column e ∙ ap taken
-        (leaf_begun tag p q ops (not-true (of kind.Svg n) b.0) (not-true (of kind.Math n) b.1)
-        ∙ ap (λ v. one_of v q) (sym a.0))
-    | inr e ↦ absurd (false≢true (sym plain ∙ e))
-  ]
+  place_taken place.Columns h = column (first_true (of kind.Col n) (of kind.Template n) h plain)
+  place_taken place.Body h = tt

@@ -1,9 +1,9 @@
 -- Names that keep their case get their capitals back, once all their letters are small.
-use Rattle.std.proofs.Common.{◌≡◌, ℕ, Bool, true, false, not, List, [], ◌∷◌, bytes_eq, inl, inr, map, refl, sym, ap, ◌∙◌, arith, Option, Some, None, unwrap_or, find}
+use Rattle.std.proofs.Common.{◌≡◌, ℕ, Bool, true, false, not, List, [], ◌∷◌, bytes_eq, map, map-id, refl, sym, ap, ◌∙◌, arith, None, unwrap_or, find}
 use Rattle.std.specs.Char.{to_ascii_lowercase}
-use Rattle.std.specs.List.{list_all, list_any}
-use Rattle.std.specs.Prelude.{if◌then◌else◌, is_some}
-use Rattle.std.proofs.lemmas.Bool.{and_from, and_parts, cases_Bool, false≢true, not-true, or_parts}
+use Rattle.std.specs.List.{list_any}
+use Rattle.std.specs.Prelude.{if◌then◌else◌}
+use Rattle.std.proofs.lemmas.Bool.{and_from, and_parts, both_ways, false_from_ne_true, not-true, or_parts}
 use Rattle.std.proofs.lemmas.Bool.Decides.{nat_tests}
 use Rattle.std.proofs.lemmas.Slice.Eq.{bytes_eq-Decides}
 use Rattle.html_names.proofs.Basics.{bytes_eq-same}
@@ -11,9 +11,12 @@ use Rattle.html_names.specs.Characters.{is_capital}
 use Rattle.html_names.specs.Names.{stands_in}
 use Rattle.html_dom_tree.specs.Attributes.{first, has_name, names_differ}
 use Rattle.html_dom_tree.specs.Tree.{TextPair}
-use Rattle.html_dom_nest.specs.WrittenTags.{keep_case, keeps_case}
-use Rattle.typst_html_parse_names.specs.ForeignNames.{lowered, math_attrs, svg_attrs, svg_names, with_capitals}
-use Rattle.typst_html_nest.proofs.KindFacts.{passes_in}
+use Rattle.html_dom_nest.specs.WrittenTags.{capital_attrs, keep_case, keeps_case}
+use Rattle.html_dom_nest.specs.declared.reading.Space.{Space}
+use Rattle.html_dom_nest.specs.declared.reading.Space.TheVariants.{Html}
+use Rattle.typst_html_parse_names.specs.ForeignNames.{lowered, with_capitals}
+use Rattle.typst_html_nest.proofs.Branches.{absent_parts}
+use Rattle.typst_html_nest.proofs.KindFacts.{AllFail, agree_in}
 use Rattle.typst_html_nest.proofs.Readers.{lowered_attrs}
 
 -- a name without capitals is itself in small letters
@@ -52,24 +55,18 @@ by_case names n P h one other = case_by (list_any is_capital n) names n P h (λ 
     (λ c none. other (small n c) none)
 
 -- the names of a list are told apart by their small letters
-abbrev pub come_back : List (List ℕ) → Bool
-come_back names = list_all (λ m. bytes_eq (with_capitals names (lowered m)) m) names
+abbrev pub ComeBack : List (List ℕ) → Type 0
+ComeBack names = map (λ m. with_capitals names (lowered m)) names ≡ map (λ m. m) names
 
-pub svg_names_back : come_back svg_names ≡ true
-svg_names_back = refl
-
-pub svg_attrs_back : come_back svg_attrs ≡ true
-svg_attrs_back = refl
-
-pub math_attrs_back : come_back math_attrs ≡ true
-math_attrs_back = refl
+pub attrs_come_back : (s : Space) → ComeBack (capital_attrs s)
+attrs_come_back Html = refl
+attrs_come_back s = refl
 
 -- a name that keeps its case comes back
-pub capitals_back : (names : List (List ℕ)) (n : List ℕ) → come_back names ≡ true →
+pub capitals_back : (names : List (List ℕ)) (n : List ℕ) → ComeBack names →
     keeps_case names n ≡ true → with_capitals names (lowered n) ≡ n
 capitals_back names n back h = by_case names n (with_capitals names (lowered n) ≡ n) h
-    (λ s. bytes_eq-same (with_capitals names (lowered n)) n
-    (passes_in (λ m. bytes_eq (with_capitals names (lowered m)) m) names n back s))
+    (λ s. agree_in (λ m. with_capitals names (lowered m)) (λ m. m) names n back s)
     (λ same none. ap (with_capitals names) same
     ∙ ap (λ found. unwrap_or found n) (find_none (λ m. bytes_eq (lowered m) n) names none))
 
@@ -79,16 +76,16 @@ small_back n h = capitals_back [] n refl h
 
 -- a test that the name fails, and all of the list in small letters, fails it in small letters
 pub fails_small : (test : List ℕ → Bool) (names : List (List ℕ)) (n : List ℕ) →
-    keeps_case names n ≡ true → list_all (λ m. not (test (lowered m))) names ≡ true →
+    keeps_case names n ≡ true → AllFail (λ m. test (lowered m)) names →
     test n ≡ false → test (lowered n) ≡ false
 fails_small test names n h all fails = by_case names n (test (lowered n) ≡ false) h
-    (λ s. not-true (test (lowered n)) (passes_in (λ m. not (test (lowered m))) names n all s))
+    (λ s. agree_in (λ m. test (lowered m)) (λ m. false) names n all s)
     (λ same none. ap test same ∙ fails)
 
 -- the same of attributes
 
 module _ (names : List (List ℕ)) where
-  pub attrs_back : (attrs : List TextPair) → come_back names ≡ true → keep_case names attrs ≡ true →
+  pub attrs_back : (attrs : List TextPair) → ComeBack names → keep_case names attrs ≡ true →
       map (λ a. (with_capitals names a.0, a.1)) (lowered_attrs attrs) ≡ attrs
   attrs_back [] back h = refl
   attrs_back (a ∷ attrs) back h =
@@ -98,7 +95,7 @@ module _ (names : List (List ℕ)) where
       ∙ ap (λ l. a ∷ l) (attrs_back attrs back both.1)
 
   pub attrs_fail : (test : List ℕ → Bool) (attrs : List TextPair) → keep_case names attrs ≡ true →
-      list_all (λ m. not (test (lowered m))) names ≡ true →
+      AllFail (λ m. test (lowered m)) names →
       list_any (λ a. test a.0) attrs ≡ false →
       list_any (λ a. test a.0) (lowered_attrs attrs) ≡ false
   attrs_fail test [] h all fails = refl
@@ -108,35 +105,28 @@ module _ (names : List (List ℕ)) where
       rw (fails_small test names a.0 both.0 all none.0) (attrs_fail test attrs both.1 all none.1)
 
   -- names that differ do so in small letters
-  same_small : (m n : List ℕ) → come_back names ≡ true → keeps_case names m ≡ true →
+  same_small : (m n : List ℕ) → ComeBack names → keeps_case names m ≡ true →
       keeps_case names n ≡ true → lowered m ≡ lowered n → m ≡ n
   same_small m n back h k e = sym (capitals_back names m back h)
       ∙ (ap (with_capitals names) e ∙ capitals_back names n back k)
 
-  differ_small : (m n : List ℕ) → come_back names ≡ true → keeps_case names m ≡ true →
+  differ_small : (m n : List ℕ) → ComeBack names → keeps_case names m ≡ true →
       keeps_case names n ≡ true → bytes_eq m n ≡ false → bytes_eq (lowered m) (lowered n) ≡ false
-  differ_small m n back h k e = elim (cases_Bool (bytes_eq (lowered m) (lowered n))) [
-    | inl same ↦ absurd (false≢true (sym e ∙ (bytes_eq-Decides m n).1
-        (same_small m n back h k (bytes_eq-same (lowered m) (lowered n) same))))
-    | inr differ ↦ differ
-  ]
+  differ_small m n back h k e = false_from_ne_true (bytes_eq (lowered m) (lowered n))
+      (λ same. both_ways (bytes_eq m n) e ((bytes_eq-Decides m n).1
+      (same_small m n back h k (bytes_eq-same (lowered m) (lowered n) same))))
 
-  named_by : (b : Bool) (v : List ℕ) (rest : Option (List ℕ)) →
-      is_some (if b then Some v else rest) ≡ false → (b ≡ false) × (is_some rest ≡ false)
-  named_by true v rest h = absurd (false≢true (sym h))
-  named_by false v rest h = (refl, h)
-
-  no_name_small : (attrs : List TextPair) (n : List ℕ) → come_back names ≡ true →
+  no_name_small : (attrs : List TextPair) (n : List ℕ) → ComeBack names →
       keep_case names attrs ≡ true → keeps_case names n ≡ true → has_name attrs n ≡ false →
       has_name (lowered_attrs attrs) (lowered n) ≡ false
   no_name_small [] n back h k e = refl
   no_name_small (a ∷ attrs) n back h k e =
       let both = and_parts (keeps_case names a.0) (keep_case names attrs) h in
-      let none = named_by (bytes_eq a.0 n) a.1 (first attrs n) e in
+      let none = absent_parts (bytes_eq a.0 n) a.1 (first attrs n) e in
       rw (differ_small a.0 n back both.0 k none.0)
       (no_name_small attrs n back both.1 k none.1)
 
-  pub names_lowered_differ : (attrs : List TextPair) → come_back names ≡ true →
+  pub names_lowered_differ : (attrs : List TextPair) → ComeBack names →
       keep_case names attrs ≡ true → names_differ attrs ≡ true →
       names_differ (lowered_attrs attrs) ≡ true
   names_lowered_differ [] back h d = refl
@@ -148,10 +138,6 @@ module _ (names : List (List ℕ)) where
       (ap not (no_name_small attrs a.0 back both.1 both.0 (not-true (has_name attrs a.0) differ.0)))
       (names_lowered_differ attrs back both.1 differ.1)
 
-map_same : (attrs : List TextPair) → map (λ a. (with_capitals [] a.0, a.1)) attrs ≡ attrs
-map_same [] = refl
-map_same (a ∷ attrs) = ap (λ l. a ∷ l) (map_same attrs)
-
 -- where no names have capitals
 pub attrs_small : (attrs : List TextPair) → keep_case [] attrs ≡ true → lowered_attrs attrs ≡ attrs
-attrs_small attrs h = sym (map_same (lowered_attrs attrs)) ∙ attrs_back [] attrs refl h
+attrs_small attrs h = sym (map-id (lowered_attrs attrs)) ∙ attrs_back [] attrs refl h

@@ -81,11 +81,10 @@ closed_is p o os e l = at_stack (λ q. closed true q ≡ Ok (behind_current (mar
 pub alike_text : (text : List ℕ) (above : List Ancestor) (os : List OpenElement) →
     AreAlike above os → AreAlike above (with_last_text text os)
 alike_text text [] [] h = h
-alike_text text [] (o ∷ os) h = absurd h
-alike_text text (a ∷ above) [] h = absurd h
 alike_text [] (a ∷ above) (o ∷ os) h = h
 alike_text (c ∷ cs) (a ∷ above) (o ∷ os) h =
     (record { name = h.0.name; attrs = h.0.attrs; space = h.0.space }, h.1)
+alike_text text above os h = absurd h
 
 pub marks_text : (text : List ℕ) (os : List OpenElement) → marks (with_last_text text os) ≡ marks os
 marks_text text [] = refl
@@ -104,19 +103,4 @@ calm_begun above h p c t = record {
       (c.lost ∙ sym (marks_text p.text p.stack));
   tables = c.tables;
   plain = (t, c.plain);
-}
-
--- once an element in another is closed, those around it are open
-pub calm_closed : (a b : Ancestor) (above : List Ancestor) (o q : OpenElement)
-    (os : List OpenElement) (text : List ℕ) (p : Page) → AreAlike (a ∷ b ∷ above) (o ∷ q ∷ os) →
-    IsCalm (a ∷ b ∷ above) p → IsCalm (b ∷ above) (record p {
-      text = [];
-      stack = without_current (with_last_text text (o ∷ q ∷ os));
-      lost = marks (q ∷ os);
-    })
-calm_closed a b above o q os text p s c = record {
-  alike = (record { name = s.1.0.name; attrs = s.1.0.attrs; space = s.1.0.space }, s.1.1);
-  lost = refl;
-  tables = c.tables;
-  plain = c.plain.1;
 }

@@ -1,8 +1,7 @@
 -- The start tag of an element that breaks no rule closes nothing before it.
 use Rattle.std.proofs.Common.{◌≡◌, ℕ, zero, suc, Bool, true, false, not, ◌&&◌, ◌||◌, List, [], ◌∷◌, length, inl, inr, refl, sym, ap, ◌∙◌, Ok}
-use Rattle.std.specs.Prelude.{if◌then◌else◌, Option, None}
+use Rattle.std.specs.Prelude.{if◌then◌else◌, None}
 use Rattle.std.proofs.lemmas.Bool.{and_from, and_left, and_parts, and_right, cases_Bool, false≢true, or_from, or_left, or_parts, or_right}
-use Rattle.html_names.specs.Names.{stands_in}
 use Rattle.html_dom_nest.specs.Ancestors as nest
 use Rattle.html_dom_nest.specs.Ancestors.{Ancestor, bounds_scope, is_in, is_template}
 use Rattle.html_dom_nest.specs.NestingRules.{closes_item, closes_option, closes_paragraph, closes_ruby_part, closes_same, closing_misnesting, is_option_part}
@@ -10,7 +9,7 @@ use Rattle.html_dom_nest.specs.Surroundings.{open_of, surroundings_of}
 use Rattle.html_dom_nest.specs.declared.misnesting.Misnesting.TheVariants as why
 use Rattle.html_dom_nest.specs.declared.surroundings.Open.{Open}
 use Rattle.html_dom_nest.specs.declared.surroundings.Surroundings.{Surroundings}
-use Rattle.typst_html_parse_names.specs.PageNames.{is, of}
+use Rattle.typst_html_parse_names.specs.PageNames.{is, kind_names, of}
 use Rattle.typst_html_parse_names.specs.declared.kind.Kind.{Kind}
 use Rattle.typst_html_parse_names.specs.declared.kind.Kind.TheVariants as kind
 use Rattle.typst_html_parse_open.specs.OpenElements as elements
@@ -20,30 +19,10 @@ use Rattle.typst_html_parse_open.specs.declared.error.PageError.TheVariants as e
 use Rattle.typst_html_parse_open.specs.declared.modes.Scope.TheVariants.{General, Button}
 use Rattle.typst_html_parse_tree.specs.PageBodies.{adopted, anchor_closed, closed_before, closed_before_block, formatted, heading_closed, item_closed, nested_closed, option_closed, p_closed, ruby_closed, select_closed, table_closes}
 use Rattle.typst_html_nest.proofs.Alike.{at_is, in_button_scope_is, in_scope_is, none_active, none_item, of_is, scope_is, unreached}
-use Rattle.typst_html_nest.proofs.BegunBasics.{either, first_false, if_none, second_false, skip}
-use Rattle.typst_html_nest.proofs.KindFacts.{included, of_same}
-use Rattle.typst_html_nest.proofs.Ways.{AreAlike, HaveNoTemplate, IsAlike, IsCalm, marks}
-
--- no formatting element is lost
-
-none_marked : (b : Bool) (m : List ℕ) (ls : List (Option (List ℕ))) → is_lost m ls ≡ false →
-    is_lost m (if b then None ∷ ls else ls) ≡ false
-none_marked true m ls h = refl
-none_marked false m ls h = h
-
-pub marks_lose : (m : List ℕ) (os : List OpenElement) → is_lost m (marks os) ≡ false
-marks_lose m [] = refl
-marks_lose m (o ∷ os) =
-    none_marked (elements.is_of (of kind.Marker) o) m (marks os) (marks_lose m os)
-
-some_marked : (b : Bool) (ls : List (Option (List ℕ))) → loses_some ls ≡ false →
-    loses_some (if b then None ∷ ls else ls) ≡ false
-some_marked true ls h = refl
-some_marked false ls h = h
-
-pub marks_keep : (os : List OpenElement) → loses_some (marks os) ≡ false
-marks_keep [] = refl
-marks_keep (o ∷ os) = some_marked (elements.is_of (of kind.Marker) o) (marks os) (marks_keep os)
+use Rattle.typst_html_nest.proofs.Branches.{either, first_false, if_none, second_false, skip}
+use Rattle.typst_html_nest.proofs.Closed.{marks_hold_none, marks_lose_none}
+use Rattle.typst_html_nest.proofs.KindFacts.{AllPass, names, of_same, passes_of}
+use Rattle.typst_html_nest.proofs.Ways.{AreAlike, HaveNoTemplate, IsAlike, IsCalm}
 
 -- a search for elements of a name, where there are none of its kind
 
@@ -66,9 +45,10 @@ pub none_same_open : (k : Kind) (n : List ℕ) (above : List Ancestor) (os : Lis
 none_same_open k n above os it s plain h =
     unreached (nest.is_of (of k)) is_template (elements.is_of (is n)) (λ o. false)
     (λ a o t e i. same_kind k n a o it t i) unbound above os s plain h where
-      unbound : (a : Ancestor) (o : OpenElement) → IsAlike a o → of kind.Template a.head.name ≡ false →
-          is_template a ≡ true → false ≡ true
-      unbound a o t k e = sym k ∙ (and_parts (nest.is_html a.space) (of kind.Template a.head.name) e).1
+      unbound : (a : Ancestor) (o : OpenElement) → IsAlike a o →
+          of kind.Template a.head.name ≡ false → is_template a ≡ true → false ≡ true
+      unbound a o t k e =
+          sym k ∙ (and_parts (nest.is_html a.space) (of kind.Template a.head.name) e).1
 
 -- what a start tag would close, and does not
 pub record ClosesNone (n : List ℕ) (around : Surroundings) : Type 0 where
@@ -99,24 +79,6 @@ closes_none n around h =
       input = f.0;
       ruby = g.0;
     }
-
--- names whose start tags close a `p`
-module _ (n : List ℕ) where
-  rule_closes : of kind.Hr n ≡ true → of kind.ClosesP n ≡ true
-  unfolding of stands_in
-  rule_closes h = included kind.ClosesP kind.Hr n refl h
-
-  item_closes : of kind.ListItem n ≡ true → of kind.ClosesP n ≡ true
-  unfolding of stands_in
-  item_closes h = included kind.ClosesP kind.ListItem n refl h
-
-  description_closes : of kind.DescriptionPart n ≡ true → of kind.ClosesP n ≡ true
-  unfolding of stands_in
-  description_closes h = included kind.ClosesP kind.DescriptionPart n refl h
-
-  heading_closes : of kind.Heading n ≡ true → of kind.ClosesP n ≡ true
-  unfolding of stands_in
-  heading_closes h = included kind.ClosesP kind.Heading n refl h
 
 -- searches and steps that do nothing
 
@@ -165,6 +127,11 @@ module _ (n : List ℕ) (above : List Ancestor) (p : Page) (calm : IsCalm above 
   p_kept_by : of kind.ClosesP n ≡ true → p_closed p ≡ Ok p
   p_kept_by h = p_kept (or_left (of kind.ClosesP n) (of kind.Table n) h)
 
+  -- of a kind whose start tags close a `p`
+  p_kept_of : (k : Kind) → AllPass (of kind.ClosesP) (kind_names k) → of k n ≡ true →
+      p_closed p ≡ Ok p
+  p_kept_of k all h = p_kept_by (passes_of (of kind.ClosesP) k n all h)
+
   -- none of its own name
   abbrev SameNone : Type 0
   SameNone = ((of kind.A n && o.anchor) ≡ false) × ((of kind.Button n && o.button) ≡ false)
@@ -184,7 +151,7 @@ module _ (n : List ℕ) (above : List Ancestor) (p : Page) (calm : IsCalm above 
       (or_from (is_active (of kind.A) p.stack) (is_lost n p.lost)
       (none_active (of kind.A) above p.stack calm.alike calm.plain
       (second_false (of kind.A n) o.anchor same_none.0 h))
-      (ap (is_lost n) calm.lost ∙ marks_lose n p.stack)) refl
+      (ap (is_lost n) calm.lost ∙ marks_hold_none n p.stack)) refl
 
   button_kept : of kind.Button n ≡ true → nested_closed n p ≡ Ok p
   button_kept h = skip (in_scope General (is n) p.stack) _ _ (Ok p)
@@ -269,13 +236,14 @@ module _ (n : List ℕ) (above : List Ancestor) (p : Page) (calm : IsCalm above 
       either (of kind.ListItem n) _ _ (Ok p)
       (λ h. ap (λ r. r next p_closed)
       (item_kept kind.ListItem (second_false (of kind.ListItem n) o.list_item item_none.0 h))
-      ∙ p_kept_by (item_closes n h))
+      ∙ p_kept_of kind.ListItem (unfold names in refl) h)
       (λ a. either (of kind.DescriptionPart n) _ _ (Ok p)
       (λ h. ap (λ r. r next p_closed) (item_kept kind.DescriptionPart
       (second_false (of kind.DescriptionPart n) o.description item_none.1 h))
-      ∙ p_kept_by (description_closes n h))
+      ∙ p_kept_of kind.DescriptionPart (unfold names in refl) h)
       (λ b. either (of kind.Heading n) _ _ (Ok p)
-      (λ h. ap (λ r. r next heading_closed) (p_kept_by (heading_closes n h)) ∙ heading_kept h)
+      (λ h. ap (λ r. r next heading_closed) (p_kept_of kind.Heading (unfold names in refl) h)
+      ∙ heading_kept h)
       (λ c. either (of kind.ClosesP n) _ _ (Ok p) p_kept_by (λ d. refl))))
 
   -- its start tag closes nothing
@@ -288,7 +256,7 @@ module _ (n : List ℕ) (above : List Ancestor) (p : Page) (calm : IsCalm above 
       (λ d. either (of kind.Option n || of kind.Optgroup n) _ _ (Ok p)
       (λ h. option_kept (or_left (is_option_part n) (of kind.Hr n) h))
       (λ e. either (of kind.Hr n) _ _ (Ok p)
-      (λ h. ap (λ r. r next option_closed n) (p_kept_by (rule_closes n h))
+      (λ h. ap (λ r. r next option_closed n) (p_kept_of kind.Hr (unfold names in refl) h)
       ∙ option_kept (or_right (is_option_part n) (of kind.Hr n) h))
       (λ f. either (of kind.RubyPart n) _ _ (Ok p) ruby_kept (λ g. block_kept)))))))
 
@@ -302,7 +270,7 @@ module _ (n : List ℕ) (above : List Ancestor) (p : Page) (calm : IsCalm above 
 
   kept_whole : reconstructed p ≡ Ok p
   kept_whole = skip (loses_some p.lost) _ _ (Ok p)
-      (ap loses_some calm.lost ∙ marks_keep p.stack) refl
+      (ap loses_some calm.lost ∙ marks_lose_none p.stack) refl
 
   -- and makes no formatting element again
   pub nothing_formatted : formatted n p ≡ Ok p

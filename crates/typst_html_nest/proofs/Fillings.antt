@@ -1,10 +1,8 @@
--- An element is opened, filled and closed: what stands in it is read, and leads to the page with
--- the
--- element as a child more.
+-- An element is opened, filled and closed: what stands in it leads to a page with one child more.
 use Rattle.std.proofs.Common.{◌≡◌, ℕ, ◌+◌, Bool, true, false, ◌&&◌, ◌||◌, inl, inr, List, [], ◌∷◌, ◌++◌, Option, codes, refl, sym, ap, subst, ◌∙◌, arith, Ok}
 use Rattle.std.specs.List.{fold}
 use Rattle.std.specs.Prelude.{if◌then◌else◌}
-use Rattle.std.proofs.lemmas.Bool.{and_from, and_parts, and_right, false_from_ne_true, false≢true, not_from_false, or_cases}
+use Rattle.std.proofs.lemmas.Bool.{and_from, and_parts, and_right, both_ways, false_from_ne_true, false≢true, not_from_false, or_cases}
 use Rattle.html_names.specs.Characters.{IsOf, all, is_tag_char, is_text_char}
 use Rattle.html_names.specs.Kinds.{is_escapable_raw, is_raw}
 use Rattle.html_dom_tree.specs.PlainTree.{branch, Plains, plain, put_words, nodes_normal}
@@ -14,8 +12,6 @@ use Rattle.html_dom_nest.specs.Contents.{begin_with_feed, is_escaped, is_listing
 use Rattle.html_dom_nest.specs.WrittenTags.{begins_with_letter}
 use Rattle.html_dom_nest.specs.WrittenTexts.{has_return, is_empty}
 use Rattle.html_dom_nest.specs.declared.content.ScriptState.TheVariants as state
-use Rattle.html_dom_nest.specs.declared.reading.Space.{Space}
-use Rattle.html_dom_nest.specs.declared.reading.Space.TheVariants as nest
 use Rattle.typst_html_encode.proofs.Plainly.{shut}
 use Rattle.typst_html_encode.proofs.References.{raw_good}
 use Rattle.typst_html_encode.proofs.Runs.{left_empty, right_empty, test_fails}
@@ -37,23 +33,17 @@ use Rattle.typst_html_parse_open.specs.declared.modes.Space.TheVariants as space
 use Rattle.typst_html_parse_tree.specs.PageTrees.{token_read}
 use Rattle.typst_html_parse.specs.PageReading.{run}
 use Rattle.typst_html_parse.specs.PageTokens.{PageReader}
+use Rattle.typst_html_nest.proofs.Alike.{html_is, html_space}
+use Rattle.typst_html_nest.proofs.Branches.{second_false}
 use Rattle.typst_html_nest.proofs.Closed.{closed_is}
 use Rattle.typst_html_nest.proofs.EndTags.{end_emits}
 use Rattle.typst_html_nest.proofs.Forms.{AreGathered, IsFilled, are_texts, filled_normal, on, put_last, put_nodes, put_texted, put_texts, texted_children, texts_by_faults, with_text_is}
-use Rattle.typst_html_nest.proofs.Parts.{ContentFits, ForeignFits, dropped_feed, escapable_same, feed_dropped, feed_less, feed_same, first_feed, none_closes, not_escapable, plain_chars, plain_texts, plains_written, raw_keeps, script_or_style, states_of, texts_clean, texts_good, texts_written}
+use Rattle.typst_html_nest.proofs.InnerTexts.{feed_is, first_feed, none_closes, plain_texts, plains_written, states_of, texts_clean, texts_good, texts_written}
+use Rattle.typst_html_nest.proofs.KindFacts.{dropped_feed, escapable_same, feed_dropped, not_escapable, raw_keeps, script_or_style}
 use Rattle.typst_html_nest.proofs.RawTexts.{escapable_emits, raw_emits}
-use Rattle.typst_html_nest.proofs.Readers.{Takes, behind, data_at, raw_at, run_on, written_tag}
-use Rattle.typst_html_nest.proofs.Ways.{begun, begun_element, marks, open_space}
-
-pub space_html : (s : Space) → open_elements.is_html (open_space s) ≡ is_html s
-space_html nest.Html = refl
-space_html nest.Svg = refl
-space_html nest.MathMl = refl
-
-pub html_space : (s : Space) → is_html s ≡ true → open_space s ≡ spaces.Html
-html_space nest.Html h = refl
-html_space nest.Svg h = absurd (false≢true h)
-html_space nest.MathMl h = absurd (false≢true h)
+use Rattle.typst_html_nest.proofs.Readers.{Emits, Takes, behind, data_at, raw_at, run_on, written_tag}
+use Rattle.typst_html_nest.proofs.Rules.{ContentFits, ForeignFits}
+use Rattle.typst_html_nest.proofs.Ways.{begun, begun_element, marks}
 
 -- whether a line feed is still dropped behind a node, and behind nodes
 abbrev pub fresh_after : Bool → NodeView → Bool
@@ -208,6 +198,11 @@ inside frames level h kids = by_kind (content_kind h.name) (nodes_raw_text kids)
     (escaped_text (escaping_of false) (nodes_raw_text kids))
     (nodes_text frames h.pre_span true (shut level) kids)
 
+-- and all that follows the start tag
+abbrev pub filling : Frames → (level : ℕ) → Head → NodesView → List ℕ
+filling frames level h kids =
+    feed_text h kids ++ (inside frames level h kids ++ end_tag_text h.name)
+
 abbrev pub inside_faults : Frames → Head → NodesView → List ExportFault
 inside_faults frames h kids = by_kind (content_kind h.name) (raw_content_faults h kids)
     (nodes_raw_faults (escaping_of false) kids) (nodes_faults frames h.pre_span false kids)
@@ -233,10 +228,6 @@ raw_chars : (h : Head) (ns : NodesView) → raw_content_faults h ns ≡ [] →
 raw_chars h ns f = let clean = left_empty _ (closing_faults h ns) f in
     first_of (search (raw_good, clean), grind (arith, raw_good, clean))
 
-both_no : (a b : Bool) → (a && b) ≡ false → a ≡ true → b ≡ false
-both_no true b h e = h
-both_no false b h e = absurd (false≢true e)
-
 module _ (frames : Frames) (level : ℕ) (above : List Ancestor) (h : Head) (kids : NodesView)
     (p : Page) (o : OpenElement) (os : List OpenElement) (c : NodesView) (t : List ℕ) (s : ℕ)
     (named : IsOf is_tag_char h.name) (letter : begins_with_letter h.name ≡ true)
@@ -258,8 +249,7 @@ module _ (frames : Frames) (level : ℕ) (above : List Ancestor) (h : Head) (kid
   -- what follows the start tag
   abbrev Filled : (place : ℕ) → Type 0
   Filled place = IsFilled (behind (Start (written_tag h)) place page)
-      (feed_text h kids ++ (inside frames level h kids ++ end_tag_text h.name)) h.name kids
-      page it outer
+      (filling frames level h kids) h.name kids page it outer
 
   data_filled : is_of (of kind.Raw) it ≡ false →
       KidsAreGathered frames level kids page it outer →
@@ -271,12 +261,10 @@ module _ (frames : Frames) (level : ℕ) (above : List Ancestor) (h : Head) (kid
   data_filled raw all pre_span f same x y place =
       let nodes = nodes_text frames pre_span true (shut level) kids in
       let feed = feed_text h kids in
-      subst (λ q. IsFilled q (feed ++ (inside frames level h kids ++ end_tag_text h.name)) h.name
-      kids
-      page it outer) (sym (behind_data (written_tag h) place page raw))
+      subst (λ q. IsFilled q (filling frames level h kids) h.name kids page it outer)
+      (sym (behind_data (written_tag h) place page raw))
       (subst (λ l. IsFilled (data_at drops (place + 1) page) (feed ++ (l ++ end_tag_text h.name))
-      h.name
-      kids page it outer) (sym same)
+      h.name kids page it outer) (sym same)
       (fed frames level h.name kids page it outer (is_fed h kids) drops
       (nodes ++ end_tag_text h.name) (place + 1) s x y
       (λ fresh place start first. nodes_filled frames level h.name kids page it outer named letter
@@ -286,7 +274,7 @@ module _ (frames : Frames) (level : ℕ) (above : List Ancestor) (h : Head) (kid
   module _ (html : is_html (space_of (reading_of above) h.name) ≡ true)
       (small : lowered h.name ≡ h.name) (fits : ContentFits h kids) where
     html_it : open_elements.is_html it.space ≡ true
-    html_it = space_html (space_of (reading_of above) h.name) ∙ html
+    html_it = html_is (space_of (reading_of above) h.name) ∙ html
 
     drops_it : of kind.DropsFeed h.name ≡ true → drops ≡ true
     drops_it e = and_from (of kind.DropsFeed (lowered h.name)) (is_of (of kind.DropsFeed) it)
@@ -304,7 +292,8 @@ module _ (frames : Frames) (level : ℕ) (above : List Ancestor) (h : Head) (kid
     no_feed : is_fed h kids ≡ false → drops ≡ true → begin_with_feed kids ≡ false
     no_feed e d = elim (or_cases (drops_feed h.name) (is_listing h.name)
         (feed_dropped h.name (it_drops d))) [
-          | inl k ↦ feed_less kids (both_no (drops_feed h.name) (begins_with_feed kids) e k)
+          | inl k ↦ sym (feed_is kids returns)
+              ∙ second_false (drops_feed h.name) (begins_with_feed kids) e k
           | inr k ↦ fits.listing k
         ]
 
@@ -323,9 +312,21 @@ module _ (frames : Frames) (level : ℕ) (above : List Ancestor) (h : Head) (kid
       raw_it : is_of (of kind.Raw) it ≡ true
       raw_it = and_from (open_elements.is_html it.space) (of kind.Raw h.name) html_it raw
 
-      small_end : (q : Page) (after : Page) → token_read (End (lowered h.name)) q ≡ Ok after →
-          token_read (End h.name) q ≡ Ok after
-      small_end q after e = sym (ap (λ n. token_read (End n) q) small) ∙ e
+      -- what follows the start tag is read as the texts, and the end tag
+      text_filled : (place : ℕ) → are_texts kids ≡ true →
+          Emits (raw_at drops (place + 1) page)
+          (filling frames level h kids) (End h.name) (record page { text = nodes_raw_text kids }) →
+          Filled place
+      text_filled place texts e = record {
+        children = none;
+        words = nodes_raw_text kids;
+        start = e.start;
+        place = e.place + 1;
+        is = λ after r. ap (λ q. run q (filling frames level h kids))
+            (behind_raw (written_tag h) place page raw_it) ∙ e.is after (sym (ap (λ n. token_read
+            (End n) (on page it outer none (nodes_raw_text kids) e.start)) small) ∙ r);
+        same = put_texts kids texts;
+      }
 
       script_ends : of kind.Script h.name ≡ true →
           is_escaped (fold state_behind state.Data (nodes_raw_text kids)) ≡ false
@@ -339,29 +340,19 @@ module _ (frames : Frames) (level : ℕ) (above : List Ancestor) (h : Head) (kid
       raw_filled escapable same texts good shuts place =
           let keeps = raw_keeps h.name raw escapable in
           let words = nodes_raw_text kids in
-          let e = raw_emits h.name words (place + 1) page it outer refl refl in_html raw
-          (escapable_same h.name ∙ escapable) refl takes good returns shuts script_ends in
-          let undropped : drops_feed h.name ≡ false = undropped_by h.name keeps in
-          let begins : behind (Start (written_tag h)) place page ≡ raw_at false (place + 1) page =
-          behind_raw (written_tag h) place page raw_it
-          ∙ ap (λ b. raw_at b (place + 1) page) (keeps_it (of kind.DropsFeed (lowered h.name))
-          (open_elements.is_html it.space) (of kind.DropsFeed h.name) keeps) in
-          let is : feed_text h kids ++ (inside frames level h kids ++ end_tag_text h.name)
-          ≡ words ++ end_tag_text h.name =
+          let ends = end_tag_text h.name in
+          let after : Page = record page { text = words } in
+          let kept : drops ≡ false = keeps_it (of kind.DropsFeed (lowered h.name))
+          (open_elements.is_html it.space) (of kind.DropsFeed h.name) keeps in
+          let is : feed_text h kids ++ (inside frames level h kids ++ ends) ≡ words ++ ends =
           ap (λ b. (if b && begins_with_feed kids then codes "\n" else [])
-          ++ (inside frames level h kids ++ end_tag_text h.name)) undropped
-          ∙ ap (λ l. l ++ end_tag_text h.name) same in
-          record {
-            children = none;
-            words = words;
-            start = e.start;
-            place = e.place + 1;
-            is = λ after r. ap (λ q. run q (feed_text h kids
-                ++ (inside frames level h kids ++ end_tag_text h.name))) begins
-                ∙ (ap (run (raw_at false (place + 1) page)) is
-                ∙ e.is after (small_end (on page it outer none words e.start) after r));
-            same = put_texts kids texts;
-          }
+          ++ (inside frames level h kids ++ ends)) (undropped_by h.name keeps)
+          ∙ ap (λ l. l ++ ends) same in
+          text_filled place texts (subst (λ b. Emits (raw_at b (place + 1) page)
+          (feed_text h kids ++ (inside frames level h kids ++ ends)) (End h.name) after) (sym kept)
+          (subst (λ l. Emits (raw_at false (place + 1) page) l (End h.name) after) (sym is)
+          (raw_emits h.name words (place + 1) page it outer refl refl in_html raw
+          (escapable_same h.name ∙ escapable) refl takes good returns shuts script_ends)))
 
       -- in which they are
       pub escapable_filled : is_raw h.name ≡ false → is_escapable_raw h.name ≡ true →
@@ -370,26 +361,15 @@ module _ (frames : Frames) (level : ℕ) (above : List Ancestor) (h : Head) (kid
           let words = nodes_raw_text kids in
           let f : nodes_raw_faults (escaping_of false) kids ≡ [] = rw (r, escapable) at faultless in
           let texts = texts_by_faults (escaping_of false) kids f in
-          let e = escapable_emits h.name words (is_fed h kids) drops (place + 1) page it outer refl
-          refl
-          in_html raw (escapable_same h.name ∙ escapable) refl takes
-          (raw_good (escaping_of false) kids f)
-          returns fed_drops (λ x y. first_feed kids texts (no_feed y x)) in
           let same : inside frames level h kids ≡ escaped_text (escaping_of false) words
           = rw (r, escapable) refl in
-          record {
-            children = none;
-            words = words;
-            start = e.start;
-            place = e.place + 1;
-            is = λ after r. ap (λ q. run q (feed_text h kids
-                ++ (inside frames level h kids ++ end_tag_text h.name)))
-                (behind_raw (written_tag h) place page raw_it)
-                ∙ (ap (λ l. run (raw_at drops (place + 1) page)
-                (feed_text h kids ++ (l ++ end_tag_text h.name))) same
-                ∙ e.is after (small_end (on page it outer none words e.start) after r));
-            same = put_texts kids texts;
-          }
+          text_filled place texts (subst (λ l. Emits (raw_at drops (place + 1) page)
+          (feed_text h kids ++ (l ++ end_tag_text h.name)) (End h.name)
+          (record page { text = words })) (sym same)
+          (escapable_emits h.name words (is_fed h kids) drops (place + 1) page it outer refl refl
+          in_html raw (escapable_same h.name ∙ escapable) refl takes
+          (raw_good (escaping_of false) kids f) returns fed_drops
+          (λ x y. first_feed kids texts (no_feed y x))))
 
       -- each element of text alone
       pub alone_filled : (r e : Bool) → is_raw h.name ≡ r → is_escapable_raw h.name ≡ e →
@@ -408,19 +388,18 @@ module _ (frames : Frames) (level : ℕ) (above : List Ancestor) (h : Head) (kid
           let plain = fits.plain read in
           let texts = plain_texts h.pre_span kids plain in
           let f : nodes_faults frames h.pre_span false kids ≡ [] = rw (x, y) at faultless in
-          let good = texts_good frames h.pre_span kids texts f in
+          let good = texts_good frames h.pre_span kids texts.0 f in
           let same : inside frames level h kids ≡ nodes_text frames h.pre_span true (shut level)
           kids
           = rw (x, y) refl in
-          raw_filled y (same ∙ plains_written frames h.pre_span true level kids plain good) texts
-          good
-          (none_closes h.name (nodes_raw_text kids) (plain_chars h.pre_span kids plain)) place
+          raw_filled y (same ∙ plains_written frames h.pre_span true level kids plain good) texts.0
+          good (none_closes h.name (nodes_raw_text kids) texts.1) place
 
   -- of an element of SVG or MathML
   module _ (html : is_html (space_of (reading_of above) h.name) ≡ false) (fits : ForeignFits h kids)
       (all : KidsAreGathered frames level kids page it outer) where
     html_not : open_elements.is_html it.space ≡ false
-    html_not = space_html (space_of (reading_of above) h.name) ∙ html
+    html_not = html_is (space_of (reading_of above) h.name) ∙ html
 
     drops_not : drops ≡ false
     drops_not = and_right (of kind.DropsFeed (lowered h.name)) (is_of (of kind.DropsFeed) it)
@@ -429,7 +408,8 @@ module _ (frames : Frames) (level : ℕ) (above : List Ancestor) (h : Head) (kid
     fed_not : is_fed h kids ≡ true → drops ≡ true
     fed_not e =
         let both = and_parts (drops_feed h.name) (begins_with_feed kids) e in
-        absurd (false≢true (sym (feed_same kids returns (fits.feed both.0)) ∙ both.1))
+        absurd (both_ways (begins_with_feed kids)
+        (feed_is kids returns ∙ fits.feed both.0) both.1)
 
     -- texts alone, or nodes
     by_nodes : (pre_span : Bool) → nodes_faults frames pre_span false kids ≡ [] →

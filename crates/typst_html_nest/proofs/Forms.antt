@@ -7,8 +7,7 @@ use Rattle.typst_html_encode.proofs.Runs.{right_empty}
 use Rattle.typst_html_encode.specs.ExportFaults.{nodes_raw_faults, text_faults, void_faults}
 use Rattle.typst_html_encode.specs.Text.{nodes_raw_text}
 use Rattle.typst_html_parse_names.specs.ForeignNames.{lowered}
-use Rattle.typst_html_parse_open.proofs.Children.{text_counts}
-use Rattle.typst_html_parse_open.specs.OpenElements.{OpenElement, has_elements, with_text}
+use Rattle.typst_html_parse_open.specs.OpenElements.{OpenElement, with_text}
 use Rattle.typst_html_parse_open.specs.Pages.{Page, End}
 use Rattle.typst_html_parse_tree.specs.PageTrees.{token_read}
 use Rattle.typst_html_parse.specs.PageReading.{run}
@@ -61,8 +60,7 @@ abbrev pub are_texts : NodesView → Bool
 are_texts none = true
 are_texts (node (tag_node t) ns) = are_texts ns
 are_texts (node (text_node s span) ns) = are_texts ns
-are_texts (node (element_node h kids) ns) = false
-are_texts (node (frame_node f) ns) = false
+are_texts (node n ns) = false
 
 pub texts_by_faults : (e : _) (ns : NodesView) → nodes_raw_faults e ns ≡ [] →
     are_texts ns ≡ true
@@ -70,8 +68,7 @@ texts_by_faults e none f = refl
 texts_by_faults e (node (tag_node t) ns) f = texts_by_faults e ns f
 texts_by_faults e (node (text_node s span) ns) f =
     texts_by_faults e ns (right_empty (text_faults e span s) (nodes_raw_faults e ns) f)
-texts_by_faults e (node (element_node h kids) ns) f = cc
-texts_by_faults e (node (frame_node b) ns) f = cc
+texts_by_faults e (node n ns) f = cc
 
 pub put_texts : (ns : NodesView) → are_texts ns ≡ true → (k : Plains) →
     put_words (nodes_raw_text ns) k ≡ put_nodes ns k
@@ -79,8 +76,7 @@ put_texts none h k = refl
 put_texts (node (tag_node m) ns) h k = put_texts ns h k
 put_texts (node (text_node s span) ns) h k =
     sym (put_twice s (nodes_raw_text ns) k) ∙ ap (put_words s) (put_texts ns h k)
-put_texts (node (element_node h kids) ns) e k = cc
-put_texts (node (frame_node b) ns) e k = cc
+put_texts (node n ns) e k = cc
 
 pub no_children : (span : ℕ) (ns : NodesView) → void_faults span ns ≡ [] →
     nodes_normal none ≡ nodes_normal ns
@@ -138,9 +134,3 @@ filled_normal q text name kids p o os span f =
     normal_is (texted_children span f.children f.words)
     ∙ (put_texted span f.children f.words no_plains
     ∙ (f.same no_plains ∙ sym (normal_is kids)))
-
--- some child is an element, as before with a text
-pub still_elements : (span : ℕ) (c : NodesView) (t : List ℕ) → has_elements c ≡ true →
-    has_elements (texted_children span c t) ≡ true
-still_elements span c [] h = h
-still_elements span c (x ∷ xs) h = text_counts c (x ∷ xs) span ∙ h

@@ -1,16 +1,12 @@
 -- A start tag whose name and attributes keep their case is read as it is.
-use Rattle.std.proofs.Common.{◌≡◌, ℕ, ◌<◌, Bool, true, false, not, ◌&&◌, List, [], length, inl, inr, map-id, refl, sym, ap, ◌∙◌, Ok}
-use Rattle.std.specs.List.{list_any}
-use Rattle.std.specs.Prelude.{if◌then◌else◌, None}
-use Rattle.std.proofs.lemmas.Bool.{and_parts, cases_Bool, false≢true, not-false}
+use Rattle.std.proofs.Common.{◌≡◌, ℕ, ◌<◌, Bool, true, false, not, List, [], length, inl, inr, map-id, refl, sym, ap, ◌∙◌, Ok}
+use Rattle.std.specs.Prelude.{if◌then◌else◌}
+use Rattle.std.proofs.lemmas.Bool.{cases_Bool, false≢true}
 use Rattle.html_names.specs.Kinds.{is_foreign_self_closing}
-use Rattle.html_names.specs.Names.{stands_in}
 use Rattle.html_dom_tree.specs.Attributes.{names_differ}
 use Rattle.html_dom_tree.specs.Tree.{TextPair, Head}
-use Rattle.html_dom_nest.specs.Ancestors.{begun_space, is_read_as_html, space_of}
-use Rattle.html_dom_nest.specs.WrittenTags.{attrs_misnesting, begins_with_letter, capital_attrs, capital_tags, keep_case, keeps_case, tag_misnesting}
-use Rattle.html_dom_nest.specs.WrittenTexts.{has_return}
-use Rattle.html_dom_nest.specs.declared.misnesting.Misnesting.TheVariants as why
+use Rattle.html_dom_nest.specs.Ancestors.{begun_space, is_html, is_read_as_html, space_of}
+use Rattle.html_dom_nest.specs.WrittenTags.{capital_attrs, capital_tags, keep_case, keeps_case}
 use Rattle.html_dom_nest.specs.declared.reading.Reading.{Reading}
 use Rattle.html_dom_nest.specs.declared.reading.Reading.TheVariants as reading
 use Rattle.html_dom_nest.specs.declared.reading.Space.{Space}
@@ -21,66 +17,44 @@ use Rattle.typst_html_parse_names.specs.declared.kind.Kind.TheVariants as kind
 use Rattle.typst_html_parse_open.specs.Pages.{Page, StartTag, ◌next◌, opened}
 use Rattle.typst_html_parse_open.specs.declared.modes.Space.TheVariants as spaces
 use Rattle.typst_html_parse_tree.specs.PageBodies.{entered, foreign_attrs, foreign_name}
-use Rattle.typst_html_nest.proofs.BegunBasics.{Opens, else_none, if_none, made, one_of, opens}
-use Rattle.typst_html_nest.proofs.Capitals.{attrs_back, attrs_small, capitals_back, come_back, math_attrs_back, names_lowered_differ, small_back, svg_attrs_back, svg_names_back}
-use Rattle.typst_html_nest.proofs.KindFacts.{each_of, excluded}
+use Rattle.typst_html_nest.proofs.Opened.{Opens, made, one_of, opens}
+use Rattle.typst_html_nest.proofs.Capitals.{attrs_back, attrs_come_back, attrs_small, capitals_back, names_lowered_differ, small_back}
+use Rattle.typst_html_nest.proofs.KindFacts.{agree_of, fails_of, names}
 use Rattle.typst_html_nest.proofs.Readers.{lowered_attrs, written_tag}
+use Rattle.typst_html_nest.proofs.Rules.{TagFits}
 use Rattle.typst_html_nest.proofs.Ways.{open_space}
 
--- what a start tag is where it breaks no rule
-pub record IsKept (s : Space) (h : Head) : Type 0 where
-  pub letter : begins_with_letter h.name ≡ true
-  pub name : keeps_case (capital_tags s) h.name ≡ true
-  pub attrs : keep_case (capital_attrs s) h.attrs ≡ true
-  pub differ : names_differ h.attrs ≡ true
-  pub returns : list_any (λ a. has_return a.1) h.attrs ≡ false
-
-pub kept_tag : (s : Space) (h : Head) → tag_misnesting s h ≡ None → IsKept s h
-kept_tag s h e =
-    let a = else_none (begins_with_letter h.name && keeps_case (capital_tags s) h.name) why.TagName
-    (attrs_misnesting s h.attrs) e in
-    let n = and_parts (begins_with_letter h.name) (keeps_case (capital_tags s) h.name) a.0 in
-    let b = if_none (not (keep_case (capital_attrs s) h.attrs)) why.AttributeName _ a.1 in
-    let c = if_none (not (names_differ h.attrs)) why.RepeatedAttribute _ b.1 in
-    let d = if_none (list_any (λ a. has_return a.1) h.attrs) why.CarriageReturn None c.1 in
-    record {
-      letter = n.0;
-      name = n.1;
-      attrs = not-false (keep_case (capital_attrs s) h.attrs) b.0;
-      differ = not-false (names_differ h.attrs) c.0;
-      returns = d.0;
-    }
-
-capitals_come_back : (s : Space) → come_back (capital_attrs s) ≡ true
-capitals_come_back Html = refl
-capitals_come_back Svg = svg_attrs_back
-capitals_come_back MathMl = math_attrs_back
-
 -- its attributes differ in small letters
-pub lowered_differ : (s : Space) (h : Head) → IsKept s h →
+pub lowered_differ : (s : Space) (h : Head) → TagFits s h →
     names_differ (lowered_attrs h.attrs) ≡ true
-lowered_differ s h kept = names_lowered_differ (capital_attrs s) h.attrs (capitals_come_back s)
+lowered_differ s h kept = names_lowered_differ (capital_attrs s) h.attrs (attrs_come_back s)
     kept.attrs kept.differ
+
+-- and its name is that of an element of HTML
+pub small_html : (s : Space) (n : List ℕ) → is_html s ≡ true →
+    keeps_case (capital_tags s) n ≡ true → lowered n ≡ n
+small_html Html n html h = small_back n h
+small_html s n html h = absurd (false≢true html)
 
 -- the names that the reader gives them
 
 name_back : (s : Space) (n : List ℕ) → keeps_case (capital_tags s) n ≡ true →
     foreign_name (open_space s) (lowered n) ≡ n
 name_back Html n h = small_back n h
-name_back Svg n h = capitals_back svg_names n svg_names_back h
+name_back Svg n h = capitals_back svg_names n refl h
 name_back MathMl n h = small_back n h
 
 pairs_back : (s : Space) (attrs : List TextPair) → keep_case (capital_attrs s) attrs ≡ true →
     foreign_attrs (open_space s) (lowered_attrs attrs) ≡ attrs
 pairs_back Html attrs h = map-id (lowered_attrs attrs) ∙ attrs_small attrs h
-pairs_back Svg attrs h = attrs_back svg_attrs attrs svg_attrs_back h
-pairs_back MathMl attrs h = attrs_back math_attrs attrs math_attrs_back h
+pairs_back Svg attrs h = attrs_back svg_attrs attrs refl h
+pairs_back MathMl attrs h = attrs_back math_attrs attrs refl h
 
 module _ (h : Head) (p : Page) (fits : length p.stack < p.limit) where
   abbrev tag : StartTag
   tag = written_tag h
 
-  pub entered_back : (s : Space) → IsKept s h → entered (open_space s) tag p
+  pub entered_back : (s : Space) → TagFits s h → entered (open_space s) tag p
       ≡ one_of (is_foreign_self_closing h.name) (made (open_space s) h.name h.attrs p)
   entered_back s kept =
       let own = is_foreign_self_closing h.name in
@@ -88,31 +62,22 @@ module _ (h : Head) (p : Page) (fits : length p.stack < p.limit) where
       (opens (open_space s) (foreign_name (open_space s) tag.name)
       (foreign_attrs (open_space s) tag.attrs) p fits)
       ∙ (ap (λ n. one_of own (made (open_space s) n (foreign_attrs (open_space s) tag.attrs) p))
-      (name_back s h.name kept.name)
+      (name_back s h.name kept.case)
       ∙ ap (λ l. one_of own (made (open_space s) h.name l p)) (pairs_back s h.attrs kept.attrs))
 
-  opened_by : (s : Space) → s ≡ Html → IsKept s h →
+  -- by the rules of HTML
+  pub opened_back : (s : Space) → s ≡ Html → TagFits s h →
       opened tag.name tag.attrs p ≡ Ok (made (open_space s) h.name h.attrs p)
-  opened_by Html e kept =
+  opened_back Html e kept =
       opens spaces.Html tag.name tag.attrs p fits
-      ∙ (ap (λ n. Ok (made spaces.Html n tag.attrs p)) (small_back h.name kept.name)
+      ∙ (ap (λ n. Ok (made spaces.Html n tag.attrs p)) (small_back h.name kept.case)
       ∙ ap (λ l. Ok (made spaces.Html h.name l p)) (attrs_small h.attrs kept.attrs))
-  opened_by Svg e kept = absurd (cc)
-  opened_by MathMl e kept = absurd (cc)
+  opened_back s e kept = absurd (cc)
 
-  svg_by : (s : Space) → s ≡ Svg → IsKept s h → is_foreign_self_closing h.name ≡ false →
-      entered spaces.Svg tag p ≡ Ok (made (open_space s) h.name h.attrs p)
-  svg_by Html e kept c = absurd (cc)
-  svg_by Svg e kept c =
-      entered_back Svg kept ∙ ap (λ b. one_of b (made spaces.Svg h.name h.attrs p)) c
-  svg_by MathMl e kept c = absurd (cc)
-
-  math_by : (s : Space) → s ≡ MathMl → IsKept s h → is_foreign_self_closing h.name ≡ false →
-      entered spaces.MathMl tag p ≡ Ok (made (open_space s) h.name h.attrs p)
-  math_by Html e kept c = absurd (cc)
-  math_by Svg e kept c = absurd (cc)
-  math_by MathMl e kept c =
-      entered_back MathMl kept ∙ ap (λ b. one_of b (made spaces.MathMl h.name h.attrs p)) c
+  begun_back : (s t : Space) → s ≡ t → TagFits s h → is_foreign_self_closing h.name ≡ false →
+      entered (open_space t) tag p ≡ Ok (made (open_space s) h.name h.attrs p)
+  begun_back s t e kept c = ap (λ x. entered (open_space x) tag p) (sym e)
+      ∙ (entered_back s kept ∙ ap (λ b. one_of b (made (open_space s) h.name h.attrs p)) c)
 
 -- a name that is read by the rules of HTML has no capitals
 
@@ -122,14 +87,10 @@ not_svg true b h = absurd (false≢true (sym h))
 not_svg false true h = refl
 not_svg false false h = refl
 
-svg_small : (n : List ℕ) → of kind.Svg n ≡ true → lowered n ≡ n
-unfolding of stands_in
-svg_small n h = each_of (λ m. lowered m ≡ m) kind.Svg n (refl, tt) h
-
 pub small_begun : (n : List ℕ) → keeps_case (capital_tags (begun_space n)) n ≡ true →
     lowered n ≡ n
 small_begun n h = elim (cases_Bool (of kind.Svg n)) [
-  | inl e ↦ svg_small n e
+  | inl e ↦ agree_of lowered (λ m. m) kind.Svg n (unfold names in refl) e
   | inr e ↦ small_back n (ap (λ names. keeps_case names n)
       (sym (not_svg (of kind.Svg n) (of kind.Math n) e)) ∙ h)
 ]
@@ -150,23 +111,20 @@ reading_small reading.AsMathText n h =
 reading_small reading.AsAnnotation n h = ap (of kind.Svg) (small_in (of kind.Svg n) n h)
 
 -- the element that it opens by the rules of HTML
-no_svg_in_math : (n : List ℕ) → of kind.Math n ≡ true → of kind.Svg n ≡ false
-unfolding of stands_in
-no_svg_in_math n h = excluded kind.Svg kind.Math n refl h
-
 pub written_opens : (h : Head) (p : Page) (s : Space) → length p.stack < p.limit →
-    s ≡ begun_space h.name → IsKept s h → lowered h.name ≡ h.name →
+    s ≡ begun_space h.name → TagFits s h → lowered h.name ≡ h.name →
     is_foreign_self_closing h.name ≡ false →
     Opens (written_tag h) p (made (open_space s) h.name h.attrs p)
 written_opens h p s fits is kept small c = record {
-  plain = λ a b. opened_by h p fits s
+  plain = λ a b. opened_back h p fits s
       (is ∙ (ap (λ x. if x then Svg else (if of kind.Math h.name then MathMl else Html))
       (sym (ap (of kind.Svg) small) ∙ a)
       ∙ ap (λ x. if x then MathMl else Html) (sym (ap (of kind.Math) small) ∙ b))) kept;
-  svg = λ a. svg_by h p fits s
+  svg = λ a. begun_back h p fits s Svg
       (is ∙ ap (λ x. if x then Svg else (if of kind.Math h.name then MathMl else Html))
       (sym (ap (of kind.Svg) small) ∙ a)) kept c;
-  math = λ a. let m = sym (ap (of kind.Math) small) ∙ a in math_by h p fits s
+  math = λ a. let m = sym (ap (of kind.Math) small) ∙ a in begun_back h p fits s MathMl
       (is ∙ (ap (λ x. if x then Svg else (if of kind.Math h.name then MathMl else Html))
-      (no_svg_in_math h.name m) ∙ ap (λ x. if x then MathMl else Html) m)) kept c;
+      (fails_of (of kind.Svg) kind.Math h.name (unfold names in refl) m)
+      ∙ ap (λ x. if x then MathMl else Html) m)) kept c;
 }

@@ -1,90 +1,118 @@
 -- What holds of each name of a list holds of a name that stands in it: so kinds are compared.
-use Rattle.std.proofs.Common.{◌≡◌, ℕ, Bool, true, false, not, List, [], ◌∷◌, bytes_eq, inl, inr, sym, ap, subst, ◌∙◌}
-use Rattle.std.specs.List.{list_all}
-use Rattle.std.proofs.lemmas.Bool.{and_parts, cases_Bool, false≢true, not-true, or_cases}
+use Rattle.std.proofs.Common.{◌≡◌, ℕ, Bool, true, false, not, ◌||◌, List, [], ◌∷◌, bytes_eq, codes, inl, inr, map, refl, ap, subst, ◌∙◌}
+use Rattle.std.proofs.lemmas.Bool.{both_ways, false_from_ne_true, false≢true, not-true, or_cases}
 use Rattle.html_names.proofs.Basics.{bytes_eq-same}
+use Rattle.html_names.specs.Kinds.{foreign_self_closing_names, is_escapable_raw, is_foreign_self_closing, is_raw, is_void, void_names}
 use Rattle.html_names.specs.Names.{stands_in}
+use Rattle.html_dom_nest.specs.Contents.{is_listing}
+use Rattle.typst_html_encode.specs.Reader.{drops_feed}
+use Rattle.typst_html_parse_names.specs.ForeignNames.{lowered}
 use Rattle.typst_html_parse_names.specs.PageNames.{kind_names, is, of}
 use Rattle.typst_html_parse_names.specs.declared.kind.Kind.{Kind}
+use Rattle.typst_html_parse_names.specs.declared.kind.Kind.TheVariants as kind
+use Rattle.typst_html_nest.proofs.Branches.{second_true}
 
--- it holds of each name of the list
-abbrev pub Each : (List ℕ → Type 0) → List (List ℕ) → Type 0
-Each P [] = Unit {0}
-Each P (m ∷ ms) = P m × Each P ms
+-- what is said of the names of a kind is computed where this unfolds
+unfoldable pub names : Unit {0}
+unfolding of stands_in is_void is_foreign_self_closing is_raw is_escapable_raw drops_feed is_listing
+names = tt
 
-pub each_in : (P : List ℕ → Type 0) (names : List (List ℕ)) (n : List ℕ) → Each P names →
-    stands_in names n ≡ true → P n
+-- all names of a list pass a test, or fail it
+abbrev pub AllPass : (test : List ℕ → Bool) → List (List ℕ) → Type 0
+AllPass test ms = map test ms ≡ map (λ m. true) ms
+
+abbrev pub AllFail : (test : List ℕ → Bool) → List (List ℕ) → Type 0
+AllFail test ms = map test ms ≡ map (λ m. false) ms
+
+pub agree_in : {A : Type 0} (f g : List ℕ → A) (ms : List (List ℕ)) (n : List ℕ) →
+    map f ms ≡ map g ms → stands_in ms n ≡ true → f n ≡ g n
 unfolding stands_in
-each_in P [] n each h = absurd (false≢true h)
-each_in P (m ∷ ms) n each h = elim (or_cases (bytes_eq m n) (stands_in ms n) h) [
-  | inl e ↦ subst P (bytes_eq-same m n e) each.0
-  | inr e ↦ each_in P ms n each.1 e
-]
+agree_in f g [] n same h = absurd (false≢true h)
+agree_in f g (m ∷ ms) n same h =
+    let here : f m ≡ g m = cc in
+    let more : map f ms ≡ map g ms = cc in
+    elim (or_cases (bytes_eq m n) (stands_in ms n) h) [
+      | inl e ↦ subst (λ x. f x ≡ g x) (bytes_eq-same m n e) here
+      | inr e ↦ agree_in f g ms n more e
+    ]
 
--- what holds of each name of a kind holds of a name of that kind
-pub each_of : (P : List ℕ → Type 0) (k : Kind) (n : List ℕ) → Each P (kind_names k) →
-    of k n ≡ true → P n
+-- the same of the names of a kind, which `unfold names in refl` compares
+pub agree_of : {A : Type 0} (f g : List ℕ → A) (k : Kind) (n : List ℕ) →
+    map f (kind_names k) ≡ map g (kind_names k) → of k n ≡ true → f n ≡ g n
 unfolding of
-each_of P k n each h = each_in P (kind_names k) n each h
+agree_of f g k n same h = agree_in f g (kind_names k) n same h
 
--- the same of a test that is computed
-pub passes_in : (test : List ℕ → Bool) (names : List (List ℕ)) (n : List ℕ) →
-    list_all test names ≡ true → stands_in names n ≡ true → test n ≡ true
-passes_in test names n all h = each_in (λ m. test m ≡ true) names n (each test names all) h where
-  each : (t : List ℕ → Bool) (ms : List (List ℕ)) → list_all t ms ≡ true →
-      Each (λ m. t m ≡ true) ms
-  each t [] a = tt
-  each t (m ∷ ms) a = let both = and_parts (t m) (list_all t ms) a in (both.0, each t ms both.1)
+pub passes_of : (test : List ℕ → Bool) (k : Kind) (n : List ℕ) → AllPass test (kind_names k) →
+    of k n ≡ true → test n ≡ true
+passes_of test k n all h = agree_of test (λ m. true) k n all h
 
-pub fails_in : (test : List ℕ → Bool) (names : List (List ℕ)) (n : List ℕ) →
-    list_all (λ m. not (test m)) names ≡ true → stands_in names n ≡ true → test n ≡ false
-fails_in test names n none h = not-true (test n) (passes_in (λ m. not (test m)) names n none h)
-
-pub passes_of : (test : List ℕ → Bool) (k : Kind) (n : List ℕ) →
-    list_all test (kind_names k) ≡ true → of k n ≡ true → test n ≡ true
-unfolding of
-passes_of test k n all h = passes_in test (kind_names k) n all h
-
-pub fails_of : (test : List ℕ → Bool) (k : Kind) (n : List ℕ) →
-    list_all (λ m. not (test m)) (kind_names k) ≡ true → of k n ≡ true → test n ≡ false
-unfolding of
-fails_of test k n none h = fails_in test (kind_names k) n none h
+pub fails_of : (test : List ℕ → Bool) (k : Kind) (n : List ℕ) → AllFail test (kind_names k) →
+    of k n ≡ true → test n ≡ false
+fails_of test k n none h = agree_of test (λ m. false) k n none h
 
 -- a name that passes a test is none of a kind whose names all fail it
-pub none_of : (test : List ℕ → Bool) (k : Kind) (n : List ℕ) →
-    list_all (λ m. not (test m)) (kind_names k) ≡ true → test n ≡ true → of k n ≡ false
-none_of test k n none h = elim (cases_Bool (of k n)) [
-  | inl e ↦ absurd (false≢true (sym (fails_of test k n none e) ∙ h))
-  | inr e ↦ e
-]
+pub none_of : (test : List ℕ → Bool) (k : Kind) (n : List ℕ) → AllFail test (kind_names k) →
+    test n ≡ true → of k n ≡ false
+none_of test k n none h =
+    false_from_ne_true (of k n) (λ e. both_ways (test n) (fails_of test k n none e) h)
 
--- a name that fails a test is none of a kind whose names all pass it
-pub outside_of : (test : List ℕ → Bool) (k : Kind) (n : List ℕ) →
-    list_all test (kind_names k) ≡ true → test n ≡ false → of k n ≡ false
-outside_of test k n all h = elim (cases_Bool (of k n)) [
-  | inl e ↦ absurd (false≢true (sym h ∙ passes_of test k n all e))
-  | inr e ↦ e
-]
-
--- each name of the first kind is one of the second, and none is: compute these with
--- `unfolding of stands_in`, by `refl`
-abbrev pub includes : (outer inner : Kind) → Bool
-includes outer inner = list_all (of outer) (kind_names inner)
-
-abbrev pub excludes : Kind → Kind → Bool
-excludes k l = list_all (λ m. not (of k m)) (kind_names l)
-
-pub included : (outer inner : Kind) (n : List ℕ) → includes outer inner ≡ true →
-    of inner n ≡ true → of outer n ≡ true
-included outer inner n h e = passes_of (of outer) inner n h e
-
-pub not_included : (outer inner : Kind) (n : List ℕ) → includes outer inner ≡ true →
-    of outer n ≡ false → of inner n ≡ false
-not_included outer inner n h e = outside_of (of outer) inner n h e
-
-pub excluded : (k l : Kind) (n : List ℕ) → excludes k l ≡ true → of l n ≡ true → of k n ≡ false
-excluded k l n h e = fails_of (of k) l n h e
+-- and one that fails it is none of a kind whose names all pass it
+pub outside_of : (test : List ℕ → Bool) (k : Kind) (n : List ℕ) → AllPass test (kind_names k) →
+    test n ≡ false → of k n ≡ false
+outside_of test k n all h =
+    false_from_ne_true (of k n) (λ e. both_ways (test n) h (passes_of test k n all e))
 
 -- names that are equal are of the same kinds
 pub of_same : (k : Kind) (m n : List ℕ) → is n m ≡ true → of k m ≡ of k n
 of_same k m n h = ap (of k) (bytes_eq-same m n h)
+
+-- kinds of the writer's names, and of the reader's
+
+module _ (n : List ℕ) where
+  pub script_or_style : of kind.ScriptOrStyle n ≡ is_raw n
+  unfolding names
+  script_or_style = refl
+
+  pub escapable_same : of kind.EscapableRaw n ≡ is_escapable_raw n
+  unfolding names
+  escapable_same = refl
+
+  pub raw_of : is_raw n ≡ true → of kind.Raw n ≡ true
+  raw_of h = passes_of (of kind.Raw) kind.ScriptOrStyle n (unfold names in refl)
+      (script_or_style ∙ h)
+
+  pub escapable_of : is_escapable_raw n ≡ true → of kind.Raw n ≡ true
+  escapable_of h = passes_of (of kind.Raw) kind.EscapableRaw n (unfold names in refl)
+      (escapable_same ∙ h)
+
+  pub not_escapable : is_raw n ≡ true → is_escapable_raw n ≡ false
+  not_escapable h = fails_of is_escapable_raw kind.ScriptOrStyle n (unfold names in refl)
+      (script_or_style ∙ h)
+
+  -- of raw elements only `textarea` drops a line feed
+  pub raw_keeps : of kind.Raw n ≡ true → is_escapable_raw n ≡ false → of kind.DropsFeed n ≡ false
+  raw_keeps h e = not-true (of kind.DropsFeed n) (second_true (is_escapable_raw n) _
+      (passes_of (λ m. is_escapable_raw m || not (of kind.DropsFeed m)) kind.Raw n
+      (unfold names in refl) h) e)
+
+  pub feed_dropped : of kind.DropsFeed n ≡ true → (drops_feed n || is_listing n) ≡ true
+  feed_dropped h = passes_of (λ m. drops_feed m || is_listing m) kind.DropsFeed n
+      (unfold names in refl) h
+
+  pub dropped_feed : drops_feed n ≡ true → of kind.DropsFeed n ≡ true
+  unfolding names
+  dropped_feed h = elim (or_cases (bytes_eq n (codes "pre")) (bytes_eq n (codes "textarea")) h) [
+    | inl e ↦ ap (of kind.DropsFeed) (bytes_eq-same n (codes "pre") e)
+    | inr e ↦ ap (of kind.DropsFeed) (bytes_eq-same n (codes "textarea") e)
+  ]
+
+  -- an element that is its start tag alone drops no line feed
+  pub once_keeps : (is_foreign_self_closing n || is_void n) ≡ true →
+      of kind.DropsFeed (lowered n) ≡ false
+  unfolding names
+  once_keeps h =
+      let drops = λ (m : List ℕ). of kind.DropsFeed (lowered m) in
+      elim (or_cases (is_foreign_self_closing n) (is_void n) h) [
+        | inl e ↦ agree_in drops (λ m. false) foreign_self_closing_names n refl e
+        | inr e ↦ agree_in drops (λ m. false) void_names n refl e
+      ]

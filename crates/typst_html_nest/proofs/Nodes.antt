@@ -2,7 +2,7 @@
 use Rattle.std.proofs.Common.{◌≡◌, ℕ, suc, ◌+◌, ◌<◌, ◌≤◌, Bool, true, false, ◌&&◌, List, [], ◌∷◌, ◌++◌, Some, None, length, refl, sym, ap, subst, ◌∙◌, append-nil, arith, Ok}
 use Rattle.std.specs.List.{list_all}
 use Rattle.std.specs.Prelude.{if◌then◌else◌}
-use Rattle.std.proofs.lemmas.Bool.{and_left, and_parts, and_right, false_from_ne_true, false≢true, ltb-false, true≢false}
+use Rattle.std.proofs.lemmas.Bool.{and_left, and_parts, and_right, both_ways, false_from_ne_true, false≢true, ltb-false, true≢false}
 use Rattle.html_names.specs.Kinds.{is_escapable_raw, is_raw}
 use Rattle.html_dom_tree.proofs.Basics.{put_twice}
 use Rattle.html_dom_tree.specs.FrameFree.{NodeIsFrameFree, NodesAreFrameFree}
@@ -12,51 +12,49 @@ use Rattle.html_dom_nest.specs.Contents.{begin_with_feed}
 use Rattle.html_dom_nest.specs.Misnested.{Finding, found, node_misnested, nodes_misnested}
 use Rattle.html_dom_nest.specs.NestingRules.{element_misnesting, is_too_deep, stranger_misnesting, text_misnesting}
 use Rattle.html_dom_nest.specs.Surroundings.{surroundings_of}
-use Rattle.html_dom_nest.specs.WrittenTags.{capital_attrs, capital_tags, keeps_case}
 use Rattle.html_dom_nest.specs.WrittenTexts.{has_return, is_empty, is_white, is_white_char}
 use Rattle.html_dom_nest.specs.declared.misnesting.Misnesting.TheVariants as why
 use Rattle.html_dom_nest.specs.declared.reading.Place.{Place}
 use Rattle.html_dom_nest.specs.declared.reading.Place.TheVariants as place
 use Rattle.html_dom_nest.specs.declared.reading.Space.{Space}
-use Rattle.html_dom_nest.specs.declared.reading.Space.TheVariants as nest
 use Rattle.typst_html_encode.proofs.Plainly.{shut}
 use Rattle.typst_html_encode.proofs.Runs.{left_empty, right_empty}
 use Rattle.typst_html_encode.specs.ExportFaults.{attrs_faults, node_faults, nodes_faults, text_faults, void_faults}
 use Rattle.typst_html_encode.specs.FrameWriters.{Frames}
 use Rattle.typst_html_encode.specs.Layout.{due_after}
 use Rattle.typst_html_encode.specs.ReadingBack.{HeadIsNamed, NodeIsNamed, NodesAreNamed}
-use Rattle.typst_html_encode.specs.Text.{end_tag_text, escaped_text, escaping_of, feed_text, node_text, nodes_text, start_tag_text}
+use Rattle.typst_html_encode.specs.Text.{escaped_text, escaping_of, node_text, nodes_raw_text, nodes_text, start_tag_text}
 use Rattle.typst_html_parse_names.specs.ForeignNames.{lowered}
 use Rattle.typst_html_parse_names.specs.PageNames.{of}
 use Rattle.typst_html_parse_names.specs.declared.kind.Kind.TheVariants as kind
 use Rattle.typst_html_parse_open.specs.OpenElements.{OpenElement, is_at, is_of}
 use Rattle.typst_html_parse_open.specs.Pages.{Page, End, Start, closed}
-use Rattle.typst_html_parse_open.specs.declared.modes.TableRule.TheVariants as rule
 use Rattle.typst_html_parse_tree.specs.PageTrees.{token_read}
 use Rattle.typst_html_parse.specs.PageReading.{run}
 use Rattle.typst_html_parse.specs.PageTokens.{PageReader, most_attrs}
+use Rattle.typst_html_nest.proofs.Alike.{html_is, html_space}
 use Rattle.typst_html_nest.proofs.Begun.{start_taken}
-use Rattle.typst_html_nest.proofs.Capitals.{come_back, math_attrs_back, names_lowered_differ, small_back, svg_attrs_back}
+use Rattle.typst_html_nest.proofs.Branches.{else_none, if_none}
 use Rattle.typst_html_nest.proofs.Closed.{calm_begun}
 use Rattle.typst_html_nest.proofs.Ended.{end_taken}
-use Rattle.typst_html_nest.proofs.Fillings.{alone_filled, around, behind_data, child_normal, closes, element_closed, foreign_filled, fresh_behind, html_filled, html_space, inside, inside_faults, opened, opened_page, space_html, with_child}
+use Rattle.typst_html_nest.proofs.Fillings.{KidsAreGathered, alone_filled, around, behind_data, child_normal, closes, element_closed, foreign_filled, fresh_behind, html_filled, filling, inside_faults, opened, opened_page, with_child}
 use Rattle.typst_html_nest.proofs.Forms.{AreGathered, IsFilled, gathered_on, no_children, on, put_nodes, texted_children, with_text_is}
-use Rattle.typst_html_nest.proofs.Parts.{all_pass, content_fits, escapable_of, foreign_fits, found_none, no_return, no_returns, once_keeps, raw_of, still_no_page, tag_fits, white_by}
+use Rattle.typst_html_nest.proofs.InnerTexts.{all_pass, no_return, no_returns}
+use Rattle.typst_html_nest.proofs.KeptTags.{lowered_differ, small_html}
+use Rattle.typst_html_nest.proofs.KindFacts.{escapable_of, once_keeps, raw_of}
 use Rattle.typst_html_nest.proofs.Readers.{Emits, Takes, behind, data_at, written_tag}
+use Rattle.typst_html_nest.proofs.Rules.{ContentFits, TagFits, content_fits, foreign_fits, found_none, html_read, still_no_page, tag_fits}
 use Rattle.typst_html_nest.proofs.StartTags.{start_emits}
 use Rattle.typst_html_nest.proofs.Steady.{steady_begun}
 use Rattle.typst_html_nest.proofs.Taken.{body_takes, raw_takes, white_takes}
 use Rattle.typst_html_nest.proofs.Texts.{begins_with_lf, text_leads}
-use Rattle.typst_html_nest.proofs.Ways.{AreAlike, HaveNoTemplate, IsAlike, IsCalm, IsSteady, ends_at_once, is_page_place, marks}
+use Rattle.typst_html_nest.proofs.Ways.{AreAlike, IsAlike, IsCalm, IsSteady, ends_at_once, is_page_place, marks}
 use Rattle.typst_html_nest.specs.TreesStay.{NodeIsReadable, NodesAreReadable}
 
 -- a page in whose current node nodes are read
-pub record Stands (above : List Ancestor) (p : Page) (o : OpenElement) (os : List OpenElement) :
+pub record IsInside (above : List Ancestor) (p : Page) (o : OpenElement) (os : List OpenElement) :
     Type 0 where
-  pub alike : AreAlike above (o ∷ os)
-  pub lost : p.lost ≡ marks (o ∷ os)
-  pub tables : p.tables ≡ rule.ClosesP
-  pub plain : HaveNoTemplate above
+  pub calm : (c : NodesView) (t : List ℕ) (s : ℕ) → IsCalm above (on p o os c t s)
   pub steady : (c : NodesView) → IsSteady above (record o { children = c } ∷ os)
   pub place : is_page_place (place_of above) ≡ false
   pub raw : is_of (of kind.Raw) o ≡ false
@@ -138,33 +136,21 @@ text_fits above s span ns f =
     (left_empty (found way span (text_misnesting s (surroundings_of above)))
     (nodes_misnested f.path (suc f.index) above ns) f.nested)
 
--- whatever children the current node has
-pub alike_with : (above : List Ancestor) (o : OpenElement) (os : List OpenElement) (c : NodesView) →
-    AreAlike above (o ∷ os) → AreAlike above (record o { children = c } ∷ os)
-alike_with [] o os c h = h
-alike_with (a ∷ above) o os c h =
-    (record { name = h.0.name; attrs = h.0.attrs; space = h.0.space }, h.1)
-
--- a calm page stays so
-pub calm_on : (above : List Ancestor) (p q : Page) (o : OpenElement) (os : List OpenElement)
-    (c : NodesView) (t : List ℕ) (s : ℕ) → q.stack ≡ o ∷ os → IsCalm above q → p.lost ≡ q.lost →
-    p.tables ≡ q.tables → IsCalm above (on p o os c t s)
-calm_on above p q o os c t s e calm l u = record {
-  alike = alike_with above o os c (subst (AreAlike above) e calm.alike);
-  lost = l ∙ (calm.lost ∙ ap marks e);
-  tables = u ∙ calm.tables;
+-- a calm page stays so, whatever children the current node has
+pub calm_on : (above : List Ancestor) (p : Page) (o : OpenElement) (os : List OpenElement)
+    (c : NodesView) (t : List ℕ) (s : ℕ) → p.stack ≡ o ∷ os → IsCalm above p →
+    IsCalm above (on p o os c t s)
+calm_on above p o os c t s e calm = record {
+  alike = alike_with above (subst (AreAlike above) e calm.alike);
+  lost = calm.lost ∙ ap marks e;
+  tables = calm.tables;
   plain = calm.plain;
-}
-
-module _ (above : List Ancestor) (p : Page) (o : OpenElement) (os : List OpenElement)
-    (there : Stands above p o os) where
-  pub calm_there : (c : NodesView) (t : List ℕ) (s : ℕ) → IsCalm above (on p o os c t s)
-  calm_there c t s = record {
-    alike = alike_with above o os c there.alike;
-    lost = there.lost;
-    tables = there.tables;
-    plain = there.plain;
-  }
+} where
+  alike_with : (above : List Ancestor) → AreAlike above (o ∷ os) →
+      AreAlike above (record o { children = c } ∷ os)
+  alike_with [] h = h
+  alike_with (a ∷ above) h =
+      (record { name = h.0.name; attrs = h.0.attrs; space = h.0.space }, h.1)
 
 -- characters of a text are taken
 record AreTaken (p : Page) (s : List ℕ) : Type 0 where
@@ -186,7 +172,7 @@ taken_in place.Body above p s e calm steady n m = record {
 taken_in w above p s e calm steady n m = record {
   passes = is_white_char;
   takes = white_takes above p calm n (λ b. let x = sym e ∙ b in cc);
-  all = white_by (has_return s) (is_white s) _ m;
+  all = (else_none (is_white s) _ None (if_none (has_return s) why.CarriageReturn _ m).1).0;
 }
 
 pub text_gathered : (above : List Ancestor) (p : Page) (o : OpenElement) (os : List OpenElement)
@@ -222,32 +208,38 @@ first_in : (fresh : Bool) (text : List ℕ) (span : ℕ) (ns : NodesView) →
 first_in fresh [] span ns h e = refl
 first_in fresh (x ∷ xs) span ns h e = h e
 
-html_capitals : (s : Space) → is_html s ≡ true → capital_tags s ≡ []
-html_capitals nest.Html h = refl
-html_capitals nest.Svg h = absurd (false≢true h)
-html_capitals nest.MathMl h = absurd (false≢true h)
-
-pub capitals_come_back : (s : Space) → come_back (capital_attrs s) ≡ true
-capitals_come_back nest.Html = refl
-capitals_come_back nest.Svg = svg_attrs_back
-capitals_come_back nest.MathMl = math_attrs_back
+-- its start tag is read as one
+pub element_starts : (above : List Ancestor) (h : Head) (kids : NodesView) →
+    ElementFits above h kids → attrs_faults h.span h.attrs ≡ [] → (fresh : Bool) (place : ℕ)
+    (p : Page) → Emits (data_at fresh place p) (start_tag_text h) (Start (written_tag h)) p
+element_starts above h kids f values fresh place p =
+    let tag = tag_fits h kids (surroundings_of above) f.fits in
+    start_emits h h.span f.named tag.letter values tag.returns
+    (lowered_differ (space_of (reading_of above) h.name) h tag) f.few fresh place p
 
 -- nodes that are read wherever they stand
-abbrev AreLed : Frames → NodesView → Type 0
+abbrev pub AreLed : Frames → NodesView → Type 0
 AreLed frames ns = (pre_span due : Bool) (level : ℕ) (above : List Ancestor) (p : Page)
     (o : OpenElement) (os : List OpenElement) (fresh : Bool) (place : ℕ) (c : NodesView)
-    (t : List ℕ) (s : ℕ) → Stands above p o os → NodesFit above ns →
+    (t : List ℕ) (s : ℕ) → IsInside above p o os → NodesFit above ns →
     nodes_faults frames pre_span false ns ≡ [] → (fresh ≡ true → begin_with_feed ns ≡ false) →
     AreGathered (data_at fresh place (on p o os c t s))
     (nodes_text frames pre_span due (shut level) ns) (fresh_behind fresh ns) p o os c t ns
 
+-- the nodes of an element in which they can be read
+pub kids_gathered : (frames : Frames) (level : ℕ) (above : List Ancestor) (p : Page)
+    (o : OpenElement) (os : List OpenElement) (kids : NodesView) → AreLed frames kids →
+    IsInside above p o os → NodesFit above kids → KidsAreGathered frames level kids p o os
+kids_gathered frames level above p o os kids led there fit pre_span fresh place start clean first =
+    led pre_span true level above p o os fresh place none [] start there fit clean first
+
 -- what follows a start tag
 abbrev pub rest : Frames → (level : ℕ) → Head → NodesView → List ℕ
 rest frames level h kids = if ends_at_once h then []
-    else (feed_text h kids ++ (inside frames level h kids ++ end_tag_text h.name))
+    else filling frames level h kids
 
 module _ (frames : Frames) (level : ℕ) (above : List Ancestor) (h : Head) (kids : NodesView)
-    (p : Page) (o : OpenElement) (os : List OpenElement) (there : Stands above p o os)
+    (p : Page) (o : OpenElement) (os : List OpenElement) (there : IsInside above p o os)
     (f : ElementFits above h kids) (values : attrs_faults h.span h.attrs ≡ [])
     (c : NodesView) (t : List ℕ) where
   -- behind the start tag, which begins there
@@ -258,12 +250,19 @@ module _ (frames : Frames) (level : ℕ) (above : List Ancestor) (h : Head) (kid
     abbrev it : OpenElement
     it = opened above h p o os c t s
 
+    abbrev space : Space
+    space = space_of (reading_of above) h.name
+
     abbrev outer : List OpenElement
     outer = around above h p o os c t s
 
     calm_page : IsCalm (ancestor h above ∷ above) page
-    calm_page = calm_begun above h (on p o os c t s) (calm_there above p o os there c t s)
-        f.template
+    calm_page = calm_begun above h (on p o os c t s) (there.calm c t s) f.template
+
+    calm_filled : (children : NodesView) (words : List ℕ) (start : ℕ) →
+        IsCalm (ancestor h above ∷ above) (on page it outer children words start)
+    calm_filled children words start =
+        calm_on (ancestor h above ∷ above) page it outer children words start refl calm_page
 
     steady_outer : IsSteady above outer
     steady_outer = subst (λ x. IsSteady above (x ∷ os)) (sym (with_text_is t o c))
@@ -275,17 +274,14 @@ module _ (frames : Frames) (level : ℕ) (above : List Ancestor) (h : Head) (kid
 
     inside_it : ends_at_once h ≡ false →
         (is_html (space_of (reading_of above) h.name) && of kind.Raw h.name) ≡ false →
-        Stands (ancestor h above ∷ above) page it outer
+        IsInside (ancestor h above ∷ above) page it outer
     inside_it e r = record {
-      alike = calm_page.alike;
-      lost = calm_page.lost;
-      tables = calm_page.tables;
-      plain = calm_page.plain;
+      calm = calm_filled;
       steady = λ children. steady_begun above h kids outer calm_page.alike.1 steady_outer
           there.place
           f.fits f.template e r (record it { children = children }) (alike_it children);
       place = still_no_page above h kids there.place f.fits;
-      raw = ap (λ b. b && of kind.Raw h.name) (space_html (space_of (reading_of above) h.name)) ∙ r;
+      raw = ap (λ b. b && of kind.Raw h.name) (html_is (space_of (reading_of above) h.name)) ∙ r;
       limit = there.limit;
     }
 
@@ -294,66 +290,60 @@ module _ (frames : Frames) (level : ℕ) (above : List Ancestor) (h : Head) (kid
         ≡ closed true (on page it outer children words start)
     ends_it e children words start = end_taken above h kids (on page it outer children words start)
         (record it { children = children }) outer refl
-        (calm_on (ancestor h above ∷ above) page page it outer children words start refl calm_page
-        refl refl) steady_outer there.place f.fits e
-
-    small : is_html (space_of (reading_of above) h.name) ≡ true → lowered h.name ≡ h.name
-    small e = small_back h.name
-        (ap (λ l. keeps_case l h.name) (sym (html_capitals (space_of (reading_of above) h.name) e))
-        ∙ (tag_fits h kids (surroundings_of above) f.fits).case)
+        (calm_filled children words start) steady_outer there.place f.fits e
 
     fill : AreLed frames kids → ends_at_once h ≡ false → inside_faults frames h kids ≡ [] →
         (html raw : Bool) → is_html (space_of (reading_of above) h.name) ≡ html →
         of kind.Raw h.name ≡ raw → (place : ℕ) →
-        IsFilled (behind (Start (written_tag h)) place page)
-        (feed_text h kids ++ (inside frames level h kids ++ end_tag_text h.name)) h.name kids
-        page it outer
-    fill led e g true true x y place =
-        let tag = tag_fits h kids (surroundings_of above) f.fits in
-        let returns = no_returns f.below.path f.below.index (ancestor h above ∷ above) kids
-        f.below.nested in
-        alone_filled frames level above h kids p o os c t s f.named.0 tag.letter returns g x
-        (small x) (content_fits h kids (surroundings_of above) f.fits x) y
-        (raw_takes (ancestor h above ∷ above) page it outer calm_page refl
-        (html_space (space_of (reading_of above) h.name) x) y)
-        (is_raw h.name) (is_escapable_raw h.name) refl refl place
-    fill led e g true false x y place =
-        let tag = tag_fits h kids (surroundings_of above) f.fits in
-        let returns = no_returns f.below.path f.below.index (ancestor h above ∷ above) kids
-        f.below.nested in
-        let there_too = inside_it e (and_right (is_html (space_of (reading_of above) h.name))
-        (of kind.Raw h.name) y) in
-        html_filled frames level above h kids p o os c t s f.named.0 tag.letter returns g x
-        (small x) (content_fits h kids (surroundings_of above) f.fits x) y
-        (false_from_ne_true (is_raw h.name) (λ r. false≢true (sym y ∙ raw_of h.name r)))
-        (false_from_ne_true (is_escapable_raw h.name)
-        (λ r. false≢true (sym y ∙ escapable_of h.name r)))
-        (λ pre_span fresh place start clean first. led pre_span true level
-        (ancestor h above ∷ above)
-        page it outer fresh place none [] start there_too f.below clean first) place
-    fill led e g false raw x y place =
-        let tag = tag_fits h kids (surroundings_of above) f.fits in
-        let returns = no_returns f.below.path f.below.index (ancestor h above ∷ above) kids
-        f.below.nested in
-        let there_too = inside_it e (ap (λ b. b && of kind.Raw h.name) x) in
-        foreign_filled frames level above h kids p o os c t s f.named.0 tag.letter returns g x
-        (foreign_fits h kids (surroundings_of above) f.fits x)
-        (λ pre_span fresh place start clean first. led pre_span true level
-        (ancestor h above ∷ above)
-        page it outer fresh place none [] start there_too f.below clean first)
-        (is_raw h.name) (is_escapable_raw h.name) refl refl place
+        IsFilled (behind (Start (written_tag h)) place page) (filling frames level h kids) h.name
+        kids page it outer
+    fill led e g html raw x y place = by_kind html raw x y where
+      tag : TagFits space h
+      tag = tag_fits h kids (surroundings_of above) f.fits
+
+      returns : has_return (nodes_raw_text kids) ≡ false
+      returns = no_returns f.below.path f.below.index (ancestor h above ∷ above) kids f.below.nested
+
+      small : is_html space ≡ true → lowered h.name ≡ h.name
+      small x = small_html space h.name x tag.case
+
+      content : is_html space ≡ true → ContentFits h kids
+      content x = content_fits h kids (surroundings_of above) f.fits
+          (html_read (reading_of above) h.name x)
+
+      gathered : (is_html space && of kind.Raw h.name) ≡ false →
+          KidsAreGathered frames level kids page it outer
+      gathered r = kids_gathered frames level (ancestor h above ∷ above) page it outer kids led
+          (inside_it e r) f.below
+
+      by_kind : (html raw : Bool) → is_html space ≡ html → of kind.Raw h.name ≡ raw →
+          IsFilled (behind (Start (written_tag h)) place page) (filling frames level h kids) h.name
+          kids page it outer
+      by_kind true true x y =
+          alone_filled frames level above h kids p o os c t s f.named.0 tag.letter returns g x
+          (small x) (content x) y
+          (raw_takes (ancestor h above ∷ above) page it outer calm_page refl (html_space space x) y)
+          (is_raw h.name) (is_escapable_raw h.name) refl refl place
+      by_kind true false x y =
+          html_filled frames level above h kids p o os c t s f.named.0 tag.letter returns g x
+          (small x) (content x) y
+          (false_from_ne_true (is_raw h.name)
+          (λ r. both_ways (of kind.Raw h.name) y (raw_of h.name r)))
+          (false_from_ne_true (is_escapable_raw h.name)
+          (λ r. both_ways (of kind.Raw h.name) y (escapable_of h.name r)))
+          (gathered (and_right (is_html space) (of kind.Raw h.name) y)) place
+      by_kind false raw x y =
+          foreign_filled frames level above h kids p o os c t s f.named.0 tag.letter returns g x
+          (foreign_fits h kids (surroundings_of above) f.fits x)
+          (gathered (ap (λ b. b && of kind.Raw h.name) x))
+          (is_raw h.name) (is_escapable_raw h.name) refl refl place
 
   module _ (fresh : Bool) (place s : ℕ) where
     abbrev before : PageReader
     before = data_at fresh place (on p o os c t s)
 
     starts : Emits before (start_tag_text h) (Start (written_tag h)) (on p o os c t s)
-    starts =
-        let tag = tag_fits h kids (surroundings_of above) f.fits in
-        start_emits h h.span f.named tag.letter values tag.returns
-        (names_lowered_differ (capital_attrs (space_of (reading_of above) h.name)) h.attrs
-        (capitals_come_back (space_of (reading_of above) h.name)) tag.attrs tag.differ) f.few fresh
-        place (on p o os c t s)
+    starts = element_starts above h kids f values fresh place (on p o os c t s)
 
     -- where its start tag begins
     abbrev at_start : ℕ
@@ -362,7 +352,7 @@ module _ (frames : Frames) (level : ℕ) (above : List Ancestor) (h : Head) (kid
     begins : token_read (Start (written_tag h)) (on p o os c t at_start)
         ≡ (if ends_at_once h then closed true (page at_start) else Ok (page at_start))
     begins = start_taken above h kids (on p o os c t at_start)
-        (calm_there above p o os there c t at_start) (there.steady c) there.place f.fits f.template
+        (there.calm c t at_start) (there.steady c) there.place f.fits f.template
         (omega (arith, f.shallow, there.limit))
 
     -- an element that is its start tag alone
@@ -373,7 +363,7 @@ module _ (frames : Frames) (level : ℕ) (above : List Ancestor) (h : Head) (kid
         let after : Page = on p o os (with_child above h p o os c t at_start none) [] at_start in
         let ends : token_read (Start (written_tag h)) (on p o os c t at_start) ≡ Ok after = begins
         ∙ (ap (λ b. if b then closed true (page at_start) else Ok (page at_start)) e
-        ∙ closes above h p o os c t at_start none [] at_start there.lost
+        ∙ closes above h p o os c t at_start none [] at_start (there.calm c t s).lost
         (calm_page at_start).lost) in
         record {
           children = with_child above h p o os c t at_start none;
@@ -390,13 +380,11 @@ module _ (frames : Frames) (level : ℕ) (above : List Ancestor) (h : Head) (kid
 
     -- an element with content
     whole : AreLed frames kids → ends_at_once h ≡ false → inside_faults frames h kids ≡ [] →
-        AreGathered before (start_tag_text h
-        ++ (feed_text h kids ++ (inside frames level h kids ++ end_tag_text h.name)))
-        false p o os c t (node (element_node h kids) none)
+        AreGathered before (start_tag_text h ++ filling frames level h kids) false p o os c t
+        (node (element_node h kids) none)
     whole led e g = element_closed above h p o os c t at_start before
         (behind (Start (written_tag h)) starts.place (page at_start))
-        (feed_text h kids ++ (inside frames level h kids ++ end_tag_text h.name)) kids there.lost
-        (calm_page at_start).lost
+        (filling frames level h kids) kids (there.calm c t s).lost (calm_page at_start).lost
         (starts.is (page at_start) (begins
         ∙ ap (λ b. if b then closed true (page at_start) else Ok (page at_start)) e))
         (fill at_start led e g (is_html (space_of (reading_of above) h.name)) (of kind.Raw h.name)
@@ -404,8 +392,7 @@ module _ (frames : Frames) (level : ℕ) (above : List Ancestor) (h : Head) (kid
 
     by_ends : (b : Bool) → ends_at_once h ≡ b → AreLed frames kids →
         (if b then void_faults h.span kids else inside_faults frames h kids) ≡ [] →
-        AreGathered before (start_tag_text h ++ (if b then [] else (feed_text h kids
-        ++ (inside frames level h kids ++ end_tag_text h.name))))
+        AreGathered before (start_tag_text h ++ (if b then [] else filling frames level h kids))
         false p o os c t (node (element_node h kids) none)
     by_ends true e led clean = once e clean
     by_ends false e led clean = whole led e clean
@@ -416,12 +403,7 @@ module _ (frames : Frames) (level : ℕ) (above : List Ancestor) (h : Head) (kid
         (node (element_node h kids) none)
     element_gathered led clean = by_ends (ends_at_once h) refl led clean
 
-pub nodes_lead : (frames : Frames) (ns : NodesView) (pre_span due : Bool) (level : ℕ)
-    (above : List Ancestor) (p : Page) (o : OpenElement) (os : List OpenElement) (fresh : Bool)
-    (place : ℕ) (c : NodesView) (t : List ℕ) (s : ℕ) → Stands above p o os → NodesFit above ns →
-    nodes_faults frames pre_span false ns ≡ [] → (fresh ≡ true → begin_with_feed ns ≡ false) →
-    AreGathered (data_at fresh place (on p o os c t s))
-    (nodes_text frames pre_span due (shut level) ns) (fresh_behind fresh ns) p o os c t ns
+pub nodes_lead : (frames : Frames) (ns : NodesView) → AreLed frames ns
 unfolding node_text nodes_text node_faults nodes_faults NodeIsFrameFree NodesAreFrameFree
 nodes_lead frames none pre_span due level above p o os fresh place c t s there f clean first =
     record {
@@ -450,7 +432,7 @@ nodes_lead frames (node (text_node text span) ns) pre_span due level above p o o
     let more = nodes_faults frames pre_span false ns in
     let m = text_fits above text span ns f in
     let x = taken_in (place_of above) above (on p o os c t s) text refl
-    (calm_there above p o os there c t s) (there.steady c) there.place m in
+    (there.calm c t s) (there.steady c) there.place m in
     let g = text_gathered above p o os c t s pre_span fresh place text span x.passes x.takes x.all
     (left_empty here more clean) m (first_in fresh text span ns first) in
     gathered_on (data_at fresh place (on p o os c t s)) (escaped_text (escaping_of pre_span) text)

@@ -1,173 +1,55 @@
 -- Elements of text alone are read as they are, as far as their end tags.
-use Rattle.std.proofs.Common.{◌≡◌, ℕ, zero, suc, ◌+◌, ◌-◌, ◌<◌, ◌≤◌, min, Bool, true, false, not, ◌&&◌, ◌⊎◌, inl, inr, eqb, List, [], ◌∷◌, ◌++◌, codes, bytes_eq, length, take, drop, get_or, map, Some, None, refl, ap, ◌∙◌, sym, subst, append_assoc, arith, length-append, Ok}
-use Rattle.std.specs.Prelude.{if◌then◌else◌, nat_lt, nat_le}
+use Rattle.std.proofs.Common.{◌≡◌, ℕ, zero, suc, ◌+◌, ◌-◌, ◌<◌, ◌≤◌, min, Bool, true, false, ◌&&◌, ◌⊎◌, inl, inr, eqb, List, [], ◌∷◌, ◌++◌, codes, length, take, drop, map, Some, None, refl, ap, ◌∙◌, sym, subst, append_assoc, arith, length-append, Ok}
+use Rattle.std.specs.Prelude.{if◌then◌else◌, nat_le}
 use Rattle.std.specs.Char.{len_utf8, to_ascii_lowercase}
-use Rattle.std.specs.List.{fold, list_all}
+use Rattle.std.specs.List.{fold}
 use Rattle.std.proofs.Math.Seq.{drop-append-add}
-use Rattle.std.proofs.lemmas.Bool.{and_parts, and_from, and_left, and_right, or_left, or_parts, or_right, cases_Bool, false_from_ne_true, false≢true, eq-eqb, eqb-true, ne_eqb, leb-true, le-leb, ltb-true}
+use Rattle.std.proofs.lemmas.Bool.{and_parts, and_from, and_left, and_right, both_ways, or_parts, cases_Bool, false_from_ne_true, false≢true, eqb-true, leb-true, le-leb}
+use Rattle.std.proofs.Math.Bool.{and-false}
 use Rattle.std.proofs.lemmas.Bool.Decides.{nat_tests}
-use Rattle.std.proofs.lemmas.List.{append-nil, take-append-drop, take_at, drop_at, drop-append-le, map-append, length-map}
+use Rattle.std.proofs.lemmas.List.{append-nil, take-append-drop, take_at, drop_at, length-map}
 use Rattle.std.proofs.lemmas.List.Sums.{fold-append}
 use Rattle.std.proofs.lemmas.Slice.Eq.{bytes_eq-Decides}
 use Rattle.html_names.specs.Characters.{all, is_element_text_char, is_lower, is_tag_char, is_text_char}
-use Rattle.html_names.specs.Names.{stands_in}
-use Rattle.html_names.proofs.Basics.{all_append, bytes_eq-same}
+use Rattle.html_names.proofs.Basics.{all_append}
 use Rattle.html_dom_nest.specs.Contents.{is_escaped, state_behind}
 use Rattle.html_dom_nest.specs.WrittenTexts.{has_return, is_return}
 use Rattle.html_dom_nest.specs.declared.content.ScriptState.{ScriptState}
 use Rattle.html_dom_nest.specs.declared.content.ScriptState.TheVariants as state
-use Rattle.typst_html_encode.specs.ClosingTags.{is_tag_end, closing, begins_closing, has_closing, holds_closing, ends_closing, before_closing}
+use Rattle.typst_html_encode.proofs.RawBack.{ends_holds, is_not_less, no_end_at_less, tag_ends}
+use Rattle.typst_html_encode.specs.ClosingTags.{is_tag_end, closing, holds_closing, ends_closing, before_closing}
 use Rattle.typst_html_encode.specs.References.{reference_to}
 use Rattle.typst_html_encode.specs.Text.{char_text, end_tag_text, escaped_text, escaping_of}
 use Rattle.typst_html_read.specs.RawEnds.{ends_in, ends_raw}
-use Rattle.typst_html_parse_names.specs.PageNames.{kind_names, of}
+use Rattle.typst_html_parse_names.specs.PageNames.{of}
 use Rattle.typst_html_parse_names.specs.declared.kind.Kind.TheVariants as kind
 use Rattle.typst_html_parse_open.specs.OpenElements.{OpenElement, current_name, is_at}
 use Rattle.typst_html_parse_open.specs.Pages.{Page, Token, End, ◌next◌}
 use Rattle.typst_html_parse_open.specs.declared.modes.Space.TheVariants as spaces
 use Rattle.typst_html_parse_tree.specs.PageTrees.{token_read}
+use Rattle.typst_html_parse.proofs.PageStretches.{other}
 use Rattle.typst_html_parse.specs.PageReading.{run}
 use Rattle.typst_html_parse.specs.PageTokens.{Raw, Reference, PageReader, depth_behind, ended_name, ended_of, is_name, may_end, step}
+use Rattle.typst_html_nest.proofs.KindFacts.{fails_of, names, passes_of}
 use Rattle.typst_html_nest.proofs.Readers.{Emits, Takes, data_at, raw_at, reading_at, run_on, texted}
-use Rattle.typst_html_nest.proofs.References.{and_false, last_step, reference_leads, text_positive}
+use Rattle.typst_html_nest.proofs.References.{last_step, reference_leads}
 use Rattle.typst_html_nest.proofs.Texts.{begins_with_lf, is_plain_text_char, not_dropped, nothing_dropped}
 
--- names of such elements: what holds of each name of a list holds of one that stands in it
-holds_of : (test : List ℕ → Bool) (names : List (List ℕ)) (name : List ℕ) →
-    list_all test names ≡ true → stands_in names name ≡ true → test name ≡ true
-unfolding stands_in
-holds_of test [] name h k = absurd (false≢true k)
-holds_of test (n ∷ ns) name h k =
-    let both = and_parts (test n) (list_all test ns) h in
-    elim (cases_Bool (bytes_eq n name)) [
-      | inl e ↦ subst (λ m. test m ≡ true) (bytes_eq-same n name e) both.0
-      | inr e ↦ holds_of test ns name both.1 (rw e at k)
-    ]
-
-abbrev is_short_name : List ℕ → Bool
-is_short_name name = (all is_lower name && nat_lt 0 (length name)) && nat_le (length name) 8
-
-raw_name : (name : List ℕ) → of kind.Raw name ≡ true → is_short_name name ≡ true
-unfolding of
-raw_name name h = holds_of is_short_name (kind_names kind.Raw) name refl h
-
-no_script : (name : List ℕ) → of kind.EscapableRaw name ≡ true → not (of kind.Script name) ≡ true
-unfolding of stands_in
-no_script name h =
-    holds_of (λ n. not (of kind.Script n)) (kind_names kind.EscapableRaw) name refl h
-
-not_both : (b : Bool) → not b ≡ true → b ≡ true → ⊥
-not_both true h e = false≢true h
-not_both false h e = false≢true e
+no_script : (name : List ℕ) → of kind.EscapableRaw name ≡ true → of kind.Script name ≡ false
+no_script name h = fails_of (of kind.Script) kind.EscapableRaw name (unfold names in refl) h
 
 -- their characters
-lower_tag : (c : ℕ) → is_lower c ≡ true → is_tag_char c ≡ true
-lower_tag c h = or_left _ _ (or_left _ _ (or_left (is_lower c) _ h))
-
 lower_no_end : (c : ℕ) → is_lower c ≡ true → is_tag_end c ≡ false
 unfolding is_tag_end
 lower_no_end c h = grind (arith, nat_tests)
 
-lower_no_dash : (c : ℕ) → is_lower c ≡ true → eqb c 45 ≡ false
-lower_no_dash c h = grind (arith, nat_tests)
-
-lower_no_and : (c : ℕ) → is_lower c ≡ true → eqb c 38 ≡ false
-lower_no_and c h = grind (arith, nat_tests)
-
-lower_no_return : (c : ℕ) → is_lower c ≡ true → is_return c ≡ false
-lower_no_return c h = grind (arith, nat_tests)
-
-lower_positive : (c : ℕ) → is_lower c ≡ true → 0 < c
-lower_positive c h = grind (arith, nat_tests)
-
-tag_ends : (is_tag_end 47 ≡ true) × (is_tag_end 60 ≡ false) × (is_tag_end 62 ≡ true)
-    × (is_tag_end 38 ≡ false)
+no_end_at_and : is_tag_end 38 ≡ false
 unfolding is_tag_end
-tag_ends = (refl, refl, refl, refl)
-
-all_tag : (name : List ℕ) → all is_lower name ≡ true → list_all is_tag_char name ≡ true
-all_tag [] h = refl
-all_tag (c ∷ cs) h =
-    let both = and_parts (is_lower c) (all is_lower cs) h in
-    and_from (is_tag_char c) (list_all is_tag_char cs) (lower_tag c both.0) (all_tag cs both.1)
-
-name_is : (name : List ℕ) → all is_lower name ≡ true → 0 < length name → is_name name ≡ true
-name_is name h l =
-    let some : eqb (length name) 0 ≡ false = ne_eqb (length name) 0 (λ e. omega (arith, l, e)) in
-    and_from (not (eqb (length name) 0)) (list_all is_tag_char name) (ap not some) (all_tag name h)
+no_end_at_and = refl
 
 -- small letters of other characters are themselves
 lower_is : (c n : ℕ) → to_ascii_lowercase c ≡ n → n < 65 → c ≡ n
 lower_is c n e h = grind (arith, nat_tests)
-
--- a text whose end is a closing tag, and an ending character after it, as in RawBack of
--- typst_html_encode
-holds_at : (k a s : List ℕ) → 0 < length s → begins_closing k s ≡ true →
-    has_closing k (a ++ s) ≡ true
-holds_at k [] [] l h = absurd (omega arith)
-holds_at k [] (c ∷ cs) l h = or_left (begins_closing k (c ∷ cs)) (has_closing k cs) h
-holds_at k (x ∷ a) s l h = or_right (begins_closing k (x ∷ (a ++ s))) (has_closing k (a ++ s))
-    (holds_at k a s l h)
-
-begins_own : (b : List ℕ) (c : ℕ) (rest : List ℕ) →
-    begins_closing (map to_ascii_lowercase b) (b ++ c ∷ rest) ≡ is_tag_end c
-begins_own [] c rest = refl
-begins_own (d ∷ b) c rest = let same = eq-eqb (to_ascii_lowercase d)
-    (to_ascii_lowercase d) refl in rw same (begins_own b c rest)
-
-ends_holds : (name text : List ℕ) (c : ℕ) (rest : List ℕ) → is_tag_end c ≡ true →
-    ends_closing name text ≡ true → holds_closing name (text ++ c ∷ rest) ≡ true
-ends_holds name text c rest e h =
-    let n = length text - length (closing name) in
-    let a = take n text in
-    let b = drop n text in
-    let same : map to_ascii_lowercase b ≡ closing name =
-    (bytes_eq-Decides (map to_ascii_lowercase b) (closing name)).0 h in
-    let split : (text ++ c ∷ rest) ≡ a ++ (b ++ c ∷ rest) =
-    ap (λ t. t ++ c ∷ rest) (sym (take-append-drop n text)) ∙ append_assoc a b (c ∷ rest) in
-    let first : begins_closing (closing name) (b ++ c ∷ rest) ≡ true =
-    ap (λ k. begins_closing k (b ++ c ∷ rest)) (sym same) ∙ (begins_own b c rest ∙ e) in
-    ap (holds_closing name) split ∙ holds_at (closing name) a (b ++ c ∷ rest)
-    (omega (arith, length-append b (c ∷ rest))) first
-
-abbrev is_not_less : ℕ → Bool
-is_not_less c = not (eqb c 60)
-
-lower_not_less : (c : ℕ) → is_lower c ≡ true → is_not_less (to_ascii_lowercase c) ≡ true
-lower_not_less c h = grind (arith, nat_tests)
-
-lower_pass : (name : List ℕ) → all is_lower name ≡ true →
-    all is_not_less (map to_ascii_lowercase name) ≡ true
-lower_pass [] h = refl
-lower_pass (c ∷ cs) h =
-    let both = and_parts (is_lower c) (all is_lower cs) h in
-    and_from (is_not_less (to_ascii_lowercase c)) (all is_not_less (map to_ascii_lowercase cs))
-    (lower_not_less c both.0) (lower_pass cs both.1)
-
-last_passes : (p : ℕ → Bool) (xs : List ℕ) (c : ℕ) → all p (xs ++ c ∷ []) ≡ true → p c ≡ true
-last_passes p [] c h = (and_parts (p c) true h).0
-last_passes p (x ∷ xs) c h = last_passes p xs c (and_parts (p x) (all p (xs ++ c ∷ [])) h).1
-
--- after a `<` no closing tag has ended
-not_closing : (xs ys : List ℕ) → all is_not_less ys ≡ true → xs ++ 60 ∷ [] ≡ 60 ∷ 47 ∷ ys → ⊥
-not_closing [] ys h e = absurd (omega (arith, ap length e))
-not_closing (x ∷ []) ys h e = absurd (omega (arith, ap (λ l. get_or l 1 0) e))
-not_closing (x ∷ y ∷ xs) ys h e =
-    let rest : xs ++ 60 ∷ [] ≡ ys = ap (drop 2) e in
-    false≢true (last_passes is_not_less xs 60 (rw rest h))
-
-no_end_at_less : (name t : List ℕ) → all is_lower name ≡ true →
-    ends_closing name (t ++ 60 ∷ []) ≡ false
-no_end_at_less name t h =
-    false_from_ne_true _ (λ e.
-    let n = length (t ++ 60 ∷ []) - length (closing name) in
-    let same : map to_ascii_lowercase (drop n (t ++ 60 ∷ [])) ≡ closing name =
-    (bytes_eq-Decides (map to_ascii_lowercase (drop n (t ++ 60 ∷ []))) (closing name)).0 e in
-    let cut : drop n (t ++ 60 ∷ []) ≡ drop n t ++ 60 ∷ [] =
-    drop-append-le n t (60 ∷ []) (omega (arith, length-append t (60 ∷ []))) in
-    not_closing (map to_ascii_lowercase (drop n t)) (map to_ascii_lowercase name)
-    (lower_pass name h) (sym (map-append to_ascii_lowercase (drop n t) (60 ∷ []))
-    ∙ (ap (map to_ascii_lowercase) (sym cut) ∙ same)))
 
 -- where no `<` is, no closing tag has ended
 less_first : (y ys : List ℕ) → all is_not_less y ≡ true → map to_ascii_lowercase y ≡ 60 ∷ ys → ⊥
@@ -207,9 +89,6 @@ not_within name a b since h r m e =
 
 -- no comment begins in a script that is not escaped
 own_word : (y : List ℕ) → map to_ascii_lowercase y ≡ 60 ∷ 33 ∷ 45 ∷ [] → y ≡ 60 ∷ 33 ∷ 45 ∷ []
-own_word [] e = cc
-own_word (a ∷ []) e = cc
-own_word (a ∷ b ∷ []) e = cc
 own_word (a ∷ b ∷ c ∷ []) e =
     let first : to_ascii_lowercase a ≡ 60 = cc in
     let second : to_ascii_lowercase b ≡ 33 = cc in
@@ -218,7 +97,7 @@ own_word (a ∷ b ∷ c ∷ []) e =
     let y : b ≡ 33 = lower_is b 33 second (omega arith) in
     let z : c ≡ 45 = lower_is c 45 third (omega arith) in
     λ i. x i ∷ y i ∷ z i ∷ []
-own_word (a ∷ b ∷ c ∷ d ∷ ds) e = cc
+own_word y e = cc
 
 stays_escaped : (cs : List ℕ) → fold state_behind state.Escaped cs ≡ state.Escaped
 stays_escaped [] = refl
@@ -227,10 +106,7 @@ stays_escaped (c ∷ cs) = stays_escaped cs
 escapes : (u : ScriptState) (cs : List ℕ) →
     fold state_behind u (60 ∷ 33 ∷ 45 ∷ 45 ∷ cs) ≡ state.Escaped
 escapes state.Data cs = stays_escaped cs
-escapes state.LessThan cs = stays_escaped cs
-escapes state.EscapeStart cs = stays_escaped cs
-escapes state.EscapeStartDash cs = stays_escaped cs
-escapes state.Escaped cs = stays_escaped cs
+escapes u cs = stays_escaped cs
 
 no_comment : (x : List ℕ) (c : ℕ) (cs : List ℕ) →
     is_escaped (fold state_behind state.Data (x ++ c ∷ cs)) ≡ false →
@@ -312,15 +188,15 @@ module _ (name : List ℕ) (p : Page) (within : IsWithin name p) (takes : Takes 
       (λ e. h (sym within.script ∙ e))
 
   -- a character that is added to the text
-  raw_one : (fresh : Bool) (since place : ℕ) (text : List ℕ) (c : ℕ) → 0 < c → is_return c ≡ false →
+  raw_one : (fresh : Bool) (since place : ℕ) (text : List ℕ) (c : ℕ) → eqb c 0 ≡ false →
+      is_return c ≡ false →
       (fresh && eqb c 10) ≡ false → ended_of (Some name) 0 since text c ≡ None →
       (eqb c 38 && of kind.EscapableRaw name) ≡ false →
       (of kind.Script name ≡ true → (eqb c 45 && ends_in (codes "<!-") text) ≡ false) →
       step (raw_in fresh since place text p) c
       ≡ Ok (raw_in false (min (since + 1) 255) (place + len_utf8 c) (text ++ c ∷ []) p)
-  raw_one fresh since place text c positive n kept none plain shallow =
-      let e0 : eqb c 0 ≡ false = ne_eqb c 0 (λ e. omega (arith, positive, e)) in
-      let e10 : (eqb c 10 && false) ≡ false = and_false (eqb c 10) in
+  raw_one fresh since place text c e0 n kept none plain shallow =
+      let e10 = and-false (eqb c 10) in
       let ended : ended_name p.stack 0 since text c ≡ None =
       ap (λ o. ended_of o 0 since text c) within.current ∙ none in
       let reference : (eqb c 38 && is_at (of kind.EscapableRaw) p.stack) ≡ false =
@@ -347,10 +223,10 @@ module _ (name : List ℕ) (p : Page) (within : IsWithin name p) (takes : Takes 
   name_read since place text (c ∷ cs) h =
       let both = and_parts (is_lower c) (all is_lower cs) h in
       let inside = and_left (is_tag_end c) (ends_closing name text) (lower_no_end c both.0) in
-      let one = raw_one false since place text c (lower_positive c both.0)
-      (lower_no_return c both.0) refl (not_ended since text c inside)
-      (and_left (eqb c 38) (of kind.EscapableRaw name) (lower_no_and c both.0))
-      (λ s. and_left (eqb c 45) (ends_in (codes "<!-") text) (lower_no_dash c both.0)) in
+      let one = raw_one false since place text c (other is_lower c 0 both.0 refl)
+      (other is_lower c 13 both.0 refl) refl (not_ended since text c inside)
+      (and_left (eqb c 38) (of kind.EscapableRaw name) (other is_lower c 38 both.0 refl))
+      (λ s. and_left (eqb c 45) (ends_in (codes "<!-") text) (other is_lower c 45 both.0 refl)) in
       let more = name_read (min (since + 1) 255) (place + len_utf8 c) (text ++ c ∷ []) cs both.1 in
       record {
         since = more.since;
@@ -389,43 +265,43 @@ module _ (name : List ℕ) (p : Page) (within : IsWithin name p) (takes : Takes 
       rw (ended, front, named, e) refl
 
   -- an end tag behind the text
-  tag_emits : (fresh : Bool) (since place : ℕ) (s : List ℕ) → is_short_name name ≡ true →
+  tag_emits : (fresh : Bool) (since place : ℕ) (s : List ℕ) → of kind.Raw name ≡ true →
       Emits (raw_in fresh since place s p) (end_tag_text name) (End name) (record p { text = s })
-  tag_emits fresh since place s short =
-      let first = and_parts (all is_lower name && nat_lt 0 (length name)) (nat_le (length name) 8)
-      short in
-      let both = and_parts (all is_lower name) (nat_lt 0 (length name)) first.0 in
-      let few : length name ≤ 8 = leb-true (length name) 8 first.1 in
-      let some : 0 < length name = ltb-true 0 (length name) both.1 in
-      let less = raw_one fresh since place s 60 (omega arith) refl (and_false fresh)
+  tag_emits fresh since place s raw =
+      let lower = passes_of (all is_lower) kind.Raw name (unfold names in refl) raw in
+      let chars = passes_of (all is_tag_char) kind.Raw name (unfold names in refl) raw in
+      let named = passes_of is_name kind.Raw name (unfold names in refl) raw in
+      let few : length name ≤ 8 = leb-true (length name) 8
+      (passes_of (λ n. nat_le (length n) 8) kind.Raw name (unfold names in refl) raw) in
+      let less = raw_one fresh since place s 60 refl refl (and-false fresh)
       (not_ended since s 60 (and_left (is_tag_end 60) (ends_closing name s) tag_ends.1)) refl
       (λ e. refl) in
       let early = and_right (is_tag_end 47) (ends_closing name (s ++ 60 ∷ []))
-      (no_end_at_less name s both.0) in
-      let slash = raw_one false (min (since + 1) 255) (place + 1) (s ++ 60 ∷ []) 47 (omega arith)
+      (no_end_at_less name s chars) in
+      let slash = raw_one false (min (since + 1) 255) (place + 1) (s ++ 60 ∷ []) 47 refl
       refl refl (not_ended (min (since + 1) 255) (s ++ 60 ∷ []) 47 early) refl (λ e. refl) in
-      let named = name_read (min (min (since + 1) 255 + 1) 255) (place + 1 + 1)
-      ((s ++ 60 ∷ []) ++ 47 ∷ []) name both.0 in
+      let read = name_read (min (min (since + 1) 255 + 1) 255) (place + 1 + 1)
+      ((s ++ 60 ∷ []) ++ 47 ∷ []) name lower in
       let text_is : ((s ++ 60 ∷ []) ++ 47 ∷ []) ++ name ≡ s ++ (codes "</" ++ name) =
       append_assoc (s ++ 60 ∷ []) (47 ∷ []) name ∙ append_assoc s (60 ∷ []) (47 ∷ name) in
-      let long : length (closing name) ≤ named.since =
-      named.enough (length (closing name))
+      let long : length (closing name) ≤ read.since =
+      read.enough (length (closing name))
       (omega (arith, few, length-map name to_ascii_lowercase))
       (omega (arith, length-map name to_ascii_lowercase)) in
       record {
         start = p.start;
-        place = named.place;
+        place = read.place;
         is = λ after e.
             ap (λ r. r next (λ q. run q (47 ∷ (name ++ 62 ∷ [])))) less
             ∙ (ap (λ r. r next (λ q. run q (name ++ 62 ∷ []))) slash
             ∙ run_on (raw_in false (min (min (since + 1) 255 + 1) 255) (place + 1 + 1)
             ((s ++ 60 ∷ []) ++ 47 ∷ []) p)
-            (raw_in false named.since named.place (((s ++ 60 ∷ []) ++ 47 ∷ []) ++ name) p) _ name
-            (62 ∷ []) named.is
-            (last_step (step (raw_in false named.since named.place
+            (raw_in false read.since read.place (((s ++ 60 ∷ []) ++ 47 ∷ []) ++ name) p) _ name
+            (62 ∷ []) read.is
+            (last_step (step (raw_in false read.since read.place
             (((s ++ 60 ∷ []) ++ 47 ∷ []) ++ name) p) 62)
-            ∙ (ap (λ t. step (raw_in false named.since named.place t p) 62) text_is
-            ∙ end_read named.since named.place s after (name_is name both.0 some) long e)));
+            ∙ (ap (λ t. step (raw_in false read.since read.place t p) 62) text_is
+            ∙ end_read read.since read.place s after named long e)));
       }
 
   -- the text itself
@@ -452,7 +328,7 @@ module _ (name : List ℕ) (p : Page) (within : IsWithin name p) (takes : Takes 
       let here : (is_tag_end c && ends_closing name x) ≡ false =
       false_from_ne_true _ (λ e. let ends = and_parts (is_tag_end c) (ends_closing name x) e in
       false≢true (sym closes ∙ ends_holds name x c cs ends.0 ends.1)) in
-      let one = raw_one false since place x c (text_positive c both.0) no.0 refl
+      let one = raw_one false since place x c (other is_text_char c 0 both.0 refl) no.0 refl
       (not_ended since x c here) (and_right (eqb c 38) (of kind.EscapableRaw name) raw)
       (λ s. no_comment x c cs (comment s)) in
       let joined = append_assoc x (c ∷ []) cs in
@@ -467,160 +343,165 @@ module _ (name : List ℕ) (p : Page) (within : IsWithin name p) (takes : Takes 
             ∙ (more.is ∙ ap (λ t. Ok (raw_in more.fresh more.since more.place t p)) joined);
       }
 
-  -- with references: what was read since the last one, or since the begin
-  record Escaped (q : PageReader) (cs text : List ℕ) : Type 0 where
-    since : ℕ
-    place : ℕ
+  -- with references: no `<` was read since the last one, or since the begin
+  record IsClean (text : List ℕ) (since : ℕ) : Type 0 where
     a : List ℕ
     b : List ℕ
-    split : a ++ b ≡ text
+    split : text ≡ a ++ b
     clean : all is_not_less b ≡ true
     reach : Reach a b since
-    is : run q cs ≡ Ok (raw_in false since place (a ++ b) p)
 
-  no_early : (since : ℕ) (a b : List ℕ) (c : ℕ) → all is_not_less b ≡ true → Reach a b since →
-      ended_of (Some name) 0 since (a ++ b) c ≡ None
-  no_early since a b c clean reach =
+  clean_first : (since : ℕ) → IsClean [] since
+  clean_first since = record { a = []; b = []; split = refl; clean = refl; reach = inl refl }
+
+  clean_longer : (x : List ℕ) (since c : ℕ) → IsClean x since → is_not_less c ≡ true →
+      IsClean (x ++ c ∷ []) (min (since + 1) 255)
+  clean_longer x since c k e = record {
+    a = k.a;
+    b = k.b ++ c ∷ [];
+    split = ap (λ l. l ++ c ∷ []) k.split ∙ append_assoc k.a k.b (c ∷ []);
+    clean = all_append is_not_less k.b (c ∷ []) k.clean (ap (λ b. b && true) e);
+    reach = longer k.reach;
+  } where
+    longer : Reach k.a k.b since → Reach k.a (k.b ++ c ∷ []) (min (since + 1) 255)
+    longer (inl e) = inl e
+    longer (inr r) = inr (omega (arith, length-append k.b (c ∷ [])))
+
+  no_early : (since : ℕ) (x : List ℕ) (c : ℕ) → IsClean x since →
+      ended_of (Some name) 0 since x c ≡ None
+  no_early since x c k =
       ap (λ t. if t then Some name else None) (false_from_ne_true _ (λ e.
-      let both = and_parts (may_end name 0 since) (ends_raw name (a ++ b) c) e in
-      let ends = and_parts (is_tag_end c) (ends_closing name (a ++ b)) both.1 in
-      not_within name a b since clean reach (leb-true (length (closing name)) since both.0) ends.1))
+      let both = and_parts (may_end name 0 since) (ends_raw name x c) e in
+      let ends = and_parts (is_tag_end c) (ends_closing name x) both.1 in
+      not_within name k.a k.b since k.clean k.reach (leb-true (length (closing name)) since both.0)
+      (sym (ap (ends_closing name) k.split) ∙ ends.1)))
 
-  longer : (a b : List ℕ) (since c : ℕ) → Reach a b since →
-      Reach a (b ++ c ∷ []) (min (since + 1) 255)
-  longer a b since c (inl e) = inl e
-  longer a b since c (inr r) = inr (omega (arith, length-append b (c ∷ [])))
+  module _ (escapable : of kind.EscapableRaw name ≡ true) where
+    record Escaped (q : PageReader) (cs text : List ℕ) : Type 0 where
+      since : ℕ
+      place : ℕ
+      clean : IsClean text since
+      is : run q cs ≡ Ok (raw_in false since place text p)
 
-  escaped_plain : of kind.EscapableRaw name ≡ true → (fresh : Bool) (since place : ℕ) (a b : List ℕ)
-      (c : ℕ) → all is_not_less b ≡ true → Reach a b since → is_element_text_char c ≡ true →
-      is_text_char c ≡ true → is_return c ≡ false → (fresh && eqb c 10) ≡ false →
-      Escaped (raw_in fresh since place (a ++ b) p) (c ∷ []) ((a ++ b) ++ c ∷ [])
-  escaped_plain escapable fresh since place a b c clean reach plain good n kept =
-      let e = is_plain_text_char c plain in
-      let one = raw_one fresh since place (a ++ b) c (text_positive c good) n kept
-      (no_early since a b c clean reach) (and_left (eqb c 38) (of kind.EscapableRaw name) e.0)
-      (λ s. absurd (not_both (of kind.Script name) (no_script name escapable) s)) in
-      record {
-        since = min (since + 1) 255;
-        place = place + len_utf8 c;
-        a = a;
-        b = b ++ c ∷ [];
-        split = sym (append_assoc a b (c ∷ []));
-        clean = all_append is_not_less b (c ∷ []) clean (ap (λ t. not t && true) e.1);
-        reach = longer a b since c reach;
-        is = last_step (step (raw_in fresh since place (a ++ b) p) c) ∙ (one
-            ∙ ap (λ t. Ok (raw_in false (min (since + 1) 255) (place + len_utf8 c) t p))
-            (append_assoc a b (c ∷ [])));
-      }
+    escaped_plain : (fresh : Bool) (since place : ℕ) (x : List ℕ) (c : ℕ) → IsClean x since →
+        is_element_text_char c ≡ true → is_text_char c ≡ true → is_return c ≡ false →
+        (fresh && eqb c 10) ≡ false →
+        Escaped (raw_in fresh since place x p) (c ∷ []) (x ++ c ∷ [])
+    escaped_plain fresh since place x c k plain good n kept =
+        let e = is_plain_text_char c plain in
+        record {
+          since = min (since + 1) 255;
+          place = place + len_utf8 c;
+          clean = clean_longer x since c k (ap (λ b. if b then false else true) e.1);
+          is = last_step (step (raw_in fresh since place x p) c)
+              ∙ raw_one fresh since place x c (other is_text_char c 0 good refl) n kept
+              (no_early since x c k) (and_left (eqb c 38) (of kind.EscapableRaw name) e.0)
+              (λ s. absurd (both_ways (of kind.Script name) (no_script name escapable) s));
+        }
 
-  escaped_reference : of kind.EscapableRaw name ≡ true → (fresh : Bool) (since place : ℕ)
-      (x : List ℕ) (c : ℕ) → is_text_char c ≡ true → is_return c ≡ false →
-      (fresh && eqb c 10) ≡ false → Escaped (raw_in fresh since place x p) (reference_to c) (x ++ c ∷ [])
-  escaped_reference escapable fresh since place x c good n kept =
-      let ended : ended_name p.stack 0 since x 38 ≡ None =
-      ap (λ o. ended_of o 0 since x 38) within.current ∙ not_ended since x 38
-      (and_left (is_tag_end 38) (ends_closing name x) tag_ends.3) in
-      let is_escapable : is_at (of kind.EscapableRaw) p.stack ≡ true =
-      within.escapable ∙ escapable in
-      let begun : step (raw_in fresh since place x p) 38 ≡ Ok (record {
-        state = Reference [] (Raw 0 since);
-        reading = reading_at fresh (place + 1) (texted x p.start p);
-      }) = rw (ended, is_escapable) refl in
-      let taken = takes c x p.start refl in
-      let read = reference_leads (Raw 0 since) (raw_in fresh since place x p) fresh (place + 1)
-      (texted x p.start p) c good n begun in
-      let done : run (raw_in fresh since place x p) (reference_to c)
-      ≡ Ok (raw_in false 0 (read.0 + 1) (x ++ c ∷ []) p) = read.1 ∙ rw (kept, taken) refl in
-      record {
-        since = 0;
-        place = read.0 + 1;
-        a = x ++ c ∷ [];
-        b = [];
-        split = append-nil (x ++ c ∷ []);
-        clean = refl;
-        reach = inr (omega arith);
-        is = done ∙ ap (λ t. Ok (raw_in false 0 (read.0 + 1) t p)) (sym (append-nil (x ++ c ∷ [])));
-      }
+    escaped_reference : (fresh : Bool) (since place : ℕ) (x : List ℕ) (c : ℕ) →
+        is_text_char c ≡ true → is_return c ≡ false → (fresh && eqb c 10) ≡ false →
+        Escaped (raw_in fresh since place x p) (reference_to c) (x ++ c ∷ [])
+    escaped_reference fresh since place x c good n kept =
+        let ended : ended_name p.stack 0 since x 38 ≡ None =
+        ap (λ o. ended_of o 0 since x 38) within.current ∙ not_ended since x 38
+        (and_left (is_tag_end 38) (ends_closing name x) no_end_at_and) in
+        let is_escapable : is_at (of kind.EscapableRaw) p.stack ≡ true =
+        within.escapable ∙ escapable in
+        let begun : step (raw_in fresh since place x p) 38 ≡ Ok (record {
+          state = Reference [] (Raw 0 since);
+          reading = reading_at fresh (place + 1) (texted x p.start p);
+        }) = rw (ended, is_escapable) refl in
+        let taken = takes c x p.start refl in
+        let read = reference_leads (Raw 0 since) (raw_in fresh since place x p) fresh (place + 1)
+        (texted x p.start p) c good n begun in
+        record {
+          since = 0;
+          place = read.0 + 1;
+          clean = record {
+            a = x ++ c ∷ [];
+            b = [];
+            split = sym (append-nil (x ++ c ∷ []));
+            clean = refl;
+            reach = inr (omega arith);
+          };
+          is = read.1 ∙ rw (kept, taken) refl;
+        }
 
-  escaped_one : of kind.EscapableRaw name ≡ true → (fresh : Bool) (since place : ℕ) (a b : List ℕ)
-      (c : ℕ) → all is_not_less b ≡ true → Reach a b since → is_text_char c ≡ true →
-      is_return c ≡ false → (fresh && eqb c 10) ≡ false →
-      Escaped (raw_in fresh since place (a ++ b) p) (char_text (escaping_of false) c)
-      ((a ++ b) ++ c ∷ [])
-  escaped_one escapable fresh since place a b c clean reach good n kept =
-      elim (cases_Bool (is_element_text_char c)) [
-        | inl e ↦ rw e (escaped_plain escapable fresh since place a b c clean reach e good n kept)
-        | inr e ↦ rw e (escaped_reference escapable fresh since place (a ++ b) c good n kept)
-      ]
+    escaped_one : (fresh : Bool) (since place : ℕ) (x : List ℕ) (c : ℕ) → IsClean x since →
+        is_text_char c ≡ true → is_return c ≡ false → (fresh && eqb c 10) ≡ false →
+        Escaped (raw_in fresh since place x p) (char_text (escaping_of false) c) (x ++ c ∷ [])
+    escaped_one fresh since place x c clean good n kept =
+        elim (cases_Bool (is_element_text_char c)) [
+          | inl e ↦ rw e (escaped_plain fresh since place x c clean e good n kept)
+          | inr e ↦ rw e (escaped_reference fresh since place x c good n kept)
+        ]
 
-  escaped_more : of kind.EscapableRaw name ≡ true → (fresh : Bool) (since place : ℕ)
-      (a b cs : List ℕ) → all is_not_less b ≡ true → Reach a b since →
-      all is_text_char cs ≡ true → has_return cs ≡ false →
-      (fresh ≡ true → begins_with_lf cs ≡ false) →
-      RawLeads (raw_in fresh since place (a ++ b) p) (escaped_text (escaping_of false) cs)
-      ((a ++ b) ++ cs)
-  escaped_more escapable fresh since place a b [] clean reach good n kept = record {
-    fresh = fresh;
-    since = since;
-    place = place;
-    is = ap (λ t. Ok (raw_in fresh since place t p)) (sym (append-nil (a ++ b)));
-  }
-  escaped_more escapable fresh since place a b (c ∷ cs) clean reach good n kept =
-      let both = and_parts (is_text_char c) (all is_text_char cs) good in
-      let no = or_parts (is_return c) (has_return cs) n in
-      let one = escaped_one escapable fresh since place a b c clean reach both.0 no.0
-      (not_dropped fresh c cs kept) in
-      let more = escaped_more escapable false one.since one.place one.a one.b cs one.clean one.reach
-      both.1 no.1 (nothing_dropped cs) in
-      let joined : (one.a ++ one.b) ++ cs ≡ (a ++ b) ++ (c ∷ cs) =
-      ap (λ t. t ++ cs) one.split ∙ append_assoc (a ++ b) (c ∷ []) cs in
-      record {
-        fresh = more.fresh;
-        since = more.since;
-        place = more.place;
-        is = run_on (raw_in fresh since place (a ++ b) p)
-            (raw_in false one.since one.place (one.a ++ one.b) p) _
-            (char_text (escaping_of false) c) (escaped_text (escaping_of false) cs) one.is
-            (more.is ∙ ap (λ t. Ok (raw_in more.fresh more.since more.place t p)) joined);
-      }
+    escaped_more : (fresh : Bool) (since place : ℕ) (x cs : List ℕ) → IsClean x since →
+        all is_text_char cs ≡ true → has_return cs ≡ false →
+        (fresh ≡ true → begins_with_lf cs ≡ false) →
+        RawLeads (raw_in fresh since place x p) (escaped_text (escaping_of false) cs) (x ++ cs)
+    escaped_more fresh since place x [] clean good n kept = record {
+      fresh = fresh;
+      since = since;
+      place = place;
+      is = ap (λ t. Ok (raw_in fresh since place t p)) (sym (append-nil x));
+    }
+    escaped_more fresh since place x (c ∷ cs) clean good n kept =
+        let both = and_parts (is_text_char c) (all is_text_char cs) good in
+        let no = or_parts (is_return c) (has_return cs) n in
+        let one = escaped_one fresh since place x c clean both.0 no.0
+        (not_dropped fresh c cs kept) in
+        let more = escaped_more false one.since one.place (x ++ c ∷ []) cs one.clean both.1 no.1
+        (nothing_dropped cs) in
+        record {
+          fresh = more.fresh;
+          since = more.since;
+          place = more.place;
+          is = run_on (raw_in fresh since place x p)
+              (raw_in false one.since one.place (x ++ c ∷ []) p) _
+              (char_text (escaping_of false) c) (escaped_text (escaping_of false) cs) one.is
+              (more.is ∙ ap (λ t. Ok (raw_in more.fresh more.since more.place t p))
+              (append_assoc x (c ∷ []) cs));
+        }
 
   -- a line feed that is dropped
   feed_read : of kind.EscapableRaw name ≡ true → (place : ℕ) →
       step (raw_in true 0 place [] p) 10 ≡ Ok (raw_in false 1 (place + 1) [] p)
   feed_read escapable place =
       let ended : ended_name p.stack 0 0 [] 10 ≡ None =
-      ap (λ o. ended_of o 0 0 [] 10) within.current ∙ no_early 0 [] [] 10 refl (inl refl) in
+      ap (λ o. ended_of o 0 0 [] 10) within.current ∙ no_early 0 [] 10 (clean_first 0) in
       let depth : depth_behind 0 (texted [] p.start p) 10 ≡ 0 =
       depth_stays [] 10
-      (λ s. absurd (not_both (of kind.Script name) (no_script name escapable) s)) in
+      (λ s. absurd (both_ways (of kind.Script name) (no_script name escapable) s)) in
       rw (ended, depth) refl
 
-  escaped_emits : of kind.EscapableRaw name ≡ true → is_short_name name ≡ true →
+  escaped_emits : of kind.EscapableRaw name ≡ true → of kind.Raw name ≡ true →
       (fresh : Bool) (since place : ℕ) (s : List ℕ) → all is_text_char s ≡ true →
       has_return s ≡ false → (fresh ≡ true → begins_with_lf s ≡ false) →
       Emits (raw_in fresh since place [] p)
       (escaped_text (escaping_of false) s ++ end_tag_text name) (End name) (record p { text = s })
-  escaped_emits escapable short fresh since place s good n kept =
-      let text = escaped_more escapable fresh since place [] [] s refl (inl refl) good n kept in
+  escaped_emits escapable raw fresh since place s good n kept =
+      let text = escaped_more escapable fresh since place [] s (clean_first since) good n kept in
       emits_on (raw_in fresh since place [] p) (raw_in text.fresh text.since text.place s p)
       (escaped_text (escaping_of false) s) (end_tag_text name) (End name) (record p { text = s })
-      text.is (tag_emits text.fresh text.since text.place s short)
+      text.is (tag_emits text.fresh text.since text.place s raw)
 
-  fed_emits : of kind.EscapableRaw name ≡ true → is_short_name name ≡ true → (feed fresh : Bool)
+  fed_emits : of kind.EscapableRaw name ≡ true → of kind.Raw name ≡ true → (feed fresh : Bool)
       (place : ℕ) (s : List ℕ) → all is_text_char s ≡ true → has_return s ≡ false →
       (feed ≡ true → fresh ≡ true) → (fresh ≡ true → feed ≡ false → begins_with_lf s ≡ false) →
       Emits (raw_in fresh 0 place [] p)
       ((if feed then codes "\n" else [])
       ++ (escaped_text (escaping_of false) s ++ end_tag_text name)) (End name)
       (record p { text = s })
-  fed_emits escapable short true true place s good n fed kept =
+  fed_emits escapable raw true true place s good n fed kept =
       emits_on (raw_in true 0 place [] p) (raw_in false 1 (place + 1) [] p) (10 ∷ [])
       (escaped_text (escaping_of false) s ++ end_tag_text name) (End name) (record p { text = s })
       (last_step (step (raw_in true 0 place [] p) 10) ∙ feed_read escapable place)
-      (escaped_emits escapable short false 1 (place + 1) s good n (nothing_dropped s))
-  fed_emits escapable short true false place s good n fed kept = absurd (false≢true (fed refl))
-  fed_emits escapable short false fresh place s good n fed kept =
-      escaped_emits escapable short fresh 0 place s good n (λ e. kept e refl)
+      (escaped_emits escapable raw false 1 (place + 1) s good n (nothing_dropped s))
+  fed_emits escapable raw true false place s good n fed kept = absurd (false≢true (fed refl))
+  fed_emits escapable raw false fresh place s good n fed kept =
+      escaped_emits escapable raw fresh 0 place s good n (λ e. kept e refl)
 
 -- an element whose text is written as it is: `iframe`, `noembed`, `noframes`, `script`, `style`,
 -- `xmp`
@@ -637,7 +518,7 @@ raw_emits name s place p o os stack named html is_raw raw empty takes good n clo
     (sym (raw_begins false place p empty))
     (emits_on (raw_in false 0 place [] p) (raw_in text.fresh text.since text.place s p) s
     (end_tag_text name) (End name) (record p { text = s }) text.is
-    (tag_emits name p within takes text.fresh text.since text.place s (raw_name name is_raw)))
+    (tag_emits name p within takes text.fresh text.since text.place s is_raw))
 
 -- one whose text is written with references: `textarea`, `title`. A line feed in front is dropped
 -- where the start tag was one after which it is
@@ -658,4 +539,4 @@ escapable_emits name s feed fresh place p o os stack named html is_raw escapable
     (record p { text = s }))
     (sym (raw_begins fresh place p empty))
     (fed_emits name p (is_within name p o os stack named html) takes escapable
-    (raw_name name is_raw) feed fresh place s good n fed kept)
+    is_raw feed fresh place s good n fed kept)

@@ -61,7 +61,7 @@ written_tag h = record {
   closed = is_foreign_self_closing h.name;
 }
 
--- characters that pass are added to the current node, whatever text it has, and nothing else is done
+-- characters that pass are added to the current node, whatever text it has, and do nothing else
 abbrev pub Takes : (passes : ℕ → Bool) → Page → Type 0
 Takes passes p = (c : ℕ) (text : List ℕ) (start : ℕ) → passes c ≡ true →
     token_read (Char c) (texted text start p) ≡ Ok (with_char c (texted text start p))
@@ -72,12 +72,13 @@ next_by : {A B C : Type 0} (r : Reads A) (f : A → Reads C) (g : A → Reads B)
 next_by (Ok a) f g h e = e a
 next_by (Err x) f g h e = refl
 
-pub run-append : (q : PageReader) (xs ys : List ℕ) → run q (xs ++ ys) ≡ ((run q xs) next (λ r. run r ys))
+pub run-append : (q : PageReader) (xs ys : List ℕ) →
+    run q (xs ++ ys) ≡ ((run q xs) next (λ r. run r ys))
 run-append q [] ys = refl
-run-append q (x ∷ xs) ys = next_by (step q x) (λ s. run s (xs ++ ys)) (λ s. run s xs) (λ s. run s ys)
-    (λ s. run-append s xs ys)
+run-append q (x ∷ xs) ys = next_by (step q x) (λ s. run s (xs ++ ys)) (λ s. run s xs)
+    (λ s. run s ys) (λ s. run-append s xs ys)
 
 -- a text that leads on, and one behind it
-pub run_on : (q r : PageReader) (s : Reads PageReader) (xs ys : List ℕ) → run q xs ≡ Ok r → run r ys ≡ s →
-    run q (xs ++ ys) ≡ s
+pub run_on : (q r : PageReader) (s : Reads PageReader) (xs ys : List ℕ) → run q xs ≡ Ok r →
+    run r ys ≡ s → run q (xs ++ ys) ≡ s
 run_on q r s xs ys h k = run-append q xs ys ∙ (ap (λ x. x next (λ t. run t ys)) h ∙ k)

@@ -10,5 +10,6 @@ readers_agree stay frames limit e kept deep =
     record {
       root = page.root;
       page = page.read;
-      same = plain_reads_back frames e kept.named kept.frame_free kept.clean ∙ ap Some (sym page.same);
+      same = plain_reads_back frames e kept.named kept.frame_free kept.clean
+          ∙ ap Some (sym page.same);
     }

@@ -4,17 +4,19 @@ use Rattle.std.specs.Prelude.{if◌then◌else◌, nat_lt, nat_le}
 use Rattle.std.specs.Char.{digit_value, len_utf8}
 use Rattle.std.specs.Fmt.{digits}
 use Rattle.std.specs.Str.Parse.{AllDigits, digits_value}
-use Rattle.std.proofs.lemmas.Bool.{cases_Bool, eqb-true, and_from, and_parts, ne_eqb, ltb-true}
+use Rattle.std.proofs.lemmas.Bool.{cases_Bool, eqb-true, and_from, and_parts, ne_eqb, not-true, ltb-true}
 use Rattle.std.proofs.lemmas.Bool.Decides.{nat_tests}
 use Rattle.std.proofs.lemmas.Fmt.{digits_is_IsNumeral}
 use Rattle.std.proofs.lemmas.List.{append-nil}
 use Rattle.html_names.specs.Characters.{is_text_char, is_control, is_noncharacter}
 use Rattle.html_dom_nest.specs.WrittenTexts.{is_return}
+use Rattle.typst_html_encode.proofs.References.{text_scalar}
 use Rattle.typst_html_encode.specs.References.{numeric, reference_to}
 use Rattle.typst_html_parse_names.specs.NamedReferences.{legacy_reference, named_reference, value_in_groups}
 use Rattle.typst_html_parse_names.specs.ReferenceRows.{legacy_groups, other_groups}
 use Rattle.typst_html_parse_open.specs.Pages.{Page, Reads, ◌next◌}
 use Rattle.typst_html_parse_tree.specs.PageBodies.{is_space}
+use Rattle.typst_html_parse.proofs.PageStretches.{other}
 use Rattle.typst_html_parse.specs.PageReading.{run}
 use Rattle.typst_html_parse.specs.PageReferences.{Resolved, continues, continues_number, is_hex_digit, is_surrogate, numbered, numbered_char, number_error, resolved}
 use Rattle.typst_html_parse.specs.PageTokens.{TagDraft, TokenState, Value, Reference, PageReader, in_value, past_char, reference_read, step}
@@ -25,39 +27,12 @@ use lib.Utf8.{scalar, scalar_fits}
 abbrev whole : ℕ → Resolved
 whole c = record { chars = c ∷ []; takes_end = true; missing = None; error = None }
 
--- the five names
-amp_named : named_reference (codes "amp") ≡ Some (38 ∷ [])
-unfolding named_reference legacy_reference value_in_groups legacy_groups
-amp_named = refl
-
-lt_named : named_reference (codes "lt") ≡ Some (60 ∷ [])
-unfolding named_reference legacy_reference value_in_groups legacy_groups
-lt_named = refl
-
-gt_named : named_reference (codes "gt") ≡ Some (62 ∷ [])
-unfolding named_reference legacy_reference value_in_groups legacy_groups
-gt_named = refl
-
-quot_named : named_reference (codes "quot") ≡ Some (34 ∷ [])
-unfolding named_reference legacy_reference value_in_groups legacy_groups
-quot_named = refl
-
-apos_named : named_reference (codes "apos") ≡ Some (39 ∷ [])
+-- the characters of the five names are computed where this unfolds
+unfoldable named : Unit {0}
 unfolding named_reference legacy_reference value_in_groups legacy_groups other_groups
-apos_named = refl
-
-named_resolved : (v : Bool) (s : ℕ) (ss : List ℕ) (c : ℕ) → eqb s 35 ≡ false →
-    named_reference (s ∷ ss) ≡ Some (c ∷ []) → resolved v (s ∷ ss) (Some 59) ≡ whole c
-unfolding resolved
-named_resolved v s ss c n e = rw (n, e) refl
+named = tt
 
 -- numbers: a text character stands for itself, and no error is in it
-text_scalar : (c : ℕ) → is_text_char c ≡ true → scalar c ≡ true
-text_scalar c h = (and_parts _ _ (and_parts _ _ h).0).0
-
-pub text_positive : (c : ℕ) → is_text_char c ≡ true → 0 < c
-text_positive c h = grind (arith, nat_tests)
-
 abbrev is_known_control : ℕ → Bool
 is_known_control c = not (is_control c) || (eqb c 9) || (eqb c 10) || (eqb c 12) || (eqb c 13)
 
@@ -73,20 +48,15 @@ not_windows c h = grind (arith, nat_tests)
 no_control : (c : ℕ) → is_known_control c ≡ true → (is_control c && not (is_space c)) ≡ false
 no_control c h = grind (arith, nat_tests)
 
-not_false : (b : Bool) → not b ≡ true → b ≡ false
-not_false true h = sym h
-not_false false h = refl
-
 number_whole : (c : ℕ) → is_text_char c ≡ true → is_return c ≡ false →
     numbered c (Some 59) ≡ whole c
 number_whole c h n =
     let both = and_parts (scalar c && not (is_noncharacter c)) (is_known_control c) h in
     let first = and_parts (scalar c) (not (is_noncharacter c)) both.0 in
-    let positive = text_positive c h in
-    let some : eqb c 0 ≡ false = ne_eqb c 0 (λ e. omega (arith, positive, e)) in
+    let some = other is_text_char c 0 h refl in
     let beyond : nat_lt 0x10_ffff c ≡ false = not_beyond c first.0 in
     let surrogate : is_surrogate c ≡ false = no_surrogate c first.0 in
-    let nocharacter : is_noncharacter c ≡ false = not_false (is_noncharacter c) first.1 in
+    let nocharacter : is_noncharacter c ≡ false = not-true (is_noncharacter c) first.1 in
     let windows : (nat_le 128 c && nat_lt c 160) ≡ false = not_windows c both.1 in
     let control : (is_control c && not (is_space c)) ≡ false = no_control c both.1 in
     let char : numbered_char c ≡ c = rw (some, beyond, surrogate, windows) refl in
@@ -128,8 +98,12 @@ Spelled c =
     (between : List ℕ) × (reference_to c ≡ 38 ∷ (between ++ 59 ∷ []))
     × (all_continue [] between ≡ true) × ((v : Bool) → resolved v between (Some 59) ≡ whole c)
 
-by_name : (c named : ℕ) → eqb c named ≡ true → Spelled named → Spelled c
-by_name c named e h = subst Spelled (sym (eqb-true c named e)) h
+by_name : (c named s : ℕ) (ss : List ℕ) → eqb c named ≡ true →
+    reference_to named ≡ 38 ∷ ((s ∷ ss) ++ 59 ∷ []) → all_continue [] (s ∷ ss) ≡ true →
+    eqb s 35 ≡ false → named_reference (s ∷ ss) ≡ Some (named ∷ []) → Spelled c
+unfolding resolved
+by_name c named s ss e written inner no_number found = subst Spelled (sym (eqb-true c named e))
+    (s ∷ ss, written, inner, λ v. rw (no_number, found) refl)
 
 numeric_is : (c : ℕ) → numeric c ≡ codes "&#x" ++ (digits 16 false c ++ codes ";")
 unfolding numeric
@@ -150,28 +124,15 @@ by_number c h n e =
 spelled : (c : ℕ) → is_text_char c ≡ true → is_return c ≡ false → Spelled c
 spelled c h n =
     elim (cases_Bool (eqb c 38)) [
-      | inl e ↦ by_name c 38 e
-          (codes "amp", refl, refl, λ v. named_resolved v 97 (codes "mp") 38 refl amp_named)
+      | inl e ↦ by_name c 38 97 (codes "mp") e refl refl refl (unfold named in refl)
       | inr e38 ↦ elim (cases_Bool (eqb c 60)) [
-        | inl e ↦ by_name c 60 e
-            (codes "lt", refl, refl, λ v. named_resolved v 108 (codes "t") 60 refl lt_named)
+        | inl e ↦ by_name c 60 108 (codes "t") e refl refl refl (unfold named in refl)
         | inr e60 ↦ elim (cases_Bool (eqb c 62)) [
-          | inl e ↦ by_name c 62 e
-              (codes "gt", refl, refl, λ v. named_resolved v 103 (codes "t") 62 refl gt_named)
+          | inl e ↦ by_name c 62 103 (codes "t") e refl refl refl (unfold named in refl)
           | inr e62 ↦ elim (cases_Bool (eqb c 34)) [
-            | inl e ↦ by_name c 34 e (
-              codes "quot",
-              refl,
-              refl,
-              λ v. named_resolved v 113 (codes "uot") 34 refl quot_named,
-            )
+            | inl e ↦ by_name c 34 113 (codes "uot") e refl refl refl (unfold named in refl)
             | inr e34 ↦ elim (cases_Bool (eqb c 39)) [
-              | inl e ↦ by_name c 39 e (
-                codes "apos",
-                refl,
-                refl,
-                λ v. named_resolved v 97 (codes "pos") 39 refl apos_named,
-              )
+              | inl e ↦ by_name c 39 97 (codes "pos") e refl refl refl (unfold named in refl)
               | inr e39 ↦ by_number c h n (rw (e38, e60, e62, e34, e39) refl)
             ]
           ]
@@ -188,10 +149,6 @@ through : {A B : Type 0} (r : Reads A) (f : A → Reads B) →
     ((r next (λ a. Ok a)) next f) ≡ (r next f)
 through (Ok a) f = refl
 through (Err e) f = refl
-
-pub and_false : (b : Bool) → (b && false) ≡ false
-and_false true = refl
-and_false false = refl
 
 either_false : (b : Bool) → (if b then false else false) ≡ false
 either_false true = refl

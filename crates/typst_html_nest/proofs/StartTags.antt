@@ -1,12 +1,12 @@
 -- A start tag is read as one, its names in small letters.
-use Rattle.std.proofs.Common.{◌≡◌, ℕ, ◌+◌, ◌<◌, ◌≤◌, Bool, true, false, not, ◌&&◌, ◌||◌, inl, inr, List, [], ◌∷◌, ◌++◌, bytes_eq, codes, eqb, length, refl, sym, ap, ◌∙◌, subst, arith, append_assoc, append-nil, drop, length-append, Option, Some, None, Ok}
+use Rattle.std.proofs.Common.{◌≡◌, ℕ, ◌+◌, ◌<◌, ◌≤◌, Bool, true, false, not, ◌&&◌, inl, inr, List, [], ◌∷◌, ◌++◌, bytes_eq, codes, eqb, length, refl, sym, ap, ◌∙◌, subst, arith, append_assoc, append-nil, drop, length-append, None, Ok}
 use Rattle.std.specs.Char.{len_utf8, to_ascii_lowercase}
 use Rattle.std.specs.List.{list_any}
-use Rattle.std.specs.Prelude.{if◌then◌else◌, is_some, nat_le}
-use Rattle.std.proofs.lemmas.Bool.{and_from, and_parts, cases_Bool, false≢true, lt-leb, not-true, or_parts}
+use Rattle.std.specs.Prelude.{if◌then◌else◌, nat_le}
+use Rattle.std.proofs.lemmas.Bool.{and_from, and_parts, cases_Bool, lt-leb, not-false, not-true, or_parts}
 use Rattle.std.proofs.lemmas.Bool.Decides.{nat_tests}
 use Rattle.std.proofs.lemmas.List.{length-map}
-use Rattle.html_names.specs.Characters.{all, IsOf, is_attr_char, is_tag_char, is_text_char, is_value_char}
+use Rattle.html_names.specs.Characters.{all, IsOf, is_attr_char, is_text_char, is_value_char}
 use Rattle.html_names.specs.Kinds.{is_foreign_self_closing}
 use Rattle.html_names.specs.Names.{attr_fault}
 use Rattle.html_names.proofs.Basics.{bytes_eq-sym}
@@ -19,14 +19,14 @@ use Rattle.typst_html_encode.specs.ReadingBack.{HeadIsNamed, PairsAreNamed}
 use Rattle.typst_html_encode.specs.References.{reference_to}
 use Rattle.typst_html_encode.specs.Text.{attrs_text, start_tag_text, tag_close, value_text}
 use Rattle.typst_html_encode.proofs.Runs.{left_empty, right_empty, test_fails}
+use Rattle.typst_html_nest.proofs.Branches.{absent_parts}
 use Rattle.typst_html_nest.proofs.Readers.{Emits, behind, data_at, lowered_attrs, reading_at, started, written_tag}
 use Rattle.typst_html_nest.proofs.References.{value_reference}
-use Rattle.typst_html_nest.proofs.TagChars.{Finishes, Moves, at_state, attr_faultless, finishes_on, grows, moves_on, name_lowered, name_moves, of_attr, of_letter, one_moves, stepped, tag_named}
+use Rattle.typst_html_nest.proofs.TagChars.{Finishes, Moves, at_state, attr_faultless, finishes_on, grows, moves_on, name_lowered, name_moves, of_attr, one_moves, stepped, tag_named}
 use Rattle.typst_html_parse_names.specs.ForeignNames.{lowered}
 use Rattle.typst_html_parse_open.specs.Pages.{Page, Reads, Start, StartTag, ◌next◌}
 use Rattle.typst_html_parse_tree.specs.PageTrees.{token_read}
 use Rattle.typst_html_parse.specs.PageReading.{run}
-use Rattle.typst_html_parse.specs.PageReferences.{is_letter}
 use Rattle.typst_html_parse.specs.PageTokens.{AfterAttrName, AfterValue, AttrName, BeforeAttr, BeforeValue, PageReader, Reading, SelfClosing, TagDraft, TagName, TagOpen, TokenState, Value, before_attr_read, goes, is_name, most_attrs, moved, past_char, step, tag_emitted, with_attr}
 
 -- a text of a value and the quote behind it; how a character of a value is written has no name here
@@ -50,10 +50,6 @@ parts_empty x y z h = (
   right_empty x (y ++ z) (sym (append_assoc x y z) ∙ h),
 )
 
-passes : (b : Bool) → (not b || false) ≡ false → b ≡ true
-passes true h = refl
-passes false h = sym h
-
 -- where nothing is wrong, a value has text characters
 value_good : (span : ℕ) (name value : List ℕ) (pairs : List TextPair) →
     attrs_faults span ((name, value) ∷ pairs) ≡ [] →
@@ -62,21 +58,17 @@ value_good span name [] pairs h = (refl, h)
 value_good span name (c ∷ cs) pairs h =
     let parts = parts_empty _ _ (attrs_faults span pairs) h in
     let more = value_good span name cs pairs parts.1 in
-    let one : is_text_char c ≡ true = passes (is_text_char c) (test_fails _ _ parts.0) in
+    let one : is_text_char c ≡ true =
+    not-false (is_text_char c) (or_parts (not (is_text_char c)) false (test_fails _ _ parts.0)).0 in
     (and_from (is_text_char c) (all is_text_char cs) one more.0, more.1)
 
 -- names that differ
 
-absent_by : (b : Bool) (v : List ℕ) (o : Option (List ℕ)) →
-    is_some (if b then Some v else o) ≡ false → (b ≡ false) × (is_some o ≡ false)
-absent_by true v o h = absurd (false≢true (sym h))
-absent_by false v o h = (refl, h)
-
 absent_behind : (before behind : List TextPair) (a : TextPair) (name : List ℕ) →
     has_name (before ++ a ∷ behind) name ≡ false → bytes_eq a.0 name ≡ false
-absent_behind [] behind a name h = (absent_by (bytes_eq a.0 name) a.1 (first behind name) h).0
+absent_behind [] behind a name h = (absent_parts (bytes_eq a.0 name) a.1 (first behind name) h).0
 absent_behind (b ∷ before) behind a name h = absent_behind before behind a name
-    (absent_by (bytes_eq b.0 name) b.1 (first (before ++ a ∷ behind) name) h).1
+    (absent_parts (bytes_eq b.0 name) b.1 (first (before ++ a ∷ behind) name) h).1
 
 absent_before : (before behind : List TextPair) (a : TextPair) →
     names_differ (before ++ a ∷ behind) ≡ true → has_name before a.0 ≡ false
@@ -134,14 +126,18 @@ first_moves s t fresh place p c h e =
     one_moves (at_state s fresh place p) _ fresh (place + len_utf8 c) p c
     (stepped s (AttrName t (to_ascii_lowercase c ∷ [])) fresh place p c k.no_zero k.no_return e)
 
+begins_behind : (t : TagDraft) (fresh : Bool) (place : ℕ) (p : Page) (c : ℕ) →
+    is_attr_char c ≡ true → Moves (at_state (BeforeAttr t) fresh place p) (c ∷ [])
+    (AttrName t (to_ascii_lowercase c ∷ [])) fresh p
+begins_behind t fresh place p c h = first_moves (BeforeAttr t) t fresh place p c h
+    (attr_begins t c (reading_at fresh place p) h)
+
 behind_name : (t : TagDraft) → IsBehind (TagName t) t
 behind_name t = record {
   closes = λ r. refl;
   closes_itself = λ r. refl;
   goes_on = λ fresh place p c h.
-      let m = first_moves (BeforeAttr t) t fresh (place + 1) p c h
-      (attr_begins t c (reading_at fresh (place + 1) p) h) in
-      record { place = m.place; is = m.is };
+      let m = begins_behind t fresh (place + 1) p c h in record { place = m.place; is = m.is };
 }
 
 behind_value : (t : TagDraft) → IsBehind (AfterValue t) t
@@ -149,9 +145,7 @@ behind_value t = record {
   closes = λ r. refl;
   closes_itself = λ r. refl;
   goes_on = λ fresh place p c h.
-      let m = first_moves (BeforeAttr t) t fresh (place + 1) p c h
-      (attr_begins t c (reading_at fresh (place + 1) p) h) in
-      record { place = m.place; is = m.is };
+      let m = begins_behind t fresh (place + 1) p c h in record { place = m.place; is = m.is };
 }
 
 -- a name without a value
@@ -332,48 +326,22 @@ module _ (name written : List ℕ) (is : is_name name ≡ true) (fresh : Bool) (
       joined (pairs_finish span (before ++ pair ∷ []) pairs t there b named.1 values.1 returns.1
       (ap names_differ joined ∙ differ) (subst (λ l. length l ≤ most_attrs) (sym joined) few)))))
 
--- the first letter of a tag's name
-letter_moves : (c : ℕ) (fresh : Bool) (place : ℕ) (p : Page) → is_letter c ≡ true →
-    Moves (at_state TagOpen fresh place p) (c ∷ [])
-    (TagName (tag_named false (to_ascii_lowercase c ∷ []))) fresh p
-letter_moves c fresh place p h =
-    let k = of_letter c h in
-    one_moves (at_state TagOpen fresh place p) _ fresh (place + len_utf8 c) p c
-    (stepped TagOpen (TagName (tag_named false (to_ascii_lowercase c ∷ [])))
-    fresh place p c k.no_zero k.no_return (rw h refl))
-
-tag_finishes : (name : List ℕ) (pairs : List TextPair) (span : ℕ) → IsOf is_tag_char name →
-    begins_with_letter name ≡ true → PairsAreNamed pairs → attrs_faults span pairs ≡ [] →
-    list_any (λ a. has_return a.1) pairs ≡ false → names_differ (lowered_attrs pairs) ≡ true →
-    length (lowered_attrs pairs) ≤ most_attrs → (fresh : Bool) (place : ℕ) (p : Page) →
-    Finishes (at_state TagOpen fresh place p) (name ++ (attrs_text pairs ++ tag_close name))
-    (Start (record {
-      name = lowered name;
-      attrs = lowered_attrs pairs;
-      closed = is_foreign_self_closing name;
-    })) p
-tag_finishes [] pairs span tag letter named good none differ few fresh place p = absurd tag
-tag_finishes (c ∷ cs) pairs span tag letter named good none differ few fresh place p =
-    let q = at_state TagOpen fresh place p in
-    let name = c ∷ cs in
-    let draft = tag_named false (lowered name) in
-    finishes_on q (TagName draft) fresh p name (attrs_text pairs ++ tag_close name) _
-    (moves_on q (TagName (tag_named false (to_ascii_lowercase c ∷ [])))
-    (TagName draft) fresh p (c ∷ []) cs (letter_moves c fresh place p letter)
-    (λ here. name_moves false c cs fresh here p tag.1))
-    (λ here. pairs_finish (lowered name) name (name_lowered name tag) fresh p span [] pairs
-    (TagName draft) here (behind_name draft) named good none differ few)
-
 pub start_emits : (h : Head) (span : ℕ) → HeadIsNamed h → begins_with_letter h.name ≡ true →
     attrs_faults span h.attrs ≡ [] → list_any (λ a. has_return a.1) h.attrs ≡ false →
     names_differ (lowered_attrs h.attrs) ≡ true → length h.attrs ≤ most_attrs →
     (fresh : Bool) (place : ℕ) (p : Page) →
     Emits (data_at fresh place p) (start_tag_text h) (Start (written_tag h)) p
 start_emits h span named letter good none differ few fresh place p =
+    let begun = started place p in
+    let q = at_state TagOpen fresh (place + 1) begun in
+    let draft = tag_named false (lowered h.name) in
     let same : length (lowered_attrs h.attrs) ≡ length h.attrs =
     length-map h.attrs (λ a. (lowered a.0, a.1)) in
-    let f : Finishes (at_state TagOpen fresh (place + 1) (started place p))
-    (h.name ++ (attrs_text h.attrs ++ tag_close h.name)) (Start (written_tag h)) (started place p) =
-    tag_finishes h.name h.attrs span named.0 letter named.1 good none differ
-    (subst (λ n. n ≤ most_attrs) (sym same) few) fresh (place + 1) (started place p) in
+    let f : Finishes q (h.name ++ (attrs_text h.attrs ++ tag_close h.name)) (Start (written_tag h))
+    begun =
+    finishes_on q (TagName draft) fresh begun h.name (attrs_text h.attrs ++ tag_close h.name) _
+    (name_moves false TagOpen (λ c r e. rw e refl) h.name named.0 letter fresh (place + 1) begun)
+    (λ here. pairs_finish (lowered h.name) h.name (name_lowered h.name named.0) fresh begun span []
+    h.attrs (TagName draft) here (behind_name draft) named.1 good none differ
+    (subst (λ n. n ≤ most_attrs) (sym same) few)) in
     record { start = place; place = f.place; is = f.is }

@@ -1,20 +1,22 @@
 -- Characters of tags: what they are not, and what a text of them leads to.
-use Rattle.std.proofs.Common.{◌≡◌, ℕ, ◌+◌, ◌<◌, Bool, true, false, not, ◌&&◌, inl, inr, List, [], ◌∷◌, ◌++◌, eqb, ne_eqb, length, map, refl, sym, ap, ◌∙◌, arith, append_assoc, append-nil, Ok, None, find}
+use Rattle.std.proofs.Common.{◌≡◌, ℕ, ◌+◌, ◌<◌, Bool, true, false, not, ◌&&◌, inl, inr, List, [], ◌∷◌, ◌++◌, eqb, map, refl, sym, ap, ◌∙◌, arith, append_assoc, append-nil, Ok, None, find}
 use Rattle.std.specs.Char.{len_utf8, to_ascii_lowercase}
-use Rattle.std.specs.List.{list_all}
 use Rattle.std.proofs.lemmas.Bool.{agree_below, agree_below_at, and_from, and_parts, cases_lt, false≢true}
 use Rattle.std.proofs.lemmas.Bool.Decides.{nat_tests}
 use Rattle.std.proofs.lemmas.Str.Ascii.{lowercase_is}
 use Rattle.html_names.specs.Characters.{all, IsOf, is_attr_char, is_tag_char}
 use Rattle.html_names.specs.Names.{attr_fault}
+use Rattle.html_dom_nest.specs.WrittenTags.{begins_with_letter}
 use Rattle.typst_html_nest.proofs.Readers.{behind, reading_at, run_on}
 use Rattle.typst_html_parse_names.specs.ForeignNames.{lowered}
 use Rattle.typst_html_parse_open.specs.Pages.{Page, Token, ◌next◌}
 use Rattle.typst_html_parse_tree.specs.PageBodies.{is_space}
 use Rattle.typst_html_parse_tree.specs.PageTrees.{token_read}
+use Rattle.typst_html_parse.proofs.PageStretches.{other}
+use Rattle.typst_html_parse.proofs.TagNames.{name_of_tag}
 use Rattle.typst_html_parse.specs.PageReading.{run}
 use Rattle.typst_html_parse.specs.PageReferences.{is_letter}
-use Rattle.typst_html_parse.specs.PageTokens.{PageReader, TagDraft, TagName, TokenState, goes, is_name, moved, step}
+use Rattle.typst_html_parse.specs.PageTokens.{PageReader, Reading, TagDraft, TagName, TokenState, goes, is_name, moved, step}
 
 -- in that state, where no carriage return was read before
 abbrev pub at_state : TokenState → (fresh : Bool) (place : ℕ) → Page → PageReader
@@ -98,10 +100,6 @@ stepped s t fresh place p c zero return h =
     ∙ ap (λ x. x next (λ q. goes q.state
     (record q.reading { place = place + len_utf8 c; after_return = false }))) h
 
--- a character of a class is none that is not of it
-pub other : (is : ℕ → Bool) (c d : ℕ) → is c ≡ true → is d ≡ false → eqb c d ≡ false
-other is c d h k = ne_eqb c d (λ e. false≢true (sym k ∙ (ap is (sym e) ∙ h)))
-
 -- a character that means nothing in a tag
 pub record IsOfName (c : ℕ) : Type 0 where
   pub no_zero : eqb c 0 ≡ false
@@ -157,20 +155,16 @@ attr_lowered c h =
       | inr high ↦ ap is_attr_char ((lowercase_is c).2 (omega arith)) ∙ h
     ]
 
-tags_lowered : (cs : List ℕ) → all is_tag_char cs ≡ true → list_all is_tag_char (lowered cs) ≡ true
+tags_lowered : (cs : List ℕ) → all is_tag_char cs ≡ true → all is_tag_char (lowered cs) ≡ true
 tags_lowered [] h = refl
 tags_lowered (c ∷ cs) h =
     let both = and_parts (is_tag_char c) (all is_tag_char cs) h in
-    and_from (is_tag_char (to_ascii_lowercase c)) (list_all is_tag_char (lowered cs))
+    and_from (is_tag_char (to_ascii_lowercase c)) (all is_tag_char (lowered cs))
     (tag_lowered c both.0) (tags_lowered cs both.1)
 
 pub name_lowered : (name : List ℕ) → IsOf is_tag_char name → is_name (lowered name) ≡ true
 name_lowered [] h = absurd h
-name_lowered (c ∷ cs) h =
-    let some : eqb (length (lowered (c ∷ cs))) 0 ≡ false = grind (arith, nat_tests) in
-    and_from (not (eqb (length (lowered (c ∷ cs))) 0)) (list_all is_tag_char (lowered (c ∷ cs)))
-    (ap not some) (and_from (is_tag_char (to_ascii_lowercase c)) (list_all is_tag_char (lowered cs))
-    (tag_lowered c h.0) (tags_lowered cs h.1))
+name_lowered (c ∷ cs) h = name_of_tag (lowered (c ∷ cs)) (tag_lowered c h.0, tags_lowered cs h.1)
 
 none_bad : (cs : List ℕ) → all is_attr_char cs ≡ true →
     find (λ d. not (is_attr_char d)) (lowered cs) ≡ None
@@ -190,14 +184,22 @@ attr_faultless (c ∷ cs) h =
 abbrev pub tag_named : (is_end : Bool) (name : List ℕ) → TagDraft
 tag_named is_end name = record { is_end = is_end; name = name; attrs = [] }
 
--- the rest of a tag's name
-pub name_moves : (is_end : Bool) (c : ℕ) (cs : List ℕ) (fresh : Bool) (place : ℕ) (p : Page) →
-    all is_tag_char cs ≡ true →
-    Moves (at_state (TagName (tag_named is_end (to_ascii_lowercase c ∷ []))) fresh place p) cs
-    (TagName (tag_named is_end (lowered (c ∷ cs)))) fresh p
-name_moves is_end c cs fresh place p h =
-    grows (λ xs. TagName (tag_named is_end xs)) to_ascii_lowercase is_tag_char fresh p name_step
-    (to_ascii_lowercase c ∷ []) cs place h
+-- a tag's name, from the state in which its first letter begins it
+pub name_moves : (is_end : Bool) (s : TokenState) → ((c : ℕ) (r : Reading) → is_letter c ≡ true →
+    moved s c r ≡ goes (TagName (tag_named is_end (to_ascii_lowercase c ∷ []))) r) →
+    (name : List ℕ) → IsOf is_tag_char name → begins_with_letter name ≡ true → (fresh : Bool)
+    (place : ℕ) (p : Page) →
+    Moves (at_state s fresh place p) name (TagName (tag_named is_end (lowered name))) fresh p
+name_moves is_end s begins [] named letter fresh place p = absurd named
+name_moves is_end s begins (c ∷ cs) named letter fresh place p =
+    let first = TagName (tag_named is_end (to_ascii_lowercase c ∷ [])) in
+    let k = of_letter c letter in
+    moves_on (at_state s fresh place p) first _ fresh p (c ∷ []) cs
+    (one_moves (at_state s fresh place p) first fresh (place + len_utf8 c) p c
+    (stepped s first fresh place p c k.no_zero k.no_return
+    (begins c (reading_at fresh place p) letter)))
+    (λ here. grows (λ xs. TagName (tag_named is_end xs)) to_ascii_lowercase is_tag_char fresh p
+    name_step (to_ascii_lowercase c ∷ []) cs here named.1)
   where
     name_step : (xs : List ℕ) (d place : ℕ) → is_tag_char d ≡ true →
         step (at_state (TagName (tag_named is_end xs)) fresh place p) d

@@ -1,8 +1,9 @@
 -- Texts between tags are read as they are.
-use Rattle.std.proofs.Common.{◌≡◌, ℕ, ◌+◌, Bool, true, false, not, ◌&&◌, inl, inr, eqb, List, [], ◌∷◌, ◌++◌, arith, refl, ◌∙◌, sym, append_assoc, Ok}
+use Rattle.std.proofs.Common.{◌≡◌, ℕ, ◌+◌, Bool, true, false, not, ◌&&◌, inl, inr, eqb, List, [], ◌∷◌, ◌++◌, refl, ◌∙◌, sym, append_assoc, Ok}
 use Rattle.std.specs.Char.{len_utf8}
 use Rattle.std.specs.List.{list_all}
-use Rattle.std.proofs.lemmas.Bool.{cases_Bool, and_parts, or_parts, ne_eqb}
+use Rattle.std.proofs.Math.Bool.{and-false, and-true}
+use Rattle.std.proofs.lemmas.Bool.{and_parts, cases_Bool, not-true, or_parts}
 use Rattle.std.proofs.lemmas.List.{append-nil}
 use Rattle.html_names.specs.Characters.{all, is_text_char, is_element_text_char}
 use Rattle.html_dom_nest.specs.WrittenTexts.{has_return, is_empty, is_return}
@@ -11,19 +12,16 @@ use Rattle.typst_html_encode.specs.References.{reference_to}
 use Rattle.typst_html_encode.specs.Text.{char_text, escaped_text, escaping_of}
 use Rattle.typst_html_encode.proofs.References.{text_good}
 use Rattle.typst_html_parse_open.specs.Pages.{Page}
+use Rattle.typst_html_parse.proofs.PageStretches.{other}
 use Rattle.typst_html_parse.specs.PageReading.{run}
 use Rattle.typst_html_parse.specs.PageTokens.{Data, PageReader}
 use Rattle.typst_html_nest.proofs.Readers.{LeadsTo, Takes, data_at, run_on, texted}
-use Rattle.typst_html_nest.proofs.References.{and_false, reference_leads, text_positive}
+use Rattle.typst_html_nest.proofs.References.{reference_leads}
 
 -- its first character is a line feed
 abbrev pub begins_with_lf : List ℕ → Bool
 begins_with_lf [] = false
 begins_with_lf (c ∷ cs) = eqb c 10
-
-and_true : (b : Bool) → (b && true) ≡ b
-and_true true = refl
-and_true false = refl
 
 -- where a line feed is not dropped, the first character is none
 pub not_dropped : (fresh : Bool) (c : ℕ) (cs : List ℕ) →
@@ -39,13 +37,9 @@ pub is_plain_text_char : (c : ℕ) → is_element_text_char c ≡ true →
     (eqb c 38 ≡ false) × (eqb c 60 ≡ false)
 is_plain_text_char c h =
     let parts = and_parts (is_text_char c && not (eqb c 38)) (not (eqb c 60)) h in (
-      is_not (eqb c 38) (and_parts (is_text_char c) (not (eqb c 38)) parts.0).1,
-      is_not (eqb c 60) parts.1,
+      not-true (eqb c 38) (and_parts (is_text_char c) (not (eqb c 38)) parts.0).1,
+      not-true (eqb c 60) parts.1,
     )
-  where
-    is_not : (b : Bool) → not b ≡ true → b ≡ false
-    is_not true e = sym e
-    is_not false e = refl
 
 module _ (passes : ℕ → Bool) (p : Page) (takes : Takes passes p) where
   -- a character is read, with the text before it
@@ -59,17 +53,14 @@ module _ (passes : ℕ → Bool) (p : Page) (takes : Takes passes p) where
       (fresh && eqb c 10) ≡ false →
       CharLeads (data_at fresh place (texted text start p)) (c ∷ []) (text ++ c ∷ [])
   plain_leads fresh place text start c pass plain h n kept =
-      let positive = text_positive c h in
-      let e0 : eqb c 0 ≡ false = ne_eqb c 0 (λ e. omega (arith, positive, e)) in
-      let e10 : (eqb c 10 && false) ≡ false = and_false (eqb c 10) in
+      let e0 = other is_text_char c 0 h refl in
+      let e10 = and-false (eqb c 10) in
       let e = is_plain_text_char c plain in
-      let e38 : eqb c 38 ≡ false = e.0 in
-      let e60 : eqb c 60 ≡ false = e.1 in
       let taken = takes c text place pass in
       record {
         place = place + len_utf8 c;
         start = place;
-        is = rw (e0, e10, n, e60, e38, kept, taken) refl;
+        is = rw (e0, e10, n, e.1, e.0, kept, taken) refl;
       }
 
   reference_char_leads : (fresh : Bool) (place : ℕ) (text : List ℕ) (start c : ℕ) →
@@ -101,7 +92,7 @@ module _ (passes : ℕ → Bool) (p : Page) (takes : Takes passes p) where
   chars_lead pre_span fresh place text start [] pass h n kept = record {
     start = start;
     place = place;
-    is = λ i. Ok (data_at (sym (and_true fresh) i) place
+    is = λ i. Ok (data_at (sym (and-true fresh) i) place
         (texted (sym (append-nil text) i) start p));
   }
   chars_lead pre_span fresh place text start (c ∷ cs) pass h n kept =
@@ -117,7 +108,7 @@ module _ (passes : ℕ → Bool) (p : Page) (takes : Takes passes p) where
         place = more.place;
         is = run_on _ (data_at false one.place (texted (text ++ c ∷ []) one.start p)) _
             (char_text (escaping_of pre_span) c) (escaped_text (escaping_of pre_span) cs) one.is
-            (more.is ∙ (λ i. Ok (data_at (sym (and_false fresh) i) more.place
+            (more.is ∙ (λ i. Ok (data_at (sym (and-false fresh) i) more.place
             (texted (append_assoc text (c ∷ []) cs i) more.start p))));
       }
 

@@ -131,25 +131,15 @@ gathered bare [] = refl
 gathered support [] = refl
 gathered (blank later) [] = sym (append-nil (map char later))
 gathered bare (visible c ∷ as') = ap (λ l. char c ∷ l) (gathered support as')
-gathered support (visible c ∷ as') = ap (λ l. char c ∷ l) (gathered support as')
-gathered (blank later) (visible c ∷ as') =
-    behind (released true (blank later)) (char c) _ _ (gathered support as')
+gathered b (visible c ∷ as') = behind (released true b) (char c) _ _ (gathered support as')
 gathered bare (kept c ∷ as') = ap (λ l. char c ∷ l) (gathered support as')
-gathered support (kept c ∷ as') = ap (λ l. char c ∷ l) (gathered support as')
-gathered (blank later) (kept c ∷ as') =
-    behind (released true (blank later)) (char c) _ _ (gathered support as')
+gathered b (kept c ∷ as') = behind (released true b) (char c) _ _ (gathered support as')
 gathered bare (object name ∷ as') = ap (λ l. thing name ∷ l) (gathered support as')
-gathered support (object name ∷ as') = ap (λ l. thing name ∷ l) (gathered support as')
-gathered (blank later) (object name ∷ as') =
-    behind (released true (blank later)) (thing name) _ _ (gathered support as')
+gathered b (object name ∷ as') = behind (released true b) (thing name) _ _ (gathered support as')
 gathered bare (break ∷ as') = ap (λ l. line ∷ l) (gathered bare as')
-gathered support (break ∷ as') = ap (λ l. line ∷ l) (gathered bare as')
-gathered (blank later) (break ∷ as') =
-    behind (released false (blank later)) line _ _ (gathered bare as')
+gathered b (break ∷ as') = behind (released false b) line _ _ (gathered bare as')
 gathered bare (border ∷ as') = ap (λ l. edge ∷ l) (gathered bare as')
-gathered support (border ∷ as') = ap (λ l. edge ∷ l) (gathered bare as')
-gathered (blank later) (border ∷ as') =
-    behind (released false (blank later)) edge _ _ (gathered bare as')
+gathered b (border ∷ as') = behind (released false b) edge _ _ (gathered bare as')
 gathered bare (ignorable c ∷ as') = ap (λ l. char c ∷ l) (gathered bare as')
 gathered support (ignorable c ∷ as') = ap (λ l. char c ∷ l) (gathered support as')
 gathered (blank later) (ignorable c ∷ as') =

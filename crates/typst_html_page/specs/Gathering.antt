@@ -1,5 +1,5 @@
--- What is seen, gathered in one pass over the atoms: a blank is held back until what follows says
--- whether it is seen.
+-- The visible pieces, gathered in one pass over the atoms: a blank is held back until what follows
+-- says whether it is visible.
 use Rattle.std.specs.Prelude.{ℕ, Bool, true, false, ◌||◌, List, [], ◌∷◌, ◌++◌, map, if◌then◌else◌}
 use Rattle.html_dom_tree.specs.PlainTree.{nodes_normal}
 use Rattle.html_dom_tree.specs.Tree.{NodeView, tag_node, text_node, element_node, frame_node, NodesView}
@@ -7,8 +7,8 @@ use Rattle.typst_html_encode.specs.Collapsing.{Atom, visible, ignorable, collaps
 use Rattle.typst_html_page.specs.Parts.{Part, object_part, line_part, edge_part, put_text}
 use Rattle.typst_html_page.specs.Unseen.{is_unseen, seen_nodes}
 
--- parts that are complete, in which neighbouring edges are one, the text behind them, and whether an
--- edge stands last
+-- complete parts, in which neighbouring edges are one, the text behind them, and whether the last
+-- part is an edge
 pub record Page : Type 0 where
   pub parts : List Part
   pub text : List ℕ
@@ -17,7 +17,7 @@ pub record Page : Type 0 where
 abbrev pub empty_page : Page
 empty_page = record { parts = []; text = []; after_edge = false }
 
--- all parts, where no more follows
+-- all parts, if nothing more follows
 abbrev pub ended_parts : Page → List Part
 ended_parts p = p.parts ++ put_text p.text []
 
@@ -37,23 +37,23 @@ unfoldable pub with_pieces : Page → List Piece → Page
 with_pieces p [] = p
 with_pieces p (x ∷ xs) = with_pieces (with_piece p x) xs
 
--- what stands before a place
+-- what stands before a point
 pub data Before : Type 0 where
   -- nothing that supports a blank
   bare : Before
   support : Before
-  -- a blank that has support before it, and the ignorable characters behind the blank: they are
-  -- held back until it is known whether support follows
+  -- a blank that has support before it, and the ignorable characters behind it: they are held back
+  -- until it is known whether support follows
   blank : (later : List ℕ) → Before
 
--- what was held back, where support follows and where none does
+-- what was held back, if support follows and if none does
 abbrev pub released : (supported : Bool) → Before → List Piece
 released supported bare = []
 released supported support = []
 released true (blank later) = char 32 ∷ map char later
 released false (blank later) = map char later
 
--- an ignorable character is seen, but behind what is held back
+-- an ignorable character is visible, but behind what is held back
 
 abbrev pub ignorable_pieces : Before → ℕ → List Piece
 ignorable_pieces bare c = char c ∷ []
@@ -65,13 +65,13 @@ past_ignorable bare c = bare
 past_ignorable support c = support
 past_ignorable (blank later) c = blank (later ++ c ∷ [])
 
--- the first blank of a row is held back, the others are not seen
+-- the first blank of a row is held back, the others are invisible
 abbrev pub past_collapsible : Before → Before
 past_collapsible bare = bare
 past_collapsible support = blank []
 past_collapsible (blank later) = blank later
 
--- what is seen up to an atom, but for what is held back
+-- the visible pieces up to an atom, except what is held back
 abbrev pub seen_at : Before → Atom → List Piece
 seen_at b (visible c) = released true b ++ char c ∷ []
 seen_at b (ignorable c) = ignorable_pieces b c

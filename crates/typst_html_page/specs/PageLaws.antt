@@ -1,4 +1,4 @@
--- What is shown of a page that was read.
+-- What a page that was read shows.
 use Rattle.std.specs.Prelude.{◌≡◌, ℕ, true, List, Some}
 use Rattle.html_dom_tree.specs.Tree.{NodesView, ElementView}
 use Rattle.typst_html_encode.specs.Collapsing.{Piece}
@@ -12,15 +12,15 @@ use Rattle.typst_html_spaces.specs.SeenBody.{CanBeRead, seen_text}
 use Rattle.typst_html_page.specs.PageTexts.{page_pieces}
 use Rattle.typst_html_page.specs.Unseen.{seen_element, shows_all}
 
--- of an element that was read, whose body hides nothing, that is shown which is seen of the body of
--- the text that it was read from
+-- an element that was read, whose body hides nothing, shows what is visible in the body of the text
+-- that it was read from
 abbrev pub ReadPagesAreSeen : Type 0
 ReadPagesAreSeen = (text : List ℕ) (root : ElementView) (pieces : List Piece) →
     accepted (read text) ≡ Some root → shows_all root ≡ true → seen_text text ≡ Some pieces →
     page_pieces root ≡ pieces
 
--- of any element that is shown which is seen of the body of the text that the element without what
--- is unseen is written as, if that can be read back and what has indents in its body is a border
+-- any element shows what is visible in the body of the text that is written of it without its
+-- hidden elements, if that can be read back and what has indents in its body is a border
 abbrev pub UnseenPartsAreLeftOut : Type 0
 UnseenPartsAreLeftOut = (frames : Frames) (options : HtmlOptions) (root : ElementView)
     (body : NodesView) → CanBeRead frames options (seen_element root) →

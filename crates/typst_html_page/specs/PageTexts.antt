@@ -7,8 +7,8 @@ use Rattle.typst_html_spaces.specs.SeenBody.{seen_tree}
 use Rattle.typst_html_page.specs.Parts.{Part, joined_parts}
 use Rattle.typst_html_page.specs.Unseen.{seen_element}
 
--- what is seen of the body of the normal form of a root without what is unseen; a root without a
--- body shows nothing
+-- what is visible in the body of the normal form of a root without its hidden elements; a root
+-- without a body shows nothing
 abbrev pub page_pieces : ElementView → List Piece
 page_pieces root = unwrap_or (seen_tree (Some (element_normal (seen_element root)))) []
 

@@ -1,4 +1,4 @@
--- What is seen as a list of parts: characters side by side are one text.
+-- The visible pieces as a list of parts: neighbouring characters are one text.
 use Rattle.std.specs.Prelude.{ℕ, Bool, true, false, not, ◌&&◌, List, [], ◌∷◌, ◌++◌}
 use Rattle.typst_html_encode.specs.Collapsing.{Piece, char, thing, line, edge}
 
@@ -8,7 +8,7 @@ pub data Part : Type 0 where
   line_part : Part
   edge_part : Part
 
--- characters before parts, joined with the text that these begin with, if they do
+-- characters before parts, joined with the first text if the parts begin with one
 abbrev pub put_text : List ℕ → List Part → List Part
 put_text [] ps = ps
 put_text (c ∷ cs) [] = text_part (c ∷ cs) ∷ []
@@ -17,7 +17,7 @@ put_text (c ∷ cs) (object_part name ∷ ps) = text_part (c ∷ cs) ∷ object_
 put_text (c ∷ cs) (line_part ∷ ps) = text_part (c ∷ cs) ∷ line_part ∷ ps
 put_text (c ∷ cs) (edge_part ∷ ps) = text_part (c ∷ cs) ∷ edge_part ∷ ps
 
--- the parts of what is seen
+-- the parts of visible pieces
 abbrev pub joined_parts : List Piece → List Part
 joined_parts [] = []
 joined_parts (char c ∷ ps) = put_text (c ∷ []) (joined_parts ps)
@@ -39,7 +39,7 @@ begins_with_edge (object_part name ∷ ps) = false
 begins_with_edge (line_part ∷ ps) = false
 begins_with_edge (edge_part ∷ ps) = true
 
--- whether no text is empty, and neither two texts nor two edges stand side by side
+-- whether no text is empty, and no two texts or edges are neighbours
 abbrev pub stand_apart : List Part → Bool
 stand_apart [] = true
 stand_apart (text_part [] ∷ ps) = false

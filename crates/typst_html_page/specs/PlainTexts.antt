@@ -1,5 +1,5 @@
--- Parts as plain text, in UTF-8: a line break and an edge are line feeds, but for an edge that stands
--- first or last, and an object is U+FFFC.
+-- Parts as plain text, in UTF-8: a line break and an edge are line feeds, except a leading or
+-- trailing edge, and an object is U+FFFC.
 use Rattle.std.specs.Prelude.{ℕ, Bool, true, false, List, [], ◌∷◌, if◌then◌else◌, string_bytes}
 use Rattle.std.specs.List.{flat_map}
 use Rattle.typst_html_page.specs.declared.shown.Shown.{Shown}
@@ -17,12 +17,12 @@ is_edge (Object tag) = false
 is_edge LineBreak = false
 is_edge Edge = true
 
--- without the edge that stands first
+-- without a leading edge
 abbrev pub past_edge : List Shown → List Shown
 past_edge [] = []
 past_edge (p ∷ ps) = if is_edge p then ps else p ∷ ps
 
--- without the edge that stands last
+-- without a trailing edge
 abbrev pub before_edge : List Shown → List Shown
 before_edge [] = []
 before_edge (p ∷ []) = if is_edge p then [] else p ∷ []

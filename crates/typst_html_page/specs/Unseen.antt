@@ -1,6 +1,6 @@
--- Elements that a browser does not show: those to which HTML Standard 15.3.1, hidden elements, gives
--- `display: none`, but for `noscript`, which is shown where scripting is disabled. What other css
--- hides, as that of a `dialog` that is not open, counts as seen.
+-- Hidden elements, which a browser does not show: those to which HTML Standard 15.3.1, hidden
+-- elements, gives `display: none`, except `noscript`, which is shown if scripting is disabled. What
+-- other css hides, such as that of a `dialog` that is not open, counts as visible.
 use Rattle.std.specs.Prelude.{◌≡◌, ℕ, Bool, true, not, ◌&&◌, ◌||◌, List, codes, bytes_eq, if◌then◌else◌, Option, option_map}
 use Rattle.html_names.specs.Displays.{default_display, is_hidden}
 use Rattle.html_names.specs.Names.{listed_names, stands_in}
@@ -9,7 +9,7 @@ use Rattle.html_dom_tree.specs.Tree.{TextPair, Head, tag_node, text_node, elemen
 use Rattle.typst_html_encode.specs.Layout.{is_text}
 use Rattle.typst_html_parse_names.specs.ForeignNames.{lowered}
 
--- obsolete elements, of which the default displays say nothing
+-- obsolete elements that have no default display
 abbrev pub obsolete_unseen_names : List (List ℕ)
 obsolete_unseen_names = listed_names (codes "basefont noembed noframes param")
 
@@ -19,7 +19,7 @@ unfoldable pub is_unseen_name : List ℕ → Bool
 is_unseen_name name =
     is_hidden (default_display name) || stands_in obsolete_unseen_names name
 
--- the first value of an attribute, in small letters
+-- the first value of an attribute, in lowercase
 abbrev pub small_value : List TextPair → (name : List ℕ) → Option (List ℕ)
 small_value attrs name = option_map lowered (first attrs name)
 
@@ -37,7 +37,7 @@ unfoldable pub is_unseen : List ℕ → List TextPair → Bool
 is_unseen name attrs = is_unseen_name name ||
     ((has_hidden attrs && not (bytes_eq name (codes "embed"))) || is_hidden_input name attrs)
 
--- nodes without what is unseen, at any depth
+-- nodes without hidden elements, at any depth
 unfoldable pub seen_nodes : NodesView → NodesView
 seen_nodes none = none
 seen_nodes (node (tag_node t) ns) = node (tag_node t) (seen_nodes ns)
@@ -46,7 +46,7 @@ seen_nodes (node (element_node h kids) ns) = if is_unseen h.name h.attrs then se
     else node (element_node h (seen_nodes kids)) (seen_nodes ns)
 seen_nodes (node (frame_node f) ns) = node (frame_node f) (seen_nodes ns)
 
--- a root without what is unseen; of one that is unseen nothing is seen
+-- a root without hidden elements; a hidden one shows nothing
 abbrev pub seen_element : ElementView → ElementView
 seen_element root =
     (root.0, if is_unseen root.0.name root.0.attrs then none else seen_nodes root.1)
@@ -54,7 +54,7 @@ seen_element root =
 abbrev pub is_seen : Head → Bool
 is_seen h = not (is_unseen h.name h.attrs)
 
--- each element of the nodes is seen, at any depth
+-- each element of the nodes is visible, at any depth
 unfoldable pub are_seen : NodesView → Bool
 are_seen none = true
 are_seen (node (tag_node t) ns) = are_seen ns
@@ -71,10 +71,10 @@ shows_body (node (element_node h kids) ns) =
     if bytes_eq h.name (codes "body") then is_seen h && are_seen kids else shows_body ns
 shows_body (node (frame_node f) ns) = shows_body ns
 
--- a root is seen, as are its first `body` and each element in that
+-- a root is visible, as are its first `body` and each element in that
 abbrev pub shows_all : ElementView → Bool
 shows_all root = is_seen root.0 && shows_body root.1
 
--- where each element is seen, nothing is left out
+-- if each element is visible, nothing is left out
 abbrev pub SeenNodesStay : Type 0
 SeenNodesStay = (ns : NodesView) → are_seen ns ≡ true → seen_nodes ns ≡ ns

@@ -1,4 +1,4 @@
-//! A page while it is gathered.
+//! A page under construction.
 
 ghost use Rattle.std.specs.Prelude.{◌≡◌, [], OnOk, IfOk, map};
 ghost use Rattle.typst_html_encode.specs.Collapsing.{char, thing, line, edge};
@@ -11,7 +11,7 @@ use html_names::output::Output;
 use std::alloc::{AllocError, Global};
 use std::mem;
 
-/// The parts so far, and the characters that the next text begins with.
+/// The parts so far, and the characters with which the next text begins.
 #[derive(Drop)]
 pub(crate) struct Page {
     alloc: Global,
@@ -52,7 +52,6 @@ impl Page {
         Ok(())
     }
 
-    /// Adds a replaced element.
     pub(crate) fn push_object(&mut self, tag: &HtmlTag) -> Result<(), AllocError>
         ensures { OnOk result (page_view self.new
             ≡ with_piece (page_view self.old) (thing tag.now)) }
@@ -71,7 +70,7 @@ impl Page {
         Ok(())
     }
 
-    /// Adds an edge, unless one stands last.
+    /// Appends an edge, unless the last part is one.
     pub(crate) fn push_edge(&mut self) -> Result<(), AllocError>
         ensures { OnOk result (page_view self.new ≡ with_piece (page_view self.old) edge) }
     {
@@ -83,7 +82,7 @@ impl Page {
         Ok(())
     }
 
-    /// Adds a part that is no text, behind the text that has begun.
+    /// Appends a part that is no text, behind the text that has begun.
     fn push_part(&mut self, part: Shown) -> Result<(), AllocError>
         ensures { OnOk result (page_view self.new
             ≡ with_part (page_view self.old) (part_view part) self.old.after_edge) }
@@ -93,7 +92,7 @@ impl Page {
         Ok(())
     }
 
-    /// Ends the text, where one has begun: an empty one is no part.
+    /// Ends the text, if one has begun: an empty one is no part.
     fn end_text(&mut self) -> Result<(), AllocError>
         ensures ended { OnOk result (self.new.text ≡ []) }
         ensures parts { OnOk result (parts_view self.new.parts.items

@@ -1,4 +1,4 @@
-//! What is seen so far, and what is held back.
+//! The visible parts so far, and blanks that are held back.
 
 ghost use Rattle.std.specs.Prelude.{◌≡◌, OnOk, IfOk, true, false, chars};
 ghost use Rattle.typst_html_encode.specs.Collapsing.{char_atom, text_atoms, kept, collapsible, ignorable, visible, object, break, border};
@@ -14,15 +14,15 @@ use html_names::output::Output;
 use std::alloc::{AllocError, Global};
 use std::mem;
 
-/// What stands before a place, ignorable characters aside.
+/// What stands before a point, ignorable characters aside.
 #[derive(Drop)]
 enum Before {
     /// Nothing that supports a blank.
     Bare,
     /// What supports a blank: a visible character, a kept blank or an object.
     Support,
-    /// A blank that has support before it, and the ignorable characters behind the blank. They are
-    /// held back until it is known whether support follows.
+    /// A blank that has support before it, and the ignorable characters behind it. They are held
+    /// back until it is known whether support follows.
     Blank(Output),
 }
 
@@ -44,7 +44,7 @@ impl Seen {
         }
     }
 
-    /// Adds what was held back: support follows.
+    /// Releases what was held back: support follows.
     fn supported(&mut self) -> Result<(), AllocError>
         ensures page { OnOk result (page_view self.new.page
             ≡ with_pieces (page_view self.old.page) (released true (before_view self.old.before))) }
@@ -57,7 +57,7 @@ impl Seen {
         Ok(())
     }
 
-    /// Adds what was held back: no support follows.
+    /// Releases what was held back: no support follows.
     fn unsupported(&mut self) -> Result<(), AllocError>
         ensures page { OnOk result (page_view self.new.page
             ≡ with_pieces (page_view self.old.page) (released false (before_view self.old.before))) }
@@ -69,7 +69,7 @@ impl Seen {
         Ok(())
     }
 
-    /// A character that is visible, or a blank that is kept.
+    /// Adds a visible character or a preserved blank.
     fn shown(&mut self, c: char) -> Result<(), AllocError>
         ensures { OnOk result (seen_view self.new ≡ step (seen_view self.old) (visible c)) }
     {

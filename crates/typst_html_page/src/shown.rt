@@ -1,4 +1,4 @@
-//! What is shown of a page.
+//! What a page shows.
 
 ghost use Rattle.std.specs.Prelude.{◌≡◌};
 ghost use Rattle.typst_html_page.specs.PageViews.{page_text_view, parts_view};
@@ -7,14 +7,14 @@ ghost use Rattle.typst_html_page.specs.PlainTexts.{before_edge, is_edge, part_by
 use html_names::HtmlTag;
 use std::fmt;
 
-/// A part of what is shown of a page.
+/// A part of what a page shows.
 #[derive(Debug, PartialEq, Eq, Drop)]
 pub enum Shown {
-    /// Characters that stand side by side, at least one and as many as there are.
+    /// Neighbouring characters: at least one, and as many as there are.
     Text(String),
-    /// A replaced element, by its name: CSS sees one object in its place.
+    /// A replaced element, by its name: CSS treats it as one object.
     Object(HtmlTag),
-    /// A line break, of `br`.
+    /// A line break, from a `br`.
     LineBreak,
     /// A border of blocks: a line ends before it, and one begins after it. Neighbouring borders are
     /// one edge.
@@ -40,7 +40,7 @@ impl Shown {
     }
 }
 
-/// The parts without an edge that stands first.
+/// Returns the parts without a leading edge.
 fn past_edge(parts: &[Shown]) -> &[Shown]
     ensures { result.now ≡ past_edge parts.now }
 {
@@ -50,7 +50,7 @@ fn past_edge(parts: &[Shown]) -> &[Shown]
     if first.is_edge() { rest } else { parts }
 }
 
-/// The parts without an edge that stands last.
+/// Returns the parts without a trailing edge.
 fn before_edge(parts: &[Shown]) -> &[Shown]
     ensures { result.now ≡ before_edge parts.now }
 {
@@ -67,7 +67,7 @@ pub struct PageText {
 }
 
 impl PageText {
-    /// The parts, in the order in which they are shown.
+    /// Returns the parts, in the order in which they are shown.
     pub fn parts(&self) -> &[Shown]
         ensures { parts_view result.now ≡ page_text_view self.now }
     {
@@ -75,8 +75,8 @@ impl PageText {
     }
 }
 
-/// The page as plain text: each line break and each edge is a line feed, but for an edge that stands
-/// first or last, and an object is U+FFFC (object replacement character).
+/// Writes the page as plain text: each line break and each edge is a line feed, except a leading or
+/// trailing edge, and an object is U+FFFC (object replacement character).
 impl fmt::Display for PageText {
     ghost use Rattle.std.specs.Prelude.{Some};
     ghost use Rattle.typst_html_page.specs.PlainTexts.{plain_text};

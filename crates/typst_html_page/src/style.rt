@@ -1,4 +1,4 @@
-//! What an element's name and style say of the white space in it.
+//! What an element's name and style mean for white space in it.
 
 ghost use Rattle.std.specs.Prelude.{◌≡◌, ◌||◌, IsTrue};
 ghost use Rattle.html_names.specs.Kinds.{is_line_break};
@@ -10,7 +10,7 @@ use html_dom_tree::{HtmlAttrs, HtmlElement};
 use html_names::property::Display;
 use html_names::{HtmlTag, attr, tag};
 
-/// Whether the first value of `style` is exactly that text of ASCII.
+/// Returns whether the first value of `style` is exactly that ASCII text.
 #[tactic(auto, unfolding(html_names::specs::Tables::known_attrs))]
 fn style_is(attrs: &HtmlAttrs, style: &'static str) -> bool
     requires { IsTrue (is_ascii style.now) }
@@ -22,7 +22,6 @@ fn style_is(attrs: &HtmlAttrs, style: &'static str) -> bool
     }
 }
 
-/// Whether white space inside is preserved.
 #[tactic(auto, unfolding(html_names::specs::Tables::known_tags, typst_html_encode::specs::Collapsing::preserves))]
 fn preserves(element: &HtmlElement) -> bool
     ensures { let head = (element_view element.now).0 in
@@ -33,7 +32,7 @@ fn preserves(element: &HtmlElement) -> bool
         || style_is(&element.attrs, "display: block; white-space: pre-wrap")
 }
 
-/// Whether white space inside is preserved, where it is around the element or not.
+/// Returns whether white space inside is preserved, given whether it is around the element.
 pub(crate) fn preserves_inside(around: bool, element: &HtmlElement) -> bool
     ensures { let head = (element_view element.now).0 in
         result ≡ (around || preserves head.name head.attrs) }
@@ -47,7 +46,7 @@ fn has_border_display(tag: &HtmlTag) -> bool
     Display::default_for(tag).is_some_and(|display| display.is_border())
 }
 
-/// Whether a line ends before and after the element.
+/// Returns whether a line ends before and after the element.
 #[tactic(auto, unfolding(typst_html_encode::specs::Collapsing::has_border))]
 pub(crate) fn has_border(element: &HtmlElement) -> bool
     ensures { let head = (element_view element.now).0 in
@@ -58,7 +57,6 @@ pub(crate) fn has_border(element: &HtmlElement) -> bool
         || style_is(&element.attrs, "display: block; white-space: pre-wrap")
 }
 
-/// Whether the element is `br`.
 #[tactic(auto, unfolding(html_names::specs::Tables::known_tags, html_names::specs::Names::stands_in))]
 pub(crate) fn is_line_break(tag: &HtmlTag) -> bool
     ensures { result ≡ is_line_break tag.now }

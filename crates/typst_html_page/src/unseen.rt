@@ -1,4 +1,4 @@
-//! Whether a browser shows an element at all.
+//! Hidden elements.
 
 ghost use Rattle.std.specs.Prelude.{◌≡◌, IsTrue};
 ghost use Rattle.html_names.specs.Names.{is_ascii};
@@ -11,7 +11,7 @@ use html_names::property::Display;
 use html_names::{HtmlAttr, HtmlTag, attr, tag};
 use typst_html_parse_names::{is_one_of, is_same_lowered};
 
-/// Whether the first value of an attribute is that word of ASCII, once its letters are made small.
+/// Returns whether the first value of an attribute is that ASCII word, in any ASCII case.
 fn is_word(attrs: &HtmlAttrs, attr: &HtmlAttr, word: &'static str) -> bool
     requires { IsTrue (is_ascii word.now) }
     ensures { result ≡ is_text word.now (small_value (attrs_view attrs.now) attr.now) }
@@ -45,7 +45,7 @@ fn is_unseen_name(tag: &HtmlTag) -> bool
         || is_one_of(&["basefont", "noembed", "noframes", "param"], tag.resolve())
 }
 
-/// Whether HTML Standard 15.3.1 gives the element `display: none`.
+/// Returns whether HTML Standard 15.3.1 gives the element `display: none`.
 #[tactic(auto, unfolding(html_names::specs::Tables::known_tags, crate::specs::Unseen::is_unseen))]
 pub(crate) fn is_unseen(element: &HtmlElement) -> bool
     ensures { let head = (element_view element.now).0 in

@@ -18,12 +18,12 @@ use html_dom_tree::{HtmlElement, HtmlNode};
 use html_names::tag;
 use std::alloc::{AllocError, Global};
 
-/// What a browser shows of a root's body, the first of its children that is named `body` and not
-/// hidden, once white space has collapsed (CSS Text, white space processing, as this project states
-/// it). A root without such a child shows nothing, and neither does a frame. It fails only where an
-/// allocation does.
+/// Returns what a browser shows of a root's body, its first child named `body` that is not hidden,
+/// once white space has collapsed (CSS Text, white space processing, as this project states it). A
+/// root without such a child shows nothing, and neither does a frame. Fails only if an allocation
+/// fails.
 ///
-/// An element is hidden, with all that is in it, if HTML Standard 15.3.1 gives it `display: none`:
+/// An element is hidden, with everything in it, if HTML Standard 15.3.1 gives it `display: none`:
 ///
 /// - `area`, `base`, `basefont`, `datalist`, `head`, `link`, `meta`, `noembed`, `noframes`, `param`,
 ///   `rp`, `script`, `style`, `template` and `title`;
@@ -31,32 +31,30 @@ use std::alloc::{AllocError, Global};
 ///   element is an `embed`;
 /// - an `input` whose `type` is `hidden` in any ASCII case.
 ///
-/// Of an attribute that comes more than once the first counts. Elements of SVG and MathML are judged
-/// as those of HTML are. It is as if what is hidden were not there. A `noscript` is shown, as it is
-/// where scripting is disabled.
+/// Of a repeated attribute the first counts. Elements of SVG and MathML are judged like those of
+/// HTML. What is hidden counts as absent. A `noscript` is shown, as without scripting.
 ///
-/// A tab, line feed, carriage return or space is shown as a space where it is supported by what
-/// stands before it and by what stands after it, further such blanks after it aside; else it is not
-/// shown. Visible characters, preserved blanks and objects support it; line breaks, edges and the
-/// ends of the body do not. Characters that are not shown by default do not count here, and are
-/// shown as they are.
+/// A tab, line feed, carriage return or space is shown as a space if what stands before it and what
+/// stands after it, further such blanks after it aside, support it; otherwise it is not shown.
+/// Visible characters, preserved blanks and objects support it; line breaks, edges and the ends of
+/// the body do not. Ignorable characters do not count here, and are shown as they are.
 ///
 /// Blanks at any depth in `pre`, or in an element whose first `style` is exactly
-/// `white-space: pre-wrap` or `display: block; white-space: pre-wrap`, are preserved: they are shown
-/// as they are. An edge stands where a block, a list item, a table or a caption, row group, row or
-/// cell of one begins and ends, by default, and so where the first `style` is exactly
+/// `white-space: pre-wrap` or `display: block; white-space: pre-wrap`, are preserved: they are
+/// shown as they are. An edge stands where a block, a list item, a table or a caption, row group,
+/// row or cell of one begins and ends, by default or because its first `style` is exactly
 /// `display: block` or the latter of the two. Neighbouring edges are one. A replaced element is one
-/// object, whatever is in it, and a `br` a line break alone. No other css counts: what it hides is
-/// shown, as a `dialog` or what stands in `details` that are not open.
+/// object, whatever is in it, and a `br` only a line break. No other css counts: what it hides is
+/// shown, such as a `dialog` or the content of `details` that are not open.
 ///
-/// All characters that are shown side by side are one text, also those of several nodes, so no text
-/// is empty, and neither two texts nor two edges stand side by side.
+/// All neighbouring characters that are shown are one text, across nodes too, so no text is empty,
+/// and no two texts or edges are neighbours.
 ///
-/// Items in plain flow are shown as they are, where none of them is hidden: of what is read of the
-/// text that `export` makes of them without footnotes, plain or pretty, the page text is exactly the
-/// items' text.
+/// Items in plain flow are shown as they are, if none of them is hidden: of what is read of the
+/// text that `export` makes of them without footnotes, plain or pretty, the page text is exactly
+/// the items' text.
 ///
-/// Cost: grows with the size of the tree.
+/// Takes time linear in the size of the tree.
 ///
 /// ```
 /// use typst_html::{Shown, page_text, read_html};
@@ -80,7 +78,7 @@ pub fn page_text(alloc: Global, root: &HtmlElement) -> Result<PageText, AllocErr
     seen.into_page_text()
 }
 
-/// The body of a root that is not hidden.
+/// Returns the body of a root that is not hidden.
 fn seen_body(root: &HtmlElement) -> Option<&HtmlElement>
     ensures { option_map (λ body. seen_nodes (element_view body.now).1) result
         ≡ body_children (seen_element (element_view root.now)).1 }
@@ -108,7 +106,7 @@ fn as_body(child: &HtmlNode) -> Option<&HtmlElement>
     }
 }
 
-/// The first element of the nodes whose name is `body` and that is not hidden.
+/// Returns the first element of the nodes that is named `body` and not hidden.
 fn body_of(nodes: &[HtmlNode]) -> Option<&HtmlElement>
     ensures { option_map (λ body. seen_nodes (element_view body.now).1) result
         ≡ body_children (seen_nodes (nodes_view nodes.now)) }
@@ -121,9 +119,9 @@ fn body_of(nodes: &[HtmlNode]) -> Option<&HtmlElement>
     None
 }
 
-// Each node stands first among the parameters: its depth shows that the calls end.
+// The node comes first among the parameters: its depth proves that the recursion ends.
 
-/// Adds an element, where blanks are preserved around it or not.
+/// Adds an element, given whether blanks are preserved around it.
 #[cycle(walk)]
 fn add_element(element: &HtmlElement, preserved: bool, seen: &mut Seen) -> Result<(), AllocError>
     ensures { let e = element_view element.now in

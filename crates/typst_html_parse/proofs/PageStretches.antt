@@ -1,5 +1,5 @@
 -- Stretches of common characters are read as these characters one by one.
-use Rattle.std.proofs.Common.{◌≡◌, ℕ, ◌+◌, ◌-◌, Bool, true, false, not, ◌&&◌, ◌||◌, List, [], ◌∷◌, ◌++◌, chars, length, eqb, ne_eqb, refl, sym, ap, ◌∙◌, arith, append_assoc, append-nil, Ok}
+use Rattle.std.proofs.Common.{◌≡◌, ℕ, ◌+◌, ◌-◌, ◌<◌, Bool, true, false, not, ◌&&◌, ◌||◌, List, [], ◌∷◌, ◌++◌, chars, length, eqb, ne_eqb, refl, sym, ap, ◌∙◌, arith, append_assoc, append-nil, Ok}
 use Rattle.std.proofs.lemmas.Bool.{and_parts, false≢true}
 use Rattle.html_names.specs.Characters.{all}
 use Rattle.std.proofs.lemmas.Str.{len_utf8_ascii}
@@ -8,7 +8,7 @@ use Rattle.typst_html_encode.proofs.Stretches.{common_small}
 use Rattle.typst_html_parse.specs.PageStretches.{behind_char, behind_chars, behind_stretch, in_data, in_quotes, ReadsFront, TakesCommon}
 use Rattle.typst_html_parse.specs.Fronts.{CutsAll}
 use Rattle.typst_html_parse.specs.PageReading.{run}
-use Rattle.typst_html_parse.specs.PageTokens.{TagDraft, PageReader, Reading, step}
+use Rattle.typst_html_parse.specs.PageTokens.{TagDraft, TokenState, Value, PageReader, Reading, goes, moved, step}
 use Rattle.typst_html_parse.specs.PageReaderViews.{state_at}
 use Rattle.typst_html_parse.specs.declared.reader.Reader.{Reader}
 use Rattle.typst_html_parse.specs.declared.reader.State.{State}
@@ -43,7 +43,8 @@ char_step : (c : ℕ) (r : Reading) → is_common c ≡ true → r.fresh ≡ fal
     takes_text r.page ≡ true → step (in_data r) c ≡ Ok (in_data (behind_char c r))
 unfolding is_common
 char_step c r h f t =
-    let taken = text_taken c (record r.page { start = r.place }) (taken_still r.page.text r.place r.page ∙ t) in
+    let taken = text_taken c (record r.page { start = r.place })
+    (taken_still r.page.text r.place r.page ∙ t) in
     rw (
       other is_common c 0 h refl,
       other is_common c 10 h refl,
@@ -62,34 +63,48 @@ front_run [] cs r h f t = refl
 front_run (c ∷ front) cs r h f t =
     let both = and_parts (is_common c) (all is_common front) h in
     ap (λ x. x next (λ q. run q (front ++ cs))) (char_step c r both.0 f t)
-    ∙ front_run front cs (behind_char c r) both.1 refl (taken_still (r.page.text ++ c ∷ []) r.place r.page ∙ t)
+    ∙ front_run front cs (behind_char c r) both.1 refl
+    (taken_still (r.page.text ++ c ∷ []) r.place r.page ∙ t)
 
-quoted_step : (c : ℕ) (tag : TagDraft) (attr value : List ℕ) (r : Reading) →
+-- a character of ASCII but U+0000 and the ends of lines, by which a state is left for another
+pub plain_step : (s t : TokenState) (c : ℕ) (r : Reading) → eqb c 0 ≡ false → eqb c 10 ≡ false →
+    eqb c 13 ≡ false → c < 128 → moved s c r ≡ goes t r →
+    step (record { state = s; reading = r }) c
+    ≡ Ok (record { state = t; reading = behind_chars (c ∷ []) r })
+plain_step s t c r zero feed return small h =
+    let one = len_utf8_ascii c small in rw (zero, feed, return, h, one) refl
+
+-- a state that holds the characters that it has read, to which it adds one by one
+module _ (f : List ℕ → TokenState) (ok : ℕ → Bool)
+    (one : (xs : List ℕ) (c : ℕ) (r : Reading) → ok c ≡ true →
+    step (record { state = f xs; reading = r }) c
+    ≡ Ok (record { state = f (xs ++ c ∷ []); reading = behind_chars (c ∷ []) r })) where
+  pub grow_run : (xs cs ds : List ℕ) (r : Reading) → all ok cs ≡ true →
+      run (record { state = f xs; reading = r }) (cs ++ ds)
+      ≡ run (record { state = f (xs ++ cs); reading = behind_chars cs r }) ds
+  grow_run xs [] ds r h =
+      ap (λ l. run (record { state = f l; reading = r }) ds) (sym (append-nil xs))
+  grow_run xs (c ∷ cs) ds r h =
+      let both = and_parts (ok c) (all ok cs) h in
+      ap (λ x. x next (λ q. run q (cs ++ ds))) (one xs c r both.0)
+      ∙ (grow_run (xs ++ c ∷ []) cs ds (behind_chars (c ∷ []) r) both.1
+      ∙ ap (λ l. run (record { state = f l; reading = behind_chars (c ∷ cs) r }) ds)
+      (append_assoc xs (c ∷ []) cs))
+
+quoted_step : (tag : TagDraft) (attr value : List ℕ) (c : ℕ) (r : Reading) →
     is_common c ≡ true → step (in_quotes tag attr value r) c
-    ≡ Ok (in_quotes tag attr (value ++ c ∷ []) (record r { place = r.place + 1; after_return = false }))
+    ≡ Ok (in_quotes tag attr (value ++ c ∷ []) (behind_chars (c ∷ []) r))
 unfolding is_common
-quoted_step c tag attr value r h =
-    rw (
-      other is_common c 0 h refl,
-      other is_common c 10 h refl,
-      other is_common c 13 h refl,
-      other is_common c 34 h refl,
-      other is_common c 38 h refl,
-      len_utf8_ascii c (common_small c h),
-    ) refl
+quoted_step tag attr value c r h =
+    plain_step (Value tag attr value 34) (Value tag attr (value ++ c ∷ []) 34) c r
+    (other is_common c 0 h refl) (other is_common c 10 h refl) (other is_common c 13 h refl)
+    (common_small c h) (rw (other is_common c 34 h refl, other is_common c 38 h refl) refl)
 
 pub quoted_run : (front cs : List ℕ) (tag : TagDraft) (attr value : List ℕ) (r : Reading) →
     all is_common front ≡ true → run (in_quotes tag attr value r) (front ++ cs)
     ≡ run (in_quotes tag attr (value ++ front) (behind_chars front r)) cs
-quoted_run [] cs tag attr value r h =
-    ap (λ v. run (in_quotes tag attr v r) cs) (sym (append-nil value))
-quoted_run (c ∷ front) cs tag attr value r h =
-    let both = and_parts (is_common c) (all is_common front) h in
-    let q = record r { place = r.place + 1; after_return = false } in
-    ap (λ x. x next (λ q. run q (front ++ cs))) (quoted_step c tag attr value r both.0)
-    ∙ (quoted_run front cs tag attr (value ++ c ∷ []) q both.1
-    ∙ ap (λ v. run (in_quotes tag attr v (behind_chars front q)) cs)
-    (append_assoc value (c ∷ []) front))
+quoted_run front cs tag attr value r h = grow_run (λ v. Value tag attr v 34) is_common
+    (quoted_step tag attr) value front cs r h
 
 pub chars_form : (c : ℕ) (cs : List ℕ) (r : Reading) → behind_chars (c ∷ cs) r
     ≡ record r { place = r.place + length (c ∷ cs); after_return = false }
@@ -164,7 +179,8 @@ stretch_read q new text front rest takes cut made =
     (ap (λ p. p.reading.place) made ∙ stretch_place front r)
 
 pub value_read : (q new : PageReader) (tag : TagDraft) (attr value : List ℕ) (r : Reading)
-    (text front rest : List ℕ) → q ≡ in_quotes tag attr value r → CutsAll is_common text front rest →
+    (text front rest : List ℕ) → q ≡ in_quotes tag attr value r →
+    CutsAll is_common text front rest →
     new ≡ in_quotes tag attr (value ++ front) (behind_chars front r) → ReadsFront q new text rest
 value_read q new tag attr value r text front rest before cut made =
     front_read q new text front rest cut.begins

@@ -58,46 +58,34 @@ grows b n (d ∷ ds) h =
     let later = grows b (n * b + digit_value d) ds h in
     omega (arith, more, later, mul-one n)
 
+-- what is the same from a number on is that of the smaller of two
+at_min : {A : Type 0} (f : ℕ → A) (n m : ℕ) → (m ≤ n → f m ≡ f n) → f (min n m) ≡ f n
+at_min f n m top =
+    elim (cases_lt n m) [
+      | inl low ↦ let few : n ≤ m = omega arith in ap f (min-eq_left few)
+      | inr high ↦ ap f (min-eq_right high) ∙ top high
+    ]
+
 -- of a number that is too high, further digits make no other
 pub capped : (b n : ℕ) (ds : List ℕ) → 1 ≤ b →
     min (digits_value_after b (min n 0x11_0000) ds) 0x11_0000
     ≡ min (digits_value_after b n ds) 0x11_0000
-capped b n ds h =
-    elim (cases_lt n 0x11_0000) [
-      | inl low ↦
-          let few : n ≤ 0x11_0000 = omega arith in
-          ap (λ m. min (digits_value_after b m ds) 0x11_0000) (min-eq_left few)
-      | inr high ↦
-          let own : 0x11_0000 ≤ digits_value_after b n ds =
-          omega (arith, grows b n ds h, high) in
-          let top : 0x11_0000 ≤ digits_value_after b (min n 0x11_0000) ds =
-          let same = min-eq_right high in
-          omega (arith, grows b (min n 0x11_0000) ds h, same) in
-          min-eq_right top ∙ sym (min-eq_right own)
-    ]
+capped b n ds h = at_min (λ m. min (digits_value_after b m ds) 0x11_0000) n 0x11_0000 (λ high.
+    let own : 0x11_0000 ≤ digits_value_after b n ds = omega (arith, grows b n ds h, high) in
+    min-eq_right (grows b 0x11_0000 ds h) ∙ sym (min-eq_right own))
 
 -- the character and the error of a number that is too high are those of the first that is
 pub capped_char : (n : ℕ) → numbered_char (min n 0x11_0000) ≡ numbered_char n
-capped_char n =
-    elim (cases_lt n 0x11_0000) [
-      | inl low ↦ let few : n ≤ 0x11_0000 = omega arith in ap numbered_char (min-eq_left few)
-      | inr high ↦
-          let beyond : nat_lt 0x10_ffff n ≡ true = lt-ltb 0x10_ffff n (omega arith) in
-          let some : eqb n 0 ≡ false = grind (arith, nat_tests) in
-          let there : numbered_char n ≡ 0xfffd = rw (some, beyond) refl in
-          ap numbered_char (min-eq_right high) ∙ sym there
-    ]
+capped_char n = at_min numbered_char n 0x11_0000 (λ high.
+    let beyond : nat_lt 0x10_ffff n ≡ true = lt-ltb 0x10_ffff n (omega arith) in
+    let some : eqb n 0 ≡ false = grind (arith, nat_tests) in
+    rw (some, beyond) refl)
 
 pub capped_error : (n : ℕ) → number_error (min n 0x11_0000) ≡ number_error n
-capped_error n =
-    elim (cases_lt n 0x11_0000) [
-      | inl low ↦ let few : n ≤ 0x11_0000 = omega arith in ap number_error (min-eq_left few)
-      | inr high ↦
-          let beyond : nat_lt 0x10_ffff n ≡ true = lt-ltb 0x10_ffff n (omega arith) in
-          let some : eqb n 0 ≡ false = grind (arith, nat_tests) in
-          let top : number_error 0x11_0000 ≡ number_error n = rw (some, beyond) refl in
-          ap number_error (min-eq_right high) ∙ top
-    ]
+capped_error n = at_min number_error n 0x11_0000 (λ high.
+    let beyond : nat_lt 0x10_ffff n ≡ true = lt-ltb 0x10_ffff n (omega arith) in
+    let some : eqb n 0 ≡ false = grind (arith, nat_tests) in
+    rw (some, beyond) refl)
 
 same_numbered : (n m : ℕ) (behind : Option ℕ) → numbered_char n ≡ numbered_char m →
     number_error n ≡ number_error m → numbered n behind ≡ numbered m behind
@@ -117,20 +105,12 @@ by_number base since digits d ds behind e =
 -- the longest name: the first so many characters of a text are its first bytes, where it is ASCII
 
 cut_at : (n : ℕ) (t : List ℕ) → take (min n (length t)) t ≡ take n t
-cut_at n t =
-    elim (cases_lt n (length t)) [
-      | inl h ↦ let few : n ≤ length t = omega arith in ap (λ k. take k t) (min-eq_left few)
-      | inr h ↦ ap (λ k. take k t) (min-eq_right h) ∙ (take_all (length t) t (le_refl (length t))
-          ∙ sym (take_all n t h))
-    ]
+cut_at n t = at_min (λ k. take k t) n (length t)
+    (λ h. take_all (length t) t (le_refl (length t)) ∙ sym (take_all n t h))
 
 left_at : (n : ℕ) (t : List ℕ) → drop (min n (length t)) t ≡ drop n t
-left_at n t =
-    elim (cases_lt n (length t)) [
-      | inl h ↦ let few : n ≤ length t = omega arith in ap (λ k. drop k t) (min-eq_left few)
-      | inr h ↦ ap (λ k. drop k t) (min-eq_right h) ∙ (drop_all (length t) t (le_refl (length t))
-          ∙ sym (drop_all n t h))
-    ]
+left_at n t = at_min (λ k. drop k t) n (length t)
+    (λ h. drop_all (length t) t (le_refl (length t)) ∙ sym (drop_all n t h))
 
 -- its bytes are its characters
 module _ (t : List ℕ) (a : is_ascii t ≡ true) (n : ℕ) where

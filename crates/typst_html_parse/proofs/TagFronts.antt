@@ -1,19 +1,19 @@
 -- Names and end tags that are read at once are read as their characters one by one.
-use Rattle.std.proofs.Common.{◌≡◌, ℕ, ◌+◌, ◌-◌, Bool, true, false, not, ◌&&◌, ◌||◌, List, [], ◌∷◌, ◌++◌, chars, length, eqb, refl, sym, ap, ◌∙◌, arith, append_assoc, append-nil, length-append, Ok, Err, Some}
+use Rattle.std.proofs.Common.{◌≡◌, ℕ, ◌+◌, ◌-◌, Bool, true, false, not, ◌&&◌, ◌||◌, List, [], ◌∷◌, ◌++◌, chars, length, eqb, refl, sym, ap, ◌∙◌, arith, append_assoc, length-append, Ok, Err, Some}
 use Rattle.std.specs.Char.{to_ascii_lowercase}
 use Rattle.std.specs.List.{list_all}
 use Rattle.std.specs.Result.{is_ok}
 use Rattle.std.proofs.lemmas.Bool.{agree_below, agree_below_at, and_from, and_parts, eqb-true, false≢true, not-true, or_left}
-use Rattle.std.proofs.lemmas.Str.{chars-IsAscii, len_utf8_ascii}
+use Rattle.std.proofs.lemmas.Str.{chars-IsAscii}
 use Rattle.html_names.specs.Characters.{all, is_capital, is_digit, is_hyphen, is_lower, is_tag_char}
 use Rattle.typst_html_parse.specs.Fronts.{BeginsWith, CutsAll, begins_small, is_name_char}
 use Rattle.typst_html_parse.specs.PageReading.{run}
 use Rattle.typst_html_parse.specs.PageReferences.{is_letter}
 use Rattle.typst_html_parse.specs.PageStretches.{behind_chars, in_data, in_quotes, ReadsFront}
-use Rattle.typst_html_parse.specs.PageTokens.{TagDraft, PageReader, Reading, TagName, BeforeAttr, AttrName, Data, goes, is_name, step, past_char}
+use Rattle.typst_html_parse.specs.PageTokens.{TagDraft, TokenState, PageReader, Reading, TagName, BeforeAttr, AttrName, Data, goes, is_name, moved, step, past_char}
 use Rattle.typst_html_parse.specs.TagFronts.{EndsOwn, behind_own_end, in_name, tag_open}
 use Rattle.typst_html_parse.proofs.Fronts.{begins_on, front_read, name_ascii, name_small}
-use Rattle.typst_html_parse.proofs.PageStretches.{chars_form, chars_place, other}
+use Rattle.typst_html_parse.proofs.PageStretches.{chars_form, chars_place, grow_run, other, plain_step}
 use Rattle.typst_html_parse.proofs.TagNames.{name_from}
 use Rattle.typst_html_parse_open.specs.OpenElements.{current_name}
 use Rattle.typst_html_parse_open.specs.Pages.{Page, Reads, End, ◌next◌, closed}
@@ -44,22 +44,22 @@ names (c ∷ cs) h =
     and_from (is_tag_char c) (list_all is_tag_char cs) (by_table is_tag_char c refl both.0)
     (names cs both.1)
 
-name_step : (tag : TagDraft) (c : ℕ) (r : Reading) → is_name_char c ≡ true →
-    step (record { state = TagName tag; reading = r }) c
+-- such a character, by which a state is left for another
+name_char_step : (s t : TokenState) (c : ℕ) (r : Reading) → is_name_char c ≡ true →
+    moved s c r ≡ goes t r → step (record { state = s; reading = r }) c
+    ≡ Ok (record { state = t; reading = behind_chars (c ∷ []) r })
+name_char_step s t c r h moves = plain_step s t c r (none c 0 h refl) (none c 10 h refl)
+    (none c 13 h refl) (name_small c h) moves
+
+name_step : (tag : TagDraft) (name : List ℕ) (c : ℕ) (r : Reading) → is_name_char c ≡ true →
+    step (record { state = TagName (record tag { name = name }); reading = r }) c
     ≡ Ok (record {
-      state = TagName (record tag { name = tag.name ++ c ∷ [] });
+      state = TagName (record tag { name = name ++ c ∷ [] });
       reading = behind_chars (c ∷ []) r;
     })
-name_step tag c r h = rw (
-  none c 0 h refl,
-  none c 10 h refl,
-  none c 13 h refl,
-  spaceless c h,
-  none c 47 h refl,
-  none c 62 h refl,
-  lowered c h,
-  len_utf8_ascii c (name_small c h),
-) refl
+name_step tag name c r h = name_char_step (TagName (record tag { name = name }))
+    (TagName (record tag { name = name ++ c ∷ [] })) c r h
+    (rw (spaceless c h, none c 47 h refl, none c 62 h refl, lowered c h) refl)
 
 name_run : (cs ds : List ℕ) (tag : TagDraft) (r : Reading) → all is_name_char cs ≡ true →
     run (record { state = TagName tag; reading = r }) (cs ++ ds)
@@ -67,55 +67,32 @@ name_run : (cs ds : List ℕ) (tag : TagDraft) (r : Reading) → all is_name_cha
       state = TagName (record tag { name = tag.name ++ cs });
       reading = behind_chars cs r;
     }) ds
-name_run [] ds tag r h =
-    ap (λ n. run (record { state = TagName (record tag { name = n }); reading = r }) ds)
-    (sym (append-nil tag.name))
-name_run (c ∷ cs) ds tag r h =
-    let both = and_parts (is_name_char c) (all is_name_char cs) h in
-    ap (λ x. x next (λ q. run q (cs ++ ds))) (name_step tag c r both.0)
-    ∙ (name_run cs ds (record tag { name = tag.name ++ c ∷ [] }) (behind_chars (c ∷ []) r) both.1
-    ∙ ap (λ n. run (record {
-      state = TagName (record tag { name = n });
-      reading = behind_chars (c ∷ cs) r;
-    }) ds) (append_assoc tag.name (c ∷ []) cs))
+name_run cs ds tag r h = grow_run (λ n. TagName (record tag { name = n })) is_name_char
+    (name_step tag) tag.name cs ds r h
 
 small_name : (c : ℕ) → is_lower c ≡ true → is_name_char c ≡ true
-small_name c h = or_left (is_lower c || is_digit c) (is_hyphen c) (or_left (is_lower c) (is_digit c) h)
+small_name c h = or_left (is_lower c || is_digit c) (is_hyphen c)
+    (or_left (is_lower c) (is_digit c) h)
 
 letter : (c : ℕ) → is_lower c ≡ true → is_letter c ≡ true
 letter c h = or_left (is_lower c) (is_capital c) h
 
 open_step : (is_end : Bool) (c : ℕ) (r : Reading) → is_lower c ≡ true →
     step (record { state = tag_open is_end; reading = r }) c ≡ Ok (in_name is_end (c ∷ []) r)
-open_step true c r h =
-    let k = small_name c h in
-    rw (
-      none c 0 k refl,
-      none c 10 k refl,
-      none c 13 k refl,
-      letter c h,
-      lowered c k,
-      len_utf8_ascii c (name_small c k),
-    ) refl
-open_step false c r h =
-    let k = small_name c h in
-    rw (
-      none c 0 k refl,
-      none c 10 k refl,
-      none c 13 k refl,
-      letter c h,
-      lowered c k,
-      len_utf8_ascii c (name_small c k),
-    ) refl
+open_step true c r h = let k = small_name c h in
+    name_char_step (tag_open true) _ c r k (rw (letter c h, lowered c k) refl)
+open_step false c r h = let k = small_name c h in
+    name_char_step (tag_open false) _ c r k (rw (letter c h, lowered c k) refl)
 
 pub tag_run : (is_end : Bool) (name cs : List ℕ) (r : Reading) → begins_small name ≡ true →
-    all is_name_char name ≡ true → run (record { state = tag_open is_end; reading = r }) (name ++ cs)
+    all is_name_char name ≡ true →
+    run (record { state = tag_open is_end; reading = r }) (name ++ cs)
     ≡ run (in_name is_end name r) cs
 tag_run is_end [] cs r h k = absurd (false≢true h)
 tag_run is_end (c ∷ name) cs r h k =
     ap (λ x. x next (λ q. run q (name ++ cs))) (open_step is_end c r h)
-    ∙ name_run name cs (record { is_end = is_end; name = c ∷ []; attrs = [] }) (behind_chars (c ∷ []) r)
-    (and_parts (is_name_char c) (all is_name_char name) k).1
+    ∙ name_run name cs (record { is_end = is_end; name = c ∷ []; attrs = [] })
+    (behind_chars (c ∷ []) r) (and_parts (is_name_char c) (all is_name_char name) k).1
 
 -- an end tag of the current node
 page_kept : (cs : List ℕ) (r : Reading) → (behind_chars cs r).page ≡ r.page
@@ -136,10 +113,13 @@ behind_end (Err e) f g = refl
 -- behind `>`
 ended : (name : List ℕ) (r : Reading) → token_read (End name) r.page ≡ closed true r.page →
     is_name name ≡ true →
-    step (record { state = TagName (record { is_end = true; name = name; attrs = [] }); reading = r }) 62
+    step (record {
+      state = TagName (record { is_end = true; name = name; attrs = [] });
+      reading = r;
+    }) 62
     ≡ behind_own_end 1 r
-ended name r h k = rw (k, h) (behind_end (closed true r.page) (λ p. record r { page = p; fresh = false })
-    (past_char 62 r.place))
+ended name r h k = rw (k, h) (behind_end (closed true r.page)
+    (λ p. record r { page = p; fresh = false }) (past_char 62 r.place))
 
 pub own_end_run : (name cs : List ℕ) (r : Reading) → current_name r.page.stack ≡ Some name →
     takes_own_end r.page ≡ true → begins_small name ≡ true → all is_name_char name ≡ true →
@@ -149,7 +129,8 @@ own_end_run name cs r current taken small are =
     let q = behind_chars name r in
     let same = page_kept name r in
     let token : token_read (End name) q.page ≡ closed true q.page =
-    ap (token_read (End name)) same ∙ (own_end_taken name r.page current taken ∙ ap (closed true) (sym same)) in
+    ap (token_read (End name)) same
+    ∙ (own_end_taken name r.page current taken ∙ ap (closed true) (sym same)) in
     ap (run (record { state = tag_open true; reading = r })) (append_assoc name (62 ∷ []) cs)
     ∙ (tag_run true name (62 ∷ cs) r small are
     ∙ ap (λ x. x next (λ q. run q cs)) (ended name q token (named name small are)
@@ -171,43 +152,26 @@ own_end_run name cs r current taken small are =
 attr_step : (tag : TagDraft) (attr : List ℕ) (c : ℕ) (r : Reading) → is_name_char c ≡ true →
     step (record { state = AttrName tag attr; reading = r }) c
     ≡ Ok (record { state = AttrName tag (attr ++ c ∷ []); reading = behind_chars (c ∷ []) r })
-attr_step tag attr c r h = rw (
-  none c 0 h refl,
-  none c 10 h refl,
-  none c 13 h refl,
-  spaceless c h,
-  none c 61 h refl,
-  none c 47 h refl,
-  none c 62 h refl,
-  lowered c h,
-  len_utf8_ascii c (name_small c h),
-) refl
+attr_step tag attr c r h =
+    name_char_step (AttrName tag attr) (AttrName tag (attr ++ c ∷ [])) c r h (rw (
+      spaceless c h,
+      none c 61 h refl,
+      none c 47 h refl,
+      none c 62 h refl,
+      lowered c h,
+    ) refl)
 
 before_step : (tag : TagDraft) (c : ℕ) (r : Reading) → is_name_char c ≡ true →
     step (record { state = BeforeAttr tag; reading = r }) c
     ≡ Ok (record { state = AttrName tag (c ∷ []); reading = behind_chars (c ∷ []) r })
-before_step tag c r h = rw (
-  none c 0 h refl,
-  none c 10 h refl,
-  none c 13 h refl,
-  spaceless c h,
-  none c 47 h refl,
-  none c 62 h refl,
-  lowered c h,
-  len_utf8_ascii c (name_small c h),
-) refl
+before_step tag c r h = name_char_step (BeforeAttr tag) (AttrName tag (c ∷ [])) c r h
+    (rw (spaceless c h, none c 47 h refl, none c 62 h refl, lowered c h) refl)
 
 attr_name_run : (cs ds : List ℕ) (tag : TagDraft) (attr : List ℕ) (r : Reading) →
     all is_name_char cs ≡ true → run (record { state = AttrName tag attr; reading = r }) (cs ++ ds)
     ≡ run (record { state = AttrName tag (attr ++ cs); reading = behind_chars cs r }) ds
-attr_name_run [] ds tag attr r h =
-    ap (λ a. run (record { state = AttrName tag a; reading = r }) ds) (sym (append-nil attr))
-attr_name_run (c ∷ cs) ds tag attr r h =
-    let both = and_parts (is_name_char c) (all is_name_char cs) h in
-    ap (λ x. x next (λ q. run q (cs ++ ds))) (attr_step tag attr c r both.0)
-    ∙ (attr_name_run cs ds tag (attr ++ c ∷ []) (behind_chars (c ∷ []) r) both.1
-    ∙ ap (λ a. run (record { state = AttrName tag a; reading = behind_chars (c ∷ cs) r }) ds)
-    (append_assoc attr (c ∷ []) cs))
+attr_name_run cs ds tag attr r h =
+    grow_run (AttrName tag) is_name_char (attr_step tag) attr cs ds r h
 
 chars_on : (cs ds : List ℕ) (r : Reading) →
     behind_chars ds (behind_chars cs r) ≡ behind_chars (cs ++ ds) r
@@ -220,7 +184,8 @@ pub attr_run : (c : ℕ) (attr cs : List ℕ) (tag : TagDraft) (r : Reading) →
     ≡ run (in_quotes tag (c ∷ attr) [] (behind_chars ((c ∷ attr) ++ 61 ∷ 34 ∷ []) r)) cs
 attr_run c attr cs tag r h =
     let both = and_parts (is_name_char c) (all is_name_char attr) h in
-    ap (run (record { state = BeforeAttr tag; reading = r })) (append_assoc (c ∷ attr) (61 ∷ 34 ∷ []) cs)
+    ap (run (record { state = BeforeAttr tag; reading = r }))
+    (append_assoc (c ∷ attr) (61 ∷ 34 ∷ []) cs)
     ∙ (ap (λ x. x next (λ q. run q (attr ++ 61 ∷ 34 ∷ cs))) (before_step tag c r both.0)
     ∙ (attr_name_run attr (61 ∷ 34 ∷ cs) tag (c ∷ []) (behind_chars (c ∷ []) r) both.1
     ∙ ap (λ r. run (in_quotes tag (c ∷ attr) [] r) cs) (chars_on (c ∷ attr) (61 ∷ 34 ∷ []) r)))
@@ -280,10 +245,15 @@ attr_read q new tag text (c ∷ cs) behind rest opened cut some equals made =
     let same : chars attr ≡ attr = chars-IsAscii attr (name_ascii attr cut.are) in
     let passed : new ≡ in_quotes tag attr [] (behind_chars front r) =
     made
-    ∙ (ap (λ a. in_quotes tag a [] (record r { place = r.place + (length attr + 2); after_return = false })) same
-    ∙ (ap (λ k. in_quotes tag attr [] (record r { place = r.place + k; after_return = false })) (sym long)
+    ∙ (ap (λ a. in_quotes tag a [] (record r {
+      place = r.place + (length attr + 2);
+      after_return = false;
+    })) same
+    ∙ (ap (λ k. in_quotes tag attr [] (record r { place = r.place + k; after_return = false }))
+    (sym long)
     ∙ ap (in_quotes tag attr []) (sym (chars_form c (cs ++ 61 ∷ 34 ∷ []) r)))) in
-    front_read q new text front rest (begins_on text attr behind (61 ∷ 34 ∷ []) rest cut.begins equals)
+    front_read q new text front rest
+    (begins_on text attr behind (61 ∷ 34 ∷ []) rest cut.begins equals)
     (ap (λ s. run (record { state = s; reading = r }) (front ++ chars rest)) opened
     ∙ (attr_run c cs (chars rest) tag r cut.are ∙ ap (λ p. run p (chars rest)) (sym passed)))
     (ap (λ p. p.reading.place) passed ∙ chars_place front r)

@@ -2,7 +2,7 @@
 use Rattle.std.proofs.Common.{◌≡◌, ℕ, Bool, true, false, not, List, [], ◌∷◌, chars, eqb, length, refl, sym, ap, subst, arith}
 use Rattle.std.specs.List.{list_all}
 use Rattle.std.specs.Str.{IsUtf8}
-use Rattle.std.proofs.lemmas.Bool.{and_from, and_parts}
+use Rattle.std.proofs.lemmas.Bool.{and_from, and_parts, not-true}
 use Rattle.std.proofs.lemmas.Bool.Decides.{nat_tests}
 use Rattle.html_names.specs.Characters.{IsOf, all, is_tag_char}
 use Rattle.typst_html_read.proofs.Closings.{name_is}
@@ -20,15 +20,11 @@ of_chars p [] k h = cc
 of_chars p (c ∷ cs) k h =
     let both = and_parts (p c) (list_all p cs) h in (both.0, all_of p cs both.1)
 
-not_not : (b : Bool) → not b ≡ true → b ≡ false
-not_not true h = sym h
-not_not false h = refl
-
 pub tag_bytes : (t : List ℕ) → IsUtf8 t → is_name (chars t) ≡ true → IsOf is_tag_char t
 tag_bytes t u h =
     let both = and_parts (not (eqb (length (chars t)) 0)) (list_all is_tag_char (chars t)) h in
     let is : IsOf is_tag_char (chars t) =
-    of_chars is_tag_char (chars t) (not_not _ both.0) both.1 in
+    of_chars is_tag_char (chars t) (not-true _ both.0) both.1 in
     subst (IsOf is_tag_char) (sym (name_is t u is)) is
 
 some_all : (p : ℕ → Bool) (cs : List ℕ) → all p cs ≡ true → list_all p cs ≡ true

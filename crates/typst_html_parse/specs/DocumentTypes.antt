@@ -1,5 +1,5 @@
--- What a document type says of tables: whether a page is in quirks mode (HTML Standard 13.2.6.4.1), as
--- far as this project knows document types.
+-- What a document type means for tables: whether a page is in quirks mode (HTML Standard
+-- 13.2.6.4.1), as far as this project knows document types.
 use Rattle.std.specs.Prelude.{ℕ, Bool, true, false, List, [], ◌∷◌, ◌++◌, if◌then◌else◌, codes}
 use Rattle.std.specs.Char.{to_ascii_lowercase}
 use Rattle.html_names.specs.Names.{stands_in}
@@ -7,14 +7,14 @@ use Rattle.typst_html_parse_tree.specs.PageBodies.{is_space}
 use Rattle.typst_html_parse_open.specs.declared.modes.TableRule.{TableRule}
 use Rattle.typst_html_parse_open.specs.declared.modes.TableRule.TheVariants.{ClosesP, Unknown}
 
--- in small letters, and with one space in place of blanks, but none at the end; and whether a blank
--- stands before
+-- in lowercase, with one space for neighbouring blanks, but none at the end; `behind_space`: a
+-- blank stands before
 abbrev pub spaced : (behind_space : Bool) → List ℕ → List ℕ
 spaced behind_space [] = []
 spaced behind_space (c ∷ cs) = if is_space c then spaced true cs
     else ((if behind_space then 32 ∷ [] else []) ++ to_ascii_lowercase c ∷ []) ++ spaced false cs
 
--- document types that are known not to bring quirks mode
+-- document types that are known not to trigger quirks mode
 abbrev pub known_types : List (List ℕ)
 known_types =
     codes " html"
@@ -31,6 +31,6 @@ known_types =
 unfoldable pub is_known : List ℕ → Bool
 is_known text = stands_in known_types text
 
--- what stands between `<!DOCTYPE` and `>`
+-- the rule for the text between `<!DOCTYPE` and `>`
 unfoldable pub table_rule : (inner : List ℕ) → TableRule
 table_rule inner = if is_known (spaced true inner) then ClosesP else Unknown

@@ -1,5 +1,5 @@
--- How the rules of the reader end: as it is expected, or reading stops as it is expected; want of memory
--- may come before.
+-- How the rules of the reader end: as expected, or with the expected refusal; out of memory may
+-- come before.
 use Rattle.std.specs.Prelude.{◌≡◌, Result, Ok, OnOk, IfErr}
 use Rattle.typst_html_parse_open.specs.Endings.{IsHalt}
 use Rattle.typst_html_parse_open.specs.Pages.{Reads}

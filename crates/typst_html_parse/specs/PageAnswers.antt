@@ -1,5 +1,5 @@
--- What reading a page gives: the element and the errors of the definition, or its refusal; want of
--- memory may come before.
+-- The results of reading a page: the element and the errors of the definition, or its refusal; out
+-- of memory may come before.
 use Rattle.std.specs.Prelude.{◌≡◌, ℕ, true, false, List, map, chars, take, Result, Ok, Err, IfOk, IfErr}
 use Rattle.std.specs.Str.{is_utf8}
 use Rattle.std.specs.Str.Lossy.{utf8_valid_len}
@@ -37,13 +37,13 @@ pub record Begins (r : Result Reader Halt) (expected : Reads PageReader) : Type 
   pub made : IfOk r (λ reader. expected ≡ Ok (reader_of reader))
   pub halted : IfErr r (IsHalt expected)
 
--- a text is read as it is expected
+-- a text is read as expected
 pub record ReadsText (r : Result (HtmlElement × Notes) Halt)
     (expected : Reads (ElementView × pages.Notes)) : Type 0 where
   pub made : IfOk r (λ read. expected ≡ Ok (element_view read.0, notes_of read.1))
   pub halted : IfErr r (IsHalt expected)
 
--- the fault is the refusal that is expected, with its place in the text
+-- the fault is the expected refusal, with its place in the text
 abbrev pub IsFault : (text : List ℕ) → Reads (ElementView × pages.Notes) → PageFault → Type 0
 IsFault text expected fault.OutOfMemory = Unit {0}
 IsFault text expected (fault.NotText place) = ⊥
@@ -62,13 +62,13 @@ pub record IsPage (text : List ℕ) (expected : Reads (ElementView × pages.Note
   pub read : expected ≡ Ok (element_view e, notes)
   pub placed : ArePlaced text notes told
 
--- a page is read as it is expected, or not read
+-- a page is read as expected, or refused
 pub record Gives (r : Result (HtmlElement × PageNotes) PageFault) (text : List ℕ)
     (expected : Reads (ElementView × pages.Notes)) : Type 0 where
   pub made : IfOk r (λ read. IsPage text expected read.0 read.1)
   pub fault : IfErr r (IsFault text expected)
 
--- the place of the first byte that is no UTF-8
+-- the text before the first byte that is no UTF-8
 abbrev pub valid_text : (page : List ℕ) → List ℕ
 valid_text page = chars (take (utf8_valid_len page) page)
 
@@ -78,7 +78,7 @@ IsNoText page (fault.NotText place) =
     place ≡ place_at (valid_text page) (utf8_valid_len page)
 IsNoText page (fault.Refused refusal place) = ⊥
 
--- a page of bytes is read as its text is, or it is none
+-- a page of bytes is read like its text, or it is no text
 pub record GivesBytes (r : Result (HtmlElement × PageNotes) PageFault) (page : List ℕ)
     (limit : ℕ) : Type 0 where
   pub text : is_utf8 page ≡ true → Gives r (chars page) (page_read limit (chars page))

@@ -5,8 +5,8 @@ use Rattle.std.specs.Char.{len_utf8}
 use Rattle.typst_html_read.specs.Places.{beginning}
 use Rattle.typst_html_read.specs.declared.place.Place.{Place}
 
--- behind one character more; a line feed behind a carriage return ends no other line, and a byte order
--- mark at the beginning is no character of a line
+-- behind one more character; a line feed behind a carriage return ends no other line, and a byte
+-- order mark at the beginning is no character of a line
 abbrev pub next_place : (after_return : Bool) → Place → ℕ → Place
 next_place after_return p c = record {
   offset = p.offset + len_utf8 c;
@@ -15,12 +15,12 @@ next_place after_return p c = record {
       else (if c == 0xfeff && p.offset == 0 then p.column else p.column + 1);
 }
 
--- from a place on, the first place before which no fewer bytes stand, or the end of the text
+-- from a place on, the first place with at least that offset, or the end of the text
 abbrev pub place_from : (after_return : Bool) → Place → (text : List ℕ) → (offset : ℕ) → Place
 place_from after_return p [] offset = p
 place_from after_return p (c ∷ cs) offset = if nat_le offset p.offset then p
     else place_from (c == 13) (next_place after_return p c) cs offset
 
--- the place of the character of a text before which so many bytes stand
+-- the place of the character of a text at that offset in bytes
 unfoldable pub place_at : (text : List ℕ) → (offset : ℕ) → Place
 place_at text offset = place_from false beginning text offset

@@ -1,4 +1,4 @@
--- Where the text of an element of text alone ends, by its bytes.
+-- The end of the text in an element of text alone, by its bytes.
 use Rattle.std.specs.Prelude.{◌≡◌, ℕ, Some, chars, string_bytes, take}
 use Rattle.std.specs.Borrow.{Bor}
 use Rattle.std.specs.Str.{IsCharBoundary}

@@ -1,5 +1,5 @@
--- Reading a page as a browser does (HTML Standard 13.2), stopped where nodes would be moved or made a
--- second time.
+-- Reading a page as a browser does (HTML Standard 13.2), except that it stops where nodes would be
+-- moved or made a second time.
 use Rattle.std.specs.Prelude.{ℕ, false, ◌==◌, List, [], ◌∷◌, if◌then◌else◌, Option, Some, None, Ok, Err}
 use Rattle.html_dom_tree.specs.Tree.{ElementView}
 use Rattle.typst_html_parse_open.specs.OpenElements.{root_of}
@@ -7,7 +7,7 @@ use Rattle.typst_html_parse_open.specs.Pages.{Notes, Reads, ◌next◌, first_pa
 use Rattle.typst_html_parse_open.specs.declared.fault.PageRefusal.TheVariants as refusal
 use Rattle.typst_html_parse.specs.PageTokens.{PageReader, Reading, Data, step, finished}
 
--- before a text in front of which so many bytes were read
+-- before a text that starts at that offset in bytes
 abbrev pub first_reader : (limit place : ℕ) → PageReader
 first_reader limit place = record {
   state = Data;
@@ -37,6 +37,6 @@ root_made (Some root) r = Ok (root, r.page.notes)
 abbrev pub page_made : Reading → Reads (ElementView × Notes)
 page_made r = root_made (root_of (settled r.page).stack) r
 
--- the element that the text is read as, and the errors that were gone over
+-- the element that the text is read as, and the recovered errors
 abbrev pub page_read : (limit : ℕ) → List ℕ → Reads (ElementView × Notes)
 page_read limit text = ((begun limit text) next finished) next page_made

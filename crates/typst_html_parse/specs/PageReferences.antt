@@ -1,5 +1,5 @@
 -- Character references in a page (HTML Standard 13.2.5.72 to 13.2.5.80): named ones, some of them
--- without their `;`, and numbers, of which some stand for other characters.
+-- without their `;`, and numbers, some of which stand for other characters.
 use Rattle.std.specs.Prelude.{ℕ, zero, suc, ◌-◌, Bool, true, false, not, ◌&&◌, ◌||◌, ◌==◌, nat_lt, nat_le, List, [], ◌∷◌, ◌++◌, if◌then◌else◌, take, drop, slice_index_or, Option, Some, None}
 use Rattle.std.specs.Str.Parse.{digits_value}
 use Rattle.html_names.specs.Characters.{is_lower, is_capital, is_digit, is_control, is_noncharacter}
@@ -25,13 +25,13 @@ abbrev pub continues_number : List ℕ → ℕ → Bool
 continues_number [] c = is_digit c || is_x c
 continues_number (d ∷ ds) c = if is_x d then is_hex_digit c else is_digit c
 
--- behind these characters, which stand since `&`, the character belongs to the reference
+-- the character belongs to the reference behind `&` and these characters
 abbrev pub continues : (since : List ℕ) → ℕ → Bool
 continues [] c = is_alphanumeric c || c == 35
 continues (s ∷ ss) c = if s == 35 then continues_number ss c else is_alphanumeric c
 
--- what a reference stands for, whether the `;` behind it belongs to it, and the errors in it: that there
--- is none, or one of its name, and one of its number
+-- the characters of a reference, whether the `;` behind it belongs to it, and the errors in it:
+-- that there is none, or one of its name, and one of its number
 pub record Resolved : Type 0 where
   pub chars : List ℕ
   pub takes_end : Bool
@@ -51,7 +51,7 @@ abbrev pub is_end : Option ℕ → Bool
 is_end None = false
 is_end (Some c) = c == 59
 
--- the characters that U+0080 to U+009F stand for, as in windows-1252, and U+0000 where they stand for
+-- the characters that U+0080 to U+009F stand for, as in windows-1252, and U+0000 if they stand for
 -- themselves
 abbrev pub windows_table : List ℕ
 windows_table =
@@ -109,14 +109,14 @@ abbrev pub found_before : Option (List ℕ) → (rest : List ℕ) → Option (Li
 found_before None rest other = other
 found_before (Some found) rest other = Some (found, rest)
 
--- the longest name that may stand without a `;` with which the characters begin, of so many
--- characters at most: what it stands for, and the characters behind it
+-- the longest name without a `;`, of at most so many characters, with which the characters begin:
+-- its characters, and those behind it
 abbrev pub longest_legacy : (at_most : ℕ) → List ℕ → Option (List ℕ × List ℕ)
 longest_legacy zero cs = None
 longest_legacy (suc n) cs = found_before (legacy_reference (take (suc n) cs)) (drop (suc n) cs)
     (longest_legacy n cs)
 
--- in a value, a name that something follows as here is none (13.2.5.73)
+-- in a value, a name is none if something such as this follows (13.2.5.73)
 abbrev pub is_followed : (rest : List ℕ) → Option ℕ → Bool
 is_followed (c ∷ cs) behind = true
 is_followed [] None = false
@@ -146,7 +146,7 @@ abbrev pub resolved_named : (in_value : Bool) (since : List ℕ) → Option ℕ 
 resolved_named in_value since behind = resolved_name in_value since behind
     (if is_end behind then named_reference since else None)
 
--- the reference that these characters are, which stand since `&`, with the character behind them
+-- resolves a reference from the characters behind `&`, and the one behind them
 unfoldable pub resolved : (in_value : Bool) (since : List ℕ) → Option ℕ → Resolved
 resolved in_value [] behind = itself None []
 resolved in_value (s ∷ ss) behind = if s == 35 then resolved_digits (s ∷ ss) ss behind

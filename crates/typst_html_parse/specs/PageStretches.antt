@@ -1,4 +1,4 @@
--- Stretches of common characters, each of which is only added to the current node or to a value.
+-- Stretches of common characters, each of which is only appended to the current node or to a value.
 use Rattle.std.specs.Prelude.{◌≡◌, ℕ, ◌+◌, true, false, List, [], ◌∷◌, chars, length, ◌≤◌}
 use Rattle.std.specs.Str.{IsUtf8}
 use Rattle.typst_html_parse.specs.PageReading.{run}
@@ -12,7 +12,7 @@ use Rattle.typst_html_parse_tree.specs.TakenTexts.{takes_text}
 abbrev pub in_data : Reading → PageReader
 in_data r = record { state = Data; reading = r }
 
--- each common character is only added to the current node
+-- each common character is only appended to the current node
 pub record TakesCommon (q : PageReader) : Type 0 where
   pub state : q ≡ in_data q.reading
   pub fresh : q.reading.fresh ≡ false
@@ -38,13 +38,13 @@ pub record IsInQuotes (r : Reader) : Type 0 where
   pub state : r.state ≡ state.Value
   pub quote : r.draft.quote ≡ 34
 
--- behind characters of ASCII that change nothing else
+-- behind ASCII characters that change nothing else
 abbrev pub behind_chars : List ℕ → Reading → Reading
 behind_chars [] r = r
 behind_chars (c ∷ cs) r =
     behind_chars cs (record r { place = r.place + 1; after_return = false })
 
--- of the text, some characters are read, and the rest is left
+-- some characters of the text are read, and the rest is left
 pub record ReadsFront (old new : PageReader) (text rest : List ℕ) : Type 0 where
   pub same : run old (chars text) ≡ run new (chars rest)
   pub place : new.reading.place + length rest ≡ old.reading.place + length text

@@ -1,5 +1,5 @@
--- The tokens of a page, read from left to right (HTML Standard 13.2.5): all states but those of U+0000,
--- which is refused, and of PLAINTEXT.
+-- The tokens of a page, read from left to right (HTML Standard 13.2.5): all states but those of
+-- U+0000, which is refused, and of PLAINTEXT.
 use Rattle.std.specs.Prelude.{ℕ, zero, suc, ◌+◌, min, Bool, true, false, not, ◌&&◌, ◌||◌, ◌==◌, nat_lt, nat_le, List, [], ◌∷◌, ◌++◌, if◌then◌else◌, codes, bytes_eq, length, Option, Some, None, is_some, Ok, Err}
 use Rattle.std.specs.Char.{len_utf8, to_ascii_lowercase}
 use Rattle.std.specs.List.{list_all, starts_with}
@@ -47,28 +47,28 @@ pub data TokenState : Type 0 where
   AfterValue : TagDraft → TokenState
   -- after the `/` of a tag
   SelfClosing : TagDraft → TokenState
-  -- after `<!`: what stands since
+  -- after `<!`: the text since
   Markup : (since : List ℕ) → TokenState
   BogusComment : TokenState
   Comment : CommentPart → TokenState
-  -- after `<!DOCTYPE`: what stands since
+  -- after `<!DOCTYPE`: the text since
   Doctype : (since : List ℕ) → TokenState
-  -- within `<![CDATA[`: how many brackets stand since, of two
+  -- within `<![CDATA[`: the number of brackets since, at most two
   Cdata : (brackets : ℕ) → TokenState
-  -- in an element of text alone: how deep in a script's comments, and how many characters stand since
-  -- the last reference, as far as 255
+  -- in an element of text alone: the depth in a script's comments, and the number of characters
+  -- since the last reference, at most 255
   Raw : (depth run : ℕ) → TokenState
-  -- after `&`: what stands since, and the state before it
+  -- after `&`: the text since, and the state before it
   Reference : (since : List ℕ) → TokenState → TokenState
 
--- how far a page is read, but for the state
+-- the progress in a page, without the state
 pub record Reading : Type 0 where
   pub page : Page
-  -- how many bytes of the text were read
+  -- the number of bytes that were read
   pub place : ℕ
-  -- the token before was a start tag after which a line feed is dropped
+  -- the last token was a start tag that drops a following line feed
   pub fresh : Bool
-  -- the character before was a carriage return
+  -- the last character was a carriage return
   pub after_return : Bool
 
 pub record PageReader : Type 0 where
@@ -81,7 +81,7 @@ goes s r = Ok (record { state = s; reading = r })
 abbrev pub with_notes : Notes → Reading → Reading
 with_notes notes r = record r { page = record r.page { notes = notes } }
 
--- an error at the next character is gone over
+-- records an error at the next character
 abbrev pub erring : PageError → Reading → Reading
 erring e r = with_notes (with_note e r.place r.page.notes) r
 
@@ -134,21 +134,21 @@ end_emitted tag closed r = (emitted (End tag.name)
     (erring_if closed error.EndTagWithTrailingSolidus
     (erring_if (not (length tag.attrs == 0)) error.EndTagWithAttributes r))) next goes Data
 
--- a name of an element: letters, digits and `-`, of which there is one at least
+-- a name of an element: one or more letters, digits and `-`
 abbrev pub is_name : List ℕ → Bool
 is_name name = not (length name == 0) && list_all is_tag_char name
 
--- a tag is whole
+-- a complete tag
 abbrev pub tag_emitted : (closed : Bool) → TagDraft → Reading → Reads PageReader
 tag_emitted closed tag r = if not (is_name tag.name) then stopped refusal.UnknownName r
     else (if tag.is_end then end_emitted tag closed r
     else start_emitted (record { name = tag.name; attrs = tag.attrs; closed = closed }) r)
 
--- most tags have fewer attributes
+-- the most attributes of a tag
 abbrev pub most_attrs : ℕ
 most_attrs = 256
 
--- an attribute is whole: of two of one name the first counts
+-- a complete attribute: of two with one name the first counts
 abbrev pub attr_added : (attr value : List ℕ) → TagDraft → Reading → Reads (TagDraft × Reading)
 attr_added attr value tag r = if is_some (attr_fault attr) then stopped refusal.UnknownName r
     else (if has_name tag.attrs attr
@@ -244,7 +244,7 @@ self_closing_read tag c r = if c == 62 then tag_emitted true tag r
 abbrev pub begins : (front : List ℕ) → List ℕ → Bool
 begins front text = starts_with ◌==◌ text front
 
--- what may stand behind `<!` begins so: `--`, `doctype` in any case, `[CDATA[`
+-- the markup behind `<!` may begin so: `--`, `doctype` in any case, `[CDATA[`
 abbrev pub begins_markup : List ℕ → Bool
 begins_markup since = begins since (codes "--") || begins (lowered since) (codes "doctype")
     || begins since (codes "[CDATA[")
@@ -266,7 +266,7 @@ abbrev pub within_comment : ℕ → CommentPart
 within_comment c = if c == 60 then comment.Less
     else (if c == 45 then comment.EndDash else comment.Within)
 
--- the part of a comment after a character, or None where it ends (13.2.5.43 to 13.2.5.52)
+-- the part of a comment after a character, or None if it ends (13.2.5.43 to 13.2.5.52)
 abbrev pub next_part : CommentPart → ℕ → Option CommentPart
 next_part comment.Start c = if c == 45 then Some comment.StartDash
     else (if c == 62 then None else Some (within_comment c))
@@ -302,7 +302,7 @@ part_read (Some part) r = goes (Comment part) r
 abbrev pub comment_read : CommentPart → ℕ → Reading → Reads PageReader
 comment_read part c r = part_read (next_part part c) (erring_some (comment_error part c) r)
 
--- a document type counts before all other tokens
+-- a document type counts only before all other tokens
 abbrev pub doctype_taken : (inner : List ℕ) → Reading → Reading
 doctype_taken inner r = if is_unseen r.page.tables
     then record r { page = record r.page { tables = table_rule inner }; fresh = false }
@@ -322,8 +322,8 @@ cdata_read brackets c r = if c == 93 then (if brackets == 2
     else (if c == 62 && brackets == 2 then goes Data r
     else ((brackets_emitted brackets r) next char_emitted c) next goes (Cdata 0))
 
--- how deep in comments a script is behind a text and a character more (13.2.5.18 to 13.2.5.31): 1 after
--- `<!--`, and 2 after `<script` in it
+-- the depth of a script in comments behind a text and one more character (13.2.5.18 to 13.2.5.31):
+-- 1 after `<!--`, and 2 after `<script` in it
 abbrev pub script_depth : (depth : ℕ) (text : List ℕ) → ℕ → ℕ
 script_depth zero text c = if c == 45 && ends_in (codes "<!-") text then 1 else 0
 script_depth (suc n) text c = if c == 62 && ends_in (codes "--") text then 0
@@ -338,11 +338,11 @@ abbrev pub raw_char_read : (depth run : ℕ) → ℕ → Reading → Reads PageR
 raw_char_read depth run c r = (char_emitted c r)
     next goes (Raw (depth_behind depth r.page c) (min (run + 1) 255))
 
--- a closing tag of the name may end, which no reference stands for
+-- the closing tag of that name may end here, as no reference stands for any of it
 abbrev pub may_end : (name : List ℕ) (depth run : ℕ) → Bool
 may_end name depth run = nat_lt depth 2 && nat_le (length (closing name)) run
 
--- the name, if with the character its closing tag ends
+-- the name, if the character ends its closing tag
 abbrev pub ended_of : Option (List ℕ) → (depth run : ℕ) (text : List ℕ) → ℕ → Option (List ℕ)
 ended_of None depth run text c = None
 ended_of (Some name) depth run text c =
@@ -366,13 +366,13 @@ abbrev pub raw_read : (depth run : ℕ) → ℕ → Reading → Reads PageReader
 raw_read depth run c r =
     raw_end_read depth run (ended_name r.page.stack depth run r.page.text c) c r
 
--- the characters of a reference are added where it stands
+-- appends the characters of a reference where it stands
 abbrev pub reference_read : List ℕ → TokenState → Reading → Reads PageReader
 reference_read cs (Value tag attr value quote) r = goes (Value tag attr (value ++ cs) quote) r
 reference_read cs (Raw depth run) r = (chars_emitted cs r) next goes (Raw depth 0)
 reference_read cs s r = (chars_emitted cs r) next goes Data
 
--- these states are followed by references
+-- references lead back to these states
 abbrev pub text_read_in : TokenState → ℕ → Reading → Reads PageReader
 text_read_in (Value tag attr value quote) c r = value_read tag attr value quote c r
 text_read_in (Raw depth run) c r = raw_read depth run c r

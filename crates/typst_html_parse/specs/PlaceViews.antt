@@ -1,4 +1,4 @@
--- The page whose places are told.
+-- The page whose places are returned.
 use Rattle.std.specs.Prelude.{ℕ, List, chars}
 use Rattle.typst_html_parse.specs.declared.place.Places.{Places}
 

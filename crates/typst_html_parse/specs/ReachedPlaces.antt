@@ -1,4 +1,4 @@
--- A place of a page that is reached, from which the later ones are found.
+-- A place that was reached in a page, from which later ones are found.
 use Rattle.std.specs.Prelude.{◌≡◌, ◌+◌, ◌≤◌, ℕ, Bool, List, chars, length}
 use Rattle.typst_html_read.specs.declared.place.Place.{Place}
 use Rattle.typst_html_parse.specs.PagePlaces.{place_at, place_from}

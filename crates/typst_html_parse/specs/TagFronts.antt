@@ -29,7 +29,7 @@ pub record EndsOwn (r : Reading) (text rest : List ℕ) : Type 0 where
   pub are : all is_name_char name ≡ true
   pub begins : BeginsWith (name ++ 62 ∷ []) text rest
 
--- behind so many characters more, which close the current node
+-- behind so many more characters, which close the current node
 abbrev pub behind_own_end : (length : ℕ) → Reading → Reads PageReader
 behind_own_end length r = (closed true r.page) next (λ p. Ok (in_data (record {
   page = p;

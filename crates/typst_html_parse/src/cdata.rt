@@ -1,4 +1,4 @@
-//! What stands within `<![CDATA[` (HTML Standard 13.2.5.69 to 13.2.5.71).
+//! The content of `<![CDATA[` (HTML Standard 13.2.5.69 to 13.2.5.71).
 
 ghost use Rattle.std.specs.Prelude.{◌≡◌};
 ghost use Rattle.typst_html_parse.specs.Endings.{Moves};

@@ -8,7 +8,7 @@ ghost use Rattle.typst_html_parse.specs.PageReaderViews.{reader_of, reading_of};
 use crate::reader::{Reader, State};
 use typst_html_parse_open::{Halt, PageError};
 
-/// Where in a comment reading stands (HTML Standard 13.2.5.43 to 13.2.5.52).
+/// The reader's state in a comment (HTML Standard 13.2.5.43 to 13.2.5.52).
 #[derive(Clone, Copy, Debug, PartialEq, Eq)]
 pub(crate) enum CommentPart {
     Start,
@@ -23,7 +23,7 @@ pub(crate) enum CommentPart {
     EndBang,
 }
 
-/// The part that any other character leads to.
+/// Returns the part that any other character leads to.
 fn within(c: char) -> CommentPart
     ensures { result ≡ tokens.within_comment c }
 {
@@ -34,7 +34,7 @@ fn within(c: char) -> CommentPart
     }
 }
 
-/// The part of a comment after a character, if the comment goes on.
+/// Returns the part of a comment after a character, if the comment goes on.
 fn next_part(part: CommentPart, c: char) -> Option<CommentPart>
     ensures { result ≡ tokens.next_part part c }
 {
@@ -55,7 +55,7 @@ fn next_part(part: CommentPart, c: char) -> Option<CommentPart>
     }
 }
 
-/// The error that a character is in a comment.
+/// Returns the error that a character is in a comment.
 fn error_of(part: CommentPart, c: char) -> Option<PageError>
     ensures { result ≡ tokens.comment_error part c }
 {

@@ -1,4 +1,4 @@
-//! Reading stretches of the characters that most texts are made of.
+//! Stretches of common characters, which make up most texts, read at once.
 
 ghost use Rattle.std.specs.Prelude.{◌≡◌, ◌+◌, ◌++◌, ◌<◌, ◌^◌, false, true, IfErr, IfOk, OnOk, chars, length};
 ghost use Rattle.html_dom_tree.specs.Views.{text_view};
@@ -16,7 +16,7 @@ use typst_html_parse_open::Halt;
 use typst_html_parse_tree::takes_text;
 
 impl Reading {
-    /// Passes so many bytes, none of them a carriage return.
+    /// Skips so many bytes, none of them a carriage return.
     pub(crate) fn pass(&mut self, count: usize)
         requires { self.old.place + count < 2 ^ 64 }
         ensures { reading_of self.new ≡ record (reading_of self.old) {
@@ -28,7 +28,7 @@ impl Reading {
         self.after_return = false;
     }
 
-    /// Adds a stretch of common characters to the current node.
+    /// Appends a stretch of common characters to the current node.
     fn add_stretch(&mut self, front: &str) -> Result<(), Halt>
         requires common { all is_common front.now ≡ true }
         requires room { self.old.place + length front.now < 2 ^ 64 }
@@ -49,21 +49,21 @@ impl Reading {
 }
 
 impl Reader {
-    /// Whether each common character is only added to the current node.
+    /// Returns whether each common character is only appended to the current node.
     fn takes_common(&self) -> bool
         ensures { result ≡ true → TakesCommon (reader_of self.now) }
     {
         matches!(self.state, State::Data) && !self.reading.fresh && takes_text(&self.reading.page)
     }
 
-    /// Whether the reader is in a value in double quotes.
+    /// Returns whether the reader is in a value in double quotes.
     fn is_in_quotes(&self) -> bool
         ensures { result ≡ true → IsInQuotes self.now }
     {
         matches!(self.state, State::Value) && self.draft.quote == '"'
     }
 
-    /// Adds a stretch of common characters to the value.
+    /// Appends a stretch of common characters to the value.
     fn add_value(&mut self, front: &str) -> Result<(), Halt>
         requires quoted { IsInQuotes self.old }
         requires common { all is_common front.now ≡ true }
@@ -81,8 +81,8 @@ impl Reader {
         Ok(())
     }
 
-    /// Reads the common characters that a text begins with, where each is only added to the current
-    /// node, and gives the rest.
+    /// Reads the leading common characters of a text, each of which is only appended to the current
+    /// node, and returns the rest.
     fn read_stretch<'a>(&mut self, text: &'a str) -> Result<&'a str, Halt>
         requires taken { TakesCommon (reader_of self.old) }
         requires room { self.old.reading.place + length text.now < 2 ^ 64 }
@@ -95,7 +95,7 @@ impl Reader {
         Ok(rest)
     }
 
-    /// Reads the common characters that a text begins with, in a value in double quotes, and gives the
+    /// Reads the leading common characters of a text in a value in double quotes, and returns the
     /// rest.
     fn read_value<'a>(&mut self, text: &'a str) -> Result<&'a str, Halt>
         requires quoted { IsInQuotes self.old }
@@ -109,8 +109,8 @@ impl Reader {
         Ok(rest)
     }
 
-    /// Reads the common characters that a text begins with, all at once, where each is only added to
-    /// the current node or to a value, and gives the rest.
+    /// Reads the leading common characters of a text all at once, if each is only appended to the
+    /// current node or to a value, and returns the rest.
     pub(crate) fn read_common<'a>(&mut self, text: &'a str) -> Result<&'a str, Halt>
         requires { self.old.reading.place + length text.now < 2 ^ 64 }
         ensures read { IfOk result (λ rest.

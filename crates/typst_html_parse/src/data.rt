@@ -11,7 +11,6 @@ use html_dom_tree::text;
 use typst_html_parse_open::{Halt, PageError};
 
 impl Reader {
-    /// A reference begins.
     pub(crate) fn begin_reference(&mut self, holder: Holder)
         ensures { reader_of self.new ≡ record {
           state = tokens.Reference [] (holder_at holder self.old);

@@ -1,4 +1,4 @@
-//! What a document type says of tables (HTML Standard 13.2.6.4.1).
+//! What a document type means for tables (HTML Standard 13.2.6.4.1).
 
 ghost use Rattle.std.specs.Char.{to_ascii_lowercase};
 ghost use Rattle.std.specs.Prelude.{◌≡◌, ◌++◌, ◌∷◌, [], IfOk, OnOk, chars, true, if◌then◌else◌};
@@ -11,7 +11,7 @@ use typst_html_parse_names::is_one_of;
 use typst_html_parse_open::TableRule;
 use typst_html_parse_tree::is_space;
 
-/// Document types that are known not to bring quirks mode.
+/// Document types that are known not to trigger quirks mode.
 #[rattlefmt::skip]
 const KNOWN_TYPES: [&str; 9] = [
     " html",
@@ -25,7 +25,7 @@ const KNOWN_TYPES: [&str; 9] = [
     " html public \"-//w3c//dtd xhtml 1.1//en\" \"http://www.w3.org/tr/xhtml11/dtd/xhtml11.dtd\"",
 ];
 
-/// Adds a character in small letters, behind a space where one stands before it.
+/// Appends a character in lowercase, after a space if one stands before it.
 fn add_spaced(made: &mut String, behind_space: bool, c: char) -> Result<(), AllocError>
     ensures { OnOk result (text_view made.new ≡ text_view made.old
         ++ ((if behind_space then 32 ∷ [] else []) ++ to_ascii_lowercase c ∷ [])) }
@@ -36,7 +36,7 @@ fn add_spaced(made: &mut String, behind_space: bool, c: char) -> Result<(), Allo
     text::add(made, c.to_ascii_lowercase())
 }
 
-/// The text in small letters, with one space in place of blanks, but none at the end.
+/// Returns the text in lowercase, with one space for neighbouring blanks, but none at the end.
 #[tactic(auto, using(std::proofs::StrCases::chars_of_empty))]
 fn spaced(alloc: Global, inner: &str) -> Result<String, AllocError>
     ensures { IfOk result (λ made. text_view made ≡ types.spaced true (chars inner.now)) }
@@ -54,7 +54,7 @@ fn spaced(alloc: Global, inner: &str) -> Result<String, AllocError>
     Ok(made)
 }
 
-/// Whether the document type is known not to bring quirks mode.
+/// Returns whether the document type is known not to trigger quirks mode.
 #[tactic(auto, unfolding(crate::specs::DocumentTypes::is_known))]
 fn is_known(text: &str) -> bool
     ensures { result ≡ types.is_known (chars text.now) }
@@ -62,7 +62,7 @@ fn is_known(text: &str) -> bool
     is_one_of(&KNOWN_TYPES, text)
 }
 
-/// What stands between `<!DOCTYPE` and `>` says of tables.
+/// Returns what the text between `<!DOCTYPE` and `>` means for tables.
 #[tactic(auto, unfolding(crate::specs::DocumentTypes::table_rule))]
 pub(crate) fn table_rule(alloc: Global, inner: &str) -> Result<TableRule, AllocError>
     ensures { IfOk result (λ rule. rule ≡ types.table_rule (chars inner.now)) }

@@ -1,4 +1,4 @@
-//! A tag so far.
+//! A tag under construction.
 
 ghost use Rattle.std.specs.Char.{to_ascii_lowercase};
 ghost use Rattle.std.specs.List.{list_all};
@@ -19,10 +19,10 @@ use html_names::{HtmlAttr, HtmlTag, NameFault};
 use std::alloc::{AllocError, Global};
 use typst_html_parse_open::{Halt, PageError, PageRefusal};
 
-/// Most tags have fewer attributes.
+/// The most attributes of a tag.
 const MOST_ATTRS: usize = 256;
 
-/// A tag so far, and the attribute that is being read.
+/// A tag so far, and its current attribute.
 #[derive(Drop)]
 pub(crate) struct Draft {
     pub(crate) is_end: bool,
@@ -30,7 +30,7 @@ pub(crate) struct Draft {
     pub(crate) attrs: HtmlAttrs,
     pub(crate) attr: String,
     pub(crate) value: String,
-    /// The quotes that the value stands in, U+0000 for none.
+    /// The quote around the value, or U+0000 for none.
     pub(crate) quote: char,
 }
 
@@ -40,14 +40,14 @@ fn are_tag_chars(name: &str) -> bool
     name.chars().all(|c| is_valid_in_tag_name(c))
 }
 
-/// Whether it is a name of an element: letters, digits and `-`, of which there is one at least.
+/// Returns whether it is a name of an element: one or more letters, digits and `-`.
 fn is_tag_name(name: &str) -> bool
     ensures { result ≡ is_name (chars name.now) }
 {
     !name.is_empty() && are_tag_chars(name)
 }
 
-/// The tag of that name, if it is one.
+/// Returns the tag with that name, if it is a name.
 #[tactic(auto, using(crate::proofs::TagNames::tag_bytes, html_names::proofs::Faults::constants))]
 pub(crate) fn tag_named(alloc: Global, name: &str) -> Result<Option<HtmlTag>, AllocError>
     ensures { IfOk result (λ found. MatchOption found (is_name (chars name.now) ≡ false)
@@ -59,7 +59,7 @@ pub(crate) fn tag_named(alloc: Global, name: &str) -> Result<Option<HtmlTag>, Al
     Ok(Some(HtmlTag::constant(alloc, name)?))
 }
 
-/// The attribute of that name, if it is one.
+/// Returns the attribute with that name, if it is a name.
 fn attr_named(alloc: Global, name: &str) -> Result<Option<HtmlAttr>, AllocError>
     ensures { IfOk result (λ found. MatchOption found (is_some (attr_fault (chars name.now)) ≡ true)
         (λ attr. (attr ≡ chars name.now) × (attr_fault (chars name.now) ≡ None))) }
@@ -72,7 +72,6 @@ fn attr_named(alloc: Global, name: &str) -> Result<Option<HtmlAttr>, AllocError>
 }
 
 impl Draft {
-    /// No tag.
     pub(crate) fn new(alloc: Global) -> Draft {
         Draft {
             is_end: false,
@@ -98,7 +97,6 @@ impl Draft {
         Ok(())
     }
 
-    /// Begins a tag with its name.
     pub(crate) fn begin_named(
         &mut self,
         alloc: Global,
@@ -146,7 +144,7 @@ impl Draft {
         Ok(())
     }
 
-    /// Adds the attribute to the tag. Of two of one name the first counts.
+    /// Adds the attribute to the tag. Of two with one name the first counts.
     pub(crate) fn end_attr(&mut self, alloc: Global, reading: &mut Reading) -> Result<(), Halt>
         ensures { Adds result (tokens.attr_added (text_view self.old.attr)
             (text_view self.old.value) (draft_of self.old) (reading_of reading.old))

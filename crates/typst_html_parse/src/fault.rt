@@ -1,4 +1,4 @@
-//! Why a page is not read, and the errors that reading goes on over.
+//! Why a page is not read, and the errors from which the reader recovers.
 
 ghost use Rattle.std.specs.Prelude.{◌≡◌};
 ghost use Rattle.typst_html_parse.specs.PageFaults.{number_of};
@@ -9,8 +9,9 @@ use thiserror::Error;
 use typst_html_parse_open::{PageError, PageRefusal};
 use typst_html_read::Place;
 
-/// Why a page was not read. Offsets of places are in bytes of the page as it was given; a line ends with a
-/// line feed, a carriage return or both, in that order, and a byte order mark is no character of the first.
+/// Why a page was not read. Offsets of places are in bytes of the given page; a line ends with a
+/// line feed, a carriage return or both in that order, and a byte order mark at the beginning is no
+/// character of the first.
 #[derive(Clone, Copy, Debug, PartialEq, Eq, Error)]
 pub enum PageFault {
     /// An allocation failed.
@@ -22,37 +23,37 @@ pub enum PageFault {
         /// Its place.
         place: Place,
     },
-    /// A page that is not read.
+    /// A page that is refused.
     #[error("{refusal} at {place}")]
     Refused {
-        /// What it holds.
+        /// The content that is refused.
         refusal: PageRefusal,
-        /// Where the token begins: the `<` of a tag, or a character.
+        /// The beginning of the token: the `<` of a tag, or a character.
         place: Place,
     },
 }
 
-/// An error of a page that reading went on over, with its place, which is told as in [`PageFault`].
+/// An error of a page from which the reader recovered, with its place, given as in [`PageFault`].
 #[derive(Clone, Copy, Debug, PartialEq, Eq)]
 pub struct PageNote {
-    /// What is wrong.
+    /// The error.
     pub error: PageError,
-    /// Where.
+    /// Its place.
     pub place: Place,
 }
 
-/// The errors of a page that reading went on over.
+/// The errors of a page from which the reader recovered.
 #[derive(Debug, Drop)]
 pub struct PageNotes {
-    /// How many there are, as far as 32 bits go.
+    /// The number of errors, at most that of 32 bits.
     pub count: u32,
     /// The first ten.
     pub first: Vec<PageNote>,
 }
 
 impl PageFault {
-    /// The fault's number: 0 for out of memory, 25 for what is no text, as where a text has another
-    /// syntax, and else that of the refusal.
+    /// Returns the fault's number: 0 for out of memory, 25 for bytes that are no text, like a text
+    /// with another syntax, and otherwise that of the refusal.
     pub fn number(&self) -> u8
         ensures { result ≡ number_of self.now }
     {

@@ -1,4 +1,4 @@
-//! The fronts of texts, cut off.
+//! Texts split behind their leading characters of a kind.
 
 ghost use Rattle.std.specs.Prelude.{◌≡◌, IfSome, IsTrue};
 ghost use Rattle.html_names.specs.Names.{is_ascii};
@@ -7,7 +7,7 @@ ghost use Rattle.typst_html_parse.specs.Fronts.{BeginsWith, CutsAll, begins_smal
 
 use typst_html_encode::past_common;
 
-/// The common characters that a text begins with, and the rest.
+/// Splits a text behind its leading common characters.
 pub(crate) fn cut_common(text: &str) -> (&str, &str)
     ensures { CutsAll is_common text.now result.0.now result.1.now }
 {
@@ -21,7 +21,7 @@ fn is_name_byte(byte: u8) -> bool
     byte.is_ascii_lowercase() || byte.is_ascii_digit() || byte == b'-'
 }
 
-/// The small letters, digits and `-` that a text begins with, and the rest.
+/// Splits a text behind its leading lowercase letters, digits and `-`.
 pub(crate) fn cut_name(text: &str) -> (&str, &str)
     ensures { CutsAll is_name_char text.now result.0.now result.1.now }
 {
@@ -33,7 +33,7 @@ pub(crate) fn cut_name(text: &str) -> (&str, &str)
     text.split_at(at)
 }
 
-/// Whether a text begins with a small letter.
+/// Returns whether a text begins with a lowercase letter.
 pub(crate) fn begins_small(text: &str) -> bool
     ensures { result ≡ begins_small text.now }
 {
@@ -43,7 +43,7 @@ pub(crate) fn begins_small(text: &str) -> bool
     }
 }
 
-/// The rest of a text that begins with so much ASCII.
+/// Returns the rest of a text that begins with this ASCII text.
 pub(crate) fn strip<'a>(text: &'a str, front: &str) -> Option<&'a str>
     requires { IsTrue (is_ascii front.now) }
     ensures { IfSome result (λ rest. BeginsWith front.now text.now rest.now) }

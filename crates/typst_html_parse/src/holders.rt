@@ -12,7 +12,7 @@ use html_dom_tree::text::add_text;
 use typst_html_parse_open::{Halt, PageError};
 
 impl Reader {
-    /// The characters of a reference are added where it stands.
+    /// Appends the characters of a reference where it stands.
     fn add_reference(&mut self, text: &str) -> Result<(), Halt>
         ensures { Moves result (tokens.reference_read (chars text.now)
             (holder_at self.old.holder self.old) (reading_of self.old.reading))
@@ -36,7 +36,7 @@ impl Reader {
         Ok(())
     }
 
-    /// A character behind a reference.
+    /// Reads a character behind a reference.
     fn behind_reference(&mut self, c: char) -> Result<(), Halt>
         ensures { Moves result (tokens.text_read c (reader_of self.old)) (reader_of self.new) }
     {
@@ -91,7 +91,7 @@ impl Reader {
         self.reading.emit_text(found.text.as_str())
     }
 
-    /// At the end of the text.
+    /// Handles what is left at the end of the text.
     pub(crate) fn leave(&mut self) -> Result<(), Halt>
         ensures { Emits result (tokens.left_over (state_at self.old.state self.old)
             (reading_of self.old.reading)) (reading_of self.new.reading) }

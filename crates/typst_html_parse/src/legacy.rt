@@ -6,7 +6,7 @@ ghost use Rattle.typst_html_parse.specs.PageReferences as references;
 
 use typst_html_parse_names::legacy_reference;
 
-/// A name with which a text begins: what it stands for, and what is behind it.
+/// A name with which a text begins: its characters, and the text behind it.
 #[derive(Clone, Copy)]
 pub(crate) struct Legacy<'a> {
     pub(crate) value: (char, Option<char>),
@@ -14,7 +14,7 @@ pub(crate) struct Legacy<'a> {
 }
 
 impl Legacy<'_> {
-    /// Whether in a value something follows with which the name is none.
+    /// Returns whether in a value something follows that makes the name none.
     pub(crate) fn is_followed(&self, behind: Option<char>) -> bool
         ensures { result ≡ references.is_followed (chars self.now.rest.now) behind }
     {
@@ -25,7 +25,7 @@ impl Legacy<'_> {
     }
 }
 
-/// The longest name with which the text begins, of so many characters at most.
+/// Returns the longest name, with at most so many characters, with which the text begins.
 pub(crate) fn longest_legacy(at_most: usize, text: &str) -> Option<Legacy<'_>>
     requires { IsTrue (is_ascii text.now) }
     ensures { option_map (λ found.

@@ -1,4 +1,4 @@
-//! What stands behind `<!`, and document types (HTML Standard 13.2.5.42, 13.2.5.53).
+//! Markup behind `<!`, and document types (HTML Standard 13.2.5.42, 13.2.5.53).
 
 ghost use Rattle.std.specs.Char.{to_ascii_lowercase};
 ghost use Rattle.std.specs.Prelude.{◌≡◌, ◌∷◌, ◌++◌, [], OnOk, IsTrue, bytes_eq, chars, codes, map};
@@ -17,7 +17,6 @@ use html_dom_tree::text;
 use std::alloc::AllocError;
 use typst_html_parse_open::{Halt, PageError, TableRule};
 
-/// Whether the text is a word of ASCII.
 fn is(word: &str, text: &str) -> bool
     requires { IsTrue (is_ascii word.now) }
     ensures { result ≡ bytes_eq (chars text.now) word.now }
@@ -25,7 +24,7 @@ fn is(word: &str, text: &str) -> bool
     text == word
 }
 
-/// Whether a word of ASCII begins with the text.
+/// Returns whether an ASCII word begins with the text.
 fn begins(word: &str, text: &str) -> bool
     requires { IsTrue (is_ascii word.now) }
     ensures { result ≡ begins (chars text.now) word.now }
@@ -33,7 +32,7 @@ fn begins(word: &str, text: &str) -> bool
     word.starts_with(text)
 }
 
-/// Whether a word of ASCII begins with the text, once its letters are made small.
+/// Returns whether an ASCII word begins with the text in lowercase.
 fn begins_lowered(word: &str, text: &str) -> bool
     requires ascii { IsTrue (is_ascii word.now) }
     requires small { map to_ascii_lowercase word.now ≡ word.now }
@@ -43,14 +42,14 @@ fn begins_lowered(word: &str, text: &str) -> bool
     text.len() <= word.len() && text.eq_ignore_ascii_case(&word[..text.len()])
 }
 
-/// Whether it is `doctype`, in any ASCII case.
+/// Returns whether it is `doctype`, in any ASCII case.
 fn is_doctype(text: &str) -> bool
     ensures { result ≡ bytes_eq (lowered (chars text.now)) (codes "doctype") }
 {
     text.eq_ignore_ascii_case("doctype")
 }
 
-/// Whether what may stand behind `<!` begins so.
+/// Returns whether the markup that may stand behind `<!` begins with the text.
 fn begins_markup(text: &str) -> bool
     ensures { result ≡ tokens.begins_markup (chars text.now) }
 {
@@ -58,7 +57,7 @@ fn begins_markup(text: &str) -> bool
 }
 
 impl Reader {
-    /// `<![CDATA[` is a comment, unless it stands in SVG or MathML.
+    /// Reads `<![CDATA[` as a comment, unless it stands in SVG or MathML.
     fn begin_cdata(&mut self) -> Result<(), Halt>
         ensures { Moves result (tokens.cdata_begun (reading_of self.old.reading))
             (reader_of self.new) }
@@ -100,7 +99,7 @@ impl Reader {
         self.bogus_comment(c)
     }
 
-    /// A document type counts before all other tokens.
+    /// Reads a document type, which counts only before all other tokens.
     pub(crate) fn take_doctype(&mut self) -> Result<(), AllocError>
         ensures { OnOk result (reading_of self.new.reading
             ≡ tokens.doctype_taken (text_view self.old.inner) (reading_of self.old.reading)) }

@@ -1,4 +1,4 @@
-//! Names of tags, most of which are looked up once.
+//! A cache of the names of tags, so that most are looked up once.
 
 ghost use Rattle.std.specs.Prelude.{◌≡◌, ◌<◌, IfOk, IfSome, MatchOption, OnOk, chars, false, true};
 ghost use Rattle.html_names.specs.Characters.{IsOf, is_tag_char};
@@ -8,19 +8,19 @@ use crate::draft::tag_named;
 use std::alloc::{AllocError, Global};
 use typst_html_parse_open::TagName;
 
-/// How many names are kept.
+/// The number of cached names.
 const MOST_NAMES: usize = 64;
 
-/// The length of the longest name that is kept.
+/// The length of the longest cached name.
 const LONGEST: usize = 12;
 
-/// Names that were read, each at a place that its text tells.
+/// Names that were read, each at an index that its text determines.
 #[derive(Drop)]
 pub(crate) struct Names {
     kept: Vec<Option<TagName>>,
 }
 
-/// The place of a name among those that are kept.
+/// Returns the index of a name in the cache.
 fn place_of(name: &str) -> usize {
     match name.as_bytes() {
         [first, .., last] => {
@@ -32,14 +32,13 @@ fn place_of(name: &str) -> usize {
 }
 
 impl Names {
-    /// No name.
     pub(crate) fn new(alloc: Global) -> Names {
         Names {
             kept: Vec::new(alloc),
         }
     }
 
-    /// The name, if it is kept.
+    /// Returns the name, if it is cached.
     fn get(&self, name: &str) -> Option<&TagName>
         ensures same { IfSome result (λ found. found.now.tag ≡ chars name.now) }
         ensures valid { IfSome result (λ found. IsOf is_tag_char found.now.tag) }
@@ -50,7 +49,7 @@ impl Names {
         }
     }
 
-    /// Keeps a name, in place of another, unless it is long.
+    /// Caches a name, replacing another, unless it is long.
     fn keep(&mut self, name: &TagName) -> Result<(), AllocError> {
         let text = name.tag.resolve();
         if LONGEST < text.len() {
@@ -65,7 +64,7 @@ impl Names {
         Ok(())
     }
 
-    /// The name of a tag, if it is one.
+    /// Returns the name of a tag, if it is one.
     #[tactic(auto, using(crate::proofs::TagNames::name_of_tag))]
     pub(crate) fn named(&mut self, alloc: Global, name: &str) -> Result<Option<TagName>, AllocError>
         ensures { IfOk result (λ found. MatchOption found (is_name (chars name.now) ≡ false)

@@ -11,11 +11,11 @@ use typst_html_parse_open::PageError;
 
 const CARRIAGE_RETURN: u32 = 13;
 
-/// Above the numbers of all characters.
+/// A number above those of all characters.
 const TOO_HIGH: u32 = 0x11_0000;
 
-/// The characters that U+0080 to U+009F stand for, as in windows-1252, and U+0000 where they stand
-/// for themselves.
+/// The characters that U+0080 to U+009F stand for, as in windows-1252, or U+0000 if they stand for
+/// themselves.
 #[rattlefmt::skip]
 static WINDOWS: [char; 32] = [
     '\u{20ac}', '\0', '\u{201a}', '\u{192}', '\u{201e}', '\u{2026}', '\u{2020}', '\u{2021}',
@@ -33,7 +33,7 @@ fn digit_value(c: char) -> u32
     }
 }
 
-/// The number of these digits, if it is that of a character, and else some number above.
+/// Returns the number of these digits, if it is that of a character, or else some number above.
 pub(crate) fn number_of(base: u32, digits: &str) -> u32
     requires some { 1 ≤ base }
     requires few { base ≤ 16 }
@@ -46,7 +46,7 @@ pub(crate) fn number_of(base: u32, digits: &str) -> u32
     number
 }
 
-/// The character that U+0080 to U+009F stand for.
+/// Returns the character that U+0080 to U+009F stand for.
 fn windows_char(number: u32) -> Option<char>
     ensures { references.windows_char number
         ≡ unwrap_or result number }
@@ -56,7 +56,6 @@ fn windows_char(number: u32) -> Option<char>
     if found == '\0' { None } else { Some(found) }
 }
 
-/// The character of a number.
 pub(crate) fn numbered_char(number: u32) -> char
     ensures { result ≡ references.numbered_char number }
 {
@@ -96,7 +95,7 @@ fn is_space_number(number: u32) -> bool
     matches!(number, 9 | 10 | 12 | 13 | 32)
 }
 
-/// The error that a number is.
+/// Returns the error that a number is.
 pub(crate) fn error_of(number: u32) -> Option<PageError>
     ensures { result ≡ references.number_error number }
 {

@@ -7,8 +7,8 @@ ghost use Rattle.typst_html_parse.specs.ReachedPlaces.{IsReached};
 
 use typst_html_read::Place;
 
-/// The place behind one character more. A line feed behind a carriage return ends no other line, and a
-/// byte order mark at the beginning is no character of a line.
+/// Returns the place behind one more character. A line feed behind a carriage return ends no other
+/// line, and a byte order mark at the beginning is no character of a line.
 fn next_place(after_return: bool, place: Place, c: char) -> Place
     requires offset { place.offset + len_utf8 c < 2 ^ 64 }
     requires line { place.line + 1 < 2 ^ 64 }
@@ -30,11 +30,11 @@ fn next_place(after_return: bool, place: Place, c: char) -> Place
     }
 }
 
-/// The places of a page's characters, by how many bytes of the page stand before them, as the spans of
-/// the elements that are read tell.
+/// Maps the offsets of a page's characters, in bytes, to places; the spans of the elements that are
+/// read are such offsets.
 ///
-/// A line of a page ends with a line feed, a carriage return or both, in that order, and a byte order
-/// mark at the beginning is no character of the first.
+/// A line of a page ends with a line feed, a carriage return or both, in that order, and a byte
+/// order mark at the beginning is no character of the first.
 ///
 /// ```
 /// use typst_html::{Places, read_page};
@@ -52,7 +52,7 @@ fn next_place(after_return: bool, place: Place, c: char) -> Place
 #[derive(Clone, Copy)]
 pub struct Places<'a> {
     text: &'a str,
-    /// What stands behind the last place that was told.
+    /// The text behind the last returned place.
     rest: &'a str,
     place: Place,
     after_return: bool,
@@ -62,7 +62,7 @@ pub struct Places<'a> {
 impl<'a> Places<'a> {
     ghost use Rattle.typst_html_parse.specs.PlaceViews.{text_of};
 
-    /// The places of that page.
+    /// Creates the places of that page.
     pub fn new(text: &'a str) -> Places<'a>
         ensures text { text_of result ≡ chars text.now }
         ensures start { result.place.offset ≡ 0 }
@@ -80,11 +80,11 @@ impl<'a> Places<'a> {
         }
     }
 
-    /// The place of the character before which so many bytes stand. Where none begins there, it is
+    /// Returns the place of the character at that offset in bytes. If none begins there, returns
     /// that of the next, or the end.
     ///
-    /// Cost: grows with how far it is from the place that was told before, or from the beginning,
-    /// where it is before that.
+    /// Takes time linear in the distance from the place that was returned before, or from the
+    /// beginning, if it lies before that.
     pub fn at(&mut self, offset: usize) -> Place
         ensures told { result ≡ places.place_at (text_of self.old) offset }
         ensures text { text_of self.new ≡ text_of self.old }
@@ -94,7 +94,7 @@ impl<'a> Places<'a> {
         self.place
     }
 
-    /// From where the place of that offset is still to come.
+    /// Returns the places at a point from which the offset is still ahead.
     fn begun_before(self, offset: usize) -> Places<'a>
         ensures place { result.place.offset ≤ offset }
         ensures text { text_of result ≡ text_of self.entry }
@@ -140,7 +140,7 @@ impl<'a> Places<'a> {
     }
 }
 
-/// The place of the character of a page before which so many bytes stand.
+/// Returns the place of the character of a page at that offset in bytes.
 pub(crate) fn place_at(text: &str, offset: usize) -> Place
     ensures { result ≡ places.place_at (chars text.now) offset }
 {

@@ -16,7 +16,7 @@ use typst_html_parse_names::Kind;
 use typst_html_parse_open::{Halt, Page};
 use typst_html_read::{end_of, ends_in, is_tag_end};
 
-/// How many characters a closing tag of that name has, without its last.
+/// Returns the number of characters of a closing tag with that name, without its last.
 fn closing_length(name: &str) -> usize
     requires { IsOf is_tag_char (chars name.now) }
     ensures { result ≡ length (closing (chars name.now)) }
@@ -25,7 +25,7 @@ fn closing_length(name: &str) -> usize
 }
 
 impl Depth {
-    /// How deep it is behind a text and a character more.
+    /// Returns the depth behind a text and one more character.
     fn behind(self, text: &str, c: char) -> Depth
         ensures { depth_of result ≡ tokens.script_depth (depth_of self) (chars text.now) c }
     {
@@ -39,7 +39,7 @@ impl Depth {
         }
     }
 
-    /// Whether the closing tag of that name may end behind so many characters.
+    /// Returns whether the closing tag with that name may end behind so many characters.
     fn may_end(self, run: u8, name: &str) -> bool
         requires { IsOf is_tag_char (chars name.now) }
         ensures { result ≡ tokens.may_end (chars name.now) (depth_of self) run }
@@ -61,7 +61,7 @@ impl Depth {
     }
 }
 
-/// The current node's name, if with the character its closing tag ends, and where that begins.
+/// Returns the current node's name and the index where its closing tag begins, if `c` ends it.
 fn raw_end(page: &Page, depth: Depth, run: u8, c: char) -> Option<(&HtmlTag, usize)>
     ensures { MatchOption result
         (tokens.ended_name (stack_of page.now.stack) (depth_of depth) run (text_view page.now.text) c
@@ -78,7 +78,7 @@ fn raw_end(page: &Page, depth: Depth, run: u8, c: char) -> Option<(&HtmlTag, usi
 }
 
 impl Reader {
-    /// A character of such an element's text.
+    /// Reads a character of such an element's text.
     fn raw_char(&mut self, c: char) -> Result<(), Halt>
         ensures { Moves result (tokens.raw_char_read (depth_of self.old.depth) self.old.run c
             (reading_of self.old.reading)) (reader_of self.new) }

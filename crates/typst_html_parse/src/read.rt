@@ -17,27 +17,27 @@ use typst_html_parse_open::{Halt, Notes, PageError, PageRefusal};
 
 const BYTE_ORDER_MARK: char = '\u{feff}';
 
-/// The element of a page that comes from somewhere else, as browsers read it, and the errors in it.
+/// Reads a page from elsewhere as browsers do, and returns its element and the errors in it.
 ///
-/// It reads as HTML Standard 13.2 says, with scripting disabled, and goes over the errors that
-/// browsers go over. Comments and document types leave nothing in the element. A page is refused
-/// where a browser would move nodes, make them a second time, or change an element that is
-/// complete; [`PageRefusal`] says what there is.
+/// Reads as HTML Standard 13.2 says, with scripting disabled, and recovers from the errors that
+/// browsers recover from. Comments and document types leave nothing in the element. Refuses a page
+/// where a browser would move nodes, make them a second time, or change a complete element;
+/// [`PageRefusal`] lists the cases.
 ///
-/// The span of an element tells how many bytes of the text stand before the `<` of its start tag, or
-/// before the tag or the character that implied it; [`Places`](crate::Places) leads from there to lines
-/// and columns. A text has the span of its element.
+/// The span of an element is the offset in bytes of the `<` of its start tag, or of the tag or the
+/// character that implied it; [`Places`](crate::Places) maps it to a line and a column. A text has
+/// the span of its element.
 ///
-/// `limit` is from 1 to 10,000 and bounds how deep elements may stand; the root stands at depth 1.
+/// `limit` is from 1 to 10,000 and bounds the depth of elements; the root has depth 1.
 ///
 /// # Errors
 ///
-/// [`PageFault::Refused`] with the first place from which on the page is not read: that of the `<` of
-/// the tag, or of the character.
+/// [`PageFault::Refused`] with the first place from which on the page is not read: that of the `<`
+/// of the tag, or of the character.
 ///
-/// Cost: grows with the length of the text. A tag that looks for an open element, as an end tag does,
-/// goes through those that stand in it, or through all where there is none. Beside the element it
-/// needs memory for the elements that are open, and for one text and one tag.
+/// Takes time linear in the length of the text, except that a tag that looks for an open element,
+/// such as an end tag, visits those inside it, or all if there is none. Beside the element,
+/// allocates memory for the open elements, one text and one tag.
 ///
 /// ```
 /// use typst_html::{PageFault, read_page};
@@ -74,14 +74,14 @@ pub fn read_page(
     }
 }
 
-/// The element of a page that comes from somewhere else, in bytes, and the errors in it.
+/// Reads a page from elsewhere, in bytes, and returns its element and the errors in it.
 ///
-/// It is what [`read_page`] reads.
+/// Reads the text as [`read_page`] does.
 ///
 /// # Errors
 ///
-/// Those of [`read_page`], and [`PageFault::NotText`] with the place of the first byte that is no
-/// UTF-8, before all others.
+/// Those of [`read_page`], and before all others [`PageFault::NotText`] with the place of the first
+/// byte that is no UTF-8.
 pub fn read_page_bytes(
     alloc: Global,
     page: &[u8],
@@ -102,7 +102,7 @@ pub fn read_page_bytes(
     }
 }
 
-/// Why a text is not read.
+/// Returns why a text is not read.
 fn fault_of(text: &str, halt: Halt) -> PageFault
     ensures { result ≡ fault_of (chars text.now) halt }
 {
@@ -115,7 +115,7 @@ fn fault_of(text: &str, halt: Halt) -> PageFault
     }
 }
 
-/// An error with its place in the text.
+/// Returns an error with its place in the text.
 fn note_at(text: &str, note: &(PageError, usize)) -> PageNote
     ensures { result ≡ placed (chars text.now) note.now }
 {
@@ -126,7 +126,7 @@ fn note_at(text: &str, note: &(PageError, usize)) -> PageNote
     }
 }
 
-/// The errors with their places in the text.
+/// Returns the errors with their places in the text.
 fn notes_at(alloc: Global, text: &str, notes: Notes) -> Result<PageNotes, AllocError>
     ensures { IfOk result (ArePlaced (chars text.now) (notes_of notes)) }
 {
@@ -138,7 +138,6 @@ fn notes_at(alloc: Global, text: &str, notes: Notes) -> Result<PageNotes, AllocE
     Ok(PageNotes { count, first })
 }
 
-/// Reads the characters of a text.
 fn run(reader: &mut Reader, text: &str) -> Result<(), Halt>
     requires { reader.old.reading.place + length text.now < 2 ^ 64 }
     ensures { Moves result (pages.run (reader_of reader.old) (chars text.now))
@@ -156,7 +155,7 @@ fn run(reader: &mut Reader, text: &str) -> Result<(), Halt>
     }
 }
 
-/// A reader behind a text in front of which so many bytes were read.
+/// Returns a reader that has read a text, which starts at that offset in bytes.
 fn read_from(alloc: Global, text: &str, limit: usize, place: usize) -> Result<Reader, Halt>
     requires { place + length text.now < 2 ^ 64 }
     ensures { Begins result (pages.run (pages.first_reader limit place) (chars text.now)) }
@@ -166,7 +165,7 @@ fn read_from(alloc: Global, text: &str, limit: usize, place: usize) -> Result<Re
     Ok(reader)
 }
 
-/// A reader behind a text, of which a byte order mark is dropped.
+/// Returns a reader that has read a text, and dropped its byte order mark.
 fn reader_behind(alloc: Global, text: &str, limit: usize) -> Result<Reader, Halt>
     ensures { Begins result (pages.begun limit (chars text.now)) }
 {
@@ -180,7 +179,7 @@ fn reader_behind(alloc: Global, text: &str, limit: usize) -> Result<Reader, Halt
     }
 }
 
-/// The element of a page that is read, and the errors that were gone over.
+/// Returns the element of a page that is read, and the errors recovered from.
 fn page_made(reading: Reading) -> Result<(HtmlElement, Notes), Halt>
     ensures { ReadsText result (pages.page_made (reading_of reading)) }
 {
@@ -195,7 +194,7 @@ fn page_made(reading: Reading) -> Result<(HtmlElement, Notes), Halt>
     }
 }
 
-/// The element that the text is read as, and the errors that were gone over.
+/// Returns the element that the text is read as, and the errors recovered from.
 fn read_text(alloc: Global, text: &str, limit: usize) -> Result<(HtmlElement, Notes), Halt>
     ensures { ReadsText result (pages.page_read limit (chars text.now)) }
 {

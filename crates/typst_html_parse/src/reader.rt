@@ -1,4 +1,4 @@
-//! A reader of pages, which takes one character after the other (HTML Standard 13.2.5).
+//! A reader of pages that takes one character after the other (HTML Standard 13.2.5).
 
 ghost use Rattle.std.specs.Char.{len_utf8};
 ghost use Rattle.std.specs.Prelude.{◌≡◌, ◌+◌, ◌<◌, ◌^◌, OnOk};
@@ -15,7 +15,7 @@ use crate::since::Since;
 use std::alloc::Global;
 use typst_html_parse_open::{Halt, Page, PageRefusal, Token};
 
-/// Where a reader stands.
+/// The state of a reader.
 #[derive(Clone, Copy)]
 pub(crate) enum State {
     /// In text.
@@ -42,7 +42,7 @@ pub(crate) enum State {
     SelfClosing,
     /// After `<!`.
     Markup,
-    /// In what is read as a comment.
+    /// In markup that is read as a comment.
     BogusComment,
     /// In a comment.
     Comment,
@@ -56,7 +56,7 @@ pub(crate) enum State {
     Reference,
 }
 
-/// What a reference stands in.
+/// The context of a reference.
 #[derive(Clone, Copy)]
 pub(crate) enum Holder {
     /// Text.
@@ -67,7 +67,7 @@ pub(crate) enum Holder {
     Raw,
 }
 
-/// How many `]` stand before the character, of two.
+/// The number of `]` before the character, at most two.
 #[derive(Clone, Copy)]
 pub(crate) enum Brackets {
     None,
@@ -75,7 +75,7 @@ pub(crate) enum Brackets {
     Two,
 }
 
-/// How deep in comments a script is.
+/// The depth of a script in comments.
 #[derive(Clone, Copy)]
 pub(crate) enum Depth {
     /// In none.
@@ -86,29 +86,29 @@ pub(crate) enum Depth {
     Script,
 }
 
-/// A reader, with what it keeps of the text that it has read.
+/// A reader, with the parts of the text that it still needs.
 #[derive(Drop)]
 pub(crate) struct Reader {
     pub(crate) alloc: Global,
     pub(crate) state: State,
     pub(crate) reading: Reading,
-    /// The tag that is being read.
+    /// The current tag.
     pub(crate) draft: Draft,
     pub(crate) names: Names,
-    /// What stands since `<!` or `<!DOCTYPE`.
+    /// The text since `<!` or `<!DOCTYPE`.
     pub(crate) inner: String,
-    /// What stands since `&`, and where.
+    /// The text since `&`.
     pub(crate) since: Since,
     pub(crate) holder: Holder,
     pub(crate) part: CommentPart,
     pub(crate) brackets: Brackets,
     pub(crate) depth: Depth,
-    /// How many characters stand since the last reference, as far as 255.
+    /// The number of characters since the last reference, at most 255.
     pub(crate) run: u8,
 }
 
 impl Reader {
-    /// Before a text in front of which so many bytes were read.
+    /// Creates a reader for a text that starts at that offset in bytes.
     pub(crate) fn new(alloc: Global, limit: usize, place: usize) -> Reader
         ensures { reader_of result ≡ first_reader limit place }
     {
@@ -183,7 +183,6 @@ impl Reader {
         Ok(())
     }
 
-    /// Reads the end of the text.
     pub(crate) fn finish(&mut self) -> Result<(), Halt>
         ensures { Emits result (tokens.finished (reader_of self.old))
             (reading_of self.new.reading) }

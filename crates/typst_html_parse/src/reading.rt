@@ -1,4 +1,4 @@
-//! How far a page is read: the tree so far, and what tokens do to it.
+//! The progress in a page: the tree so far, and what tokens do to it.
 
 ghost use Rattle.std.specs.Prelude.{◌≡◌, OnOk, chars};
 ghost use Rattle.typst_html_parse.specs.Endings.{Emits};
@@ -11,20 +11,20 @@ use std::alloc::AllocError;
 use typst_html_parse_open::{Halt, Page, PageError, PageRefusal, Token};
 use typst_html_parse_tree::{read_token, takes_text};
 
-/// How far a page is read, but for the state.
+/// The progress in a page, without the state.
 #[derive(Drop)]
 pub(crate) struct Reading {
     pub(crate) page: Page,
-    /// How many bytes of the text were read.
+    /// The number of bytes that were read.
     pub(crate) place: usize,
-    /// The token before was a start tag after which a line feed is dropped.
+    /// The last token was a start tag that drops a following line feed.
     pub(crate) fresh: bool,
-    /// The character before was a carriage return.
+    /// The last character was a carriage return.
     pub(crate) after_return: bool,
 }
 
 impl Reading {
-    /// An error at the next character is gone over.
+    /// Records an error at the next character.
     pub(crate) fn note(&mut self, error: PageError) -> Result<(), AllocError>
         ensures { OnOk result (reading_of self.new ≡ tokens.erring error (reading_of self.old)) }
     {
@@ -48,7 +48,7 @@ impl Reading {
         }
     }
 
-    /// Why reading stops at the token.
+    /// Returns the refusal of the page at the token.
     pub(crate) fn refusal(&self, refusal: PageRefusal) -> Halt
         ensures { result ≡ Halt.Refused refusal self.now.page.start }
     {
@@ -65,7 +65,7 @@ impl Reading {
         Ok(())
     }
 
-    /// A character. A line feed right after a start tag that drops it is dropped.
+    /// Emits a character. Drops a line feed right after a start tag that drops it.
     #[tactic(auto, using(typst_html_parse_tree::proofs::TakenTexts::text_taken))]
     pub(crate) fn emit_char(&mut self, c: char) -> Result<(), Halt>
         ensures { Emits result (tokens.char_emitted c (reading_of self.old))

@@ -14,7 +14,6 @@ use std::alloc::{AllocError, Global};
 use typst_html_parse_names::named_reference;
 use typst_html_parse_open::PageError;
 
-/// Whether it is an ASCII letter.
 pub(crate) fn is_letter(c: char) -> bool
     ensures { result ≡ references.is_letter c }
 {
@@ -33,7 +32,7 @@ fn is_x(c: char) -> bool
     matches!(c, 'x' | 'X')
 }
 
-/// Whether behind `&#` and these characters the character belongs to the reference.
+/// Returns whether the character belongs to the reference behind `&#` and these characters.
 fn continues_number(since: &str, c: char) -> bool
     ensures { result ≡ references.continues_number (chars since.now) c }
 {
@@ -49,7 +48,7 @@ fn continues_number(since: &str, c: char) -> bool
     }
 }
 
-/// Whether behind these characters, which stand since `&`, the character belongs to the reference.
+/// Returns whether the character belongs to the reference behind `&` and these characters.
 pub(crate) fn continues(since: &str, c: char) -> bool
     ensures { result ≡ references.continues (chars since.now) c }
 {
@@ -65,13 +64,13 @@ pub(crate) fn continues(since: &str, c: char) -> bool
     }
 }
 
-/// What a reference stands for.
+/// The characters of a reference, and its errors.
 #[derive(Drop)]
 pub(crate) struct Resolved {
     pub(crate) text: String,
     /// Whether the `;` behind it belongs to it.
     pub(crate) takes_end: bool,
-    /// That no `;` is behind it, or an error of its name.
+    /// The error that no `;` is behind it, or an error of its name.
     pub(crate) missing: Option<PageError>,
     /// An error of its number.
     pub(crate) error: Option<PageError>,
@@ -83,7 +82,7 @@ fn is_end(behind: Option<char>) -> bool
     behind == Some(';')
 }
 
-/// That the `;` is missing, unless it is there.
+/// Returns the error that the `;` is missing, unless it is there.
 fn missing_end(behind: Option<char>) -> Option<PageError>
     ensures { result ≡ references.missing_end behind }
 {
@@ -94,7 +93,7 @@ fn missing_end(behind: Option<char>) -> Option<PageError>
     }
 }
 
-/// Adds the one or two characters that a name stands for.
+/// Appends the one or two characters of a name.
 fn add_value(text: &mut String, value: (char, Option<char>)) -> Result<(), AllocError>
     ensures { OnOk result (text_view text.new
         ≡ text_view text.old ++ (value.0 ∷ option_to_list value.1)) }
@@ -106,7 +105,7 @@ fn add_value(text: &mut String, value: (char, Option<char>)) -> Result<(), Alloc
     }
 }
 
-/// A reference that stands for itself.
+/// Resolves a reference that stands for itself.
 #[tactic(auto, using(std::proofs::StrCases::chars_of_empty))]
 fn itself(alloc: Global, since: &str, error: Option<PageError>) -> Result<Resolved, AllocError>
     ensures { IfOk result (λ found. resolved_of found ≡ references.itself error (chars since.now)) }
@@ -122,7 +121,7 @@ fn itself(alloc: Global, since: &str, error: Option<PageError>) -> Result<Resolv
     })
 }
 
-/// A reference to the character of a number.
+/// Resolves a reference to the character of a number.
 #[tactic(auto, using(std::proofs::StrCases::chars_of_empty))]
 fn numbered(alloc: Global, number: u32, behind: Option<char>) -> Result<Resolved, AllocError>
     ensures { IfOk result (λ found. resolved_of found ≡ references.numbered number behind) }
@@ -137,7 +136,7 @@ fn numbered(alloc: Global, number: u32, behind: Option<char>) -> Result<Resolved
     })
 }
 
-/// A reference by number. `since` is all of it, and `digits` those of the number.
+/// Resolves a reference by number. `since` is all of it, and `digits` those of the number.
 fn resolve_number(
     alloc: Global,
     base: u32,
@@ -181,7 +180,7 @@ fn resolve_digits(
 }
 
 #[tactic(auto, using(std::proofs::StrCases::chars_of_empty))]
-/// A name whose end may lack its `;`.
+/// Resolves a name that may lack its `;`.
 fn resolve_legacy(
     alloc: Global,
     in_value: bool,
@@ -245,7 +244,7 @@ fn resolve_name(
 }
 
 #[tactic(auto, unfolding(crate::specs::PageReferences::resolved))]
-/// The reference that these characters are, which stand since `&`, with the character behind them.
+/// Resolves a reference from the characters behind `&`, and the one behind them.
 pub(crate) fn resolve(
     alloc: Global,
     in_value: bool,

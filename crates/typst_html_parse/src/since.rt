@@ -1,4 +1,4 @@
-//! What stands behind the `&` of a reference.
+//! The text behind the `&` of a reference.
 
 ghost use Rattle.std.specs.Prelude.{◌≡◌, ◌<◌, ◌++◌, ◌∷◌, [], OnOk, IsTrue, chars, string_bytes};
 ghost use Rattle.html_dom_tree.specs.Views.{text_view};
@@ -14,7 +14,6 @@ pub(crate) struct Since {
 }
 
 impl Since {
-    /// No character.
     #[tactic(auto, using(std::proofs::StrCases::chars_of_empty))]
     pub(crate) fn new(alloc: Global) -> Since
         ensures { text_view result.text ≡ [] }
@@ -24,7 +23,6 @@ impl Since {
         }
     }
 
-    /// No character any longer.
     #[tactic(auto, using(std::proofs::StrCases::chars_of_empty))]
     pub(crate) fn clear(&mut self)
         ensures { text_view self.new.text ≡ [] }

@@ -17,7 +17,6 @@ use typst_html_parse_open::Halt;
 use typst_html_parse_tree::takes_own_end;
 
 impl Reader {
-    /// Begins a tag with its name.
     fn begin_tag(&mut self, is_end: bool, name: &str) -> Result<(), AllocError>
         requires small { begins_small name.now ≡ true }
         requires names { all is_name_char name.now ≡ true }
@@ -31,7 +30,7 @@ impl Reader {
         Ok(())
     }
 
-    /// Reads the name of a tag that a text begins with, if its letters are small, and gives the rest.
+    /// Reads the lowercase name of a tag at the front of a text, if any, and returns the rest.
     fn read_name<'a>(&mut self, text: &'a str, is_end: bool) -> Result<&'a str, Halt>
         requires open { (reader_of self.old).state ≡ tag_open is_end }
         requires room { self.old.reading.place + length text.now < 2 ^ 64 }
@@ -47,8 +46,8 @@ impl Reader {
         Ok(rest)
     }
 
-    /// The rest of a text behind the name and the `>` of the current node's end tag, if the text begins
-    /// with them and the tag only closes the node.
+    /// Returns the rest of a text behind the name and the `>` of the current node's end tag, if the
+    /// text begins with them and the tag only closes the node.
     fn past_own_end<'a>(&self, text: &'a str) -> Option<&'a str>
         ensures { IfSome result (λ rest.
             EndsOwn (reading_of self.now.reading) text.now rest.now) }
@@ -65,7 +64,7 @@ impl Reader {
         strip(rest, ">")
     }
 
-    /// Closes the current node, behind so many bytes more, with which its own end tag ends.
+    /// Closes the current node behind so many more bytes, with which its own end tag ends.
     fn close_own(&mut self, length: usize) -> Result<(), Halt>
         requires { self.old.reading.place + length < 2 ^ 64 }
         ensures closed { OnOk result (behind_own_end length (reading_of self.old.reading)
@@ -80,8 +79,8 @@ impl Reader {
         Ok(())
     }
 
-    /// Reads what stands behind `</`: a tag that only closes the current node, or the name of another,
-    /// and gives the rest.
+    /// Reads an end tag behind `</` that only closes the current node, or the name of another, and
+    /// returns the rest.
     fn read_end<'a>(&mut self, text: &'a str) -> Result<&'a str, Halt>
         requires open { (reader_of self.old).state ≡ tag_open true }
         requires room { self.old.reading.place + length text.now < 2 ^ 64 }
@@ -117,8 +116,8 @@ impl Reader {
         Ok(())
     }
 
-    /// Reads the name of an attribute and the `="` behind it that a text begins with, if its letters are
-    /// small, and gives the rest.
+    /// Reads the name of an attribute and the `="` behind it at the beginning of a text, if its
+    /// letters are lowercase, and returns the rest.
     fn read_attr<'a>(&mut self, text: &'a str) -> Result<&'a str, Halt>
         requires before { self.old.state ≡ state.BeforeAttr }
         requires room { self.old.reading.place + length text.now < 2 ^ 64 }
@@ -137,7 +136,7 @@ impl Reader {
         Ok(rest)
     }
 
-    /// Reads what a text begins with of a tag, if it can be read at once, and gives the rest.
+    /// Reads a part of a tag at the front of a text, if it is read at once, and returns the rest.
     fn read_tag_front<'a>(&mut self, text: &'a str) -> Result<&'a str, Halt>
         requires { self.old.reading.place + length text.now < 2 ^ 64 }
         ensures read { IfOk result (λ rest.
@@ -152,7 +151,7 @@ impl Reader {
         }
     }
 
-    /// Reads what a text begins with, if it can be read at once, and gives the rest.
+    /// Reads the beginning of a text, if it can be read at once, and returns the rest.
     pub(crate) fn read_front<'a>(&mut self, text: &'a str) -> Result<&'a str, Halt>
         requires { self.old.reading.place + length text.now < 2 ^ 64 }
         ensures read { IfOk result (λ rest.

@@ -14,7 +14,7 @@ use typst_html_parse_open::{Halt, PageError, PageRefusal, StartTag, TagName, Tok
 use typst_html_parse_tree::is_space;
 
 impl Reader {
-    /// Behind a start tag: within an element of text alone, or not.
+    /// Enters the content behind a start tag: that of an element of text alone, or not.
     fn enter(&mut self, drops_feed: bool)
         ensures { reader_of self.new ≡ tokens.behind_start_tag drops_feed
             (reading_of self.old.reading) }
@@ -61,7 +61,7 @@ impl Reader {
         Ok(())
     }
 
-    /// A tag is whole.
+    /// Emits a complete tag.
     pub(crate) fn end_tag(&mut self, closed: bool) -> Result<(), Halt>
         ensures { Moves result (tokens.tag_emitted closed (draft_of self.old.draft)
             (reading_of self.old.reading)) (reader_of self.new) }

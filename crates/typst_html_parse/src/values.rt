@@ -11,7 +11,7 @@ use html_dom_tree::text;
 use typst_html_parse_open::{Halt, PageError};
 use typst_html_parse_tree::is_space;
 
-/// Whether with the character a value without quotes looks as if quotes were missing.
+/// Returns whether the character makes a value without quotes look as if quotes were missing.
 fn looks_quoted(c: char) -> bool
     ensures { result ≡ tokens.looks_quoted c }
 {
@@ -44,7 +44,7 @@ impl Reader {
         }
     }
 
-    /// A character of a value without quotes.
+    /// Reads a character of a value without quotes.
     fn unquoted(&mut self, c: char) -> Result<(), Halt>
         ensures { Moves result (tokens.unquoted_read (draft_of self.old.draft)
             (text_view self.old.draft.attr) (text_view self.old.draft.value) c

@@ -1,4 +1,4 @@
--- Tables of names that have capitals, by which a name in small letters gets them back.
+-- Tables of names that have capitals, which restore them to a name in lowercase.
 use Rattle.std.specs.Prelude.{◌≡◌, ℕ, Bool, true, false, ◌&&◌, List, [], ◌∷◌, Option, Some, None}
 use Rattle.std.specs.List.{list_all}
 use Rattle.std.specs.Borrow.{Bor}
@@ -14,8 +14,8 @@ is_name (c ∷ cs) = all is_tag_char (c ∷ cs) && all is_attr_char (c ∷ cs) &
 abbrev pub are_names : List (List ℕ) → Bool
 are_names = list_all is_name
 
--- what a look-up gives for a name in small letters: the name of the list that has capitals, or none
--- where the name stays as it is
+-- the result of looking up a name in lowercase: the name of the list that has capitals, or none if
+-- the name stays as it is
 abbrev pub IsWithCapitals : (names : List (List ℕ)) → (name : List ℕ) → Option (Bor (List ℕ)) →
     Type 0
 IsWithCapitals names name (Some found) =

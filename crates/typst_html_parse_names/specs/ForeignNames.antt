@@ -1,11 +1,11 @@
--- Names in SVG and MathML: those that get their capitals back after all letters were made small
--- (HTML Standard 13.2.6.1 and 13.2.6.5).
+-- Names in SVG and MathML that get their capitals back after all letters were made lowercase (HTML
+-- Standard 13.2.6.1 and 13.2.6.5).
 use Rattle.std.specs.Prelude.{ℕ, Bool, List, ◌++◌, codes, bytes_eq, map, unwrap_or}
 use Rattle.std.specs.Char.{to_ascii_lowercase}
 use Rattle.std.specs.List.{find}
 use Rattle.html_names.specs.Names.{listed_names, stands_in}
 
--- text in small letters
+-- a text in lowercase
 abbrev pub lowered : List ℕ → List ℕ
 lowered = map to_ascii_lowercase
 
@@ -37,7 +37,7 @@ svg_attrs =
 abbrev pub math_attrs : List (List ℕ)
 math_attrs = listed_names (codes "definitionURL")
 
--- the name of the list that is this one in small letters, where there is one
+-- the name of the list that is this one in lowercase, if there is one
 abbrev pub with_capitals : List (List ℕ) → List ℕ → List ℕ
 with_capitals names name = unwrap_or (find (λ n. bytes_eq (lowered n) name) names) name
 
@@ -45,10 +45,10 @@ with_capitals names name = unwrap_or (find (λ n. bytes_eq (lowered n) name) nam
 unfoldable pub is_font_attr : List ℕ → Bool
 is_font_attr name = stands_in (listed_names (codes "color face size")) name
 
--- the attribute of `annotation-xml` that tells what it holds
+-- the attribute with the media type of an `annotation-xml`'s content
 unfoldable pub is_encoding : List ℕ → Bool
 is_encoding name = stands_in (listed_names (codes "encoding")) name
 
--- media types of HTML, which `annotation-xml` may say that it holds
+-- media types of HTML for the content of `annotation-xml`
 unfoldable pub is_html_encoding : List ℕ → Bool
 is_html_encoding value = stands_in (listed_names (codes "application/xhtml+xml text/html")) value

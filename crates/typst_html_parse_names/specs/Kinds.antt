@@ -5,7 +5,7 @@ use Rattle.typst_html_parse_names.specs.declared.kind.Kind.{Kind}
 use Rattle.typst_html_parse_names.specs.declared.kind.Kind.TheVariants as kind
 use Rattle.typst_html_parse_names.specs.declared.kinds.Kinds.{Kinds}
 
--- the place of a kind among the kinds, and of its bit
+-- the index of a kind among the kinds, and of its bit
 abbrev pub kind_place : Kind → ℕ
 kind_place kind.A = 0
 kind_place kind.AnnotationXml = 1

@@ -5,18 +5,18 @@ use Rattle.std.specs.Option.{option_or}
 use Rattle.typst_html_parse_names.specs.ReferenceRow.{Row, value_in}
 use Rattle.typst_html_parse_names.specs.ReferenceRows.{legacy_groups, other_groups}
 
--- what the name stands for in a table
+-- the characters for the name in a table
 unfoldable pub value_in_groups : List (List Row) → (name : List ℕ) → Option (List ℕ)
 value_in_groups groups = value_in (flat_map (λ rows. rows) groups)
 
--- what a name stands for where no `;` is behind it, which some may lack
+-- the characters for a name without a `;` behind it, which some may lack
 unfoldable pub legacy_reference : (name : List ℕ) → Option (List ℕ)
 legacy_reference name = value_in_groups legacy_groups name
 
--- what a name stands for, without its `&` and `;`
+-- the characters for a name, without its `&` and `;`
 unfoldable pub named_reference : (name : List ℕ) → Option (List ℕ)
 named_reference name = option_or (legacy_reference name) (value_in_groups other_groups name)
 
--- one or two characters that are found, as a list
+-- the one or two characters found, as a list
 abbrev pub found_chars : Option (ℕ × Option ℕ) → Option (List ℕ)
 found_chars = option_map (λ found. found.0 ∷ option_to_list found.1)

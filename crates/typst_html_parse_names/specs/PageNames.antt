@@ -1,5 +1,5 @@
--- Kinds of elements that reading a page tells apart, by their names (HTML Standard 13.2.4 and
--- 13.2.6), with scripting disabled.
+-- Kinds of elements that the reader of a page distinguishes, by their names (HTML Standard 13.2.4
+-- and 13.2.6), with scripting disabled.
 use Rattle.std.specs.Prelude.{ℕ, Bool, List, ◌++◌, bytes_eq, codes}
 use Rattle.html_names.specs.Names.{listed_names, stands_in}
 use Rattle.typst_html_parse_names.specs.declared.kind.Kind.{Kind}
@@ -44,7 +44,7 @@ kind_names kind.Table = listed_names (codes "table")
 kind_names kind.Template = listed_names (codes "template")
 kind_names kind.Tr = listed_names (codes "tr")
 kind_names kind.Root = listed_names (codes "body html")
--- elements that are not read
+-- elements that the reader does not support
 kind_names kind.Unread = listed_names (codes "frameset plaintext template")
 -- in the head, elements without an end tag
 kind_names kind.HeadLeaf = listed_names (codes "base basefont bgsound link meta")
@@ -53,10 +53,10 @@ kind_names kind.EscapableRaw = listed_names (codes "textarea title")
 -- these, RAWTEXT and script data: elements of text alone
 kind_names kind.Raw = listed_names (codes "iframe noembed noframes script style textarea title xmp")
 kind_names kind.ScriptOrStyle = listed_names (codes "script style")
--- what is put into the head, and begins no body (13.2.6.4.4)
+-- the content of the head, which begins no body (13.2.6.4.4)
 kind_names kind.HeadContent =
     listed_names (codes "base basefont bgsound link meta noframes script style title")
--- what may stand in a `noscript` of the head (13.2.6.4.5)
+-- the content of a `noscript` in the head (13.2.6.4.5)
 kind_names kind.NoscriptContent = listed_names (codes "basefont bgsound link meta noframes style")
 -- formatting elements (13.2.4.3)
 kind_names kind.Formatting =
@@ -69,7 +69,7 @@ kind_names kind.Whole = listed_names (codes "applet form marquee object")
 kind_names kind.Leaf =
     listed_names (codes "area br embed hr img input keygen param source track wbr")
 kind_names kind.Heading = listed_names (codes "h1 h2 h3 h4 h5 h6")
--- their end tags close all that is open in them (13.2.6.4.7)
+-- their end tags close everything open in them (13.2.6.4.7)
 kind_names kind.ClosesInScope =
     listed_names (codes "address applet article aside blockquote button center details dialog dir")
     ++ listed_names (codes "div dl fieldset figcaption figure footer header hgroup listing main")
@@ -79,7 +79,7 @@ kind_names kind.ClosesP =
     listed_names (codes "address article aside blockquote center dd details dialog dir div dl dt")
     ++ listed_names (codes "fieldset figcaption figure footer form h1 h2 h3 h4 h5 h6 header hgroup")
     ++ listed_names (codes "hr li listing main menu nav ol p pre search section summary ul xmp")
--- before their start tags no formatting elements are made again
+-- no formatting elements are made again before their start tags
 kind_names kind.Unformatted =
     listed_names (codes "address article aside blockquote center dd details dialog dir div dl dt")
     ++ listed_names (codes "fieldset figcaption figure footer form h1 h2 h3 h4 h5 h6 header hgroup")
@@ -107,18 +107,18 @@ kind_names kind.BoundsScope =
     listed_names (codes "applet caption html marquee object select table td template th")
 -- and those that bound that of a list item beside
 kind_names kind.BoundsList = listed_names (codes "ol ul")
--- special elements within which a list item is looked for all the same
+-- special elements that do not end the search for a list item
 kind_names kind.PassedByItems = listed_names (codes "address div p")
 kind_names kind.RubyPart = listed_names (codes "rb rp rt rtc")
 kind_names kind.RubyText = listed_names (codes "rp rt")
--- after their start tag a line feed is dropped
+-- a line feed behind their start tag is dropped
 kind_names kind.DropsFeed = listed_names (codes "listing pre textarea")
 -- start tags that close SVG and MathML (13.2.6.5)
 kind_names kind.Breakout =
     listed_names (codes "b big blockquote body br center code dd div dl dt em embed h1 h2 h3 h4 h5")
     ++ listed_names (codes "h6 head hr i img li listing menu meta nobr ol p pre ruby s small span")
     ++ listed_names (codes "strike strong sub sup table tt u ul var")
--- start tags that stand in the text of MathML as MathML
+-- start tags that are read as MathML in the text of MathML
 kind_names kind.Glyph = listed_names (codes "malignmark mglyph")
 -- elements of MathML in which text and elements of HTML stand
 kind_names kind.MathText = listed_names (codes "mi mn mo ms mtext")

@@ -25,6 +25,6 @@ row_of text = (
 abbrev pub rows_of : List ℕ → List Row
 rows_of text = map row_of (listed_names text)
 
--- what the row of that name stands for
+-- the characters for that name in the rows
 abbrev pub value_in : List Row → (name : List ℕ) → Option (List ℕ)
 value_in rows name = option_map (λ r. r.1) (find (λ r. bytes_eq r.0 name) rows)

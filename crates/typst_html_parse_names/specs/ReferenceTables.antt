@@ -1,4 +1,4 @@
--- Tables of named character references, as they are held.
+-- Tables of named character references, as they are stored.
 use Rattle.std.specs.Prelude.{ℕ, suc, Bool, true, false, ◌&&◌, ◌==◌, nat_le, List, [], ◌∷◌, take, drop, length, option_to_list}
 use Rattle.std.specs.Borrow.{Bor}
 use Rattle.std.specs.List.{list_all}
@@ -6,14 +6,14 @@ use Rattle.html_names.specs.Names.{is_ascii}
 use Rattle.typst_html_parse_names.specs.ReferenceRow.{Row}
 use Rattle.typst_html_parse_names.specs.declared.reference_rows.Reference.{Reference}
 
--- the rows of names that stand one behind the other
+-- the rows of names that are joined in one text
 abbrev pub rows_view : (names : List ℕ) → List Reference → List Row
 rows_view names [] = []
 rows_view names (r ∷ rs) =
     (take r.name_length names, r.first ∷ option_to_list r.second)
     ∷ rows_view (drop r.name_length names) rs
 
--- the names are as long as the references say
+-- the names have the lengths that the references say
 abbrev pub are_as_long : (names : List ℕ) → List Reference → Bool
 are_as_long names [] = true
 are_as_long names (r ∷ rs) =

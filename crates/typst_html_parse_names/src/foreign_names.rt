@@ -1,5 +1,5 @@
-//! Names in SVG and MathML: those that get their capitals back after all letters were made small
-//! (HTML Standard 13.2.6.1 and 13.2.6.5).
+//! Names in SVG and MathML that get their capitals back after all letters were made lowercase (HTML
+//! Standard 13.2.6.1 and 13.2.6.5).
 
 ghost use Rattle.std.specs.Prelude.{◌≡◌, bytes_eq, chars, map, IfOk, IsTrue};
 ghost use Rattle.html_names.specs.Names.{texts, are_ascii, rises};
@@ -11,11 +11,11 @@ use crate::foreign_table::{
     MATH_ATTR_STARTS, MATH_ATTRS, SMALL_MATH_ATTRS, SMALL_SVG_ATTRS, SMALL_SVG_TAGS,
     SVG_ATTR_STARTS, SVG_ATTRS, SVG_TAG_STARTS, SVG_TAGS,
 };
-use crate::lookup::{is_one_of, place_in};
+use html_names::lookup::{is_one_of, place_in};
 use html_names::{HtmlAttr, HtmlTag};
 use std::alloc::{AllocError, Global};
 
-/// The name of the table that is this one in small letters.
+/// Returns the name of the table that is this one in lowercase.
 fn name_in(
     small: &[&'static str],
     starts: &[u8; 27],
@@ -51,7 +51,7 @@ fn math_attr_name(name: &str) -> Option<&'static str>
     name_in(&SMALL_MATH_ATTRS, &MATH_ATTR_STARTS, &MATH_ATTRS, name)
 }
 
-/// The tag of SVG that is this one in small letters, or the tag itself where none is.
+/// Returns the tag of SVG that is this one in lowercase, or the tag itself if there is none.
 ///
 /// ```
 /// use html_names::HtmlTag;
@@ -72,7 +72,7 @@ pub fn svg_tag(alloc: Global, tag: HtmlTag) -> Result<HtmlTag, AllocError>
     }
 }
 
-/// The attribute of SVG that is this one in small letters, or the attribute itself where none is.
+/// Returns the attribute of SVG that is this one in lowercase, or itself if there is none.
 ///
 /// ```
 /// use html_names::HtmlAttr;
@@ -91,8 +91,7 @@ pub fn svg_attr(alloc: Global, attr: HtmlAttr) -> Result<HtmlAttr, AllocError>
     }
 }
 
-/// The attribute of MathML that is this one in small letters, or the attribute itself where none
-/// is.
+/// Returns the attribute of MathML that is this one in lowercase, or itself if there is none.
 ///
 /// ```
 /// use html_names::HtmlAttr;
@@ -111,7 +110,7 @@ pub fn math_attr(alloc: Global, attr: HtmlAttr) -> Result<HtmlAttr, AllocError>
     }
 }
 
-/// Whether a `font` with this attribute closes SVG and MathML (HTML Standard 13.2.6.5).
+/// Returns whether a `font` with this attribute closes SVG and MathML (HTML Standard 13.2.6.5).
 ///
 /// ```
 /// use html_names::attr;
@@ -127,7 +126,7 @@ pub fn is_font_attr(attr: &HtmlAttr) -> bool
     is_one_of(&["color", "face", "size"], attr.resolve())
 }
 
-/// Whether the attribute tells the media type of what an `annotation-xml` holds (HTML Standard 13.2.6).
+/// Returns whether the attribute names an `annotation-xml`'s media type (HTML Standard 13.2.6).
 ///
 /// ```
 /// use html_names::HtmlAttr;
@@ -143,8 +142,8 @@ pub fn is_encoding(attr: &HtmlAttr) -> bool
     is_one_of(&["encoding"], attr.resolve())
 }
 
-/// Whether the value is a media type of HTML, which `annotation-xml` may say that it holds. Capitals
-/// and small letters are the same.
+/// Returns whether the value is a media type of HTML for the content of an `annotation-xml`, in any
+/// ASCII case.
 ///
 /// ```
 /// use typst_html_parse_names::is_html_encoding;
@@ -158,7 +157,7 @@ pub fn is_html_encoding(value: &str) -> bool
     is_same_lowered(value, "application/xhtml+xml") || is_same_lowered(value, "text/html")
 }
 
-/// Whether the name is the other one, once its letters are made small.
+/// Returns whether the name in lowercase is the other one.
 ///
 /// ```
 /// use typst_html_parse_names::is_same_lowered;

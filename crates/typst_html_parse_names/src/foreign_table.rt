@@ -1,7 +1,7 @@
-//! The names of SVG and MathML that have capitals, in the ascending order of these names in small
-//! letters.
+//! The names of SVG and MathML that have capitals, in the ascending order of these names in
+//! lowercase.
 
-/// Gives the macro `$column` a row for each tag of SVG that has capitals: its name in small letters
+/// Passes to the macro `$column` a row for each tag of SVG that has capitals: its name in lowercase
 /// and its name.
 macro_rules! tag_rows {
     ($column:ident) => {
@@ -47,7 +47,7 @@ macro_rules! tag_rows {
     };
 }
 
-/// The same for each attribute of SVG that has capitals.
+/// Does the same for each attribute of SVG that has capitals.
 macro_rules! attr_rows {
     ($column:ident) => {
         $column! {
@@ -125,7 +125,7 @@ pub(crate) const SMALL_SVG_TAGS: [&str; 37] = tag_rows!(small_column);
 
 pub(crate) const SVG_TAGS: [&str; 37] = tag_rows!(name_column);
 
-/// The places of `SMALL_SVG_TAGS` at which the names with each first letter begin, and the end.
+/// The index in `SMALL_SVG_TAGS` of the first name with each first letter, and the length.
 pub(crate) const SVG_TAG_STARTS: [u8; 27] = [
     0, 6, 6, 7, 7, 7, 33, 34, 34, 34, 34, 34, 35, 35, 35, 35, 35, 35, 36, 36, 37, 37, 37, 37, 37,
     37, 37,
@@ -135,7 +135,7 @@ pub(crate) const SMALL_SVG_ATTRS: [&str; 58] = attr_rows!(small_column);
 
 pub(crate) const SVG_ATTRS: [&str; 58] = attr_rows!(name_column);
 
-/// The places of `SMALL_SVG_ATTRS` at which the names with each first letter begin, and the end.
+/// The index in `SMALL_SVG_ATTRS` of the first name with each first letter, and the length.
 pub(crate) const SVG_ATTR_STARTS: [u8; 27] = [
     0, 2, 4, 6, 7, 8, 9, 12, 12, 12, 12, 17, 19, 24, 25, 25, 35, 35, 41, 49, 53, 53, 55, 55, 56,
     57, 58,
@@ -145,7 +145,7 @@ pub(crate) const SMALL_MATH_ATTRS: [&str; 1] = ["definitionurl"];
 
 pub(crate) const MATH_ATTRS: [&str; 1] = ["definitionURL"];
 
-/// The places of `SMALL_MATH_ATTRS` at which the names with each first letter begin, and the end.
+/// The index in `SMALL_MATH_ATTRS` of the first name with each first letter, and the length.
 pub(crate) const MATH_ATTR_STARTS: [u8; 27] = [
     0, 0, 0, 0, 1, 1, 1, 1, 1, 1, 1, 1, 1, 1, 1, 1, 1, 1, 1, 1, 1, 1, 1, 1, 1, 1, 1,
 ];

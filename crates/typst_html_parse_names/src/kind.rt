@@ -1,4 +1,4 @@
-//! Kinds of elements that reading a page tells apart.
+//! Kinds of elements that the reader of a page distinguishes.
 
 ghost use Rattle.std.specs.Prelude.{◌≡◌, ◌<◌};
 ghost use Rattle.typst_html_parse_names.specs.Kinds.{kind_place, kind_bit};
@@ -79,7 +79,7 @@ impl Kind {
         self as u64
     }
 
-    /// Its bit among those of `Kinds`.
+    /// Returns its bit among those of `Kinds`.
     pub(crate) fn bit(self) -> u64
         ensures { result ≡ kind_bit self }
     {

@@ -1,8 +1,8 @@
-//! The names that are of some kind, in ascending order, and the kinds of each.
+//! The names that have a kind, in ascending order, and the kinds of each.
 
 use crate::kind::Kind;
 
-/// Gives the macro `$column` a row for each name that is of some kind: the name and its kinds.
+/// Passes to the macro `$column` a row for each name that has a kind: the name and its kinds.
 macro_rules! name_rows {
     ($column:ident) => {
         $column! {
@@ -145,7 +145,7 @@ pub(crate) const NAMES: [&str; 122] = name_rows!(name_column);
 /// The kinds of each name, each kind a bit.
 pub(crate) static KIND_BITS: [u64; 122] = name_rows!(bits_column);
 
-/// The places of `NAMES` at which the names with each first letter begin, and the end.
+/// The index in `NAMES` of the first name with each first letter, and the length.
 pub(crate) const STARTS: [u8; 27] = [
     0, 7, 16, 21, 29, 31, 40, 40, 51, 56, 56, 57, 60, 72, 77, 81, 85, 85, 90, 105, 117, 119, 120,
     121, 122, 122, 122,

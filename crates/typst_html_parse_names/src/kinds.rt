@@ -4,16 +4,16 @@ ghost use Rattle.typst_html_parse_names.specs.Kinds.{IsKindsOf, has};
 
 use crate::kind::Kind;
 use crate::kind_table::{KIND_BITS, NAMES, STARTS};
-use crate::lookup::place_in;
+use html_names::lookup::place_in;
 
-/// The kinds that a name is of.
+/// The kinds of a name.
 #[derive(Clone, Copy, Debug)]
 pub struct Kinds {
     bits: u64,
 }
 
 impl Kinds {
-    /// Whether that kind is one of them.
+    /// Returns whether that kind is one of them.
     pub fn has(self, kind: Kind) -> bool
         ensures { result ≡ has self kind }
     {
@@ -28,7 +28,7 @@ fn place_of(name: &str) -> Option<u8>
     place_in(&NAMES, &STARTS, name)
 }
 
-/// The kinds that the name is of, an element's name as it stands in the page's tree.
+/// Returns the kinds of the name of an element, as it stands in the page's tree.
 ///
 /// ```
 /// use typst_html_parse_names::{Kind, kinds_of};

@@ -1,5 +1,5 @@
-//! Names that reading a page tells apart: the kinds of elements, the names of SVG and MathML with
-//! their capitals, and the named character references.
+//! Names that the reader of a page distinguishes: the kinds of elements, the names of SVG and
+//! MathML with their capitals, and the named character references.
 #![tactic(auto)]
 
 mod foreign_names;
@@ -7,14 +7,13 @@ mod foreign_table;
 mod kind;
 mod kind_table;
 mod kinds;
-mod lookup;
 mod reference_rows;
 mod references;
 
 pub use foreign_names::{
     is_encoding, is_font_attr, is_html_encoding, is_same_lowered, math_attr, svg_attr, svg_tag,
 };
+pub use html_names::lookup::is_one_of;
 pub use kind::Kind;
 pub use kinds::{Kinds, kinds_of};
-pub use lookup::is_one_of;
 pub use references::{legacy_reference, named_reference};

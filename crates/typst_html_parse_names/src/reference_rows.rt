@@ -1,7 +1,7 @@
 //! The named character references (HTML Standard 13.5), in groups by the first letters of their
 //! names, from `A` to `z`. `tools/named_references` writes this file.
 
-/// How long a name is, and the one or two characters that it stands for.
+/// The length of a name, and the one or two characters that it stands for.
 pub(crate) struct Reference {
     pub(crate) name_length: u8,
     pub(crate) first: char,
@@ -118,7 +118,7 @@ macro_rules! legacy_rows {
 /// The names of each group, each behind the one before.
 pub(crate) static LEGACY_NAMES: [&str; 58] = legacy_rows!(names_column);
 
-/// What stands for each name.
+/// The characters for each name.
 pub(crate) static LEGACY_REFERENCES: [&[Reference]; 58] = legacy_rows!(references_column);
 
 macro_rules! other_rows {
@@ -686,5 +686,5 @@ macro_rules! other_rows {
 /// The names of each group, each behind the one before.
 pub(crate) static OTHER_NAMES: [&str; 58] = other_rows!(names_column);
 
-/// What stands for each name.
+/// The characters for each name.
 pub(crate) static OTHER_REFERENCES: [&[Reference]; 58] = other_rows!(references_column);

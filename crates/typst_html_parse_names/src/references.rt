@@ -10,7 +10,7 @@ use crate::reference_rows::{
     LEGACY_NAMES, LEGACY_REFERENCES, OTHER_NAMES, OTHER_REFERENCES, Reference,
 };
 
-/// What the name stands for in a group.
+/// Returns the characters for a name in a group.
 fn value_in(names: &str, references: &[Reference], name: &str) -> Option<(char, Option<char>)>
     requires { IsTrue (are_as_long names.now references.now) }
     ensures { found_chars result ≡ value_in (rows_view names.now references.now) name.now }
@@ -27,8 +27,8 @@ fn value_in(names: &str, references: &[Reference], name: &str) -> Option<(char, 
     None
 }
 
-/// What the name stands for in groups of names, those that begin with `A`, then with the next
-/// character, and so on.
+/// Returns the characters for a name in groups of names, those that begin with `A`, then with the
+/// next character, and so on.
 fn value_in_groups(
     names: &[&'static str],
     references: &[&'static [Reference]],
@@ -54,7 +54,7 @@ fn other_reference(name: &str) -> Option<(char, Option<char>)>
     value_in_groups(&OTHER_NAMES, &OTHER_REFERENCES, name)
 }
 
-/// The one or two characters that a name stands for where no `;` is behind it, which some names may
+/// Returns the one or two characters for a name that has no `;` behind it, which some names may
 /// lack.
 ///
 /// ```
@@ -69,7 +69,7 @@ pub fn legacy_reference(name: &str) -> Option<(char, Option<char>)>
     value_in_groups(&LEGACY_NAMES, &LEGACY_REFERENCES, name)
 }
 
-/// The one or two characters that a name stands for, without its `&` and `;`.
+/// Returns the one or two characters for a name, without its `&` and `;`.
 ///
 /// ```
 /// use typst_html_parse_names::named_reference;

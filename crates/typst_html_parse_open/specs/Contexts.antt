@@ -1,4 +1,4 @@
--- What is known at an open element of it and of those around it, from which the insertion mode follows.
+-- Facts about an open element and those around it, which determine the insertion mode.
 use Rattle.std.specs.Prelude.{◌≡◌, ℕ, ◌==◌, List, [], ◌∷◌, map, reverse, if◌then◌else◌, Option, Some, None, refl}
 use native.Mathlib.Decide.{ℕ_discrete}
 use mathlib.Core.HLevel.{hedberg, ×_discrete}
@@ -15,7 +15,7 @@ use Rattle.typst_html_parse_open.specs.declared.modes.Mode.{Mode}
 use Rattle.typst_html_parse_open.specs.declared.modes.Mode.TheVariants.{BeforeHtml, BeforeHead, InHead, InHeadNoscript, AfterHead, InBody, InText, InTable, InCaption, InColumns, InSection, InRow, InCell}
 use Rattle.typst_html_parse_open.specs.declared.modes.Scope.TheVariants.{Button}
 
--- the mode that the current node brings
+-- the mode that the current node sets
 abbrev pub own_mode : OpenElement → (below : List OpenElement) → Option Mode
 own_mode o below = if is_html o.space then named_mode o.head.name below else None
 
@@ -23,12 +23,12 @@ abbrev pub some_or : Option Mode → Option Mode → Option Mode
 some_or None m = m
 some_or (Some m) n = Some m
 
--- the mode that the innermost of them brings that brings one
+-- the mode that the innermost of them with a mode sets
 abbrev pub brought_mode : List OpenElement → Option Mode
 brought_mode [] = None
 brought_mode (o ∷ os) = some_or (own_mode o os) (brought_mode os)
 
--- the mode where none of them brings one: it hangs on the root alone
+-- the mode if none of them sets one: it depends on the root only
 abbrev pub root_mode : List OpenElement → Mode
 root_mode [] = BeforeHtml
 root_mode (o ∷ []) = html_mode o.children
@@ -37,7 +37,7 @@ root_mode (o ∷ p ∷ ps) = root_mode (p ∷ ps)
 abbrev pub context : List OpenElement → Context
 context os = record { mode = brought_mode os; has_paragraph = in_scope Button (of kind.P) os }
 
--- at each of them, the innermost first
+-- at each of them, innermost first
 abbrev pub contexts : List OpenElement → List Context
 contexts [] = []
 contexts (o ∷ os) = context (o ∷ os) ∷ contexts os
@@ -45,7 +45,7 @@ contexts (o ∷ os) = context (o ∷ os) ∷ contexts os
 abbrev pub context_of : PageElement → Context
 context_of e = e.context
 
--- each element, the last of them the innermost, has what is known at it
+-- each element, the last of them the innermost, has the facts about it
 abbrev pub AreKnown : List PageElement → Type 0
 AreKnown es = reverse (map context_of es) ≡ contexts (list_of es)
 

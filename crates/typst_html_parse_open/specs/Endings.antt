@@ -1,5 +1,5 @@
--- How steps end: with the page or the turn that is expected, or as it is expected that reading stops;
--- want of memory may come before.
+-- How steps end: with the expected page or turn, or with the expected refusal; out of memory may
+-- come before.
 use Rattle.std.specs.Prelude.{◌≡◌, Option, Some, None, option_map, Result, Ok, Err, OnOk, IfOk, IfErr}
 use Rattle.html_dom_tree.specs.Views.{element_view}
 use Rattle.html_dom_tree.specs.declared.node.HtmlElement.{HtmlElement}
@@ -11,12 +11,12 @@ use Rattle.typst_html_parse_open.specs.declared.fault.Halt.TheVariants.{OutOfMem
 use Rattle.typst_html_parse_open.specs.declared.notes.Notes.{Notes}
 use Rattle.typst_html_parse_open.specs.declared.token.Token.{Token}
 
--- reading stops as it is expected, unless memory ran out
+-- reading stops as expected, unless memory ran out
 abbrev pub IsHalt : {A : Type 0} → Reads A → Halt → Type 0
 IsHalt expected OutOfMemory = Unit {0}
 IsHalt expected (Refused refusal place) = expected ≡ Err (refusal, place)
 
--- a page changes as it is expected
+-- a page changes as expected
 pub record Steps (r : Result (Unit {0}) Halt) (expected : Reads Page) (new : Page) : Type 0 where
   pub made : OnOk r (expected ≡ Ok new)
   pub halted : IfErr r (IsHalt expected)
@@ -31,12 +31,12 @@ abbrev pub turn_of : Option Token → Page → Turn
 turn_of None p = Taken p
 turn_of (Some token) p = Again p (token_of token)
 
--- a mode does with a token what is expected
+-- a mode handles a token as expected
 pub record Turns (r : Result (Option Token) Halt) (expected : Reads Turn) (new : Page) : Type 0 where
   pub made : IfOk r (λ again. expected ≡ Ok (turn_of again new))
   pub halted : IfErr r (IsHalt expected)
 
--- a page is read to its end: the root is made, and the errors are told
+-- a page is read to its end: the root is made, and the errors are returned
 pub record Finishes (r : Result (Option HtmlElement × Notes) Halt) (p : Page) : Type 0 where
   pub root : IfOk r (λ read. option_map element_view read.0 ≡ root_of (settled p).stack)
   pub notes : IfOk r (λ read. notes_of read.1 ≡ p.notes)

@@ -1,4 +1,4 @@
--- Where in a list, the last of which counts first, a name is lost.
+-- The index of a lost name in a list in which the last one counts first.
 use Rattle.std.specs.Prelude.{◌≡◌, ℕ, ◌<◌, true, false, List, length, reverse, Option, Some, None}
 use Rattle.std.specs.List.{remove}
 use Rattle.typst_html_parse_open.specs.Pages.{is_lost, without_lost}

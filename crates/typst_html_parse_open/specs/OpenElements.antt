@@ -1,5 +1,5 @@
--- The elements that are open, the innermost first, what is in scope, and the insertion mode, which
--- follows from them (HTML Standard 13.2.4).
+-- The open elements, innermost first, what is in scope, and the insertion mode, which follows from
+-- them (HTML Standard 13.2.4).
 use Rattle.std.specs.Prelude.{ℕ, Bool, true, false, not, ◌&&◌, ◌||◌, ◌==◌, List, [], ◌∷◌, length, if◌then◌else◌, bytes_eq, Option, Some, None, unwrap_or}
 use Rattle.html_dom_tree.specs.Tree.{Head, NodeView, tag_node, text_node, element_node, frame_node, NodesView, none, node, ElementView, with_last}
 use Rattle.typst_html_parse_names.specs.ForeignNames.{lowered}
@@ -26,7 +26,7 @@ is_html space = false
 abbrev pub is_of : (test : List ℕ → Bool) → OpenElement → Bool
 is_of test o = is_html o.space && test o.head.name
 
--- an element of SVG or MathML of that name, in small letters
+-- an element of SVG or MathML with that name, in lowercase
 abbrev pub is_foreign_of : (name : List ℕ) → OpenElement → Bool
 is_foreign_of name o = not (is_html o.space) && bytes_eq (lowered o.head.name) name
 
@@ -48,13 +48,12 @@ current_space (o ∷ os) = o.space
 abbrev pub is_in_foreign : List OpenElement → Bool
 is_in_foreign = at (λ o. not (is_html o.space))
 
--- the nearest element that is a goal is reached, from the current node outwards, before one that bounds
--- the search
+-- a search from the current node outwards reaches a goal before a bound
 abbrev pub reaches : (goal bound : OpenElement → Bool) → List OpenElement → Bool
 reaches goal bound [] = false
 reaches goal bound (o ∷ os) = goal o || (not (bound o) && reaches goal bound os)
 
--- some open element is one
+-- an open element is one
 abbrev pub has : (test : List ℕ → Bool) → List OpenElement → Bool
 has test = reaches (is_of test) (λ o. false)
 
@@ -73,22 +72,22 @@ bounds ListItem o = is_of (of kind.BoundsList) o || bounds_general o
 bounds Button o = is_of (of kind.Button) o || bounds_general o
 bounds Table o = is_of (λ n. of kind.Html n || of kind.Table n || of kind.Template n) o
 
--- one is in scope: no other element that bounds the scope stands within it
+-- one is in scope: no other element that bounds the scope is inside it
 abbrev pub in_scope : Scope → (test : List ℕ → Bool) → List OpenElement → Bool
 in_scope scope test = reaches (is_of test) (bounds scope)
 
 abbrev pub is_special : OpenElement → Bool
 is_special o = is_of (of kind.Special) o || is_foreign_bound o.space o.head.name
 
--- one is open, and no special element stands within it
+-- one is open, with no special element inside it
 abbrev pub is_near : (test : List ℕ → Bool) → List OpenElement → Bool
 is_near test = reaches (is_of test) is_special
 
--- one is open, and no element stands within it that hides it
+-- one is open, with no element inside it that hides it
 abbrev pub is_active : (test : List ℕ → Bool) → List OpenElement → Bool
 is_active test = reaches (is_of test) (is_of (of kind.Marker))
 
--- the same of an item, within which `address`, `div` and `p` may stand (13.2.6.4.7, start tags of `li`,
+-- the same of an item, in which `address`, `div` and `p` may stand (13.2.6.4.7, start tags of `li`,
 -- `dd`, `dt`)
 abbrev pub bounds_item : OpenElement → Bool
 bounds_item o = is_special o && not (is_of (of kind.PassedByItems) o)
@@ -96,7 +95,7 @@ bounds_item o = is_special o && not (is_of (of kind.PassedByItems) o)
 abbrev pub has_item : (test : List ℕ → Bool) → List OpenElement → Bool
 has_item test = reaches (is_of test) bounds_item
 
--- the mode that an element of HTML brings
+-- the mode that an element of HTML sets
 abbrev pub named_mode : (name : List ℕ) (below : List OpenElement) → Option Mode
 named_mode name below = if of kind.Cell name then Some InCell
     else (if of kind.Section name then Some InSection
@@ -110,7 +109,7 @@ named_mode name below = if of kind.Cell name then Some InCell
     else (if of kind.Noscript name && is_at (of kind.Head) below then Some InHeadNoscript
     else None)))))))))
 
--- some of them is an element
+-- any of them is an element
 abbrev pub has_elements : NodesView → Bool
 has_elements none = false
 has_elements (node (tag_node t) ns) = has_elements ns
@@ -118,7 +117,7 @@ has_elements (node (text_node text span) ns) = has_elements ns
 has_elements (node (element_node h children) ns) = true
 has_elements (node (frame_node f) ns) = has_elements ns
 
--- within `html`, and neither in the head nor in the body
+-- within `html`, outside of head and body
 abbrev pub html_mode : NodesView → Mode
 html_mode children = if has_elements children then AfterHead else BeforeHead
 
@@ -128,13 +127,13 @@ mode [] = BeforeHtml
 mode (o ∷ os) = unwrap_or (if is_html o.space then named_mode o.head.name os else None)
     (if length os == 0 then html_mode o.children else mode os)
 
--- a text is the last child of an element, with the span of the element, unless the text is empty
+-- appends a text to an element, with the span of the element, unless the text is empty
 abbrev pub with_text : List ℕ → OpenElement → OpenElement
 with_text [] o = o
 with_text (c ∷ cs) o =
     record o { children = with_last o.children (text_node (c ∷ cs) o.head.span) }
 
--- a text is the last child of the current node, unless it is empty
+-- appends a text to the current node, unless it is empty
 abbrev pub with_last_text : List ℕ → List OpenElement → List OpenElement
 with_last_text text [] = []
 with_last_text text (o ∷ os) = with_text text o ∷ os

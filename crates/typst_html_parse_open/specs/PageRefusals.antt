@@ -1,4 +1,4 @@
--- The numbers of refusals of pages. Those below 26 are numbers of faults of writing, of which one fits.
+-- The numbers of refusals of pages. Those below 26 belong to faults of writing; one fits.
 use Rattle.std.specs.Prelude.{ℕ}
 use Rattle.typst_html_parse_open.specs.declared.fault.PageRefusal.{PageRefusal}
 use Rattle.typst_html_parse_open.specs.declared.fault.PageRefusal.TheVariants as refusal

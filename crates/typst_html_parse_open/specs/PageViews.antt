@@ -1,4 +1,4 @@
--- The program's page and its tokens as those of the definition, and what it looks for.
+-- The program's page, tokens and searches as those of the definition.
 use Rattle.std.specs.Prelude.{ℕ, Bool, false, not, ◌&&◌, List, reverse}
 use Rattle.html_dom_tree.specs.Views.{attrs_view, text_view}
 use Rattle.typst_html_parse_names.specs.PageNames.{is, of}

@@ -1,5 +1,5 @@
--- What is kept of a page that is being read, and the steps that reading its tokens takes: elements are
--- opened and closed (HTML Standard 13.2.4 and 13.2.6).
+-- The state of a page that is being read, and the steps that its tokens take: elements are opened
+-- and closed (HTML Standard 13.2.4 and 13.2.6).
 use Rattle.std.specs.Prelude.{ℕ, zero, suc, ◌+◌, min, Bool, true, false, not, ◌&&◌, ◌||◌, nat_lt, nat_le, List, [], ◌∷◌, ◌++◌, length, if◌then◌else◌, bytes_eq, Option, Some, None, Result, Ok, Err}
 use Rattle.html_dom_tree.specs.Tree.{TextPair, Head, none}
 use Rattle.typst_html_parse_open.specs.OpenElements.{OpenElement, at, is_of, is_at, in_scope, with_last_text, without_current}
@@ -15,8 +15,8 @@ use Rattle.typst_html_parse_open.specs.declared.modes.Space.TheVariants.{Html}
 use Rattle.typst_html_parse_open.specs.declared.modes.TableRule.{TableRule}
 use Rattle.typst_html_parse_open.specs.declared.modes.TableRule.TheVariants as rule
 
--- the errors that were gone over: how many (counted as far as 32 bits go), and the first ten, each with
--- how many bytes stand before it
+-- the recovered errors: their number (at most that of 32 bits), and the first ten, each with its
+-- offset in bytes
 pub record Notes : Type 0 where
   pub count : ℕ
   pub first : List (PageError × ℕ)
@@ -30,15 +30,15 @@ with_note e place notes = record {
 pub record Page : Type 0 where
   -- the text since the last child of the current node
   pub text : List ℕ
-  -- the elements that are open, the innermost first
+  -- the open elements, innermost first
   pub stack : List OpenElement
   -- the formatting elements that a tag of another name closed, the last first; None stands for an
   -- open element that hides those behind it
   pub lost : List (Option (List ℕ))
   pub tables : TableRule
-  -- how deep elements may stand
+  -- the greatest depth of elements
   pub limit : ℕ
-  -- how many bytes of the text stand before the token
+  -- the offset of the token in bytes
   pub start : ℕ
   pub notes : Notes
 
@@ -67,7 +67,7 @@ pub data Token : Type 0 where
   -- the end of the page
   Finish : Token
 
--- what a token leads to, or why the page is not read, with how many bytes stand before the place
+-- the result of a token, or why the page is not read, with the offset of the place in bytes
 abbrev pub Reads : Type 0 → Type 0
 Reads A = Result A (PageRefusal × ℕ)
 
@@ -79,7 +79,7 @@ abbrev pub ◌next◌ : {A B : Type 0} → Reads A → (A → Reads B) → Reads
 abbrev pub refused : {A : Type 0} → PageRefusal → Page → Reads A
 refused r p = Err (r, p.start)
 
--- an error of the token is gone over
+-- records an error at the token
 abbrev pub noted : PageError → Page → Page
 noted e p = record p { notes = with_note e p.start p.notes }
 
@@ -92,7 +92,7 @@ with_char c p = record p { text = p.text ++ c ∷ [] }
 abbrev pub with_chars : List ℕ → Page → Page
 with_chars cs p = record p { text = p.text ++ cs }
 
--- the text is a child of the current node
+-- makes the text a child of the current node
 abbrev pub settled : Page → Page
 settled p = record p { text = []; stack = with_last_text p.text p.stack }
 
@@ -102,7 +102,7 @@ with_element o p = record p {
   lost = if is_of (of kind.Marker) o then None ∷ p.lost else p.lost;
 }
 
--- an element as its tag makes it; its span is how many bytes stand before the token that opens it
+-- an element as its tag makes it; its span is the offset in bytes of the token that opens it
 abbrev pub page_head : (name : List ℕ) → List TextPair → (start : ℕ) → Head
 page_head name attrs start = record {
   name = name;
@@ -113,7 +113,7 @@ page_head name attrs start = record {
   pre_span = false;
 }
 
--- an element is opened, unless it stands too deep (13.2.6.1)
+-- opens an element, unless it is too deep (13.2.6.1)
 abbrev pub opened_in : Space → (name : List ℕ) → List TextPair → Page → Reads Page
 opened_in space name attrs p = if nat_le p.limit (length p.stack) then refused refusal.TooDeep p
     else Ok (with_element
@@ -135,7 +135,7 @@ lost_with own [] lost = lost
 lost_with own (o ∷ os) lost = if is_of (of kind.Marker) o then behind_marker lost
     else (if is_of (of kind.Formatting) o && not own then Some o.head.name ∷ lost else lost)
 
--- the current node is closed, whose text is a child of it
+-- closes the current node, whose text is a child of it
 abbrev pub settled_closed : (own : Bool) → Page → Reads Page
 settled_closed own p = if is_at (of kind.Whole) p.stack && not own
     then refused refusal.CrossedElement p
@@ -144,13 +144,13 @@ settled_closed own p = if is_at (of kind.Whole) p.stack && not own
 abbrev pub closed : (own : Bool) → Page → Reads Page
 closed own p = settled_closed own (settled p)
 
--- so often at most, the current node is closed while it is such a node
+-- closes the current node while the condition holds, so often at most
 abbrev pub closed_while : (goes_on : List OpenElement → Bool) → (at_most : ℕ) → Page → Reads Page
 closed_while goes_on zero p = Ok p
 closed_while goes_on (suc n) p = if goes_on p.stack then (closed false p) next closed_while goes_on n
     else Ok p
 
--- the nearest element that is a goal is closed with all that stands in it
+-- closes the nearest element that is a goal, with everything in it
 abbrev pub closed_to_goal : (goal : OpenElement → Bool) → Page → Reads Page
 closed_to_goal goal p =
     (closed_while (λ os. not (at goal os)) (length p.stack) p) next closed true
@@ -158,7 +158,7 @@ closed_to_goal goal p =
 abbrev pub closed_to : (test : List ℕ → Bool) → Page → Reads Page
 closed_to test = closed_to_goal (is_of test)
 
--- elements whose end tag is implied are closed, but not those of the names (13.2.6.3)
+-- closes elements whose end tag is implied, except those with these names (13.2.6.3)
 abbrev pub implied_closed : (but : List ℕ → Bool) → Page → Reads Page
 implied_closed but p =
     closed_while (is_at (λ n. of kind.Implied n && not (but n))) (length p.stack) p
@@ -166,12 +166,12 @@ implied_closed but p =
 abbrev pub no_name : List ℕ → Bool
 no_name name = false
 
--- such an element is closed, and an error is told where the current node is not the one that is named
+-- closes such an element, and records an error unless the current node is the named one
 abbrev pub closed_over : (named test but : List ℕ → Bool) → Page → Reads Page
 closed_over named test but p = (implied_closed but p) next (λ q. closed_to test
     (noted_if (not (is_at named q.stack)) error.EndTagOverOpenElements q))
 
--- by its end tag, where it is in scope
+-- by its end tag, if it is in scope
 abbrev pub closed_in : Scope → (named test but : List ℕ → Bool) → Page → Reads Page
 closed_in scope named test but p = if in_scope scope test p.stack then closed_over named test but p
     else Ok (noted error.EndTagWithoutStart p)
@@ -196,7 +196,7 @@ loses_some (Some name ∷ ls) = true
 abbrev pub reconstructed : Page → Reads Page
 reconstructed p = if loses_some p.lost then refused refusal.Reconstruction p else Ok p
 
--- what a mode does with a token: it is taken, or it is processed again
+-- what a mode does with a token: takes it, or processes it again
 pub data Turn : Type 0 where
   Taken : Page → Turn
   Again : Page → Token → Turn

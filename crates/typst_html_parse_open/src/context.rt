@@ -1,18 +1,18 @@
-//! What is known at an open element, so that no walk over those around it is needed.
+//! Facts about an open element that save a walk over those around it.
 
 use crate::modes::Mode;
 
-/// What is known at an open element of it and of those around it.
+/// Facts about an open element and those around it.
 #[derive(Clone, Copy)]
 pub(crate) struct Context {
-    /// The mode that the innermost of them brings that brings one.
+    /// The insertion mode that the innermost of them with a mode sets.
     pub(crate) mode: Option<Mode>,
     /// Whether a `p` is in button scope.
     pub(crate) has_paragraph: bool,
 }
 
 impl Context {
-    /// Around all elements.
+    /// The context outside all elements.
     pub(crate) const OUTSIDE: Context = Context {
         mode: None,
         has_paragraph: false,

@@ -1,4 +1,4 @@
-//! An element of a page that is open.
+//! An open element of a page.
 
 ghost use Rattle.std.specs.Prelude.{◌≡◌, IfOk};
 ghost use Rattle.html_dom_tree.specs.Tree.{with_node};
@@ -14,11 +14,11 @@ use html_names::HtmlTag;
 use std::alloc::{AllocError, Global};
 use typst_html_parse_names::{Kind, Kinds, is_same_lowered};
 
-/// So many nodes are a long list.
+/// The number of nodes from which a list is long.
 const LONG_LIST: usize = 1024;
 
-/// The element with a node as its last child. There is room for one node first, as most elements have
-/// one, and a long list grows by a sixteenth, so that little memory is left over.
+/// Appends a child to the element. Allocates room for one child first, as most elements have one,
+/// and grows a long list by a sixteenth, so that little memory is left over.
 #[inline(always)]
 #[tactic(auto, using(html_dom_tree::proofs::Nodes::with_last_view))]
 fn with_node(mut element: HtmlElement, node: HtmlNode) -> Result<HtmlElement, AllocError>
@@ -35,7 +35,7 @@ fn with_node(mut element: HtmlElement, node: HtmlNode) -> Result<HtmlElement, Al
     Ok(element)
 }
 
-/// An element of a page that is open, with its children so far.
+/// An open element of a page, with its children so far.
 #[derive(Drop)]
 pub struct PageElement {
     /// The element, with its children so far.
@@ -43,9 +43,9 @@ pub struct PageElement {
     /// Its namespace.
     pub space: Space,
     pub(crate) kinds: Kinds,
-    /// Whether some of its children is an element.
+    /// Whether any of its children is an element.
     pub(crate) has_elements: bool,
-    /// What is known at it, once it stands among the open elements.
+    /// The facts about it, once it is among the open elements.
     pub(crate) context: Context,
     ghost told: { IsKindsOf (element_view element).0.name kinds },
     ghost counted: { has_elements ≡ has_child_elements (element_view element) },
@@ -61,7 +61,7 @@ impl PageElement {
     ghost use Rattle.typst_html_parse_open.specs.PageViews.{element_of, target_test};
     ghost use Rattle.typst_html_parse_open.specs.Pages.{page_head};
 
-    /// An element without children, before whose token so many bytes stand.
+    /// Creates an element without children, whose token starts at that offset in bytes.
     pub(crate) fn new(
         alloc: Global,
         space: Space,
@@ -88,14 +88,14 @@ impl PageElement {
         }
     }
 
-    /// Whether it is an element of HTML.
+    /// Returns whether it is an element of HTML.
     pub fn is_html(&self) -> bool
         ensures { result ≡ is_html (element_of self.now).space }
     {
         matches!(self.space, Space::Html)
     }
 
-    /// Whether its name is one of the kind, in any namespace.
+    /// Returns whether its name is of the kind, in any namespace.
     pub fn has_kind(&self, kind: Kind) -> bool
         ensures { result ≡ of kind (element_of self.now).head.name }
     {
@@ -108,14 +108,14 @@ impl PageElement {
         self.element.tag == *tag
     }
 
-    /// Whether it is an element of HTML of the kind.
+    /// Returns whether it is an element of HTML of the kind.
     pub(crate) fn is(&self, kind: Kind) -> bool
         ensures { result ≡ is_of (of kind) (element_of self.now) }
     {
         self.is_html() && self.has_kind(kind)
     }
 
-    /// Whether it is an element of HTML that is meant.
+    /// Returns whether it is an element of HTML that the target means.
     pub(crate) fn is_target(&self, target: Target<'_>) -> bool
         ensures { result ≡ is_of (target_test target.entry) (element_of self.now) }
     {
@@ -127,14 +127,14 @@ impl PageElement {
             }
     }
 
-    /// Whether it is an element of SVG or MathML of that name, in small letters.
+    /// Returns whether it is an element of SVG or MathML with that name, in lowercase.
     pub(crate) fn is_foreign_of(&self, tag: &HtmlTag) -> bool
         ensures { result ≡ is_foreign_of tag.now (element_of self.now) }
     {
         !self.is_html() && is_same_lowered(self.element.tag.resolve(), tag.resolve())
     }
 
-    /// The element with a text as its last child, with its span, unless the text is empty.
+    /// Appends a text with the span of the element, unless the text is empty.
     #[tactic(auto, using(crate::proofs::Children::text_counts))]
     pub(crate) fn with_text(self, text: String) -> Result<PageElement, AllocError>
         ensures grown { IfOk result (λ grown.
@@ -162,7 +162,6 @@ impl PageElement {
         })
     }
 
-    /// The element with an element as its last child.
     #[tactic(auto, using(crate::proofs::Children::element_counts))]
     pub(crate) fn with_child(self, child: PageElement) -> Result<PageElement, AllocError>
         ensures grown { IfOk result (λ grown. element_of grown

@@ -1,4 +1,4 @@
-//! Elements that are open, the innermost last.
+//! Open elements, the innermost last.
 
 ghost use Rattle.std.specs.Prelude.{◌≡◌};
 ghost use Rattle.typst_html_parse_open.specs.Contexts.{own_mode, root_mode};
@@ -10,7 +10,7 @@ use crate::modes::Mode;
 use crate::search::{Bound, Goal, Target};
 use typst_html_parse_names::Kind;
 
-/// Whether such an element is reached, from the last on, before one that bounds the search.
+/// Returns whether a search from the last element on reaches the goal before the bound.
 pub(crate) fn reaches(elements: &[PageElement], goal: Goal<'_>, bound: Bound) -> bool
     ensures { result ≡ reaches (goal_test goal.entry) (bound_test bound) (list_of elements.now) }
 {
@@ -27,7 +27,7 @@ pub(crate) fn reaches(elements: &[PageElement], goal: Goal<'_>, bound: Bound) ->
     false
 }
 
-/// Whether the last of them is a goal.
+/// Returns whether the last of them is the goal.
 pub(crate) fn at(elements: &[PageElement], goal: Goal<'_>) -> bool
     ensures { result ≡ at (goal_test goal.entry) (list_of elements.now) }
 {
@@ -37,7 +37,7 @@ pub(crate) fn at(elements: &[PageElement], goal: Goal<'_>) -> bool
     }
 }
 
-/// The mode that an element of HTML brings, with those around it.
+/// Returns the mode that an element of HTML sets, given those around it.
 fn named_mode(element: &PageElement, outer: &[PageElement]) -> Option<Mode>
     ensures { result ≡ named_mode (element_of element.now).head.name (list_of outer.now) }
 {
@@ -66,7 +66,7 @@ fn named_mode(element: &PageElement, outer: &[PageElement]) -> Option<Mode>
     }
 }
 
-/// The mode within `html`, and neither in the head nor in the body.
+/// Returns the mode within `html`, outside of head and body.
 fn html_mode(root: &PageElement) -> Mode
     ensures { result ≡ html_mode (element_of root.now).children }
 {
@@ -77,7 +77,7 @@ fn html_mode(root: &PageElement) -> Mode
     }
 }
 
-/// The mode that an element brings, with those around it.
+/// Returns the mode that an element sets, given those around it.
 pub(crate) fn own_mode(element: &PageElement, outer: &[PageElement]) -> Option<Mode>
     ensures { result ≡ own_mode (element_of element.now) (list_of outer.now) }
 {
@@ -88,7 +88,7 @@ pub(crate) fn own_mode(element: &PageElement, outer: &[PageElement]) -> Option<M
     }
 }
 
-/// The mode where no element brings one.
+/// Returns the mode if no element sets one.
 pub(crate) fn root_mode(elements: &[PageElement]) -> Mode
     ensures { result ≡ root_mode (list_of elements.now) }
 {

@@ -1,9 +1,9 @@
-//! Errors of a page that reading goes on over.
+//! Errors of a page from which the reader recovers.
 
 use thiserror::Error;
 
-/// An error of a page that reading goes on over, as a browser does. Those of the text have the names of
-/// HTML Standard 13.2.2; those of the tree have none there, and so have names of this project.
+/// An error of a page from which the reader recovers, as a browser does. Errors of the text have
+/// names of HTML Standard 13.2.2; those of the tree have none there, but names of this project.
 #[derive(Clone, Copy, Debug, PartialEq, Eq, Error)]
 pub enum PageError {
     #[error("abrupt-closing-of-empty-comment")]
@@ -76,31 +76,31 @@ pub enum PageError {
     /// An end tag closes elements that it doesn't name.
     #[error("an end tag over open elements")]
     EndTagOverOpenElements,
-    /// An end tag names a formatting element that another tag has closed.
+    /// An end tag names a formatting element that another tag closed.
     #[error("an end tag of an element that is closed")]
     EndTagOfClosedElement,
-    /// `</br>`, which is read as `<br>`.
+    /// A `</br>`, which is read as `<br>`.
     #[error("an end tag of br")]
     EndTagBr,
-    /// A start tag that stands where its element can't.
+    /// A start tag whose element can't stand there.
     #[error("a start tag that is ignored")]
     IgnoredStartTag,
-    /// An `html`, a `head` or a `body` is begun a second time.
+    /// A second `html`, `head` or `body`.
     #[error("a second html, head or body")]
     SecondStartTag,
-    /// An element is closed where another of its kind begins, as an `a` in an `a`.
+    /// An element is closed where another of its kind begins, such as an `a` in an `a`.
     #[error("an element within another of its kind")]
     NestedElement,
-    /// A `noscript` in the head holds what can't stand there, and is closed.
+    /// A `noscript` in the head is closed before content that can't stand in it.
     #[error("a noscript of the head that ends early")]
     UnexpectedInNoscript,
-    /// A cell stands outside of a row.
+    /// A cell stands outside a row.
     #[error("a cell outside of a row")]
     CellWithoutRow,
     /// A cell or a caption is closed while elements in it are open.
     #[error("a cell or caption over open elements")]
     CellOverOpenElements,
-    /// `image`, which is read as `img`.
+    /// An `image`, which is read as `img`.
     #[error("image in place of img")]
     ImageTag,
 }

@@ -7,29 +7,29 @@ use html_names::Refused;
 use std::alloc::{AllocError, AllocFailed};
 use thiserror::Error;
 
-/// What a page holds that is not read: in a browser, nodes would be moved or made a second time, or an
-/// element would change that is complete.
+/// Content for which a page is refused: in a browser, nodes would be moved or made a second time,
+/// or a complete element would change.
 #[derive(Clone, Copy, Debug, PartialEq, Eq, Error)]
 pub enum PageRefusal {
     /// U+0000.
     #[error("U+0000")]
     NullCharacter,
-    /// An element would stand deeper than the limit.
+    /// An element would be deeper than the limit.
     #[error("elements are nested too deeply")]
     TooDeep,
-    /// A name of a tag or of an attribute that no element of this project has.
+    /// A name of a tag or of an attribute that no element of this project can have.
     #[error("a name that no element of this project has")]
     UnknownName,
-    /// A start tag has more attributes than are read.
+    /// A start tag has more attributes than the reader accepts.
     #[error("a tag has too many attributes")]
     TooManyAttributes,
-    /// A formatting element would be made again, which another tag has closed.
+    /// A formatting element that another tag closed would be made again.
     #[error("a formatting element would be made again")]
     Reconstruction,
     /// An end tag would move nodes out of a formatting element.
     #[error("an end tag would move nodes out of a formatting element")]
     AdoptionAgency,
-    /// An `a` would be taken out of the elements that are open.
+    /// An `a` would be removed from the open elements.
     #[error("an open a would be removed")]
     OpenAnchorRemoved,
     /// A text or an element would be moved out of a table.
@@ -41,27 +41,27 @@ pub enum PageRefusal {
     /// The head would be opened again.
     #[error("the head would be opened again")]
     HeadReopened,
-    /// An element that is not read: `frameset`, `plaintext`, `template`.
+    /// An element that the reader does not support: `frameset`, `plaintext`, `template`.
     #[error("a frameset, plaintext or template")]
     UnreadElement,
-    /// A `form`, an `object`, an `applet` or a `marquee` would be closed by a tag of another name, or
-    /// closed while elements in it are open.
+    /// A `form`, an `object`, an `applet` or a `marquee` would be closed by a tag of another name,
+    /// or while elements in it are open.
     #[error("a form, object, applet or marquee would be closed by another tag")]
     CrossedElement,
-    /// An element of HTML would stand in `svg` or `math`, which closes them.
+    /// An element of HTML would stand in `svg` or `math`, and close them.
     #[error("an element of HTML would close svg or math")]
     HtmlInForeign,
-    /// Whether a table closes a `p` hangs on a document type that is not known.
+    /// Whether a table closes a `p` depends on an unknown document type.
     #[error("a table hangs on a document type that is not known")]
     DocumentType,
-    /// A token went from one insertion mode to another more often than in any page.
+    /// A token went from one insertion mode to another more often than in any known page.
     #[error("a token finds no place")]
     Unsettled,
 }
 
 impl PageRefusal {
-    /// The refusal's number: 8 for an element that stands too deep, as where a tree is written, and 26
-    /// to 39 for the others.
+    /// Returns the refusal's number: 8 for an element that is too deep, as when a tree is written,
+    /// and 26 to 39 for the others.
     pub fn number(&self) -> u8
         ensures { result ≡ refusal_number self.now }
     {
@@ -90,11 +90,11 @@ impl PageRefusal {
 pub enum Halt {
     /// An allocation failed.
     OutOfMemory,
-    /// The page is not read.
+    /// The page is refused.
     Refused {
-        /// What it holds.
+        /// The content that is refused.
         refusal: PageRefusal,
-        /// How many bytes of the text stand before the place.
+        /// The offset of the place in the text, in bytes.
         place: usize,
     },
 }

@@ -1,5 +1,5 @@
-//! A page that is being read: the elements that are open, and the steps that open and close them
-//! (HTML Standard 13.2.4, 13.2.6).
+//! A page that is being read: the open elements, and the steps that open and close them (HTML
+//! Standard 13.2.4, 13.2.6).
 #![tactic(auto)]
 
 mod context;

@@ -7,14 +7,14 @@ ghost use Rattle.typst_html_parse_open.specs.Pages.{behind_marker, is_lost, lose
 use html_names::HtmlTag;
 use std::alloc::{AllocError, Global};
 
-/// The names of formatting elements that a tag of another name closed, the last of them last. None
+/// The names of formatting elements that a tag of another name closed, the latest last. `None`
 /// stands for an open element that hides those before it.
 #[derive(Drop)]
 pub struct Lost {
     pub(crate) names: Vec<Option<HtmlTag>>,
 }
 
-/// The place of the last of that name that no element behind it hides.
+/// Returns the index of the last element with that name that no element behind it hides.
 fn place_of(names: &[Option<HtmlTag>], tag: &HtmlTag) -> Option<usize>
     ensures { IsLookup tag.now names.now result }
 {
@@ -56,7 +56,7 @@ impl Lost {
         Ok(())
     }
 
-    /// Forgets those behind the last element that hides others, and that element.
+    /// Removes the last element that hides others, and those behind it.
     pub(crate) fn leave_marker(&mut self)
         ensures { reverse self.new.names.items ≡ behind_marker (reverse self.old.names.items) }
     {
@@ -67,7 +67,7 @@ impl Lost {
         }
     }
 
-    /// Whether some element is lost that no other hides.
+    /// Returns whether any element is lost that no other hides.
     pub fn loses_some(&self) -> bool
         ensures { result ≡ loses_some (reverse self.now.names.items) }
     {
@@ -77,14 +77,14 @@ impl Lost {
         }
     }
 
-    /// Whether an element of that name is lost that no other hides.
+    /// Returns whether an element with that name is lost that no other hides.
     pub fn holds(&self, tag: &HtmlTag) -> bool
         ensures { result ≡ is_lost tag.now (reverse self.now.names.items) }
     {
         place_of(&self.names, tag).is_some()
     }
 
-    /// Forgets the last element of that name, unless another hides it.
+    /// Removes the last element with that name, unless another hides it.
     pub fn forget(&mut self, tag: &HtmlTag)
         ensures { reverse self.new.names.items
             ≡ without_lost tag.now (reverse self.old.names.items) }

@@ -1,4 +1,4 @@
-//! Where reading a page stands.
+//! The state of reading a page.
 
 /// The namespace of an element.
 #[derive(Clone, Copy, Debug, PartialEq, Eq)]
@@ -8,7 +8,7 @@ pub enum Space {
     MathMl,
 }
 
-/// What bounds the elements that an end tag may close (HTML Standard 13.2.4.2).
+/// The bounds of the elements that an end tag may close (HTML Standard 13.2.4.2).
 #[derive(Clone, Copy, Debug, PartialEq, Eq)]
 pub enum Scope {
     General,
@@ -35,10 +35,10 @@ pub enum Mode {
     InCell,
 }
 
-/// What a table does to an open `p`, which hangs on the document type.
+/// What a table does to an open `p`, which depends on the document type.
 #[derive(Clone, Copy, Debug, PartialEq, Eq)]
 pub enum TableRule {
-    /// No document type, tag or text was read.
+    /// No document type, tag or text was read yet.
     Unseen,
     ClosesP,
     KeepsP,

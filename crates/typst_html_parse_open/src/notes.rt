@@ -1,4 +1,4 @@
-//! The errors of a page that reading goes on over.
+//! The errors of a page from which the reader recovered.
 
 ghost use Rattle.std.specs.Prelude.{◌≡◌, [], OnOk};
 ghost use Rattle.typst_html_parse_open.specs.PageViews.{notes_of};
@@ -10,17 +10,17 @@ use std::alloc::{AllocError, Global};
 
 const MOST_TOLD: usize = 10;
 
-/// The errors of a page that reading goes on over.
+/// The errors of a page from which the reader recovered.
 #[derive(Drop)]
 pub struct Notes {
-    /// How many there are, as far as 32 bits go.
+    /// The number of errors, at most that of 32 bits.
     pub count: u32,
-    /// The first ten, each with how many bytes of the text stand before it.
+    /// The first ten, each with its offset in the text, in bytes.
     pub first: Vec<(PageError, usize)>,
 }
 
 impl Notes {
-    /// No error.
+    /// Creates an empty list of errors.
     pub fn new(alloc: Global) -> Notes
         ensures { notes_of result ≡ record { count = 0; first = [] } }
     {
@@ -30,7 +30,7 @@ impl Notes {
         }
     }
 
-    /// One error more.
+    /// Adds an error.
     pub fn add(&mut self, error: PageError, place: usize) -> Result<(), AllocError>
         ensures { OnOk result (notes_of self.new ≡ with_note error place (notes_of self.old)) }
     {

@@ -26,25 +26,25 @@ use typst_html_parse_names::{Kind, Kinds};
 /// A page that is being read.
 #[derive(Drop)]
 pub struct Page {
-    /// What allocates its texts and elements.
+    /// The allocator of its texts and elements.
     pub alloc: Global,
     /// The text since the last child of the current node.
     pub text: String,
-    /// The elements that are open.
+    /// The open elements.
     pub stack: Stack,
     /// The formatting elements that a tag of another name closed.
     pub lost: Lost,
     /// What a table does to an open `p`.
     pub tables: TableRule,
     pub(crate) limit: usize,
-    /// How many bytes of the text stand before the token.
+    /// The offset of the token in the text, in bytes.
     pub start: usize,
-    /// The errors that reading went on over.
+    /// The errors from which the reader recovered.
     pub notes: Notes,
 }
 
 impl Page {
-    /// A page of which nothing is read, and the limit of how deep its elements may stand.
+    /// Creates a page of which nothing is read, with a limit on the depth of its elements.
     #[tactic(auto, using(std::proofs::StrCases::chars_of_empty))]
     pub fn new(alloc: Global, limit: usize) -> Page
         ensures { page_of result ≡ pages.first_page limit }
@@ -61,7 +61,7 @@ impl Page {
         }
     }
 
-    /// Why reading stops at the token.
+    /// Returns the refusal of the page at the token.
     pub fn refusal(&self, refusal: PageRefusal) -> Halt
         ensures { result ≡ Halt.Refused refusal self.now.start }
     {
@@ -69,7 +69,7 @@ impl Page {
         Halt::Refused { refusal, place }
     }
 
-    /// An error of the token is gone over.
+    /// Records an error at the token.
     pub fn note(&mut self, error: PageError) -> Result<(), Halt>
         ensures { Changes result (pages.noted error (page_of self.old)) (page_of self.new) }
     {
@@ -78,7 +78,7 @@ impl Page {
         Ok(())
     }
 
-    /// An error of the token is gone over, where one is told.
+    /// Records an error at the token, if there is one.
     pub fn note_if(&mut self, told: bool, error: PageError) -> Result<(), Halt>
         ensures { Changes result (pages.noted_if told error (page_of self.old))
             (page_of self.new) }
@@ -86,7 +86,7 @@ impl Page {
         if told { self.note(error) } else { Ok(()) }
     }
 
-    /// Adds a character to the current node.
+    /// Appends a character to the current node.
     pub fn add_char(&mut self, c: char) -> Result<(), Halt>
         ensures { Changes result (pages.with_char c (page_of self.old)) (page_of self.new) }
     {
@@ -94,7 +94,7 @@ impl Page {
         Ok(())
     }
 
-    /// Adds a text to the current node.
+    /// Appends a text to the current node.
     pub fn add_text(&mut self, text: &str) -> Result<(), Halt>
         ensures { Changes result (pages.with_chars (chars text.now) (page_of self.old))
             (page_of self.new) }
@@ -103,7 +103,7 @@ impl Page {
         Ok(())
     }
 
-    /// The text becomes a child of the current node.
+    /// Makes the text a child of the current node.
     pub(crate) fn settle(&mut self) -> Result<(), Halt>
         ensures { Changes result (pages.settled (page_of self.old)) (page_of self.new) }
     {
@@ -126,7 +126,7 @@ impl Page {
         Ok(())
     }
 
-    /// Opens an element, unless it would stand too deep (HTML Standard 13.2.6.1).
+    /// Opens an element, unless it would be too deep (HTML Standard 13.2.6.1).
     pub fn open_in(
         &mut self,
         space: Space,
@@ -146,7 +146,7 @@ impl Page {
         self.push(element)
     }
 
-    /// Remembers what is lost once the current node is closed, by its own end tag or another.
+    /// Records what is lost when the current node is closed, by its own end tag or another.
     fn lose_current(&mut self, own: bool) -> Result<(), Halt>
         ensures { Changes result (let p = page_of self.old in
             record p { lost = pages.lost_with own p.stack p.lost }) (page_of self.new) }
@@ -176,7 +176,7 @@ impl Page {
         Ok(())
     }
 
-    /// Closes the current node while it is such a node.
+    /// Closes the current node as long as the condition holds.
     #[tactic(auto, using(crate::proofs::Closing::while_once, crate::proofs::Closing::while_done))]
     fn close_while(&mut self, goes_on: While<'_>) -> Result<(), Halt>
         ensures { let p = page_of self.old in
@@ -193,7 +193,7 @@ impl Page {
         Ok(())
     }
 
-    /// Closes the nearest element that is a goal, with all that stands in it.
+    /// Closes the nearest element that is the goal, with everything in it.
     pub fn close_to_goal(&mut self, goal: Goal<'_>) -> Result<(), Halt>
         ensures { Steps result (pages.closed_to_goal (goal_test goal.entry) (page_of self.old))
             (page_of self.new) }
@@ -202,7 +202,7 @@ impl Page {
         self.close(true)
     }
 
-    /// Closes the nearest element of HTML that is meant, with all that stands in it.
+    /// Closes the nearest element of HTML that the target means, with everything in it.
     pub fn close_to(&mut self, target: Target<'_>) -> Result<(), Halt>
         ensures { Steps result (pages.closed_to (target_test target.entry) (page_of self.old))
             (page_of self.new) }
@@ -210,7 +210,7 @@ impl Page {
         self.close_to_goal(Goal::Of(target))
     }
 
-    /// Closes elements whose end tag is implied, but not those that are named (HTML Standard
+    /// Closes elements whose end tag is implied, except those that `but` means (HTML Standard
     /// 13.2.6.3).
     pub fn close_implied(&mut self, but: Target<'_>) -> Result<(), Halt>
         ensures { Steps result (pages.implied_closed (target_test but.entry) (page_of self.old))
@@ -219,7 +219,7 @@ impl Page {
         self.close_while(While::Implied(but))
     }
 
-    /// Closes such an element, and tells an error where the current node is not the one that is named.
+    /// Closes such an element, and records an error unless the current node is the named one.
     pub fn close_over(
         &mut self,
         named: Target<'_>,
@@ -235,21 +235,21 @@ impl Page {
         self.close_to(target)
     }
 
-    /// Whether such an element is in scope.
+    /// Returns whether such an element is in scope.
     pub fn in_scope(&self, scope: Scope, target: Target<'_>) -> bool
         ensures { result ≡ in_scope scope (target_test target.entry) (page_of self.now).stack }
     {
         self.stack.reaches(Goal::Of(target), Bound::Scope(scope))
     }
 
-    /// Whether a `p` is in button scope.
+    /// Returns whether a `p` is in button scope.
     pub fn has_paragraph(&self) -> bool
         ensures { result ≡ in_scope Scope.Button (of kind.P) (page_of self.now).stack }
     {
         self.stack.has_paragraph()
     }
 
-    /// Closes such an element by its end tag, where it is in scope.
+    /// Closes such an element by its end tag, if it is in scope.
     pub fn close_in(
         &mut self,
         scope: Scope,
@@ -267,7 +267,7 @@ impl Page {
         }
     }
 
-    /// Formatting elements would be made again here (HTML Standard 13.2.4.3), unless none is lost.
+    /// Refuses to make formatting elements again (HTML Standard 13.2.4.3), unless none is lost.
     pub fn reconstruct(&self) -> Result<(), Halt>
         ensures { Steps result (pages.reconstructed (page_of self.now)) (page_of self.now) }
     {
@@ -277,7 +277,7 @@ impl Page {
         Ok(())
     }
 
-    /// The root, with all that is open in it complete, and the errors that reading went on over.
+    /// Returns the root with all its open elements complete, and the errors recovered from.
     pub fn finish(mut self) -> Result<(Option<HtmlElement>, Notes), Halt>
         ensures { Finishes result (page_of self) }
     {

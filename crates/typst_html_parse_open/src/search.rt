@@ -1,4 +1,4 @@
-//! What is looked for among the elements that are open, and what bounds a search.
+//! The goals and bounds of a search among the open elements.
 
 ghost use Rattle.std.specs.Prelude.{◌≡◌};
 ghost use Rattle.typst_html_parse_open.specs.OpenElements.{bounds, bounds_general, is_foreign_bound, is_special};
@@ -9,23 +9,23 @@ use crate::modes::{Scope, Space};
 use html_names::HtmlTag;
 use typst_html_parse_names::Kind;
 
-/// Elements of HTML that are meant.
+/// The elements of HTML that are meant.
 #[derive(Clone, Copy)]
 pub enum Target<'a> {
     /// Those of the kind.
     Kind(Kind),
-    /// Those of that name.
+    /// Those with that name.
     Named(&'a HtmlTag),
     /// None.
     Nothing,
 }
 
-/// What a search looks for.
+/// The goal of a search.
 #[derive(Clone, Copy)]
 pub enum Goal<'a> {
     /// An element of HTML that is meant.
     Of(Target<'a>),
-    /// An element of SVG or MathML of that name, in small letters.
+    /// An element of SVG or MathML with that name, in lowercase.
     Foreign(&'a HtmlTag),
 }
 
@@ -34,7 +34,7 @@ pub enum Goal<'a> {
 pub enum While<'a> {
     /// While the current node is not the goal.
     Above(Goal<'a>),
-    /// While its end tag is implied, but not that of those that are named.
+    /// While its end tag is implied, unless it is one of these.
     Implied(Target<'a>),
 }
 
@@ -55,7 +55,7 @@ pub enum Bound {
     Nothing,
 }
 
-/// Whether an element of SVG or MathML bounds scopes, and is special.
+/// Returns whether an element of SVG or MathML bounds scopes, and is special.
 fn is_foreign_bound(element: &PageElement) -> bool
     ensures { let e = element_of element.now in result ≡ is_foreign_bound e.space e.head.name }
 {
@@ -83,7 +83,7 @@ fn bounds_table(element: &PageElement) -> bool
             || element.has_kind(Kind::Template))
 }
 
-/// Whether the element bounds the scope (HTML Standard 13.2.4.2).
+/// Returns whether the element bounds the scope (HTML Standard 13.2.4.2).
 pub(crate) fn bounds(scope: Scope, element: &PageElement) -> bool
     ensures { result ≡ bounds scope (element_of element.now) }
 {

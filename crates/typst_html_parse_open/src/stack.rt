@@ -1,4 +1,4 @@
-//! The elements of a page that are open.
+//! The open elements of a page.
 
 ghost use Rattle.std.proofs.Props.{props};
 ghost use Rattle.typst_html_parse_open.specs.Contexts.{AreKnown, contexts_are_set};
@@ -13,10 +13,10 @@ use html_names::HtmlTag;
 use std::alloc::{AllocError, Global};
 use typst_html_parse_names::Kind;
 
-/// The elements of a page that are open, the innermost last.
+/// The open elements of a page, the innermost last.
 #[derive(Drop)]
 pub struct Stack {
-    /// The elements, the outermost first.
+    /// The elements, outermost first.
     pub items: Vec<PageElement>,
     ghost known: { AreKnown items.items } by { Prim.hlevel (props, contexts_are_set) },
 }
@@ -31,7 +31,7 @@ impl Stack {
     ghost use Rattle.typst_html_parse_open.specs.OpenElements.{current_space, mode, reaches, root_of, with_last_text, without_current};
     ghost use Rattle.typst_html_parse_open.specs.PageViews.{bound_test, element_of, goal_test, stack_of, target_test, while_test};
 
-    /// No element.
+    /// Creates a stack without elements.
     pub fn new(alloc: Global) -> Stack
         ensures { stack_of result ≡ [] }
     {
@@ -40,36 +40,34 @@ impl Stack {
         }
     }
 
-    /// How many there are.
     pub(crate) fn len(&self) -> usize
         ensures { result ≡ length (stack_of self.now) }
     {
         self.items.len()
     }
 
-    /// Whether such an element is reached, from the current node on, before one that bounds the
-    /// search.
+    /// Returns whether a search from the current node on reaches the goal before the bound.
     pub fn reaches(&self, goal: Goal<'_>, bound: Bound) -> bool
         ensures { result ≡ reaches (goal_test goal.entry) (bound_test bound) (stack_of self.now) }
     {
         reaches(&self.items, goal, bound)
     }
 
-    /// Whether the current node is an element of HTML that is meant.
+    /// Returns whether the current node is an element of HTML that the target means.
     pub fn is_target(&self, target: Target<'_>) -> bool
         ensures { result ≡ is_at (target_test target.entry) (stack_of self.now) }
     {
         self.is_goal(Goal::Of(target))
     }
 
-    /// Whether the current node is a goal.
+    /// Returns whether the current node is the goal.
     pub fn is_goal(&self, goal: Goal<'_>) -> bool
         ensures { result ≡ at (goal_test goal.entry) (stack_of self.now) }
     {
         at(&self.items, goal)
     }
 
-    /// Whether elements are closed further.
+    /// Returns whether more elements must be closed.
     pub(crate) fn goes_on(&self, goes_on: While<'_>) -> bool
         ensures { result ≡ while_test goes_on.entry (stack_of self.now) }
     {
@@ -79,14 +77,14 @@ impl Stack {
         }
     }
 
-    /// Whether the current node is an element of HTML of the kind.
+    /// Returns whether the current node is an element of HTML of the kind.
     pub fn is_at(&self, kind: Kind) -> bool
         ensures { result ≡ is_at (of kind) (stack_of self.now) }
     {
         self.is_target(Target::Kind(kind))
     }
 
-    /// Whether the current node is an element of SVG or MathML.
+    /// Returns whether the current node is an element of SVG or MathML.
     pub fn is_in_foreign(&self) -> bool
         ensures { result ≡ is_in_foreign (stack_of self.now) }
     {
@@ -96,7 +94,7 @@ impl Stack {
         }
     }
 
-    /// The name of the current node.
+    /// Returns the name of the current node.
     pub fn current_tag(&self) -> Option<&HtmlTag>
         ensures { option_map (λ tag. tag.now) result ≡ current_name (stack_of self.now) }
     {
@@ -106,7 +104,7 @@ impl Stack {
         }
     }
 
-    /// The namespace of the current node.
+    /// Returns the namespace of the current node.
     pub fn current_space(&self) -> Space
         ensures { result ≡ current_space (stack_of self.now) }
     {
@@ -116,7 +114,7 @@ impl Stack {
         }
     }
 
-    /// What is known at the current node.
+    /// Returns the facts about the current node.
     fn context(&self) -> Context
         ensures { result ≡ context (stack_of self.now) }
     {
@@ -126,7 +124,7 @@ impl Stack {
         }
     }
 
-    /// The insertion mode (HTML Standard 13.2.4.1).
+    /// Returns the insertion mode (HTML Standard 13.2.4.1).
     #[tactic(auto, using(crate::proofs::Contexts::mode_known))]
     pub fn mode(&self) -> Mode
         ensures { result ≡ mode (stack_of self.now) }
@@ -137,14 +135,14 @@ impl Stack {
         }
     }
 
-    /// Whether a `p` is in button scope.
+    /// Returns whether a `p` is in button scope.
     pub(crate) fn has_paragraph(&self) -> bool
         ensures { result ≡ in_scope Scope.Button (of kind.P) (stack_of self.now) }
     {
         self.context().has_paragraph
     }
 
-    /// What is known at an element once it is the current node.
+    /// Returns the facts about an element once it is the current node.
     fn context_with(&self, element: &PageElement) -> Context
         ensures { result ≡ context (element_of element.now ∷ stack_of self.now) }
     {
@@ -161,7 +159,7 @@ impl Stack {
         }
     }
 
-    /// Puts an element at which that is known which is to be known at it.
+    /// Pushes an element that has the facts about it.
     fn put(&mut self, element: PageElement) -> Result<(), AllocError>
         requires { element.context ≡ context (element_of element ∷ stack_of self.old) }
         ensures { OnOk result (stack_of self.new ≡ element_of element ∷ stack_of self.old) }
@@ -178,7 +176,7 @@ impl Stack {
         self.put(element)
     }
 
-    /// Adds a text to the current node, unless the text is empty.
+    /// Appends a text to the current node, unless the text is empty.
     pub(crate) fn add_text(&mut self, text: String) -> Result<(), AllocError>
         ensures { OnOk result (stack_of self.new
             ≡ with_last_text (text_view text) (stack_of self.old)) }
@@ -202,7 +200,7 @@ impl Stack {
         }
     }
 
-    /// The root, with all that is open in it complete.
+    /// Returns the root, with all its open elements complete.
     #[tactic(auto, using(crate::proofs::Stacks::last_first))]
     pub(crate) fn into_root(self) -> Result<Option<HtmlElement>, AllocError>
         ensures { IfOk result (λ root.

@@ -9,18 +9,18 @@ use html_names::HtmlTag;
 use std::alloc::AllocError;
 use typst_html_parse_names::{Kind, Kinds, kinds_of};
 
-/// The name of a tag, with the kinds of elements that it is of.
+/// The name of a tag, with its kinds.
 #[derive(Drop)]
 pub struct TagName {
     /// The name.
     pub tag: HtmlTag,
-    /// The kinds that it is of.
+    /// Its kinds.
     pub kinds: Kinds,
     ghost told: { IsKindsOf tag kinds },
 }
 
 impl TagName {
-    /// A name, with its kinds looked up.
+    /// Creates a tag name, and looks up its kinds.
     pub fn new(tag: HtmlTag) -> TagName
         ensures { result.tag ≡ tag }
     {
@@ -28,7 +28,7 @@ impl TagName {
         TagName { tag, kinds }
     }
 
-    /// A copy. It fails only where an allocation does.
+    /// Returns a copy. Fails only if an allocation fails.
     pub fn try_clone(&self) -> Result<TagName, AllocError>
         ensures { IfOk result (λ copy. copy.tag ≡ self.now.tag) }
     {
@@ -38,7 +38,7 @@ impl TagName {
         })
     }
 
-    /// Whether it is one of the kind.
+    /// Returns whether it is of the kind.
     pub fn is(&self, kind: Kind) -> bool
         ensures { result ≡ of kind self.now.tag }
     {
@@ -49,7 +49,7 @@ impl TagName {
 /// A start tag.
 #[derive(Drop)]
 pub struct StartTag {
-    /// Its name, in small letters.
+    /// Its name, in lowercase.
     pub name: TagName,
     /// Its attributes, in order, each name once.
     pub attrs: HtmlAttrs,
@@ -57,7 +57,7 @@ pub struct StartTag {
     pub closed: bool,
 }
 
-/// A token. Comments and document types are none.
+/// A token, except comments and document types.
 #[derive(Drop)]
 pub enum Token {
     /// A character of text.

@@ -19,7 +19,7 @@ use Rattle.typst_html_parse_tree.specs.PageBodies.{adopted, element_ended, in_bo
 use Rattle.typst_html_parse_tree.specs.PageTrees.{behind_turn, by_mode, in_cell, in_foreign, is_unseen, part_closed, processed, token_read, turn}
 
 -- both branches are the same
-either : {A : Type 0} (b : Bool) (x y r : A) → (b ≡ true → x ≡ r) → (b ≡ false → y ≡ r) →
+pub either : {A : Type 0} (b : Bool) (x y r : A) → (b ≡ true → x ≡ r) → (b ≡ false → y ≡ r) →
     (if b then x else y) ≡ r
 either true x y r h k = h refl
 either false x y r h k = k refl
@@ -30,7 +30,7 @@ none_lost name [] h = refl
 none_lost name (None ∷ ls) h = refl
 none_lost name (Some n ∷ ls) h = absurd (false≢true (sym h))
 
-taken_behind : (f : Token → Page → Reads Page) (r : Reads Page) →
+pub taken_behind : (f : Token → Page → Reads Page) (r : Reads Page) →
     ((taken r) next behind_turn f) ≡ r
 taken_behind f (Ok p) = refl
 taken_behind f (Err e) = refl
@@ -43,28 +43,28 @@ module _ (p : Page) (o : OpenElement) (os : List OpenElement) (html : is_html o.
   abbrev q : Page
   q = record p { stack = o ∷ os }
 
-  named : is n n ≡ true
+  pub named : is n n ≡ true
   named = (bytes_eq-Decides n n).1 refl
 
-  but_named : (but : List ℕ → Bool) → but n ≡ true → (of kind.Implied n && not (but n)) ≡ false
+  pub but_named : (but : List ℕ → Bool) → but n ≡ true → (of kind.Implied n && not (but n)) ≡ false
   but_named but h = and_right (of kind.Implied n) (not (but n)) (ap not h)
 
-  none_implied : (but : List ℕ → Bool) → (of kind.Implied n && not (but n)) ≡ false →
+  pub none_implied : (but : List ℕ → Bool) → (of kind.Implied n && not (but n)) ≡ false →
       implied_closed but q ≡ Ok q
   none_implied but h = rw (html, h) refl
 
-  closes : (test : List ℕ → Bool) → test n ≡ true → closed_to test q ≡ closed true q
+  pub closes : (test : List ℕ → Bool) → test n ≡ true → closed_to test q ≡ closed true q
   closes test h = rw (html, h) refl
 
-  at_name : (test : List ℕ → Bool) → test n ≡ true → is_at test q.stack ≡ true
+  pub at_name : (test : List ℕ → Bool) → test n ≡ true → is_at test q.stack ≡ true
   at_name test h = and_from (is_html o.space) (test n) html h
 
   -- the search for such an element ends at the current node
-  reached : (test : List ℕ → Bool) (bound : OpenElement → Bool) → test n ≡ true →
+  pub reached : (test : List ℕ → Bool) (bound : OpenElement → Bool) → test n ≡ true →
       reaches (is_of test) bound q.stack ≡ true
   reached test bound h = or_left (is_of test o) _ (at_name test h)
 
-  over : (name test but : List ℕ → Bool) → name n ≡ true → test n ≡ true →
+  pub over : (name test but : List ℕ → Bool) → name n ≡ true → test n ≡ true →
       (of kind.Implied n && not (but n)) ≡ false → closed_over name test but q ≡ closed true q
   over name test but g h k =
       ap (λ x. x next (λ r. closed_to test (noted_if (not (is_at name r.stack)) error.EndTagOverOpenElements r)))
@@ -72,14 +72,14 @@ module _ (p : Page) (o : OpenElement) (os : List OpenElement) (html : is_html o.
       ∙ (ap (λ b. closed_to test (noted_if (not b) error.EndTagOverOpenElements q)) (at_name name g)
       ∙ closes test h)
 
-  within : (s : Scope) (test but : List ℕ → Bool) → test n ≡ true →
+  pub within : (s : Scope) (test but : List ℕ → Bool) → test n ≡ true →
       (of kind.Implied n && not (but n)) ≡ false → closed_in s (is n) test but q ≡ closed true q
   within s test but h k =
       ap (λ b. if b then closed_over (is n) test but q else Ok (noted error.EndTagWithoutStart q))
       (reached test (bounds s) h)
       ∙ over (is n) test but named h k
 
-  end_p : of kind.P n ≡ true → p_ended q ≡ closed true q
+  pub end_p : of kind.P n ≡ true → p_ended q ≡ closed true q
   end_p h =
       let scoped = reached (of kind.P) (bounds scope.Button) h in
       ap (λ b. if b then p_closed q
@@ -87,7 +87,7 @@ module _ (p : Page) (o : OpenElement) (os : List OpenElement) (html : is_html o.
       ∙ (ap (λ b. if b then closed_over (of kind.P) (of kind.P) (of kind.P) q else Ok q) scoped
       ∙ over (of kind.P) (of kind.P) (of kind.P) h h (but_named (of kind.P) h))
 
-  end_other : other_closed n q ≡ closed true q
+  pub end_other : other_closed n q ≡ closed true q
   end_other =
       ap (λ b. if b then closed_over (is n) (is n) (is n) q else Ok (noted error.EndTagWithoutStart q))
       (reached (is n) is_special named)
@@ -99,7 +99,7 @@ module _ (p : Page) (o : OpenElement) (os : List OpenElement) (html : is_html o.
       ap (λ b. closed_to (is n) (noted_if (not b) error.EndTagOverOpenElements q)) (at_name (is n) named)
       ∙ closes (is n) named
 
-  end_formatting : loses_some p.lost ≡ false → adopted n q ≡ closed true q
+  pub end_formatting : loses_some p.lost ≡ false → adopted n q ≡ closed true q
   end_formatting l = adopted_by (is_lost n q.lost) (is_active (is n) q.stack)
       (in_scope scope.General (is n) q.stack) (is_near (is n) q.stack) (none_lost n p.lost l)
       (reached (is n) (is_of (of kind.Marker)) named) (reached (is n) (bounds scope.General) named)
@@ -145,7 +145,7 @@ module _ (p : Page) (o : OpenElement) (os : List OpenElement) (html : is_html o.
       let br = (or_parts (of kind.Br n) (of kind.Form n) some.1).0 in
       rw (some.0, br) (ap taken (end_element h l))
 
-  none_implied_at_all : of kind.Implied n ≡ false → implied_closed no_name q ≡ Ok q
+  pub none_implied_at_all : of kind.Implied n ≡ false → implied_closed no_name q ≡ Ok q
   none_implied_at_all h = none_implied no_name (ap (λ b. b && true) h)
 
   part_ended : of kind.Cell n ≡ true → of kind.Implied n ≡ false →

@@ -1,4 +1,4 @@
--- Where a start tag is read by the rules of a body.
+-- When a start tag is read by the rules of a body.
 use Rattle.std.specs.Prelude.{ℕ, Bool, true, false, not, ◌&&◌, List}
 use Rattle.typst_html_parse_names.specs.PageNames.{of}
 use Rattle.typst_html_parse_names.specs.declared.kind.Kind.TheVariants as kind

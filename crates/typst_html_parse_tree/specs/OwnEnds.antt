@@ -1,4 +1,4 @@
--- Where the end tag of the current node's name closes it, and does nothing else.
+-- When the end tag of the current node's name closes it, and does nothing else.
 use Rattle.std.specs.Prelude.{ℕ, Bool, false, not, ◌&&◌, ◌||◌, List, if◌then◌else◌}
 use Rattle.typst_html_parse_names.specs.PageNames.{of}
 use Rattle.typst_html_parse_names.specs.declared.kind.Kind.TheVariants as kind

@@ -15,7 +15,7 @@ use Rattle.typst_html_parse_open.specs.declared.modes.Space.TheVariants.{Html, S
 use Rattle.typst_html_parse_open.specs.declared.modes.TableRule.{TableRule}
 use Rattle.typst_html_parse_open.specs.declared.modes.TableRule.TheVariants as rule
 
--- tab, LF, FF, CR, space; a CR comes by a reference alone
+-- tab, LF, FF, CR, space; a CR comes only from a reference
 abbrev pub is_space : ℕ → Bool
 is_space c = (c == 9) || (c == 10) || (c == 12) || (c == 13) || (c == 32)
 
@@ -23,7 +23,7 @@ is_space c = (c == 9) || (c == 10) || (c == 12) || (c == 13) || (c == 32)
 abbrev pub leaf : StartTag → Page → Reads Page
 leaf tag p = (opened tag.name tag.attrs p) next closed true
 
--- `html` or `body` once more: attributes would be added to those of the first
+-- a second `html` or `body`: attributes would be added to those of the first
 abbrev pub repeated : StartTag → Page → Reads Page
 repeated tag p = if length tag.attrs == 0 then Ok (noted error.SecondStartTag p)
     else refused refusal.MergedAttributes p
@@ -55,7 +55,7 @@ abbrev pub other_closed : (name : List ℕ) → Page → Reads Page
 other_closed name p = if is_near (is name) p.stack then closed_over (is name) (is name) (is name) p
     else Ok (noted error.EndTagWithoutStart p)
 
--- the adoption agency algorithm, where nothing is moved (13.2.6.4.7)
+-- the adoption agency algorithm, as long as nothing moves (13.2.6.4.7)
 abbrev pub adopted : (name : List ℕ) → Page → Reads Page
 adopted name p = if is_lost name p.lost
     then Ok (noted error.EndTagOfClosedElement (record p { lost = without_lost name p.lost }))
@@ -66,7 +66,7 @@ adopted name p = if is_lost name p.lost
     else closed_to (is name)
     (noted_if (not (is_at (is name) p.stack)) error.EndTagOverOpenElements p))))
 
--- such an element in another is closed before the next
+-- closes such an element before the next
 abbrev pub nested_closed : (name : List ℕ) → Page → Reads Page
 nested_closed name p = if in_scope scope.General (is name) p.stack
     then (implied_closed no_name (noted error.NestedElement p)) next closed_to (is name) else Ok p
@@ -75,7 +75,7 @@ abbrev pub select_closed : Page → Reads Page
 select_closed p = if in_scope scope.General (of kind.Select) p.stack
     then closed_to (of kind.Select) (noted error.NestedElement p) else Ok p
 
--- an `a` that is still open would be removed
+-- refuses an `a` that is still open, and would be removed
 abbrev pub anchor_left : Page → Reads Page
 anchor_left p = if is_active (of kind.A) p.stack then refused refusal.OpenAnchorRemoved p
     else Ok p
@@ -89,7 +89,7 @@ abbrev pub p_closed : Page → Reads Page
 p_closed p = if in_scope scope.Button (of kind.P) p.stack
     then closed_over (of kind.P) (of kind.P) (of kind.P) p else Ok p
 
--- a list item is closed before the next, and a term or a description before the next of either
+-- closes a list item before the next, and a term or a description before the next of either
 abbrev pub item_closed : (kind : Kind) → Page → Reads Page
 item_closed kind p = if has_item (of kind) p.stack
     then (implied_closed (of kind) p) next closed_to (of kind) else Ok p
@@ -113,7 +113,7 @@ ruby_closed name p = if in_scope scope.General (of kind.Ruby) p.stack
     else implied_closed no_name p)
     else Ok p
 
--- a table closes a `p`, but not in quirks mode
+-- a table closes a `p`, except in quirks mode
 abbrev pub p_closed_by_table : TableRule → Page → Reads Page
 p_closed_by_table rule.KeepsP p = Ok p
 p_closed_by_table rule.ClosesP p = p_closed p
@@ -123,7 +123,7 @@ abbrev pub table_closes : Page → Reads Page
 table_closes p = if in_scope scope.Button (of kind.P) p.stack
     then p_closed_by_table p.tables p else Ok p
 
--- what the start tag of a block closes before it
+-- closes what the start tag of a block closes before it
 abbrev pub closed_before_block : (name : List ℕ) → Page → Reads Page
 closed_before_block name p =
     if of kind.ListItem name then (item_closed kind.ListItem p) next p_closed
@@ -131,7 +131,7 @@ closed_before_block name p =
     else (if of kind.Heading name then (p_closed p) next heading_closed
     else (if of kind.ClosesP name then p_closed p else Ok p)))
 
--- what a start tag closes before its element
+-- closes what a start tag closes before its element
 abbrev pub closed_before : (name : List ℕ) → Page → Reads Page
 closed_before name p = if of kind.A name then anchor_closed name p
     else (if of kind.Button name then nested_closed name p
@@ -142,7 +142,7 @@ closed_before name p = if of kind.A name then anchor_closed name p
     else (if of kind.RubyPart name then ruby_closed name p
     else closed_before_block name p))))))
 
--- before an element, the formatting elements around it
+-- handles the formatting elements around an element before it
 abbrev pub formatted : (name : List ℕ) → Page → Reads Page
 formatted name p = if of kind.Unformatted name then Ok p else (reconstructed p) next (λ q.
     if of kind.Nobr name && in_scope scope.General (is name) q.stack
@@ -158,7 +158,7 @@ abbrev pub element_begun : StartTag → Page → Reads Page
 element_begun tag p =
     (closed_before tag.name p) next (λ q. (formatted tag.name q) next inserted tag)
 
--- a form in a form is none
+-- a form in a form is ignored
 abbrev pub is_nested : (name : List ℕ) → Page → Bool
 is_nested name p = of kind.Form name && has (is name) p.stack
 
@@ -217,15 +217,15 @@ in_body Finish p = Ok (Taken p)
 abbrev pub opens_body : List ℕ → Bool
 opens_body name = of kind.Root name || of kind.Br name
 
--- an element is opened before the token
+-- opens an element before the token
 abbrev pub implied : (name : List ℕ) → Token → Page → Reads Turn
 implied name token p = again (opened name [] p) token
 
--- the current node is closed before the token
+-- closes the current node before the token
 abbrev pub left : Token → Page → Reads Turn
 left token p = again (closed true p) token
 
--- an element that is implied before the token, or begun by it: `html`, `head`
+-- before an element that the token implies or begins: `html`, `head`
 abbrev pub before : (name : List ℕ) → Token → Page → Reads Turn
 before name (Char c) p = if is_space c then Ok (Taken p) else implied name (Char c) p
 before name (Start tag) p = if is name tag.name then taken (opened name tag.attrs p)
@@ -247,7 +247,7 @@ in_head (End name) p = if of kind.Head name then taken (closed true p)
     else taken_with error.EndTagWithoutStart p)
 in_head Finish p = left Finish p
 
--- a `noscript` of the head is closed before what can't stand in it
+-- closes a `noscript` of the head before content that can't stand in it
 abbrev pub noscript_left : Token → Page → Reads Turn
 noscript_left token p = left token (noted error.UnexpectedInNoscript p)
 

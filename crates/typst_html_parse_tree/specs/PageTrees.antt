@@ -19,7 +19,7 @@ use Rattle.typst_html_parse_open.specs.declared.modes.Space.TheVariants.{Html, S
 use Rattle.typst_html_parse_open.specs.declared.modes.TableRule.{TableRule}
 use Rattle.typst_html_parse_open.specs.declared.modes.TableRule.TheVariants as rule
 
--- a part of a table is opened before the start tag
+-- opens a part of a table before the start tag
 abbrev pub part_implied : (name : List ℕ) → StartTag → Page → Reads Turn
 part_implied name tag p = again (opened name [] p) (Start tag)
 
@@ -36,8 +36,8 @@ in_table_other tag p = let name = tag.name in
     else (if of kind.Misplaced name then taken_with error.IgnoredStartTag p
     else refused refusal.FosterParenting p)))
 
--- a start tag in a table, where the current node is the table, or one of its parts but a cell or a
--- caption
+-- a start tag in a table, if the current node is the table, or one of its parts other than a cell
+-- or a caption
 abbrev pub in_table_start : StartTag → Page → Reads Turn
 in_table_start tag p = let name = tag.name in
     if begins_part name then taken (opened name tag.attrs p)
@@ -94,12 +94,12 @@ in_row (End name) p = if of kind.Tr name then taken (closed true p)
     else (if ends_around_row name p then left (End name) p else in_table (End name) p)
 in_row Finish p = Ok (Taken p)
 
--- a cell or a caption is closed
+-- closes a cell or a caption
 abbrev pub part_closed : (test : List ℕ → Bool) → Page → Reads Page
 part_closed test p = (implied_closed no_name p) next (λ q. closed_to test
     (noted_if (not (is_at test q.stack)) error.CellOverOpenElements q))
 
--- an end tag in a cell or in a caption, and whether such end tags close it
+-- an end tag in a cell or in a caption, given whether such end tags close it
 abbrev pub in_part_end : (test : List ℕ → Bool) (closes : Bool) (name : List ℕ) → Page → Reads Turn
 in_part_end test closes name p = if closes && in_scope scope.Table (is name) p.stack
     then (if test name then taken (part_closed test p) else again (part_closed test p) (End name))
@@ -138,12 +138,12 @@ by_mode InSection = in_section
 by_mode InRow = in_row
 by_mode InCell = in_cell
 
--- such a start tag stands in no SVG and no MathML
+-- such a start tag can stand neither in SVG nor in MathML
 abbrev pub breaks_out : StartTag → Bool
 breaks_out tag = of kind.Breakout tag.name
     || (of kind.Font tag.name && list_any (λ a. is_font_attr a.0) tag.attrs)
 
--- an element of that name is open, and none of HTML stands within it
+-- an element with that name is open, with none of HTML inside it
 abbrev pub closes_foreign : (name : List ℕ) → List OpenElement → Bool
 closes_foreign name = reaches (is_foreign_of name) (λ o. is_html o.space)
 
@@ -165,8 +165,8 @@ in_foreign (Start tag) p = if breaks_out tag then refused refusal.HtmlInForeign 
 in_foreign (End name) p = in_foreign_end name p
 in_foreign Finish p = Ok (Taken p)
 
--- where the current node is one of SVG or MathML, tokens that are read as those of HTML all the same
--- (13.2.6, tree construction dispatcher)
+-- tokens that are read as HTML although the current node is one of SVG or MathML (13.2.6, tree
+-- construction dispatcher)
 abbrev pub says_html : TextPair → Bool
 says_html a = is_encoding a.0 && is_html_encoding (lowered a.1)
 
@@ -199,7 +199,7 @@ abbrev pub turn : Token → Page → Reads Turn
 turn token p = if is_foreign_token token p.stack then in_foreign token p
     else by_mode (mode p.stack) token p
 
--- a token, processed again so many times at most
+-- a token, processed again at most so many times
 abbrev pub behind_turn : (Token → Page → Reads Page) → Turn → Reads Page
 behind_turn process (Taken p) = Ok p
 behind_turn process (Again p token) = process token p
@@ -216,7 +216,7 @@ abbrev pub is_space_token : Token → Bool
 is_space_token (Char c) = is_space c
 is_space_token token = false
 
--- a page that begins with no document type: a table keeps a `p` open (13.2.6.4.1)
+-- a page that begins without a document type: a table keeps a `p` open (13.2.6.4.1)
 abbrev pub begun_untyped : Page → Page
 begun_untyped p = noted error.NoDocumentType (record p { tables = rule.KeepsP })
 

@@ -1,4 +1,4 @@
--- Where a page takes any text as it is.
+-- When a page takes any text as it is.
 use Rattle.std.specs.Prelude.{Bool, true, false, not, ◌&&◌, ◌||◌}
 use Rattle.typst_html_parse_open.specs.OpenElements.{mode}
 use Rattle.typst_html_parse_tree.specs.PageTrees.{is_foreign_token, is_unseen}
@@ -6,7 +6,7 @@ use Rattle.typst_html_parse_open.specs.Pages.{Page, Char, loses_some}
 use Rattle.typst_html_parse_open.specs.declared.modes.Mode.{Mode}
 use Rattle.typst_html_parse_open.specs.declared.modes.Mode.TheVariants.{InBody, InText, InCaption, InCell}
 
--- in these modes characters are added to the current node, where no formatting element is lost
+-- in these modes characters are appended to the current node, if no formatting element is lost
 abbrev pub mode_takes_text : Mode → Page → Bool
 mode_takes_text InText p = true
 mode_takes_text InBody p = not (loses_some p.lost)
@@ -14,7 +14,7 @@ mode_takes_text InCaption p = not (loses_some p.lost)
 mode_takes_text InCell p = not (loses_some p.lost)
 mode_takes_text m p = false
 
--- each character is added to the current node
+-- each character is appended to the current node
 unfoldable pub takes_text : Page → Bool
 takes_text p = not (is_unseen p.tables)
     && (is_foreign_token (Char 0) p.stack || mode_takes_text (mode p.stack) p)

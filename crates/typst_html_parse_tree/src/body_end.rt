@@ -30,7 +30,6 @@ fn close_form(page: &mut Page) -> Result<(), Halt>
     page.close(true)
 }
 
-/// Opens `p`.
 #[tactic(auto, unfolding(html_names::specs::Tables::known_tags))]
 fn open_p(page: &mut Page) -> Result<(), Halt>
     ensures { Steps result (pages.opened (codes "p") [] (page_of page.old))
@@ -39,7 +38,7 @@ fn open_p(page: &mut Page) -> Result<(), Halt>
     open_implied(page, tag::p)
 }
 
-/// `</p>` without a `p` makes an empty one.
+/// Handles a `</p>`, which makes an empty `p` if there is none.
 fn end_p(page: &mut Page) -> Result<(), Halt>
     ensures { Steps result (bodies.p_ended (page_of page.old)) (page_of page.new) }
 {
@@ -51,7 +50,7 @@ fn end_p(page: &mut Page) -> Result<(), Halt>
     page.close(true)
 }
 
-/// An end tag that closes an element.
+/// Handles an end tag that closes an element.
 fn end_element(page: &mut Page, name: &TagName) -> Result<(), Halt>
     ensures { Steps result (bodies.element_ended name.now.tag (page_of page.old))
         (page_of page.new) }
@@ -77,7 +76,6 @@ fn end_element(page: &mut Page, name: &TagName) -> Result<(), Halt>
     }
 }
 
-/// An end tag in a body.
 pub(crate) fn in_body_end(page: &mut Page, name: TagName) -> Result<Option<Token>, Halt>
     ensures { Turns result (bodies.in_body_end name.tag (page_of page.old))
         (page_of page.new) }
@@ -99,7 +97,6 @@ pub(crate) fn in_body_end(page: &mut Page, name: TagName) -> Result<Option<Token
     Ok(None)
 }
 
-/// A token in a body.
 pub(crate) fn in_body(page: &mut Page, token: Token) -> Result<Option<Token>, Halt>
     ensures { Turns result (bodies.in_body (token_of token) (page_of page.old))
         (page_of page.new) }

@@ -18,7 +18,7 @@ use typst_html_parse_open::{
     Target, Token,
 };
 
-/// The start tag of an `img`, for that of an `image`.
+/// Returns the start tag of an `img` for that of an `image`.
 #[tactic(auto, unfolding(html_names::specs::Tables::known_tags))]
 fn img_start(start: StartTag) -> StartTag
     ensures { start_of result ≡ record (start_of start) { name = codes "img" } }
@@ -32,7 +32,6 @@ fn img_start(start: StartTag) -> StartTag
     }
 }
 
-/// Opens an element of HTML.
 pub(crate) fn open(page: &mut Page, name: TagName, attrs: HtmlAttrs) -> Result<(), Halt>
     ensures { Steps result (pages.opened name.tag (attrs_view attrs) (page_of page.old))
         (page_of page.new) }
@@ -48,7 +47,7 @@ pub(crate) fn open_implied(page: &mut Page, tag: HtmlTag) -> Result<(), Halt>
     open(page, TagName::new(tag), HtmlAttrs::new(page.alloc))
 }
 
-/// Adds an element without content.
+/// Appends an element without content.
 pub(crate) fn add_leaf(page: &mut Page, start: StartTag) -> Result<(), Halt>
     ensures { Steps result (bodies.leaf (start_of start) (page_of page.old))
         (page_of page.new) }
@@ -57,7 +56,7 @@ pub(crate) fn add_leaf(page: &mut Page, start: StartTag) -> Result<(), Halt>
     page.close(true)
 }
 
-/// `html` or `body` once more: attributes would be added to those of the first.
+/// Handles a second `html` or `body`, whose attributes would be added to those of the first.
 pub(crate) fn repeat(page: &mut Page, start: &StartTag) -> Result<(), Halt>
     ensures { Steps result (bodies.repeated (start_of start.now) (page_of page.old))
         (page_of page.new) }
@@ -78,7 +77,7 @@ pub(crate) fn add_to_head(page: &mut Page, start: StartTag) -> Result<(), Halt>
     open(page, start.name, start.attrs)
 }
 
-/// Any other end tag.
+/// Handles any other end tag.
 pub(crate) fn close_other(page: &mut Page, name: &TagName) -> Result<(), Halt>
     ensures { Steps result (bodies.other_closed name.now.tag (page_of page.old))
         (page_of page.new) }
@@ -91,7 +90,7 @@ pub(crate) fn close_other(page: &mut Page, name: &TagName) -> Result<(), Halt>
     }
 }
 
-/// The adoption agency algorithm, where nothing is moved (HTML Standard 13.2.6.4.7).
+/// Runs the adoption agency algorithm, as long as nothing moves (HTML Standard 13.2.6.4.7).
 pub(crate) fn adopt(page: &mut Page, name: &TagName) -> Result<(), Halt>
     ensures { Steps result (bodies.adopted name.now.tag (page_of page.old))
         (page_of page.new) }
@@ -115,7 +114,7 @@ pub(crate) fn adopt(page: &mut Page, name: &TagName) -> Result<(), Halt>
     page.close_to(named)
 }
 
-/// Closes an element of that name before the next.
+/// Closes an element with that name before the next.
 fn close_nested(page: &mut Page, name: &TagName) -> Result<(), Halt>
     ensures { Steps result (bodies.nested_closed name.now.tag (page_of page.old))
         (page_of page.new) }
@@ -147,7 +146,7 @@ fn has_active_anchor(page: &Page) -> bool
         .reaches(Goal::Of(Target::Kind(Kind::A)), Bound::Marker)
 }
 
-/// An `a` that is still open would be removed.
+/// Refuses an `a` that is still open, and would be removed.
 fn refuse_open_anchor(page: &Page) -> Result<(), Halt>
     ensures { Steps result (bodies.anchor_left (page_of page.now)) (page_of page.now) }
 {
@@ -232,7 +231,7 @@ fn close_ruby(page: &mut Page, name: &TagName) -> Result<(), Halt>
     page.close_implied(Target::Nothing)
 }
 
-/// A table closes a `p`, but not in quirks mode.
+/// Closes a `p` before a table, except in quirks mode.
 fn close_before_table(page: &mut Page) -> Result<(), Halt>
     ensures { Steps result (bodies.table_closes (page_of page.old)) (page_of page.new) }
 {
@@ -246,7 +245,7 @@ fn close_before_table(page: &mut Page) -> Result<(), Halt>
     }
 }
 
-/// Closes blocks before the next, and what begins with it.
+/// Closes blocks before the next, and whatever else it closes.
 fn close_before_block(page: &mut Page, name: &TagName) -> Result<(), Halt>
     ensures { Steps result (bodies.closed_before_block name.now.tag (page_of page.old))
         (page_of page.new) }
@@ -299,7 +298,7 @@ fn close_before(page: &mut Page, name: &TagName) -> Result<(), Halt>
     close_before_block(page, name)
 }
 
-/// The formatting elements around an element come before it.
+/// Handles the formatting elements around an element, which come before it.
 fn format(page: &mut Page, name: &TagName) -> Result<(), Halt>
     ensures { Steps result (bodies.formatted name.now.tag (page_of page.old))
         (page_of page.new) }
@@ -341,7 +340,7 @@ fn start_in_body(page: &mut Page, start: StartTag) -> Result<(), Halt>
     insert(page, start)
 }
 
-/// Whether the start tag is gone over, with an error.
+/// Returns whether the start tag is ignored, with an error.
 fn is_nested(page: &Page, name: &TagName) -> bool
     ensures { result ≡ bodies.is_nested name.now.tag (page_of page.now) }
 {
@@ -351,7 +350,6 @@ fn is_nested(page: &Page, name: &TagName) -> bool
             .reaches(Goal::Of(Target::Named(&name.tag)), Bound::Nothing)
 }
 
-/// A start tag in a body.
 pub(crate) fn in_body_start(page: &mut Page, start: StartTag) -> Result<Option<Token>, Halt>
     ensures { Turns result (bodies.in_body_start (start_of start) (page_of page.old))
         (page_of page.new) }

@@ -40,7 +40,7 @@ fn foreign_name(alloc: Global, space: Space, tag: HtmlTag) -> Result<HtmlTag, Al
     }
 }
 
-/// The attributes, with the capitals of their names.
+/// Returns the attributes with the capitals of their names.
 fn foreign_attrs(alloc: Global, space: Space, attrs: HtmlAttrs) -> Result<HtmlAttrs, Halt>
     ensures made { IfOk result (λ made. attrs_view made
         ≡ bodies.foreign_attrs space (attrs_view attrs)) }
@@ -64,14 +64,14 @@ fn has_font_attr(attrs: &HtmlAttrs) -> bool
     false
 }
 
-/// Whether such a start tag stands in no SVG and no MathML.
+/// Returns whether such a start tag can stand neither in SVG nor in MathML.
 fn breaks_out(start: &StartTag) -> bool
     ensures { result ≡ trees.breaks_out (start_of start.now) }
 {
     start.name.is(Kind::Breakout) || (start.name.is(Kind::Font) && has_font_attr(&start.attrs))
 }
 
-/// Whether the attributes say that an `annotation-xml` holds HTML.
+/// Returns whether the attributes say that an `annotation-xml` holds HTML.
 fn says_html(attrs: &HtmlAttrs) -> bool
     ensures { result ≡ list_any trees.says_html (attrs_view attrs.now) }
 {
@@ -105,7 +105,7 @@ fn holds_svg(element: &PageElement) -> bool
     matches!(element.space, Space::MathMl) && element.has_kind(Kind::AnnotationXml)
 }
 
-/// Whether the token is read as one of HTML where it is the current node (HTML Standard 13.2.6).
+/// Returns whether the token is read as HTML in this current node (HTML Standard 13.2.6).
 fn takes_as_html(element: &PageElement, token: &Token) -> bool
     ensures { result ≡ trees.stands_as_html (token_of token.now) (element_of element.now) }
 {
@@ -138,7 +138,7 @@ pub(crate) fn enter(page: &mut Page, space: Space, start: StartTag) -> Result<()
     if closed { page.close(true) } else { Ok(()) }
 }
 
-/// Whether the token is read by the rules for SVG and MathML.
+/// Returns whether the token is read by the rules for SVG and MathML.
 pub(crate) fn is_foreign(page: &Page, token: &Token) -> bool
     ensures { result ≡ trees.is_foreign_token (token_of token.now) (page_of page.now).stack }
 {
@@ -172,7 +172,6 @@ fn end_in_foreign(page: &mut Page, name: TagName) -> Result<Option<Token>, Halt>
     Ok(None)
 }
 
-/// A token in SVG or MathML.
 pub(crate) fn in_foreign(page: &mut Page, token: Token) -> Result<Option<Token>, Halt>
     ensures { Turns result (trees.in_foreign (token_of token) (page_of page.old))
         (page_of page.new) }

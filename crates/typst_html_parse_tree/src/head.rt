@@ -11,21 +11,21 @@ use html_names::{HtmlTag, tag};
 use typst_html_parse_names::Kind;
 use typst_html_parse_open::{Halt, Page, PageError, PageRefusal, TagName, Token};
 
-/// Whether it is a tab, a line feed, a form feed, a carriage return or a space.
+/// Returns whether it is a tab, a line feed, a form feed, a carriage return or a space.
 pub fn is_space(c: char) -> bool
     ensures { result ≡ bodies.is_space c }
 {
     matches!(c, '\t' | '\n' | '\u{c}' | '\r' | ' ')
 }
 
-/// Whether the end tag begins a body, as start tags do (HTML Standard 13.2.6.4.6).
+/// Returns whether the end tag begins a body, as start tags do (HTML Standard 13.2.6.4.6).
 fn opens_body(name: &TagName) -> bool
     ensures { result ≡ bodies.opens_body name.now.tag }
 {
     name.is(Kind::Root) || name.is(Kind::Br)
 }
 
-/// Opens `html` or `head`, whichever it is, before the token.
+/// Opens `html` or `head`, whichever is given, before the token.
 fn imply(page: &mut Page, tag: HtmlTag, token: Token) -> Result<Option<Token>, Halt>
     ensures { Turns result (bodies.implied tag (token_of token) (page_of page.old))
         (page_of page.new) }
@@ -52,7 +52,7 @@ pub(crate) fn leave(page: &mut Page, token: Token) -> Result<Option<Token>, Halt
     Ok(Some(token))
 }
 
-/// A token before `html` or before `head`, which it begins or implies.
+/// Handles a token before `html` or before `head`, which it begins or implies.
 fn before(page: &mut Page, tag: HtmlTag, token: Token) -> Result<Option<Token>, Halt>
     ensures { Turns result (bodies.before tag (token_of token) (page_of page.old))
         (page_of page.new) }
@@ -75,7 +75,6 @@ fn before(page: &mut Page, tag: HtmlTag, token: Token) -> Result<Option<Token>, 
     }
 }
 
-/// A token before `html`.
 #[tactic(auto, unfolding(html_names::specs::Tables::known_tags))]
 pub(crate) fn before_html(page: &mut Page, token: Token) -> Result<Option<Token>, Halt>
     ensures { Turns result (bodies.before (codes "html") (token_of token) (page_of page.old))
@@ -84,7 +83,6 @@ pub(crate) fn before_html(page: &mut Page, token: Token) -> Result<Option<Token>
     before(page, tag::html, token)
 }
 
-/// A token before `head`.
 #[tactic(auto, unfolding(html_names::specs::Tables::known_tags))]
 pub(crate) fn before_head(page: &mut Page, token: Token) -> Result<Option<Token>, Halt>
     ensures { Turns result (bodies.before (codes "head") (token_of token) (page_of page.old))
@@ -93,7 +91,6 @@ pub(crate) fn before_head(page: &mut Page, token: Token) -> Result<Option<Token>
     before(page, tag::head, token)
 }
 
-/// A token in the head.
 pub(crate) fn in_head(page: &mut Page, token: Token) -> Result<Option<Token>, Halt>
     ensures { Turns result (bodies.in_head (token_of token) (page_of page.old))
         (page_of page.new) }
@@ -117,7 +114,7 @@ pub(crate) fn in_head(page: &mut Page, token: Token) -> Result<Option<Token>, Ha
     Ok(None)
 }
 
-/// A `noscript` of the head is closed before what can't stand in it.
+/// Closes a `noscript` of the head before content that can't stand in it.
 fn leave_noscript(page: &mut Page, token: Token) -> Result<Option<Token>, Halt>
     ensures { Turns result (bodies.noscript_left (token_of token) (page_of page.old))
         (page_of page.new) }
@@ -126,7 +123,6 @@ fn leave_noscript(page: &mut Page, token: Token) -> Result<Option<Token>, Halt>
     leave(page, token)
 }
 
-/// A token in a `noscript` of the head.
 pub(crate) fn in_head_noscript(page: &mut Page, token: Token) -> Result<Option<Token>, Halt>
     ensures { Turns result (bodies.in_head_noscript (token_of token) (page_of page.old))
         (page_of page.new) }
@@ -149,7 +145,7 @@ pub(crate) fn in_head_noscript(page: &mut Page, token: Token) -> Result<Option<T
     Ok(None)
 }
 
-/// A token between the head and the body.
+/// Handles a token between the head and the body.
 pub(crate) fn after_head(page: &mut Page, token: Token) -> Result<Option<Token>, Halt>
     ensures { Turns result (bodies.after_head (token_of token) (page_of page.old))
         (page_of page.new) }
@@ -177,7 +173,7 @@ pub(crate) fn after_head(page: &mut Page, token: Token) -> Result<Option<Token>,
     Ok(None)
 }
 
-/// A token in an element of text alone: its characters, and its end tag.
+/// Handles a token in an element of text alone: its characters, and its end tag.
 pub(crate) fn in_text(page: &mut Page, token: Token) -> Result<Option<Token>, Halt>
     ensures { Turns result (bodies.in_text (token_of token) (page_of page.old))
         (page_of page.new) }

@@ -1,4 +1,4 @@
-//! Where the end tag of the current node's name closes it, and does nothing else.
+//! Whether the end tag of the current node's name closes it, and does nothing else.
 
 ghost use Rattle.std.specs.Prelude.{◌≡◌};
 ghost use Rattle.typst_html_parse_open.specs.PageViews.{element_of, page_of};
@@ -51,7 +51,7 @@ fn closes_in(mode: Mode, element: &PageElement) -> bool
     }
 }
 
-/// Whether the end tag of the current node's name closes it, and does nothing else.
+/// Returns whether the end tag of the current node's name closes it, and does nothing else.
 #[tactic(auto, unfolding(crate::specs::OwnEnds::takes_own_end))]
 pub fn takes_own_end(page: &Page) -> bool
     ensures { result ≡ takes_own_end (page_of page.now) }

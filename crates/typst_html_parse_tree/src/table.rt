@@ -24,7 +24,6 @@ fn imply_part(page: &mut Page, tag: HtmlTag, start: StartTag) -> Result<Option<T
     Ok(Some(Token::Start(start)))
 }
 
-/// Opens `colgroup` before the start tag.
 #[tactic(auto, unfolding(html_names::specs::Tables::known_tags))]
 fn imply_colgroup(page: &mut Page, start: StartTag) -> Result<Option<Token>, Halt>
     ensures { Turns result (trees.part_implied (codes "colgroup") (start_of start)
@@ -33,7 +32,6 @@ fn imply_colgroup(page: &mut Page, start: StartTag) -> Result<Option<Token>, Hal
     imply_part(page, tag::colgroup, start)
 }
 
-/// Opens `tbody` before the start tag.
 #[tactic(auto, unfolding(html_names::specs::Tables::known_tags))]
 fn imply_tbody(page: &mut Page, start: StartTag) -> Result<Option<Token>, Halt>
     ensures { Turns result (trees.part_implied (codes "tbody") (start_of start)
@@ -42,7 +40,6 @@ fn imply_tbody(page: &mut Page, start: StartTag) -> Result<Option<Token>, Halt>
     imply_part(page, tag::tbody, start)
 }
 
-/// Opens `tr` before the start tag.
 #[tactic(auto, unfolding(html_names::specs::Tables::known_tags))]
 fn imply_tr(page: &mut Page, start: StartTag) -> Result<Option<Token>, Halt>
     ensures { Turns result (trees.part_implied (codes "tr") (start_of start)
@@ -51,14 +48,14 @@ fn imply_tr(page: &mut Page, start: StartTag) -> Result<Option<Token>, Halt>
     imply_part(page, tag::tr, start)
 }
 
-/// Whether the start tag is that of a part of a table that needs no other around it.
+/// Returns whether the start tag is that of a part of a table that needs no other around it.
 fn begins_part(name: &TagName) -> bool
     ensures { result ≡ trees.begins_part name.now.tag }
 {
     name.is(Kind::Caption) || name.is(Kind::Colgroup) || name.is(Kind::Section)
 }
 
-/// A start tag in a table, that begins none of its parts.
+/// Handles a start tag in a table that begins none of its parts.
 fn other_start_in_table(page: &mut Page, start: StartTag) -> Result<Option<Token>, Halt>
     ensures { Turns result (trees.in_table_other (start_of start) (page_of page.old))
         (page_of page.new) }
@@ -122,8 +119,8 @@ fn end_in_table(page: &mut Page, name: TagName) -> Result<Option<Token>, Halt>
     Ok(None)
 }
 
-/// A token in a table, whose current node is the table or one of its parts but a cell or a
-/// caption.
+/// Handles a token in a table, if the current node is the table or one of its parts other than a
+/// cell or a caption.
 pub(crate) fn in_table(page: &mut Page, token: Token) -> Result<Option<Token>, Halt>
     ensures { Turns result (trees.in_table (token_of token) (page_of page.old))
         (page_of page.new) }
@@ -142,7 +139,7 @@ pub(crate) fn in_table(page: &mut Page, token: Token) -> Result<Option<Token>, H
     }
 }
 
-/// A token in a column group.
+/// Handles a token in a column group.
 pub(crate) fn in_columns(page: &mut Page, token: Token) -> Result<Option<Token>, Halt>
     ensures { Turns result (trees.in_columns (token_of token) (page_of page.old))
         (page_of page.new) }
@@ -161,7 +158,7 @@ pub(crate) fn in_columns(page: &mut Page, token: Token) -> Result<Option<Token>,
     Ok(None)
 }
 
-/// A token in a section of a table.
+/// Handles a token in a section of a table.
 pub(crate) fn in_section(page: &mut Page, token: Token) -> Result<Option<Token>, Halt>
     ensures { Turns result (trees.in_section (token_of token) (page_of page.old))
         (page_of page.new) }
@@ -188,7 +185,7 @@ pub(crate) fn in_section(page: &mut Page, token: Token) -> Result<Option<Token>,
     }
 }
 
-/// Whether the end tag is that of the table or of the section around a row.
+/// Returns whether the end tag is that of the table or of the section around a row.
 fn ends_around_row(page: &Page, name: &TagName) -> bool
     ensures { result ≡ trees.ends_around_row name.now.tag (page_of page.now) }
 {
@@ -196,7 +193,6 @@ fn ends_around_row(page: &Page, name: &TagName) -> bool
         || (name.is(Kind::Section) && page.in_scope(Scope::Table, Target::Named(&name.tag)))
 }
 
-/// A token in a row.
 pub(crate) fn in_row(page: &mut Page, token: Token) -> Result<Option<Token>, Halt>
     ensures { Turns result (trees.in_row (token_of token) (page_of page.old))
         (page_of page.new) }
@@ -229,7 +225,7 @@ fn close_part(page: &mut Page, part: Kind) -> Result<(), Halt>
     page.close_to(Target::Kind(part))
 }
 
-/// An end tag in a cell or in a caption, and whether such end tags close it.
+/// Handles an end tag in a cell or in a caption, given whether such end tags close it.
 fn end_in_part(
     page: &mut Page,
     part: Kind,
@@ -254,7 +250,7 @@ fn end_in_part(
     in_body_end(page, name)
 }
 
-/// A start tag in a cell or in a caption.
+/// Handles a start tag in a cell or in a caption.
 fn start_in_part(page: &mut Page, part: Kind, start: StartTag) -> Result<Option<Token>, Halt>
     ensures { Turns result (trees.in_part_start (of part) (start_of start) (page_of page.old))
         (page_of page.new) }
@@ -266,7 +262,6 @@ fn start_in_part(page: &mut Page, part: Kind, start: StartTag) -> Result<Option<
     in_body_start(page, start)
 }
 
-/// A token in a cell.
 pub(crate) fn in_cell(page: &mut Page, token: Token) -> Result<Option<Token>, Halt>
     ensures { Turns result (trees.in_cell (token_of token) (page_of page.old))
         (page_of page.new) }
@@ -284,7 +279,6 @@ pub(crate) fn in_cell(page: &mut Page, token: Token) -> Result<Option<Token>, Ha
     }
 }
 
-/// A token in a caption.
 pub(crate) fn in_caption(page: &mut Page, token: Token) -> Result<Option<Token>, Halt>
     ensures { Turns result (trees.in_caption (token_of token) (page_of page.old))
         (page_of page.new) }

@@ -33,7 +33,7 @@ fn is_space_token(token: &Token) -> bool
     }
 }
 
-/// A token by the rules of the insertion mode.
+/// Handles a token by the rules of the insertion mode.
 pub(crate) fn by_mode(page: &mut Page, token: Token) -> Result<Option<Token>, Halt>
     ensures { Turns result (trees.by_mode (mode (page_of page.old).stack) (token_of token)
         (page_of page.old)) (page_of page.new) }
@@ -55,7 +55,7 @@ pub(crate) fn by_mode(page: &mut Page, token: Token) -> Result<Option<Token>, Ha
     }
 }
 
-/// Whether the start tag is read by the rules of a body.
+/// Returns whether the start tag is read by the rules of a body.
 fn begins_in_body(page: &Page, name: &TagName) -> bool
     ensures { result ≡ begins_in_body name.now.tag (page_of page.now) }
 {
@@ -127,7 +127,7 @@ fn process(page: &mut Page, token: Token) -> Result<(), Halt>
     }
 }
 
-/// No document type comes before the token: a table keeps a `p` open.
+/// Handles a token without a document type before it: a table keeps a `p` open.
 fn begin_untyped(page: &mut Page) -> Result<(), Halt>
     ensures { Changes result (trees.begun_untyped (page_of page.old)) (page_of page.new) }
 {
@@ -135,14 +135,14 @@ fn begin_untyped(page: &mut Page) -> Result<(), Halt>
     page.note(PageError::NoDocumentType)
 }
 
-/// Whether no document type, tag or text was read.
+/// Returns whether no document type, tag or text was read yet.
 pub(crate) fn is_unseen(page: &Page) -> bool
     ensures { result ≡ trees.is_unseen (page_of page.now).tables }
 {
     matches!(page.tables, TableRule::Unseen)
 }
 
-/// Whether each character of a text is added to the current node.
+/// Returns whether each character of a text is appended to the current node.
 #[tactic(auto, unfolding(crate::specs::TakenTexts::takes_text))]
 pub fn takes_text(page: &Page) -> bool
     ensures { result ≡ takes_text (page_of page.now) }

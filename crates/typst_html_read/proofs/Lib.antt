@@ -1,6 +1,6 @@
 pub mod BegunReferences
 pub mod Closings
-pub mod CommonStretches
+pub mod EndTags
 pub mod Loops
 pub mod Names
 pub mod Normal
@@ -10,5 +10,7 @@ pub mod Plain
 pub mod ReadLaws
 pub mod References
 pub mod Refusals
+pub mod Stacks
 pub mod Steps
+pub mod Stretches
 pub mod Words

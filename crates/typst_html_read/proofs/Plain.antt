@@ -1,5 +1,6 @@
 -- Elements that have nothing that a text does not spell, and their children as plain nodes.
 use Rattle.std.proofs.Common.{◌≡◌, ℕ, List, [], ◌∷◌, refl, sym, ap, ◌∙◌, subst, false, eqb, length, chars}
+use Rattle.std.specs.Prelude.{Result, Ok, Err, OnOk, OnErr}
 use Rattle.std.specs.Str.{IsUtf8}
 use Rattle.std.proofs.lemmas.Bool.{false≢true}
 use Rattle.std.proofs.lemmas.Str.{encodes-chars}
@@ -101,6 +102,12 @@ element_plain e d v p q h =
     ∙ (sym (element-last (bare_nodes e.1) o.name o.attrs o.children)
     ∙ ap plain_nodes (sym (element_children e.1 d)))) in
     subst IsPlain (sym h) (λ i. ((p i).0, kids i))
+
+-- a node was added, or none
+pub plain_added : {A E : Type 0} (r : Result A E) (e v : ElementView) → IsPlain e →
+    OnOk r (IsPlain v) → OnErr r (v ≡ e) → IsPlain v
+plain_added (Ok a) e v p h k = h
+plain_added (Err x) e v p h k = subst IsPlain (sym k) p
 
 -- a text that is not empty, by its bytes
 

@@ -1,18 +1,33 @@
 -- Words of ASCII in a text, by its characters.
-use Rattle.std.proofs.Common.{◌≡◌, ℕ, true, false, List, ◌++◌, sym, ap, ◌∙◌, bytes_eq, chars}
-use Rattle.std.specs.Str.{IsUtf8}
+use Rattle.std.proofs.Common.{◌≡◌, ℕ, ◌<◌, true, false, List, [], ◌∷◌, ◌++◌, drop, sym, ap, ◌∙◌, bytes_eq, chars}
+use Rattle.std.specs.Str.{IsAscii, IsUtf8}
+use Rattle.std.specs.Str.Pattern.{HasCharAt}
+use Rattle.std.proofs.lemmas.Str.Ascii.{IsAscii-cons, IsAscii-nil}
 use Rattle.std.proofs.lemmas.Bool.{false_from_ne_true}
-use Rattle.std.proofs.lemmas.Str.{chars-IsAscii, chars-append, encodes-chars, encodes-append, encodes-IsAscii, IsUtf8-from_ascii}
-use lib.Utf8.{encodes}
+use Rattle.std.proofs.lemmas.Str.{chars-IsAscii, chars-append, encodes-chars, encode_ascii, encodes-append, encodes-IsAscii, IsUtf8-from_ascii}
+use lib.Utf8.{encode, encodes}
 use Rattle.html_names.specs.Names.{is_ascii}
 use Rattle.html_names.proofs.Basics.{is_ascii_is, bytes_eq-same}
 
+pub chars_behind_word : (n s rest : List ℕ) → is_ascii n ≡ true → s ≡ n ++ rest →
+    chars s ≡ chars n ++ chars rest
+chars_behind_word n s rest a e =
+    ap chars e ∙ chars-append n rest (IsUtf8-from_ascii n (is_ascii_is n a))
+
+pub chars_after_ascii : (n s rest : List ℕ) → IsAscii n → s ≡ n ++ rest → chars s ≡ n ++ chars rest
+chars_after_ascii n s rest a e =
+    ap chars e ∙ (chars-append n rest (IsUtf8-from_ascii n a)
+    ∙ ap (λ l. l ++ chars rest) (chars-IsAscii n a))
+
+pub chars_after_char : (c n : ℕ) (s rest : List ℕ) → c < 128 → HasCharAt c s 0 n →
+    rest ≡ drop n s → chars s ≡ c ∷ chars rest
+chars_after_char c n s rest small h e =
+    chars_after_ascii (c ∷ []) s rest (IsAscii-cons c [] small IsAscii-nil)
+    (h.split ∙ (ap (λ l. encode c ++ l) (sym e) ∙ ap (λ l. l ++ rest) (encode_ascii c small)))
+
 pub chars_after_word : (n s rest : List ℕ) → is_ascii n ≡ true → s ≡ n ++ rest →
     chars s ≡ n ++ chars rest
-chars_after_word n s rest a e =
-    let own = is_ascii_is n a in
-    ap chars e ∙ (chars-append n rest (IsUtf8-from_ascii n own)
-    ∙ ap (λ l. l ++ chars rest) (chars-IsAscii n own))
+chars_after_word n s rest a e = chars_after_ascii n s rest (is_ascii_is n a) e
 
 -- a text that has the word in front by its characters has it by its bytes
 pub word_before : (n s rest : List ℕ) → is_ascii n ≡ true → IsUtf8 s → chars s ≡ n ++ rest →

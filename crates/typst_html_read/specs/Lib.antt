@@ -1,5 +1,5 @@
 pub mod BegunReferences
-pub mod CommonStretches
+pub mod EndTags
 pub mod Endings
 pub mod LimitedReading
 pub mod OpenViews
@@ -10,3 +10,4 @@ pub mod RawEnds
 pub mod ReadFaults
 pub mod ReadLaws
 pub mod ReaderViews
+pub mod Stretches

@@ -1,8 +1,9 @@
 -- The program's open elements as those of the definition.
-use Rattle.std.specs.Prelude.{List, map, reverse}
+use Rattle.std.specs.Prelude.{List, [], ◌∷◌, map, reverse}
+use Rattle.html_dom_tree.specs.PlainTree.{no_plains, plain}
 use Rattle.html_dom_tree.specs.Views.{element_view}
-use Rattle.typst_html_encode.specs.Reader.{Open}
-use Rattle.typst_html_read.specs.PlainViews.{open_view}
+use Rattle.typst_html_encode.specs.Reader.{Open, ◌then◌}
+use Rattle.typst_html_read.specs.PlainViews.{completed, open_view}
 use Rattle.typst_html_read.specs.declared.open.OpenElement.{OpenElement}
 use Rattle.typst_html_read.specs.declared.stack.Stack.{Stack}
 
@@ -15,3 +16,12 @@ list_of os = reverse (map open_of os)
 
 abbrev pub stack_of : Stack → List Open
 stack_of s = list_of s.items.items
+
+-- with an element as the last child
+abbrev pub with_child : (child o : Open) → Open
+with_child child o = record o { children = o.children then plain (completed child) no_plains }
+
+-- the element is the last child of the innermost one
+abbrev pub add_child : Open → List Open → List Open
+add_child child [] = []
+add_child child (o ∷ os) = with_child child o ∷ os

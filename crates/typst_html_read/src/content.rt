@@ -39,8 +39,7 @@ impl Reader {
     {
         match c {
             '<' => {
-                let text = take(self.alloc, &mut self.text);
-                self.stack.add_text(text)?;
+                self.end_text()?;
                 self.mode = Mode::Less;
             }
             '&' => {
@@ -50,6 +49,18 @@ impl Reader {
             _ => add(&mut self.text, c)?,
         }
         Ok(())
+    }
+
+    /// The text so far is a child, unless it is empty.
+    pub(crate) fn end_text(&mut self) -> Result<(), AllocError>
+        ensures { OnOk result (stack_of self.new.stack
+            ≡ reader.add_text (text_view self.old.text) (stack_of self.old.stack)) }
+    {
+        if self.text.is_empty() {
+            return Ok(());
+        }
+        let text = take(self.alloc, &mut self.text);
+        self.stack.add_text(text)
     }
 
     /// The character after a start tag at which a line feed is dropped.
@@ -89,17 +100,14 @@ impl Reader {
             ≡ reader.complete (open_of element).name (open_of element).attrs
             (open_of element).children (stack_of self.old.stack)) }
     {
-        match self.stack.pop() {
-            None => {
-                self.root = Some(element);
-                self.mode = Mode::Outside;
-            }
-            Some(outer) => {
-                self.stack.push(outer.with_element(element)?)?;
-                empty(&mut self.text);
-                self.mode = Mode::Content;
-            }
+        if self.stack.is_empty() {
+            self.root = Some(element);
+            self.mode = Mode::Outside;
+            return Ok(());
         }
+        self.stack.add_child(element)?;
+        empty(&mut self.text);
+        self.mode = Mode::Content;
         Ok(())
     }
 

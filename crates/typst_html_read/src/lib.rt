@@ -2,8 +2,8 @@
 #![tactic(auto)]
 
 mod closing;
-mod common;
 mod content;
+mod end_tag;
 mod fault;
 pub mod laws;
 mod open;
@@ -13,6 +13,7 @@ mod read;
 mod reader;
 mod reference;
 mod stack;
+mod stretch;
 mod tags;
 
 pub use closing::{end_of, ends_in, is_tag_end};

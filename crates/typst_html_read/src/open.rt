@@ -1,7 +1,9 @@
 //! An element that is open, with its children so far.
 
 ghost use Rattle.std.proofs.Props.{props};
-ghost use Rattle.html_dom_tree.specs.Views.{element_view};
+ghost use Rattle.std.specs.Prelude.{◌≡◌, OnOk, OnErr};
+ghost use Rattle.html_dom_tree.specs.Tree.{with_node};
+ghost use Rattle.html_dom_tree.specs.Views.{element_view, node_view};
 ghost use Rattle.typst_html_read.specs.PlainViews.{IsPlain, element_is_set};
 
 use html_dom_tree::{HtmlAttrs, HtmlElement, HtmlNode, Span};
@@ -15,15 +17,24 @@ pub(crate) struct OpenElement {
     ghost plain: { IsPlain (element_view element) } by { Prim.hlevel (props, element_is_set) },
 }
 
+#[tactic(auto, using(html_dom_tree::proofs::Nodes::with_last_view))]
+fn add_node(element: &mut HtmlElement, node: HtmlNode) -> Result<(), AllocError>
+    ensures added { OnOk result (element_view element.new
+        ≡ with_node (node_view node) (element_view element.old)) }
+    ensures kept { OnErr result (element_view element.new ≡ element_view element.old) }
+{
+    element.children.push(node)?;
+    Ok(())
+}
+
 impl OpenElement {
-    ghost use Rattle.std.specs.Prelude.{◌≡◌, ◌==◌, IfOk, bytes_eq, chars, get_or, []};
-    ghost use Rattle.html_dom_tree.specs.PlainTree.{plain, no_plains};
+    ghost use Rattle.std.specs.Prelude.{◌==◌, bytes_eq, chars, get_or, []};
+    ghost use Rattle.html_dom_tree.specs.PlainTree.{no_plains};
     ghost use Rattle.html_dom_tree.specs.Views.{attrs_view, text_view};
     ghost use Rattle.html_names.specs.Kinds as kinds;
-    ghost use Rattle.typst_html_encode.specs.Reader.{with_text, ◌then◌};
-    ghost use Rattle.typst_html_read.specs.OpenViews.{open_of};
+    ghost use Rattle.typst_html_encode.specs.Reader.{with_text};
+    ghost use Rattle.typst_html_read.specs.OpenViews.{open_of, with_child};
     ghost use Rattle.typst_html_read.specs.PlainElements.{plain_element};
-    ghost use Rattle.typst_html_read.specs.PlainViews.{completed};
 
     /// An element without children.
 
@@ -36,30 +47,23 @@ impl OpenElement {
         OpenElement { element }
     }
 
-    /// The element with a text as its last child, unless the text is empty.
-
-    pub(crate) fn with_text(self, text: String) -> Result<OpenElement, AllocError>
-        ensures { IfOk result (λ grown. open_of grown
-            ≡ record (open_of self) {
-              children = with_text (text_view text) (open_of self).children;
-            }) }
-    {
-        if text.as_str().is_empty() {
-            return Ok(self);
-        }
-        let element = self.element.with_child(HtmlNode::text(text, Span(0)))?;
-        Ok(OpenElement { element })
-    }
-
-    /// The element with an element as its last child.
-
-    pub(crate) fn with_element(self, child: OpenElement) -> Result<OpenElement, AllocError>
-        ensures { IfOk result (λ grown. open_of grown ≡ record (open_of self) {
-          children = (open_of self).children then plain (completed (open_of child)) no_plains;
+    /// Adds a text as the last child, unless the text is empty.
+    pub(crate) fn add_text(&mut self, text: String) -> Result<(), AllocError>
+        ensures { OnOk result (open_of self.new ≡ record (open_of self.old) {
+          children = with_text (text_view text) (open_of self.old).children;
         }) }
     {
-        let element = self.element.with_child(HtmlNode::from(child.element))?;
-        Ok(OpenElement { element })
+        if !text.is_empty() {
+            add_node(&mut self.element, HtmlNode::text(text, Span(0)))?;
+        }
+        Ok(())
+    }
+
+    /// Adds an element as the last child.
+    pub(crate) fn add_child(&mut self, child: OpenElement) -> Result<(), AllocError>
+        ensures { OnOk result (open_of self.new ≡ with_child (open_of child) (open_of self.old)) }
+    {
+        add_node(&mut self.element, HtmlNode::from(child.element))
     }
 
     #[tactic(auto, using(html_names::proofs::Lists::in_characters))]

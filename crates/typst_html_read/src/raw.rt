@@ -26,7 +26,8 @@ impl Reader {
         }
         let mut text = take(self.alloc, &mut self.text);
         text.truncate(length);
-        let element = self.take_tag().with_text(text)?;
+        let mut element = self.take_tag();
+        element.add_text(text)?;
         self.complete(element)
     }
 }

@@ -1,4 +1,4 @@
-ghost use Rattle.std.specs.Prelude.{◌≡◌, ◌≤◌, chars, None};
+ghost use Rattle.std.specs.Prelude.{◌≡◌, ◌≤◌, ◌+◌, ◌-◌, chars, length, None};
 ghost use Rattle.typst_html_encode.specs.Reader.{Outside, final_root, read, run};
 ghost use Rattle.typst_html_read.specs.Endings.{Gives};
 ghost use Rattle.typst_html_read.specs.LimitedReading.{deep_places, stop_place, too_deep, unread};
@@ -9,6 +9,7 @@ use crate::fault::ReadFault;
 use crate::place::{common_length, place_at};
 use crate::reader::Reader;
 use html_dom_tree::HtmlElement;
+use html_dom_tree::text::split_first;
 use std::alloc::Global;
 
 const DOCUMENT_TYPE: &str = "<!DOCTYPE html>";
@@ -56,47 +57,67 @@ pub fn read_html(alloc: Global, text: &str, limit: usize) -> Result<HtmlElement,
         Gives result cs (accepted (read cs)) (too_deep limit cs) (unread cs) }
 {
     match text.strip_prefix(DOCUMENT_TYPE) {
-        None => Err(syntax_at(text, common_length(DOCUMENT_TYPE, text))),
+        None => {
+            let place = place_at(text, common_length(DOCUMENT_TYPE, text));
+            Err(ReadFault::Syntax { place })
+        }
         Some(rest) => read_root(alloc, text, rest, limit),
     }
 }
 
-/// That a text is not read from that character on.
-fn syntax_at(text: &str, count: usize) -> ReadFault
-    ensures { result ≡ ReadFault.Syntax (place_at (chars text.now) count) }
+fn char_count(text: &str) -> usize
+    ensures { result ≡ length (chars text.now) }
 {
-    let place = place_at(text, count);
+    text.chars().count()
+}
+
+/// How many characters of a text stand before its rest.
+fn count_before(text: &str, rest: &str) -> usize
+    requires { length (chars rest.now) ≤ length (chars text.now) }
+    ensures { result ≡ length (chars text.now) - length (chars rest.now) }
+{
+    char_count(text) - char_count(rest)
+}
+
+/// That a text is not read from its rest on.
+fn syntax_at(text: &str, rest: &str) -> ReadFault
+    requires { length (chars rest.now) ≤ length (chars text.now) }
+    ensures { let count = length (chars text.now) - length (chars rest.now) in
+        result ≡ ReadFault.Syntax (place_at (chars text.now) count) }
+{
+    let place = place_at(text, count_before(text, rest));
     ReadFault::Syntax { place }
 }
 
 /// The tree that the text after the document type spells. Places are those of the whole text.
 fn read_root(alloc: Global, whole: &str, text: &str, limit: usize) -> Result<HtmlElement, ReadFault>
+    requires { length (chars whole.now) ≡ 15 + length (chars text.now) }
     ensures { let cs = chars text.now in
         Gives result (chars whole.now) (accepted (final_root (run (Outside None) cs)))
         (deep_places limit 15 (Outside None) cs) (stop_place 15 (Outside None) cs) }
 {
     let mut reader = Reader::new(alloc);
-    let mut before = 15;
     let mut rest = text;
     loop {
-        let past = reader.read_common(rest)?;
-        before += rest.len() - past.len();
-        let mut left = past.chars();
-        let Some(c) = left.next() else {
+        let past = reader.read_stretch(rest)?;
+        if let Some(left) = reader.read_end_tag(past)? {
+            rest = left;
+            continue;
+        }
+        let Some((c, left)) = split_first(past) else {
             return match reader.into_root() {
-                None => Err(syntax_at(whole, before)),
+                None => Err(syntax_at(whole, past)),
                 Some(root) => Ok(root.into_element()),
             };
         };
         if reader.begins_deep(limit, c) {
-            let place = place_at(whole, before - 1);
+            let place = place_at(whole, count_before(whole, past) - 1);
             return Err(ReadFault::TooDeep { place });
         }
         reader.step(c)?;
         if reader.is_stopped() {
-            return Err(syntax_at(whole, before));
+            return Err(syntax_at(whole, past));
         }
-        before += 1;
-        rest = left.as_str();
+        rest = left;
     }
 }

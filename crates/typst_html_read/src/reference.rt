@@ -42,6 +42,7 @@ pub(crate) fn reference(alloc: Global, words: &str) -> Result<Option<char>, Allo
         "gt" => Some('>'),
         "quot" => Some('"'),
         "apos" => Some('\''),
+        "#x20" => Some(' '),
         _ => match words.strip_prefix("#x") {
             Some(digits) => numbered(alloc, digits)?,
             None => None,

@@ -1,10 +1,11 @@
 //! The elements that are open.
 
-ghost use Rattle.std.specs.Prelude.{◌≡◌, ◌∷◌, [], OnOk, IfSome, IfNone, length};
+ghost use Rattle.std.specs.Prelude.{◌≡◌, ◌↔◌, IsTrue, ◌∷◌, [], OnOk, IfSome, IfNone, chars, length};
 ghost use Rattle.html_dom_tree.specs.Views.{text_view};
 ghost use Rattle.typst_html_encode.specs.Reader.{add_text, holds_text_alone};
 ghost use Rattle.typst_html_read.specs.LimitedReading.{ends_at};
-ghost use Rattle.typst_html_read.specs.OpenViews.{open_of, stack_of};
+ghost use Rattle.typst_html_read.specs.EndTags.{EndsTag};
+ghost use Rattle.typst_html_read.specs.OpenViews.{add_child, open_of, stack_of};
 
 use crate::open::OpenElement;
 use std::alloc::{AllocError, Global};
@@ -31,6 +32,12 @@ impl Stack {
         ensures { result ≡ length (stack_of self.now) }
     {
         self.items.len()
+    }
+
+    pub(crate) fn is_empty(&self) -> bool
+        ensures { IsTrue result ↔ (stack_of self.now ≡ []) }
+    {
+        self.items.is_empty()
     }
 
     pub(crate) fn clear(&mut self)
@@ -65,9 +72,20 @@ impl Stack {
         ensures { OnOk result (stack_of self.new
             ≡ add_text (text_view text) (stack_of self.old)) }
     {
-        match self.pop() {
+        match self.items.last_mut() {
             None => Ok(()),
-            Some(element) => self.push(element.with_text(text)?),
+            Some(top) => top.add_text(text),
+        }
+    }
+
+    /// Adds an element to the innermost one.
+    pub(crate) fn add_child(&mut self, child: OpenElement) -> Result<(), AllocError>
+        ensures { OnOk result (stack_of self.new
+            ≡ add_child (open_of child) (stack_of self.old)) }
+    {
+        match self.items.last_mut() {
+            None => Ok(()),
+            Some(top) => top.add_child(child),
         }
     }
 
@@ -80,6 +98,21 @@ impl Stack {
             None => false,
             Some(element) => element.ends_at(place, c),
         }
+    }
+
+    /// What stands in a text behind the end tag of the innermost element, if it begins with it.
+    pub(crate) fn past_end_tag<'a>(&self, text: &'a str) -> Option<&'a str>
+        ensures { IfSome result (λ rest.
+            EndsTag (stack_of self.now) (chars text.now) (chars rest.now)) }
+    {
+        if text.as_bytes().get(1) != Some(&b'/') {
+            return None;
+        }
+        let top = self.items.last()?;
+        let slash = text.strip_prefix('<')?;
+        let name = slash.strip_prefix('/')?;
+        let end = name.strip_prefix(top.element.tag.resolve())?;
+        end.strip_prefix('>')
     }
 
     pub(crate) fn holds_text_alone(&self) -> bool

@@ -57,7 +57,7 @@ impl Reader {
     {
         if c == '/' {
             empty(&mut self.word);
-            self.mode = if self.stack.len() == 0 {
+            self.mode = if self.stack.is_empty() {
                 Mode::Stop
             } else {
                 Mode::EndName

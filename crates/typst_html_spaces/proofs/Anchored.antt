@@ -1,20 +1,22 @@
 -- Anchors are not seen, nor is an `href`.
-use Rattle.std.proofs.Common.{◌≡◌, ℕ, Bool, true, false, not, ◌&&◌, ◌||◌, List, ◌∷◌, ◌++◌, refl, ap, ◌∙◌, sym, append-nil, codes}
-use Rattle.std.proofs.lemmas.Bool.{and_parts, false≢true}
+use Rattle.std.proofs.Common.{◌≡◌, ℕ, Bool, true, false, ◌||◌, List, ◌∷◌, ◌++◌, refl, ap, ◌∙◌, sym, append-nil, codes}
+use Rattle.std.proofs.lemmas.Bool.{false≢true}
 use Rattle.html_names.specs.Displays.{default_display}
 use Rattle.html_names.specs.Kinds.{is_void, is_replaced, is_raw, is_mathml, is_token, is_metadata_content}
 use Rattle.html_names.specs.Names.{stands_in}
 use Rattle.html_names.specs.Texts.{TextPair}
-use Rattle.html_dom_tree.specs.Tree.{Head, tag_node, text_node, element_node, frame_node, NodesView, none, node}
-use Rattle.typst_html_encode.specs.Collapsing.{text_atoms, preserves, has_border, element_atoms}
+use Rattle.html_dom_tree.specs.Tree.{Head, text_node, element_node, NodesView, none, node}
+use Rattle.typst_html_encode.specs.Collapsing.{text_atoms, preserves, has_border}
 use Rattle.typst_html_encode.specs.IndentsCollapse.{HeadIsEdged, NodesAreEdged}
 use Rattle.typst_html_encode.specs.Layout.{allows_pretty_inside, wants_pretty_around}
 use Rattle.typst_html_encode.proofs.NodeAtoms.{nodes_atoms, normal_atoms}
-use Rattle.typst_html_spaces.specs.Anchored.{NewAttribute, new_id, new_href, attribute_name, with_front_attribute, anchor_head, Anchored, at_end, at_tag, after_tag, at_text, around_text, at_element, of_element, at_frame, AnchorsAreUnseen, AnchorsKeepEdges, AnchorsKeepPlainNodes}
-use Rattle.typst_html_spaces.specs.CleanNodes.{is_clean_tag, are_clean_values, is_clean_content, is_empty, is_clean_head, is_clean_node, are_clean_nodes, IsCleanValue, AnchorsKeepCleanNodes}
+use Rattle.typst_html_spaces.specs.Anchored.{NewAttribute, new_id, new_href, attribute_name, with_front_attribute, anchor_head, IsAnchor, anchor, IsGiven, nothing, given, anchors, Anchored, IsAny, AnchorsAreUnseen, AnchorsKeepEdges, AnchorsKeepPlainNodes}
+use Rattle.typst_html_spaces.specs.CleanNodes.{IsCleanHead, clean, IsCleanValue, AnchorsKeepCleanNodes}
+use Rattle.typst_html_spaces.specs.Changed.{at_end, at_tag, after_tag, at_text, around_text, at_element, at_frame}
+use Rattle.typst_html_spaces.specs.DeepNodes.{of_heads}
 use Rattle.typst_html_spaces.specs.PlainFlow.{is_plain_name}
-use Rattle.typst_html_spaces.specs.PlainNodes.{is_plain_node, are_plain_nodes}
-use Rattle.typst_html_spaces.proofs.CleanNodes.{plain_clean, clean_plain}
+use Rattle.typst_html_spaces.proofs.Changed.{HoldsThen, holds_then, heads_then}
+use Rattle.typst_html_spaces.proofs.CleanNodes.{plain_clean}
 use Rattle.typst_html_spaces.proofs.MadeNodes.{made_are_named}
 
 -- a new attribute says nothing of how an element is shown
@@ -46,37 +48,26 @@ unfolding preserves has_border default_display stands_in is_replaced
 anchor_atoms true id span kids ns = refl
 anchor_atoms false id span kids ns = refl
 
-element_by : (k : Bool) (h : Head) (kids new ns ms : NodesView) →
-    ((j : Bool) → nodes_atoms j new ≡ nodes_atoms j kids) → nodes_atoms k ms ≡ nodes_atoms k ns →
-    nodes_atoms k (node (element_node h new) ms) ≡ nodes_atoms k (node (element_node h kids) ns)
-element_by k h kids new ns ms e f =
-    let j = k || preserves h.name h.attrs in
-    ap (λ xs. element_atoms h.name h.attrs xs ++ nodes_atoms k ms) (e j)
-    ∙ ap (λ xs. element_atoms h.name h.attrs (nodes_atoms j kids) ++ xs) f
+module _ {P : NewAttribute → List ℕ → Type 0} where
+  given_by : {h g : Head} → IsGiven P h g → (k : Bool) (new ms : NodesView) →
+      nodes_atoms k (node (element_node g new) ms) ≡ nodes_atoms k (node (element_node h new) ms)
+  given_by nothing k new ms = refl
+  given_by (given {h = h} a value i) k new ms =
+      rw (new_preserves a value h.name h.attrs, new_border a value h.name h.attrs) refl
 
-new_by : (k : Bool) (a : NewAttribute) (value : List ℕ) (h : Head) (new ms : NodesView) →
-    nodes_atoms k (node (element_node (with_front_attribute a value h) new) ms)
-    ≡ nodes_atoms k (node (element_node h new) ms)
-new_by k a value h new ms =
-    rw (new_preserves a value h.name h.attrs, new_border a value h.name h.attrs) refl
-
-module _ {P : List ℕ → Type 0} where
   anchored_atoms : {ns ms : NodesView} → Anchored P ns ms → (k : Bool) →
       nodes_atoms k ms ≡ nodes_atoms k ns
   anchored_atoms at_end k = refl
   anchored_atoms (at_tag r) k = anchored_atoms r k
-  anchored_atoms (after_tag {ms = ms} id span p r) k =
+  anchored_atoms (after_tag {ms = ms} (anchor id span i) r) k =
       anchor_atoms k id span none ms ∙ anchored_atoms r k
   anchored_atoms (at_text {s = s} r) k = ap (λ xs. text_atoms k s ++ xs) (anchored_atoms r k)
-  anchored_atoms (around_text {s = s} {span = span} {ms = ms} id own p r) k =
+  anchored_atoms (around_text {s = s} {span = span} {ms = ms} (anchor id own i) r) k =
       anchor_atoms k id own (node (text_node s span) none) ms
-      ∙ (ap (λ xs. xs ++ nodes_atoms k ms) (append-nil (text_atoms k s))
-      ∙ ap (λ xs. text_atoms k s ++ xs) (anchored_atoms r k))
-  anchored_atoms (at_element {h = h} {kids = kids} {new = new} {ns = ns} {ms = ms} q r) k =
-      element_by k h kids new ns ms (λ j. anchored_atoms q j) (anchored_atoms r k)
-  anchored_atoms (of_element {h = h} {kids = kids} {new = new} {ns = ns} {ms = ms} a v p q r) k =
-      new_by k a v h new ms
-      ∙ element_by k h kids new ns ms (λ j. anchored_atoms q j) (anchored_atoms r k)
+      ∙ rw (append-nil (text_atoms k s), anchored_atoms r k) refl
+  anchored_atoms (at_element {h = h} {new = new} {ms = ms} i q r) k =
+      given_by i k new ms
+      ∙ rw (anchored_atoms q (k || preserves h.name h.attrs), anchored_atoms r k) refl
   anchored_atoms (at_frame r) k = anchored_atoms r k
 
 pub anchors_are_unseen : AnchorsAreUnseen
@@ -97,50 +88,48 @@ new_edged a value h c = (
   λ e. ((c.2 e).0, new_preserves a value h.name h.attrs ∙ (c.2 e).1),
 )
 
-module _ {P : List ℕ → Type 0} where
-  pub anchored_edged : {ns ms : NodesView} → Anchored P ns ms → NodesAreEdged ns → NodesAreEdged ms
+module _ {P : NewAttribute → List ℕ → Type 0} where
+  anchor_is_edged : {h : Head} → IsAnchor P h → HeadIsEdged h
+  anchor_is_edged (anchor id span i) = anchor_edged id span
+
+  given_edged : {h g : Head} → IsGiven P h g → HeadIsEdged h → HeadIsEdged g
+  given_edged nothing c = c
+  given_edged (given {h = h} a value i) c = new_edged a value h c
+
+  anchored_edged : {ns ms : NodesView} → Anchored P ns ms → NodesAreEdged ns → NodesAreEdged ms
   anchored_edged at_end c = tt
   anchored_edged (at_tag r) c = anchored_edged r c
-  anchored_edged (after_tag id span p r) c = ((anchor_edged id span, tt), anchored_edged r c)
+  anchored_edged (after_tag i r) c = ((anchor_is_edged i, tt), anchored_edged r c)
   anchored_edged (at_text r) c = anchored_edged r c
-  anchored_edged (around_text id own p r) c = ((anchor_edged id own, tt), anchored_edged r c)
-  anchored_edged (at_element q r) c = ((c.0.0, anchored_edged q c.0.1), anchored_edged r c.1)
-  anchored_edged (of_element {h = h} a v p q r) c =
-      ((new_edged a v h c.0.0, anchored_edged q c.0.1), anchored_edged r c.1)
+  anchored_edged (around_text i r) c = ((anchor_is_edged i, tt), anchored_edged r c)
+  anchored_edged (at_element i q r) c =
+      ((given_edged i c.0.0, anchored_edged q c.0.1), anchored_edged r c.1)
   anchored_edged (at_frame r) c = absurd c
 
 pub anchors_keep_edges : AnchorsKeepEdges
 anchors_keep_edges ns ms r c = anchored_edged r c
 
-module _ {P : List ℕ → Type 0} where
-  pub anchored_plain : {ns ms : NodesView} → Anchored P ns ms → are_plain_nodes ns ≡ true →
-      are_plain_nodes ms ≡ true
-  unfolding is_plain_node
-  anchored_plain at_end e = refl
-  anchored_plain (at_tag r) e = anchored_plain r e
-  anchored_plain (after_tag id span p r) e = rw made_are_named.1 (anchored_plain r e)
-  anchored_plain (at_text r) e = anchored_plain r e
-  anchored_plain (around_text id own p r) e = rw made_are_named.1 (anchored_plain r e)
-  anchored_plain (at_element {h = h} {kids = kids} {ns = ns} q r) e =
-      let both = and_parts (is_plain_name h.name && are_plain_nodes kids) (are_plain_nodes ns) e in
-      let one = and_parts (is_plain_name h.name) (are_plain_nodes kids) both.0 in
-      rw (one.0, anchored_plain q one.1) (anchored_plain r both.1)
-  anchored_plain (of_element {h = h} {kids = kids} {ns = ns} a v p q r) e =
-      let both = and_parts (is_plain_name h.name && are_plain_nodes kids) (are_plain_nodes ns) e in
-      let one = and_parts (is_plain_name h.name) (are_plain_nodes kids) both.0 in
-      rw (one.0, anchored_plain q one.1) (anchored_plain r both.1)
-  anchored_plain (at_frame r) e = absurd (false≢true e)
+-- what holds at any depth
+
+module _ (P : NewAttribute → List ℕ → Type 0) (Q : Head → Type 0) (F : Type 0)
+    (new_anchor : (id : List ℕ) (span : ℕ) → Q (anchor_head id span))
+    (new : (a : NewAttribute) (value : List ℕ) (h : Head) → P a value → Q h →
+    Q (with_front_attribute a value h)) where
+  of_anchor : {h : Head} → IsAnchor P h → Q h
+  of_anchor (anchor id span i) = new_anchor id span
+
+  of_given : {h g : Head} → IsGiven P h g → (Q h → Q g) × (g.pre_span ≡ h.pre_span)
+  of_given nothing = (λ r. r, refl)
+  of_given (given {h = h} a value i) = (new a value h i, refl)
+
+  pub heads_anchored : HoldsThen (of_heads Q F) (of_heads Q F) (anchors P)
+  heads_anchored = heads_then Q Q F (anchors P) (λ h i. of_anchor i) (λ h s i. of_anchor i)
+      (λ h g i. of_given i)
 
 pub anchors_keep_plain_nodes : AnchorsKeepPlainNodes
-anchors_keep_plain_nodes ns ms r e = anchored_plain r e
-
-module _ {P : List ℕ → Type 0} where
-  pub unanchored : (ns : NodesView) → Anchored P ns ns
-  unanchored none = at_end
-  unanchored (node (tag_node t) ns) = at_tag (unanchored ns)
-  unanchored (node (text_node s span) ns) = at_text (unanchored ns)
-  unanchored (node (element_node h kids) ns) = at_element (unanchored kids) (unanchored ns)
-  unanchored (node (frame_node f) ns) = at_frame (unanchored ns)
+anchors_keep_plain_nodes ns ms a r = holds_then
+    (heads_anchored IsAny (λ h. is_plain_name h.name ≡ true) ⊥ (λ id span. made_are_named.1)
+    (λ a value h i e. e)) a false r
 
 -- clean nodes
 
@@ -148,57 +137,37 @@ pub span_is_not_void : is_void (codes "span") ≡ false
 unfolding is_void stands_in
 span_is_not_void = refl
 
-anchor_clean : (id : List ℕ) (span : ℕ) (ns : NodesView) → IsCleanValue id →
-    is_clean_head (anchor_head id span) ns ≡ true
-anchor_clean id span ns c = rw (made_are_named.1, c, span_is_not_void) refl
+abbrev IsClean : NewAttribute → List ℕ → Type 0
+IsClean a value = IsCleanValue value
 
-empty_kept : {P : List ℕ → Type 0} {ns ms : NodesView} → Anchored P ns ms →
-    is_empty ms ≡ is_empty ns
-empty_kept at_end = refl
-empty_kept more = refl
+anchor_is_clean : {h : Head} → IsAnchor IsClean h → (b : Bool) →
+    IsCleanHead h b × (h.pre_span ≡ false)
+anchor_is_clean (anchor id span i) b = (
+  record {
+    named = made_are_named.1;
+    values = rw i refl;
+    void = λ e. absurd (false≢true (sym span_is_not_void ∙ e));
+  },
+  refl,
+)
 
-head_kept : (h : Head) (kids new : NodesView) → is_empty new ≡ is_empty kids →
-    is_clean_head h kids ≡ true → is_clean_head h new ≡ true
-head_kept h kids new e c =
-    ap (λ b. is_plain_name h.name && are_clean_values h.attrs && (not (is_void h.name) || b)) e ∙ c
+given_clean : {h g : Head} → IsGiven IsClean h g → (b : Bool) → IsCleanHead h b →
+    IsCleanHead g b
+given_clean nothing b c = c
+given_clean (given a value i) b c =
+    record { named = c.named; values = rw i (c.values); void = c.void }
 
-new_clean : (a : NewAttribute) (value : List ℕ) (h : Head) (ns : NodesView) →
-    IsCleanValue value → is_clean_head h ns ≡ true → is_clean_head (with_front_attribute a value h) ns ≡ true
-new_clean a value h ns i c = rw i c
-
-anchored_clean : {ns ms : NodesView} → Anchored IsCleanValue ns ms → (p : Bool) →
-    are_clean_nodes p ns ≡ true → are_clean_nodes p ms ≡ true
-unfolding is_clean_node
-anchored_clean at_end p c = refl
-anchored_clean (at_tag {t = t} {ns = ns} r) p c =
-    let both = and_parts (is_clean_tag t) (are_clean_nodes p ns) c in
-    rw both.0 (anchored_clean r p both.1)
-anchored_clean (after_tag {t = t} {ns = ns} id span i r) p c =
-    let both = and_parts (is_clean_tag t) (are_clean_nodes p ns) c in
-    rw (both.0, anchor_clean id span none i) (anchored_clean r p both.1)
-anchored_clean (at_text {s = s} {ns = ns} r) p c =
-    let both = and_parts (is_clean_content p s) (are_clean_nodes p ns) c in
-    rw both.0 (anchored_clean r p both.1)
-anchored_clean (around_text {s = s} {span = span} {ns = ns} id own i r) p c =
-    let both = and_parts (is_clean_content p s) (are_clean_nodes p ns) c in
-    rw (anchor_clean id own (node (text_node s span) none) i, plain_clean s (clean_plain p s both.0))
-    (anchored_clean r p both.1)
-anchored_clean (at_element {h = h} {kids = kids} {new = new} {ns = ns} q r) p c =
-    let both = and_parts (is_clean_head h kids && are_clean_nodes h.pre_span kids)
-    (are_clean_nodes p ns) c in
-    let one = and_parts (is_clean_head h kids) (are_clean_nodes h.pre_span kids) both.0 in
-    rw (head_kept h kids new (empty_kept q) one.0, anchored_clean q h.pre_span one.1)
-    (anchored_clean r p both.1)
-anchored_clean (of_element {h = h} {kids = kids} {new = new} {ns = ns} a v i q r) p c =
-    let both = and_parts (is_clean_head h kids && are_clean_nodes h.pre_span kids)
-    (are_clean_nodes p ns) c in
-    let one = and_parts (is_clean_head h kids) (are_clean_nodes h.pre_span kids) both.0 in
-    rw (
-      new_clean a v h new i (head_kept h kids new (empty_kept q) one.0),
-      anchored_clean q h.pre_span one.1,
-    )
-    (anchored_clean r p both.1)
-anchored_clean (at_frame r) p c = absurd (false≢true c)
+given_flag : {h g : Head} → IsGiven IsClean h g → g.pre_span ≡ h.pre_span
+given_flag nothing = refl
+given_flag (given a value i) = refl
 
 pub anchors_keep_clean_nodes : AnchorsKeepCleanNodes
-anchors_keep_clean_nodes p ns ms r c = anchored_clean r p c
+anchors_keep_clean_nodes p ns ms a c = holds_then {v = clean} {w = clean} (record {
+  after = λ h i. (anchor_is_clean i true).0;
+  around = λ p h s i c. let own = anchor_is_clean i false in (own.0, rw own.1 (plain_clean s c.0));
+  head = λ h g i. given_clean i;
+  flag = λ h g i. given_flag i;
+  text = λ p s c. c;
+  tag = λ t c. c;
+  frame = λ c. c;
+}) a p c

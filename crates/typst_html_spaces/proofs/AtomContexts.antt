@@ -1,6 +1,6 @@
 -- Atoms between others: lists one after the other, and collapsing by context.
-use Rattle.std.proofs.Common.{◌≡◌, Bool, false, List, [], ◌∷◌, ◌++◌, refl, ap, ◌∙◌, sym, append_assoc}
-use Rattle.typst_html_encode.specs.Collapsing.{Atom, ignorable, collapsible, border, Piece, is_supported_by, then_supports, atom_pieces, atoms_pieces, merged_edges, collapsed_pieces}
+use Rattle.std.proofs.Common.{◌≡◌, Bool, false, List, [], ◌∷◌, ◌++◌, refl, ap, ◌∙◌, append_assoc}
+use Rattle.typst_html_encode.specs.Collapsing.{Atom, ignorable, collapsible, border, is_supported_by, then_supports, atom_pieces, atoms_pieces, merged_edges, collapsed_pieces}
 use Rattle.typst_html_spaces.specs.AtomContexts.{supports_or, support_at, support_past, pieces_between, AtomStays, AtomsStay, own_piece, own_pieces, CollapsesByContext, PiecesOfBoth}
 
 pub support_at-append : (xs ys : List Atom) (after : Bool) →
@@ -16,13 +16,8 @@ support_past-append before (x ∷ xs) ys = support_past-append (then_supports be
 pub pieces_of_both : PiecesOfBoth
 pieces_of_both before after [] ys = refl
 pieces_of_both before after (x ∷ xs) ys =
-    let one : List Piece = atom_pieces before (support_at xs (support_at ys after)) x in
-    ap (λ s. atom_pieces before s x ++ pieces_between (then_supports before x) after (xs ++ ys))
-    (support_at-append xs ys after)
-    ∙ (ap (λ ps. one ++ ps) (pieces_of_both (then_supports before x) after xs ys)
-    ∙ sym (append_assoc one
-    (pieces_between (then_supports before x) (support_at ys after) xs)
-    (pieces_between (support_past (then_supports before x) xs) after ys)))
+    rw (support_at-append xs ys after, pieces_of_both (then_supports before x) after xs ys, append_assoc)
+    refl
 
 -- the context form is the definition
 
@@ -36,9 +31,7 @@ between : (before : Bool) (xs : List Atom) →
     atoms_pieces before xs ≡ pieces_between before false xs
 between before [] = refl
 between before (x ∷ xs) =
-    ap (λ s. atom_pieces before s x ++ atoms_pieces (then_supports before x) xs) (supported xs)
-    ∙ ap (λ ps. atom_pieces before (support_at xs false) x ++ ps)
-    (between (then_supports before x) xs)
+    rw (supported xs, between (then_supports before x) xs) refl
 
 pub collapses_by_context : CollapsesByContext
 collapses_by_context xs = ap (merged_edges false) (between false xs)
@@ -54,9 +47,8 @@ pub own_between : (before after : Bool) (xs : List Atom) → AtomsStay before af
     pieces_between before after xs ≡ own_pieces xs
 own_between before after [] s = refl
 own_between before after (x ∷ xs) s =
-    ap (λ ps. ps ++ pieces_between (then_supports before x) after xs)
-    (own before (support_at xs after) x s.0)
-    ∙ ap (λ ps. own_piece x ∷ ps) (own_between (then_supports before x) after xs s.1)
+    rw (own before (support_at xs after) x s.0, own_between (then_supports before x) after xs s.1)
+    refl
 
 pub own_collapsed : (xs : List Atom) → AtomsStay false false xs →
     collapsed_pieces xs ≡ merged_edges false (own_pieces xs)

@@ -1,210 +1,236 @@
--- What holds of each element, each text and each tag at any depth, through the steps by which the
--- nodes of items are finished.
-use Rattle.std.proofs.Common.{◌≡◌, ℕ, Bool, true, false, ◌&&◌, ◌||◌, List, [], ◌∷◌, map, Option, None, Some, inl, inr, refl, ap, ◌∙◌, cond}
+-- What holds of nodes at any depth is kept by each step on which they are made of items.
+use Rattle.std.proofs.Common.{◌≡◌, ℕ, Bool, true, false, ◌||◌, List, [], ◌∷◌, ◌++◌, map, Option, None, Some, inl, inr, refl, ap, ◌∙◌, sym, codes}
 use Rattle.std.specs.List.{filter}
-use Rattle.std.proofs.lemmas.Bool.{cases_Bool, false≢true, or_left, or_cases}
+use Rattle.std.proofs.lemmas.Bool.{cases_Bool, false≢true, or_left}
+use Rattle.std.proofs.Math.Bool.{or-false}
 use Rattle.html_dom_tree.specs.Tags.{TagView}
-use Rattle.html_dom_tree.specs.Tree.{Head, NodeView, tag_node, text_node, element_node, frame_node, NodesView, none, node}
+use Rattle.html_dom_tree.specs.Tree.{Head, NodeView, tag_node, text_node, element_node, NodesView, none, node}
 use Rattle.html_dom_tree.specs.Views.{nodes_of}
-use Rattle.html_flow_convert.specs.BareSpaces.{node_things, nodes_things, is_entered}
-use Rattle.html_flow_convert.specs.Nodes.{pre_wrap_head, is_one, is_tag}
-use Rattle.html_flow_convert.specs.Protected.{text_by_answer}
-use Rattle.html_flow_convert.specs.Runs.{is_blank_node, first_span, are_kept, run_nodes, front_nodes, blank_front, after_front, nodes_with_runs}
-use Rattle.html_flow_convert.specs.Converted.{list_nodes}
-use Rattle.html_flow_convert.specs.LoneNode.{node_list, are_tags, lone_node, DisplayChangeView, css_with_display, node_with_display, block_change, changed_or_in, block_change_of, block_head, block_nodes}
+use Rattle.html_flow_convert.specs.BareSpaces.{bare_spaces}
+use Rattle.html_flow_convert.specs.Nodes.{made_head, pre_wrap_head, is_one}
+use Rattle.html_flow_convert.specs.Pieces.{PieceView, stretch, alone, line_break, piece_node, pieces}
+use Rattle.html_flow_convert.specs.Runs.{is_blank_node, first_span, are_kept, run_nodes, nodes_with_runs}
+use Rattle.html_flow_convert.specs.Converted.{text_item_nodes, list_nodes, RoleText, item_role, element_head, body_level, body_whitespace, body_role, item_nodes, items_nodes, body_nodes, converted_nodes}
+use Rattle.html_flow_convert.specs.LoneNode.{node_list, lone_node, DisplayChangeView, css_with_display, node_with_display, block_change, changed_or_in, box_change_of, box_head, block_head, box_nodes, block_nodes}
 use Rattle.html_flow_convert.specs.declared.convert.ConversionLevel.{ConversionLevel}
 use Rattle.html_flow_convert.specs.declared.convert.ConversionLevel.TheVariants.{Block, Inline}
 use Rattle.html_flow_convert.specs.declared.convert.Whitespace.{Whitespace}
 use Rattle.html_flow_convert.specs.declared.convert.Whitespace.TheVariants.{Normal, Pre}
-use Rattle.typst_html_spaces.specs.CleanNodes.{is_empty}
-use Rattle.typst_html_spaces.specs.LineContexts.{visible_at, line_past, node_between, nodes_between}
+use Rattle.typst_html_spaces.specs.DeepNodes.{Wanted, is_empty, HoldsOf, HoldsOfAll}
+use Rattle.typst_html_spaces.proofs.Changed.{HoldsThen, holds_then, IsWrap, wrapped, wraps, protected_is_changed}
 use Rattle.typst_html_spaces.proofs.Each.{Each, Each-append}
-use Rattle.typst_html_spaces.proofs.LineContexts.{protects_by_context}
-use Rattle.typst_html_spaces.proofs.ReadyRuns.{IsInRun, front_is_run}
+use Rattle.typst_html_spaces.proofs.EachRun.{IsInRun, of_each_run}
+use Rattle.typst_html_spaces.proofs.LoneNode.{of_tags, of_lone, of_block as block_by}
+use Rattle.html_flow_convert.specs.Items.{RoleView, ElemHead, FrameElemView, ItemView, tag_item, element_item, space_item, text_item, hole_item, break_item, box_item, block_item, frame_item, ItemsView, no_items, item, BodyView, absent, present}
 
-pub text_is_not_alone : (b : Bool) (n : NodeView) → cond b None None ≡ Some n → ⊥
-text_is_not_alone true n e = cc
-text_is_not_alone false n e = cc
+-- lists
 
--- of an element with no children or with some, of a text directly under an element with or without
--- the flag `pre_span`, and of a tag
-module _ (OfHead : Head → (is_empty : Bool) → Type 0)
-    (OfText : (pre_span : Bool) → List ℕ → Type 0) (OfTag : TagView → Type 0) where
-  abbrev mutual
-    pub HoldsOf : (pre_span : Bool) → NodeView → Type 0
-    HoldsOf p (tag_node t) = OfTag t
-    HoldsOf p (text_node s span) = OfText p s
-    HoldsOf p (element_node h ns) = OfHead h (is_empty ns) × HoldsOfAll h.pre_span ns
-    HoldsOf p (frame_node f) = ⊥
+pub of_each : (w : Wanted) (p : Bool) (ms : List NodeView) → Each (HoldsOf w p) ms →
+    HoldsOfAll w p (nodes_of ms)
+of_each w p [] r = tt
+of_each w p (m ∷ ms) r = (r.0, of_each w p ms r.1)
 
-    pub HoldsOfAll : (pre_span : Bool) → NodesView → Type 0
-    HoldsOfAll p none = Unit {0}
-    HoldsOfAll p (node n ns) = HoldsOf p n × HoldsOfAll p ns
+pub of_both : (w : Wanted) (p : Bool) (ms more : List NodeView) → Each (HoldsOf w p) ms →
+    HoldsOfAll w p (nodes_of more) → HoldsOfAll w p (nodes_of (ms ++ more))
+of_both w p [] more r s = s
+of_both w p (m ∷ ms) more r s = (r.0, of_both w p ms more r.1 s)
 
-  -- it holds of what is made on the way
-  pub record HoldsOnTheWay : Type 0 where
-    pub wrap : (span : ℕ) (b : Bool) → OfHead (pre_wrap_head span) b
-    pub blank : (s : List ℕ) → (is_one 32 s || is_one 9 s) ≡ true → OfText true s
-    pub block : (span : ℕ) (b : Bool) → OfHead (block_head span) b
-    pub lone : (h : Head) (kids : NodesView) (change : DisplayChangeView) →
-        OfHead h (is_empty kids) → block_change (element_node h kids) ≡ Some change →
-        OfHead (record h { css = css_with_display change h.css }) (is_empty kids)
+pub each_of : (w : Wanted) (p : Bool) (ns : NodesView) → HoldsOfAll w p ns →
+    Each (HoldsOf w p) (node_list ns)
+unfolding node_list
+each_of w p none r = tt
+each_of w p (node n ns) r = (r.0, each_of w p ns r.1)
 
-  pub of_each : (p : Bool) (ms : List NodeView) → Each (HoldsOf p) ms → HoldsOfAll p (nodes_of ms)
-  of_each p [] r = tt
-  of_each p (m ∷ ms) r = (r.0, of_each p ms r.1)
+-- it holds of what is made on the way
+pub record HoldsOnTheWay (w : Wanted) : Type 0 where
+  pub wrap : (span : ℕ) (b : Bool) → w.head (pre_wrap_head span) b
+  pub blank : (s : List ℕ) → (is_one 32 s || is_one 9 s) ≡ true → w.text true s
+  pub line : (span : ℕ) → w.head (made_head (codes "br") [] span) true
+  pub block : (span : ℕ) (b : Bool) → w.head (block_head span) b
+  pub lone : (h : Head) (kids : NodesView) (change : DisplayChangeView) →
+      w.head h (is_empty kids) → block_change (element_node h kids) ≡ Some change →
+      w.head (record h { css = css_with_display change h.css }) (is_empty kids)
 
-module _ (OfHead : Head → (is_empty : Bool) → Type 0)
-    (OfText : (pre_span : Bool) → List ℕ → Type 0) (OfTag : TagView → Type 0)
-    (way : HoldsOnTheWay OfHead OfText OfTag) where
-  abbrev Of : Bool → NodeView → Type 0
-  Of = HoldsOf OfHead OfText OfTag
+-- of what boxes make too
+pub record HoldsOfBoxes (w : Wanted) : Type 0 where
+  pub box : (span : ℕ) (b : Bool) → w.head (box_head span) b
+  pub lone : (h : Head) (b : Bool) (change : DisplayChangeView) → w.head h b →
+      w.head (record h { css = css_with_display change h.css }) b
 
-  abbrev OfAll : Bool → NodesView → Type 0
-  OfAll = HoldsOfAll OfHead OfText OfTag
+module _ (w : Wanted) (way : HoldsOnTheWay w) where
+  abbrev Of : NodeView → Type 0
+  Of = HoldsOf w false
 
   -- runs of blanks
 
-  blank_text : (s : List ℕ) → ((is_one 32 s || is_one 9 s) || false) ≡ true →
-      (is_one 32 s || is_one 9 s) ≡ true
-  blank_text s e = elim (or_cases (is_one 32 s || is_one 9 s) false e) [
-    | inl f ↦ f
-    | inr f ↦ absurd (false≢true f)
-  ]
+  in_run : (ns : List NodeView) → Each IsInRun ns → Each Of ns → HoldsOfAll w true (nodes_of ns)
+  in_run [] e r = tt
+  in_run (tag_node t ∷ ns) e r = (r.0, in_run ns e.1 r.1)
+  in_run (text_node s span ∷ ns) e r =
+      (way.blank s (sym (or-false (is_one 32 s || is_one 9 s)) ∙ e.0), in_run ns e.1 r.1)
+  in_run (n ∷ ns) e r = absurd (false≢true e.0)
 
-  run_inside : (p : Bool) (ns : List NodeView) → Each IsInRun ns → Each (Of p) ns →
-      OfAll true (nodes_of ns)
-  run_inside p [] e r = tt
-  run_inside p (tag_node t ∷ ns) e r = (r.0, run_inside p ns e.1 r.1)
-  run_inside p (text_node s span ∷ ns) e r =
-      (way.blank s (blank_text s e.0), run_inside p ns e.1 r.1)
-  run_inside p (element_node h kids ∷ ns) e r = absurd (false≢true e.0)
-  run_inside p (frame_node f ∷ ns) e r = absurd (false≢true e.0)
-
-  of_run : (p : Bool) (ns : List NodeView) → Each IsInRun ns → Each (Of p) ns →
-      Each (Of p) (run_nodes ns)
-  of_run p ns e r = elim (cases_Bool (are_kept (filter is_blank_node ns))) [
-    | inl f ↦ rw f ((way.wrap (first_span ns) (is_empty (nodes_of ns)), run_inside p ns e r), tt)
+  of_run : (ns : List NodeView) → Each IsInRun ns → Each Of ns → Each Of (run_nodes ns)
+  of_run ns e r = elim (cases_Bool (are_kept (filter is_blank_node ns))) [
+    | inl f ↦ rw f ((way.wrap (first_span ns) (is_empty (nodes_of ns)), in_run ns e r), tt)
     | inr f ↦ rw f r
   ]
 
-  of_front_nodes : (p : Bool) (ns : List NodeView) → Each IsInRun ns → Each (Of p) ns →
-      Each (Of p) (front_nodes ns)
-  of_front_nodes p [] e r = tt
-  of_front_nodes p (n ∷ ns) e r = elim (cases_Bool (is_tag n)) [
-    | inl f ↦ rw f (r.0, of_front_nodes p ns e.1 r.1)
-    | inr f ↦ rw f (of_run p (n ∷ ns) e r)
-  ]
-
-  of_front : (p : Bool) (ns : List NodeView) → Each (Of p) ns → Each (Of p) (blank_front ns)
-  unfolding blank_front
-  of_front p [] r = tt
-  of_front p (n ∷ ns) r = elim (cases_Bool (is_blank_node n || is_tag n)) [
-    | inl e ↦ rw e (r.0, of_front p ns r.1)
-    | inr e ↦ rw e tt
-  ]
-
-  of_begin : (p : Bool) (ns : List NodeView) → Each (Of p) ns → Each (Of p) (front_nodes (blank_front ns))
-  of_begin p ns r = of_front_nodes p (blank_front ns) (front_is_run ns) (of_front p ns r)
-
-  of_rest : (p : Bool) (ns : List NodeView) → Each (Of p) ns → Each (Of p) (after_front ns)
-  unfolding after_front
-  of_rest p [] r = tt
-  of_rest p (n ∷ ns) r = elim (cases_Bool (is_blank_node n || is_tag n)) [
-    | inl e ↦ rw e (of_rest p ns r.1)
-    | inr e ↦ rw e (
-      r.0,
-      Each-append (Of p) (front_nodes (blank_front ns)) (after_front ns) (of_begin p ns r.1)
-          (of_rest p ns r.1),
-    )
-  ]
-
-  of_runs : (p : Bool) (ns : List NodeView) → Each (Of p) ns → Each (Of p) (nodes_with_runs ns)
-  of_runs p ns r = Each-append (Of p) (front_nodes (blank_front ns)) (after_front ns) (of_begin p ns r)
-      (of_rest p ns r)
+  of_runs : (ns : List NodeView) → Each Of ns → HoldsOfAll w false (nodes_of (nodes_with_runs ns))
+  of_runs ns r = of_each w false (nodes_with_runs ns)
+      (of_each_run Of Of of_run (λ n e s. s) (λ n e s. s) ns r)
 
   -- protected spaces
 
-  of_lone_space : (p b : Bool) (s : List ℕ) (span : ℕ) → is_one 32 s ≡ true → OfText p s →
-      Of p (text_by_answer b s span)
-  of_lone_space p true s span e r = r
-  of_lone_space p false s span e r =
-      (way.wrap span false, (way.blank s (or_left (is_one 32 s) (is_one 9 s) e), tt))
+  in_wrap : (p : Bool) {h : Head} {s : List ℕ} → IsWrap h s → w.head h false × w.text h.pre_span s
+  in_wrap p (wrapped {s = s} span e) =
+      (way.wrap span false, way.blank s (or_left (is_one 32 s) (is_one 9 s) e))
 
-  as_empty : (ns : NodesView) (before after : Bool) →
-      is_empty (nodes_between before after ns) ≡ is_empty ns
-  as_empty none before after = refl
-  as_empty (node n ns) before after = refl
-
-  mutual
-    of_between : (n : NodeView) (p before after : Bool) → Of p n → Of p (node_between before after n)
-    of_between (tag_node t) p before after r = r
-    of_between (text_node s span) p before after r = elim (cases_Bool (is_one 32 s)) [
-      | inl e ↦ rw e (of_lone_space p (before && after) s span e r)
-      | inr e ↦ rw e r
-    ]
-    of_between (element_node h ns) p before after r = elim (cases_Bool (is_entered h)) [
-      | inl e ↦ rw (e, as_empty ns before after)
-          (r.0, of_all_between ns h.pre_span before after r.1)
-      | inr e ↦ rw e r
-    ]
-    of_between (frame_node f) p before after r = absurd r
-
-    of_all_between : (ns : NodesView) (p before after : Bool) → OfAll p ns →
-        OfAll p (nodes_between before after ns)
-    of_all_between none p before after r = tt
-    of_all_between (node n ns) p before after r = (
-      of_between n p before (visible_at (nodes_things ns) after) r.0,
-      of_all_between ns p (line_past before (node_things n)) after r.1,
-    )
+  wraps_hold : HoldsThen w w wraps
+  wraps_hold = record {
+    after = λ h i. absurd i;
+    around = λ p h s i r. in_wrap p i;
+    head = λ h g e b r. rw e r;
+    flag = λ h g e. ap (λ x. x.pre_span) e;
+    text = λ p s r. r;
+    tag = λ t r. r;
+    frame = λ r. r;
+  }
 
   pub of_list : (level : ConversionLevel) (whitespace : Whitespace) (ms : List NodeView) →
-      Each (Of false) ms → OfAll false (list_nodes level whitespace ms)
-  of_list level Pre ms r = of_each OfHead OfText OfTag false ms r
-  of_list Inline Normal ms r =
-      of_each OfHead OfText OfTag false (nodes_with_runs ms) (of_runs false ms r)
+      Each Of ms → HoldsOfAll w false (list_nodes level whitespace ms)
+  of_list level Pre ms r = of_each w false ms r
+  of_list Inline Normal ms r = of_runs ms r
   of_list Block Normal ms r =
       let ns = nodes_of (nodes_with_runs ms) in
-      rw (protects_by_context ns) (of_all_between ns false false false
-      (of_each OfHead OfText OfTag false (nodes_with_runs ms) (of_runs false ms r)))
+      holds_then wraps_hold (protected_is_changed ns (bare_spaces ns)) false (of_runs ms r)
 
-  -- blocks
+  -- boxes and blocks
 
-  of_tags : (change : DisplayChangeView) (ns : NodesView) → are_tags ns ≡ true → OfAll false ns →
-      Each (Of false) (map (node_with_display change) (node_list ns))
+  abbrev Changed : DisplayChangeView → NodesView → Type 0
+  Changed change ns =
+      HoldsOfAll w false ns → Each Of (map (node_with_display change) (node_list ns))
+
+  past_tag : (change : DisplayChangeView) (t : TagView) (ns : NodesView) → Changed change ns →
+      Changed change (node (tag_node t) ns)
   unfolding node_list
-  of_tags change none e r = tt
-  of_tags change (node (tag_node t) ns) e r = (r.0, of_tags change ns e r.1)
-  of_tags change (node (text_node s span) ns) e r = absurd (false≢true e)
-  of_tags change (node (element_node h kids) ns) e r = absurd (false≢true e)
-  of_tags change (node (frame_node f) ns) e r = absurd (false≢true e)
+  past_tag change t ns more r = (r.0, more r.1)
 
-  of_changed : (ns : NodesView) (n : NodeView) (change : DisplayChangeView) →
-      lone_node ns ≡ Some n → block_change n ≡ Some change → OfAll false ns →
-      Each (Of false) (map (node_with_display change) (node_list ns))
-  unfolding node_list lone_node
-  of_changed none n change e c r = cc
-  of_changed (node (tag_node t) ns) n change e c r = (r.0, of_changed ns n change e c r.1)
-  of_changed (node (text_node s span) ns) n change e c r =
-      absurd (text_is_not_alone (are_tags ns) n e)
-  of_changed (node (element_node h kids) ns) n change e c r = elim (cases_Bool (are_tags ns)) [
-    | inl t ↦
-        let f : Some (element_node h kids) ≡ Some n = rw t at e in
-        let is : element_node h kids ≡ n = cc in
-        let own : block_change (element_node h kids) ≡ Some change = ap block_change is ∙ c in
-        ((way.lone h kids change r.0.0 own, r.0.1), of_tags change ns t r.1)
-    | inr t ↦ let f : None ≡ Some n = rw t at e in cc
-  ]
-  of_changed (node (frame_node f) ns) n change e c r = absurd r.0
+  of_changed : (change : DisplayChangeView) (n : NodeView) →
+      (Of n → Of (node_with_display change n)) → (ns : NodesView) → lone_node ns ≡ Some n →
+      Changed change ns
+  unfolding node_list
+  of_changed change n own = of_lone (Changed change) (past_tag change) n (λ ns tags r.
+      (own r.0, of_tags (Changed change) (past_tag change) (λ s. tt) ns tags r.1))
 
-  of_block_by : (span : ℕ) (ns : NodesView) (o : Option NodeView) (c : Option DisplayChangeView) →
-      lone_node ns ≡ o → block_change_of o ≡ c → OfAll false ns →
-      Each (Of false) (changed_or_in (block_head span) c ns)
-  of_block_by span ns o None e f r = ((way.block span (is_empty ns), r), tt)
-  of_block_by span ns None (Some change) e f r = cc
-  of_block_by span ns (Some n) (Some change) e f r = of_changed ns n change e f r
+  in_block : (n : NodeView) (change : DisplayChangeView) → block_change n ≡ Some change → Of n →
+      Of (node_with_display change n)
+  in_block (element_node h kids) change e r = (way.lone h kids change r.0 e, r.1)
+  in_block n change e r = r
 
-  pub of_block : (span : ℕ) (ns : NodesView) → OfAll false ns →
-      Each (Of false) (block_nodes span ns)
-  of_block span ns r =
-      of_block_by span ns (lone_node ns) (block_change_of (lone_node ns)) refl refl r
+  pub of_block : (span : ℕ) (ns : NodesView) → HoldsOfAll w false ns → Each Of (block_nodes span ns)
+  of_block span ns r = block_by (Each Of) span ns ((way.block span (is_empty ns), r), tt)
+      (λ n change e f. of_changed change n (in_block n change f) ns e r)
+
+  module _ (boxes : HoldsOfBoxes w) where
+    in_box : (change : DisplayChangeView) (n : NodeView) → Of n → Of (node_with_display change n)
+    in_box change (element_node h kids) r = (boxes.lone h (is_empty kids) change r.0, r.1)
+    in_box change n r = r
+
+    of_box_by : (span : ℕ) (ns : NodesView) (o : Option NodeView) → lone_node ns ≡ o →
+        HoldsOfAll w false ns → Each Of (changed_or_in (box_head span) (box_change_of o) ns)
+    of_box_by span ns None e r = ((boxes.box span (is_empty ns), r), tt)
+    of_box_by span ns (Some n) e r = of_changed _ n (in_box _ n) ns e r
+
+    pub of_box : (span : ℕ) (ns : NodesView) → HoldsOfAll w false ns → Each Of (box_nodes span ns)
+    of_box span ns r = of_box_by span ns (lone_node ns) refl r
+
+  -- texts of which each is wanted
+
+  pub of_text : ((s : List ℕ) → w.text false s) → (whitespace : Whitespace) (s : List ℕ)
+      (span : ℕ) → Each Of (text_item_nodes whitespace s span)
+  of_text any Pre s span = (any s, tt)
+  of_text any Normal s span = of_pieces (pieces s)
+    where
+      of_pieces : (ps : List PieceView) → Each Of (map (piece_node span) ps)
+      of_pieces [] = tt
+      of_pieces (stretch t ∷ ps) = (any t, of_pieces ps)
+      of_pieces (alone c ∷ ps) = (any (c ∷ []), of_pieces ps)
+      of_pieces (line_break ∷ ps) = ((way.line span, tt), of_pieces ps)
+
+-- items
+
+-- what is known of items in a list of that role
+pub record Known : Type 1 where
+  pub item : Whitespace → RoleText → ItemView → Type 0
+  pub items : Whitespace → RoleText → ItemsView → Type 0
+  pub body : Whitespace → RoleText → BodyView → Type 0
+
+-- so it holds of what an item makes, and as much is known of what stands in it
+pub record HoldsOfItems (w : Wanted) (k : Known) : Type 0 where
+  pub tag : (s : Whitespace) (role : RoleText) (t : TagView) → k.item s role (tag_item t) → w.tag t
+  pub element : (s : Whitespace) (role : RoleText) (h : ElemHead) (body : BodyView) →
+      k.item s role (element_item h body) →
+      w.head (element_head role h)
+      (is_empty (body_nodes (body_level h) (body_whitespace s h) (body_role role h) body))
+      × k.body (body_whitespace s h) (body_role role h) body
+  pub space : w.text false (32 ∷ [])
+  pub text : (s : Whitespace) (role : RoleText) (t : List ℕ) (span : ℕ) →
+      k.item s role (text_item t span) → Each (HoldsOf w false) (text_item_nodes s t span)
+  pub feed : w.text false (10 ∷ [])
+  pub box : (s : Whitespace) (role : RoleText) (body : BodyView) (span : ℕ) →
+      k.item s role (box_item body span) → HoldsOfBoxes w × k.body s role body
+  pub block : (s : Whitespace) (role : RoleText) (body : BodyView) (span : ℕ) →
+      k.item s role (block_item body span) → k.body s role body
+  pub frame : (s : Whitespace) (role : RoleText) (f : FrameElemView) →
+      k.item s role (frame_item f) → w.frame
+  pub first : (s : Whitespace) (role : RoleText) (i : ItemView) (own : RoleView)
+      (items : ItemsView) → k.items s role (item i own items) →
+      k.item s (item_role role own) i × k.items s role items
+  pub inside : (s : Whitespace) (role : RoleText) (items : ItemsView) →
+      k.body s role (present items) → k.items s role items
+
+module _ (w : Wanted) (way : HoldsOnTheWay w) (k : Known) (each : HoldsOfItems w k) where
+  mutual
+    unfolding item_nodes
+
+    of_item : (s : Whitespace) (role : RoleText) (i : ItemView) → k.item s role i →
+        Each (HoldsOf w false) (item_nodes s role i)
+    of_item s role (tag_item t) e = (each.tag s role t e, tt)
+    of_item s role (element_item h body) e =
+        let own = each.element s role h body e in (
+          (own.0, of_body (body_level h) (body_whitespace s h) (body_role role h) body own.1),
+          tt,
+        )
+    of_item s role (space_item span) e = (each.space, tt)
+    of_item s role (text_item t span) e = each.text s role t span e
+    of_item s role hole_item e = tt
+    of_item Pre role (break_item span) e = (each.feed, tt)
+    of_item Normal role (break_item span) e = ((way.line span, tt), tt)
+    of_item s role (box_item body span) e =
+        let own = each.box s role body span e in
+        of_box w way own.0 span (body_nodes Inline s role body) (of_body Inline s role body own.1)
+    of_item s role (block_item body span) e =
+        of_block w way span (body_nodes Block s role body)
+        (of_body Block s role body (each.block s role body span e))
+    of_item s role (frame_item f) e = (each.frame s role f e, tt)
+
+    of_items : (s : Whitespace) (role : RoleText) (items : ItemsView) → k.items s role items →
+        Each (HoldsOf w false) (items_nodes s role items)
+    of_items s role no_items e = tt
+    of_items s role (item i own items) e =
+        let both = each.first s role i own items e in
+        Each-append (HoldsOf w false) (item_nodes s (item_role role own) i) (items_nodes s role items)
+        (of_item s (item_role role own) i both.0) (of_items s role items both.1)
+
+    pub of_body : (level : ConversionLevel) (s : Whitespace) (role : RoleText) (body : BodyView) →
+        k.body s role body → HoldsOfAll w false (body_nodes level s role body)
+    of_body level s role absent e = tt
+    of_body level s role (present items) e = of_list w way level s (items_nodes s role items)
+        (of_items s role items (each.inside s role items e))
+
+  pub of_converted : (level : ConversionLevel) (s : Whitespace) (role : RoleText)
+      (items : ItemsView) → k.items s role items →
+      HoldsOfAll w false (converted_nodes level s role items)
+  of_converted level s role items e =
+      of_list w way level s (items_nodes s role items) (of_items s role items e)

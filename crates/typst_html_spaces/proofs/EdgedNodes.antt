@@ -5,23 +5,22 @@ use Rattle.std.proofs.lemmas.Slice.Eq.{bytes_eq-Decides}
 use Rattle.html_names.specs.Displays.{default_display}
 use Rattle.html_names.specs.Kinds.{is_replaced, is_mathml, mathml_names, is_token, is_metadata_content, metadata_content_names, shows_border}
 use Rattle.html_names.specs.Names.{stands_in}
-use Rattle.html_names.specs.Texts.{TextPair}
 use Rattle.html_names.specs.declared.property.Display.{Display}
 use Rattle.html_names.specs.declared.property.Display.TheVariants as display
 use Rattle.html_names.proofs.Basics.{implied}
-use Rattle.html_dom_tree.specs.Attributes.{first}
 use Rattle.html_dom_tree.specs.Styled.{styled_attrs, head_with_style, styled_node, styled_nodes}
 use Rattle.html_dom_tree.specs.Tree.{Head, tag_node, text_node, element_node, frame_node, NodesView, none, node}
-use Rattle.typst_html_encode.specs.Collapsing.{preserves, has_border_display}
+use Rattle.typst_html_encode.specs.Collapsing.{has_border_display}
 use Rattle.typst_html_encode.specs.IndentsCollapse.{HeadIsEdged, NodesAreEdged}
 use Rattle.typst_html_encode.specs.Layout.{is_of_lines, allows_pretty_inside, wants_pretty_around}
-use Rattle.html_flow_convert.specs.Converted.{RoleText, items_nodes, converted_nodes}
+use Rattle.html_flow_convert.specs.Converted.{RoleText, converted_nodes}
 use Rattle.html_flow_convert.specs.Items.{ItemsView}
 use Rattle.html_flow_convert.specs.declared.convert.ConversionLevel.TheVariants.{Block}
 use Rattle.html_flow_convert.specs.declared.convert.Whitespace.TheVariants.{Normal}
+use Rattle.typst_html_spaces.specs.DeepNodes.{HoldsOfAll}
 use Rattle.typst_html_spaces.specs.PlainFlow.{is_plain_name, is_plain_flow}
-use Rattle.typst_html_spaces.proofs.MadeHeads.{MadeCss, plain, block, wrap, block_wrap, made_style, MadeHead, head_style_is, is_wrap, is_away, plain_is_there, plain_is_no_math, listed_pass}
-use Rattle.typst_html_spaces.proofs.MadeNodes.{AreMade, list_made, items_made}
+use Rattle.typst_html_spaces.proofs.MadeHeads.{MadeHead, head_style_is, wrap_preserves, is_wrap, is_away, plain_is_there, plain_is_no_math, listed_pass}
+use Rattle.typst_html_spaces.proofs.MadeNodes.{made, items_made}
 use Rattle.typst_html_spaces.proofs.ReadyElements.{plain_is_not_raw}
 
 -- names
@@ -30,16 +29,7 @@ of_lines : (d : Option Display) → is_of_lines d ≡ true →
     (shows_border d ≡ true) ⊎ (is_away d ≡ true)
 of_lines (Some display.TableColumn) e = inr refl
 of_lines (Some display.TableColumnGroup) e = inr refl
-of_lines (Some display.Block) e = inl refl
-of_lines (Some display.ListItem) e = inl refl
-of_lines (Some display.Table) e = inl refl
-of_lines (Some display.TableCaption) e = inl refl
-of_lines (Some display.TableCell) e = inl refl
-of_lines (Some display.TableRow) e = inl refl
-of_lines (Some display.TableRowGroup) e = inl refl
-of_lines (Some display.TableHeaderGroup) e = inl refl
-of_lines (Some display.TableFooterGroup) e = inl refl
-of_lines _ e = absurd (false≢true e)
+of_lines d e = inl e
 
 plain_lines : (name : List ℕ) → is_plain_name name ≡ true →
     is_of_lines (default_display name) ≡ true → has_border_display name ≡ true
@@ -134,15 +124,6 @@ around_border h p e =
 
 -- blanks inside
 
-kept_by : (c : MadeCss) (name : List ℕ) (attrs : List TextPair) → is_wrap c ≡ false →
-    bytes_eq name (codes "pre") ≡ false → first attrs (codes "style") ≡ made_style c →
-    preserves name attrs ≡ false
-unfolding preserves
-kept_by plain name attrs w e f = rw (e, f) refl
-kept_by block name attrs w e f = rw (e, f) refl
-kept_by wrap name attrs w e f = absurd (false≢true (sym w))
-kept_by block_wrap name attrs w e f = absurd (false≢true (sym w))
-
 border_no_wrap : (h : Head) (m : MadeHead h) → has_border_display h.name ≡ true →
     is_wrap m.kind ≡ false
 border_no_wrap h m e =
@@ -154,12 +135,13 @@ made_is_edged h m = (
   around_border (head_with_style h) m.named,
   λ e. let b = inside_border h.name m.named e in (
     b,
-    kept_by m.kind h.name (styled_attrs h.css h.attrs) (border_no_wrap h m b)
-        (inside_no_pre h.name e) (head_style_is h m),
+    wrap_preserves h.name (styled_attrs h.css h.attrs) m.kind (head_style_is h m)
+        ∙ rw (inside_no_pre h.name e, border_no_wrap h m b) refl,
   ),
 )
 
-pub made_are_edged : (ns : NodesView) (p : Bool) → AreMade p ns → NodesAreEdged (styled_nodes ns)
+pub made_are_edged : (ns : NodesView) (p : Bool) → HoldsOfAll made p ns →
+    NodesAreEdged (styled_nodes ns)
 unfolding styled_node
 made_are_edged none p r = tt
 made_are_edged (node (tag_node t) ns) p r = made_are_edged ns p r.1
@@ -171,5 +153,4 @@ made_are_edged (node (frame_node f) ns) p r = absurd r.0
 pub converted_are_edged : (role : RoleText) (items : ItemsView) → is_plain_flow items ≡ true →
     NodesAreEdged (styled_nodes (converted_nodes Block Normal role items))
 converted_are_edged role items e =
-    made_are_edged (converted_nodes Block Normal role items) false
-    (list_made Block Normal (items_nodes Normal role items) (items_made Normal role items e))
+    made_are_edged (converted_nodes Block Normal role items) false (items_made Block Normal role items e)

@@ -1,6 +1,6 @@
 -- Pieces that are the same but for neighbouring edges.
 use Rattle.std.proofs.Common.{◌≡◌, Bool, true, false, List, [], ◌∷◌, ◌++◌, refl, ap, ◌∙◌, sym, append_assoc}
-use Rattle.typst_html_encode.specs.Collapsing.{Piece, char, thing, line, edge, merged_edges}
+use Rattle.typst_html_encode.specs.Collapsing.{Piece, edge, merged_edges}
 use Rattle.typst_html_spaces.specs.AtomContexts.{ends_in_edge, SameButEdges}
 use Rattle.typst_html_spaces.specs.ItemText.{between_edges}
 use Rattle.typst_html_spaces.proofs.OwnPieces.{edged}
@@ -8,20 +8,15 @@ use Rattle.typst_html_spaces.proofs.OwnPieces.{edged}
 ends_in_edge-append : (b : Bool) (ps qs : List Piece) →
     ends_in_edge b (ps ++ qs) ≡ ends_in_edge (ends_in_edge b ps) qs
 ends_in_edge-append b [] qs = refl
-ends_in_edge-append b (char c ∷ ps) qs = ends_in_edge-append false ps qs
-ends_in_edge-append b (thing name ∷ ps) qs = ends_in_edge-append false ps qs
-ends_in_edge-append b (line ∷ ps) qs = ends_in_edge-append false ps qs
 ends_in_edge-append b (edge ∷ ps) qs = ends_in_edge-append true ps qs
+ends_in_edge-append b (p ∷ ps) qs = ends_in_edge-append false ps qs
 
 merged_edges-append : (b : Bool) (ps qs : List Piece) →
     merged_edges b (ps ++ qs) ≡ merged_edges b ps ++ merged_edges (ends_in_edge b ps) qs
 merged_edges-append b [] qs = refl
-merged_edges-append b (char c ∷ ps) qs = ap (λ l. char c ∷ l) (merged_edges-append false ps qs)
-merged_edges-append b (thing name ∷ ps) qs =
-    ap (λ l. thing name ∷ l) (merged_edges-append false ps qs)
-merged_edges-append b (line ∷ ps) qs = ap (λ l. line ∷ l) (merged_edges-append false ps qs)
 merged_edges-append true (edge ∷ ps) qs = merged_edges-append true ps qs
 merged_edges-append false (edge ∷ ps) qs = ap (λ l. edge ∷ l) (merged_edges-append true ps qs)
+merged_edges-append b (p ∷ ps) qs = ap (λ l. p ∷ l) (merged_edges-append false ps qs)
 
 -- equal pieces, and the laws of an equivalence
 
@@ -69,10 +64,7 @@ pub same-edges_twice : (ps : List Piece) →
 same-edges_twice ps =
     let one : List Piece = edge ∷ [] in
     let two : List Piece = edge ∷ edge ∷ [] in
-    same-trans (between_edges (between_edges ps)) (two ++ (ps ++ two)) (between_edges ps)
-    (same-equal (between_edges (between_edges ps)) (two ++ (ps ++ two))
-    (ap (λ l. edge ∷ edge ∷ l) (append_assoc ps one one)))
-    (same-append two one (ps ++ two) (ps ++ one) two_edges
+    rw (append_assoc ps one one) (same-append two one (ps ++ two) (ps ++ one) two_edges
     (same-append ps ps two one (same-refl ps) two_edges))
 
 -- with edges, whether there were some or none

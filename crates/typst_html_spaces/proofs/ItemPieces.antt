@@ -6,10 +6,11 @@ use Rattle.html_names.specs.Kinds.{is_replaced, is_line_break, shows_border}
 use Rattle.html_names.specs.Names.{stands_in}
 use Rattle.html_names.specs.Texts.{TextPair}
 use Rattle.html_dom_tree.specs.Attributes.{first}
-use Rattle.html_dom_tree.specs.Tree.{NodeView, element_node, NodesView}
+use Rattle.html_dom_tree.specs.Tree.{NodeView, element_node, NodesView, none}
+use Rattle.html_dom_tree.specs.Views.{nodes_of}
 use Rattle.typst_html_encode.specs.Collapsing.{Piece, char, thing, line, has_border}
 use Rattle.html_flow_convert.specs.Converted.{RoleText, item_role, element_head, body_role, body_level, body_whitespace, item_nodes, items_nodes, body_nodes, converted_nodes}
-use Rattle.html_flow_convert.specs.Items.{ElemHead, ItemView, tag_item, element_item, space_item, text_item, hole_item, break_item, box_item, block_item, frame_item, ItemsView, no_items, item, BodyView, absent, present}
+use Rattle.html_flow_convert.specs.Items.{ElemHead, ItemView, tag_item, element_item, space_item, text_item, hole_item, break_item, block_item, ItemsView, no_items, item, BodyView, absent, present}
 use Rattle.html_flow_convert.specs.declared.convert.ConversionLevel.{ConversionLevel}
 use Rattle.html_flow_convert.specs.declared.convert.ConversionLevel.TheVariants.{Block}
 use Rattle.html_flow_convert.specs.declared.convert.Whitespace.{Whitespace}
@@ -26,26 +27,20 @@ use Rattle.typst_html_spaces.proofs.PlainParts.{PlainHead, plain_head, element_m
 use Rattle.typst_html_spaces.proofs.TextPieces.{text_item_pieces, break_item_pieces, list_nodes_pieces}
 
 -- nodes that are seen as that text, and hold no more than that
-pub record SeenAs (made : List NodeView) (text : List Piece) (content : Content) : Type 0 where
-  pub same : SameButEdges (list_pieces made) text
-  pub holds : AtMost (list_content made) content
-
-pub record BodySeenAs (made : NodesView) (text : List Piece) (content : Content) : Type 0 where
+pub record SeenAs (made : NodesView) (text : List Piece) (content : Content) : Type 0 where
   pub same : SameButEdges (nodes_pieces made) text
   pub holds : AtMost (nodes_content made) content
 
-seen_exactly : (made : List NodeView) (text : List Piece) (content : Content) →
-    list_pieces made ≡ text → AtMost (list_content made) content → SeenAs made text content
+seen_exactly : (made : NodesView) (text : List Piece) (content : Content) →
+    nodes_pieces made ≡ text → AtMost (nodes_content made) content → SeenAs made text content
 seen_exactly made text content e h =
-    record { same = same-equal (list_pieces made) text e; holds = h }
+    record { same = same-equal (nodes_pieces made) text e; holds = h }
 
 seen_both : (made more : List NodeView) (text rest : List Piece) (v w : Content) →
-    SeenAs made text v → SeenAs more rest w → SeenAs (made ++ more) (text ++ rest) (add v w)
+    SeenAs (nodes_of made) text v → SeenAs (nodes_of more) rest w →
+    SeenAs (nodes_of (made ++ more)) (text ++ rest) (add v w)
 seen_both made more text rest v w s t = record {
-  same = same-trans (list_pieces (made ++ more)) (list_pieces made ++ list_pieces more)
-      (text ++ rest)
-      (same-equal (list_pieces (made ++ more)) (list_pieces made ++ list_pieces more)
-      (list_pieces-append made more))
+  same = rw (list_pieces-append made more)
       (same-append (list_pieces made) text (list_pieces more) rest s.same t.same);
   holds = rw (list_content-append made more)
       (add_at_most (list_content made) v (list_content more) w s.holds t.holds);
@@ -88,11 +83,8 @@ element_seen role h body text e s =
     let p : PlainHead h = plain_head h e in
     let inside : List Piece = nodes_pieces body in
     let attrs : List TextPair = (element_head role h).attrs in
-    rw p.no_css (same-trans (head_pieces h.name attrs inside ++ [])
-    (head_pieces h.name attrs inside) (element_pieces h.name text)
-    (same-equal (head_pieces h.name attrs inside ++ []) (head_pieces h.name attrs inside)
-    (append-nil (head_pieces h.name attrs inside)))
-    (element_same h.name attrs inside text (element_made role h p).no_style s))
+    rw (p.no_css, append-nil (head_pieces h.name attrs inside))
+    (element_same h.name attrs inside text (element_made role h p).no_style s)
 
 element_holds : (role : RoleText) (whitespace : Whitespace) (h : ElemHead) (body : NodesView)
     (inside : BodyView) →
@@ -110,8 +102,8 @@ not_one made wanted (inr e) f = rw e refl
 
 block_seen : (whitespace : Whitespace) (span : ℕ) (ns : NodesView) (body : BodyView)
     (new : List NodeView) → IsBlock new (nodes_pieces ns) →
-    BodySeenAs ns (body_pieces whitespace body) (body_content whitespace body) →
-    SeenAs new (between_edges (body_pieces whitespace body))
+    SeenAs ns (body_pieces whitespace body) (body_content whitespace body) →
+    SeenAs (nodes_of new) (between_edges (body_pieces whitespace body))
     (item_content whitespace (block_item body span))
 block_seen whitespace span ns body new b s = record {
   same = same-trans (list_pieces new) (between_edges (nodes_pieces ns))
@@ -137,7 +129,7 @@ mutual
 
   item_seen : (whitespace : Whitespace) (role : RoleText) (i : ItemView) →
       is_plain_item whitespace i ≡ true →
-      SeenAs (item_nodes whitespace role i) (item_pieces whitespace i)
+      SeenAs (nodes_of (item_nodes whitespace role i)) (item_pieces whitespace i)
       (item_content whitespace i)
   item_seen whitespace role (tag_item t) e = seen_exactly _ [] nothing refl (inl refl)
   item_seen whitespace role (element_item h body) e =
@@ -155,11 +147,10 @@ mutual
   item_seen whitespace role (text_item s span) e =
       seen_exactly _ (text_pieces whitespace s) _ (text_item_pieces whitespace s span)
       (text_at_most whitespace s span)
-  item_seen whitespace role hole_item e = seen_exactly [] [] nothing refl (inl refl)
+  item_seen whitespace role hole_item e = seen_exactly none [] nothing refl (inl refl)
   item_seen whitespace role (break_item span) e =
       seen_exactly _ (break_piece whitespace ∷ []) _
       (append-nil _ ∙ break_item_pieces whitespace span) (break_holds whitespace span role)
-  item_seen whitespace role (box_item body span) e = absurd (true≢false (sym e))
   item_seen whitespace role (block_item body span) e =
       let both = and_parts (not (is_one_break whitespace body)) (is_plain_body whitespace body) e in
       let ns : NodesView = body_nodes Block whitespace role body in
@@ -169,13 +160,13 @@ mutual
       block_seen whitespace span ns body _
       (block_pieces span ns (body_made Block whitespace role body both.1)
       (not_one (nodes_content ns) (body_content whitespace body) s.holds wanted)) s
-  item_seen whitespace role (frame_item f) e = absurd (true≢false (sym e))
+  item_seen whitespace role i e = absurd (true≢false (sym e))
 
   pub items_seen : (whitespace : Whitespace) (role : RoleText) (items : ItemsView) →
       are_plain_items whitespace items ≡ true →
-      SeenAs (items_nodes whitespace role items) (items_pieces whitespace items)
+      SeenAs (nodes_of (items_nodes whitespace role items)) (items_pieces whitespace items)
       (items_content whitespace items)
-  items_seen whitespace role no_items e = seen_exactly [] [] nothing refl (inl refl)
+  items_seen whitespace role no_items e = seen_exactly none [] nothing refl (inl refl)
   items_seen whitespace role (item i own items) e =
       let both = and_parts (is_plain_item whitespace i) (are_plain_items whitespace items) e in
       seen_both (item_nodes whitespace (item_role role own) i) (items_nodes whitespace role items)
@@ -185,15 +176,14 @@ mutual
 
   pub body_seen : (level : ConversionLevel) (whitespace : Whitespace) (role : RoleText)
       (body : BodyView) → is_plain_body whitespace body ≡ true →
-      BodySeenAs (body_nodes level whitespace role body) (body_pieces whitespace body)
+      SeenAs (body_nodes level whitespace role body) (body_pieces whitespace body)
       (body_content whitespace body)
   body_seen level whitespace role absent e = record { same = same-refl []; holds = inl refl }
   body_seen level whitespace role (present items) e =
       let made : List NodeView = items_nodes whitespace role items in
       let s = items_seen whitespace role items e in
       record {
-        same = same-trans _ (list_pieces made) (items_pieces whitespace items)
-            (same-equal _ (list_pieces made) (list_nodes_pieces level whitespace made)) s.same;
+        same = rw (list_nodes_pieces level whitespace made) (s.same);
         holds = rw (list_nodes_content level whitespace made) s.holds;
       }
 

@@ -1,8 +1,8 @@
 -- Spaces between others: lists one after the other, and protection by context.
-use Rattle.std.proofs.Common.{◌≡◌, Bool, true, false, ◌&&◌, List, [], ◌∷◌, ◌++◌, Option, Some, None, length, drop, inl, inr, refl, ap, ◌∙◌, sym, arith, append_assoc, append-nil}
+use Rattle.std.proofs.Common.{◌≡◌, Bool, true, false, List, [], ◌∷◌, ◌++◌, Option, Some, None, length, drop, inl, inr, refl, ap, ◌∙◌, sym, arith, append_assoc, append-nil}
 use Rattle.std.proofs.Math.Seq.{drop-append_seam}
 use Rattle.std.proofs.lemmas.Bool.{cases_Bool}
-use Rattle.html_dom_tree.specs.Tree.{NodeView, tag_node, text_node, element_node, frame_node, NodesView, none, node}
+use Rattle.html_dom_tree.specs.Tree.{NodeView, text_node, element_node, NodesView, none, node}
 use Rattle.html_flow_convert.specs.BareSpaces.{Thing, border, visible, space, node_things, nodes_things, is_entered, is_in_line, is_visible_first, bare_after}
 use Rattle.html_flow_convert.specs.Nodes.{is_one}
 use Rattle.html_flow_convert.specs.Protected.{space_count, node_by_answers, nodes_by_answers}
@@ -11,10 +11,8 @@ use Rattle.typst_html_spaces.specs.LineContexts.{visible_at, line_past, bare_bet
 
 pub visible_at-append : (ts us : List Thing) (after : Bool) →
     visible_at (ts ++ us) after ≡ visible_at ts (visible_at us after)
-visible_at-append [] us after = refl
 visible_at-append (border ∷ ts) us after = refl
-visible_at-append (visible ∷ ts) us after = refl
-visible_at-append (space ∷ ts) us after = refl
+visible_at-append ts us after = refl
 
 pub line_past-append : (before : Bool) (ts us : List Thing) →
     line_past before (ts ++ us) ≡ line_past (line_past before ts) us
@@ -30,17 +28,13 @@ bare_between-append before after [] us = refl
 bare_between-append before after (border ∷ ts) us = bare_between-append false after ts us
 bare_between-append before after (visible ∷ ts) us = bare_between-append true after ts us
 bare_between-append before after (space ∷ ts) us =
-    ap (λ b. (before && b) ∷ bare_between true after (ts ++ us)) (visible_at-append ts us after)
-    ∙ ap (λ bs. (before && visible_at ts (visible_at us after)) ∷ bs)
-    (bare_between-append true after ts us)
+    rw (visible_at-append ts us after, bare_between-append true after ts us) refl
 
 -- the context form is the definition
 
 visible_first : (ts : List Thing) → is_visible_first ts ≡ visible_at ts false
-visible_first [] = refl
 visible_first (border ∷ ts) = refl
-visible_first (visible ∷ ts) = refl
-visible_first (space ∷ ts) = refl
+visible_first ts = refl
 
 bare_by_context : (before : Option Thing) (ts : List Thing) →
     bare_after before ts ≡ bare_between (is_in_line before) false ts
@@ -49,8 +43,7 @@ bare_by_context before [] = refl
 bare_by_context before (border ∷ ts) = bare_by_context (Some border) ts
 bare_by_context before (visible ∷ ts) = bare_by_context (Some visible) ts
 bare_by_context before (space ∷ ts) =
-    ap (λ b. (is_in_line before && b) ∷ bare_after (Some space) ts) (visible_first ts)
-    ∙ ap (λ bs. (is_in_line before && visible_at ts false) ∷ bs) (bare_by_context (Some space) ts)
+    rw (visible_first ts, bare_by_context (Some space) ts) refl
 
 -- each space has an answer
 answer_count : (before after : Bool) (ts : List Thing) →
@@ -73,7 +66,6 @@ mutual
   by_answers : (n : NodeView) (before after : Bool) (bs : List Bool) →
       node_by_answers (bare_between before after (node_things n) ++ bs) n
       ≡ node_between before after n
-  by_answers (tag_node t) before after bs = refl
   by_answers (text_node s span) before after bs =
       elim (cases_Bool (is_one 32 s)) [ inl e ↦ rw e refl | inr e ↦ rw e refl ]
   by_answers (element_node h ns) before after bs =
@@ -84,7 +76,7 @@ mutual
             ∙ ap (element_node h) (by_answers_all ns before after bs))
         | inr e ↦ rw e refl
       ]
-  by_answers (frame_node f) before after bs = refl
+  by_answers n before after bs = refl
 
   by_answers_all : (ns : NodesView) (before after : Bool) (bs : List Bool) →
       nodes_by_answers (bare_between before after (nodes_things ns) ++ bs) ns
@@ -99,12 +91,12 @@ mutual
       ≡ own ++ others =
       ap (λ l. l ++ bs) (bare_between-append before after (node_things n) (nodes_things ns))
       ∙ append_assoc own (bare_between line after (nodes_things ns)) bs in
-      ap (λ l. nodes_by_answers l (node n ns)) split
-      ∙ (ap (λ m. node m (nodes_by_answers (drop (space_count (node_things n)) (own ++ others)) ns))
-      (by_answers n before seen others)
-      ∙ (ap (λ l. node (node_between before seen n) (nodes_by_answers l ns))
-      (own_dropped before seen (node_things n) others)
-      ∙ ap (node (node_between before seen n)) (by_answers_all ns line after bs)))
+      rw (
+        split,
+        by_answers n before seen others,
+        own_dropped before seen (node_things n) others,
+        by_answers_all ns line after bs,
+      ) refl
 
 pub protects_by_context : ProtectsByContext
 protects_by_context ns =

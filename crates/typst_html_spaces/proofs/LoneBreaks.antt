@@ -1,28 +1,30 @@
 -- Nodes of which one line break is all: only items of which it is all become such nodes.
-use Rattle.std.proofs.Common.{◌≡◌, ◌⊎◌, ℕ, Bool, true, false, ◌==◌, cond, List, [], ◌∷◌, ◌++◌, map, drop, codes, Option, None, Some, inl, inr, refl, ap, ◌∙◌, sym, eqb-true}
+use Rattle.std.proofs.Common.{◌≡◌, ◌⊎◌, ℕ, Bool, true, false, ◌==◌, cond, List, [], ◌∷◌, ◌++◌, map, codes, Some, inl, inr, refl, ap, ◌∙◌, sym, eqb-true}
 use Rattle.std.specs.List.{filter}
 use Rattle.std.proofs.lemmas.Bool.{cases_Bool, false≢true}
 use Rattle.html_names.specs.Kinds.{is_line_break}
 use Rattle.html_names.specs.Names.{stands_in}
-use Rattle.html_dom_tree.specs.Tree.{NodeView, tag_node, text_node, element_node, frame_node, NodesView, none, node}
+use Rattle.html_dom_tree.specs.Tree.{Head, NodeView, tag_node, text_node, element_node, frame_node, NodesView, none, node}
 use Rattle.html_dom_tree.specs.Views.{nodes_of}
 use Rattle.typst_html_encode.specs.Collapsing.{Piece, char, thing, line, edge}
-use Rattle.html_flow_convert.specs.BareSpaces.{node_things, bare_spaces, is_entered}
-use Rattle.html_flow_convert.specs.Nodes.{is_one}
-use Rattle.html_flow_convert.specs.Pieces.{PieceView, stretch, alone, line_break, is_in_stretch, in_stretch, is_carriage_return, pieces_after, piece_node}
-use Rattle.html_flow_convert.specs.Protected.{space_count, is_bare, node_by_answers, nodes_by_answers}
+use Rattle.html_flow_convert.specs.BareSpaces.{bare_spaces}
+use Rattle.html_flow_convert.specs.Pieces.{PieceView, line_break, piece_node, pieces}
 use Rattle.html_flow_convert.specs.Runs.{is_blank_node, are_kept, run_nodes, nodes_with_runs}
 use Rattle.html_flow_convert.specs.Converted.{text_item_nodes, list_nodes}
 use Rattle.html_flow_convert.specs.Items.{ItemView, text_item, ItemsView, no_items, item, BodyView, absent, present}
-use Rattle.html_flow_convert.specs.LoneNode.{node_list, are_tags, lone_node, DisplayChangeView, node_with_display}
+use Rattle.html_flow_convert.specs.LoneNode.{node_list, lone_node, DisplayChangeView, node_with_display}
 use Rattle.html_flow_convert.specs.declared.convert.ConversionLevel.{ConversionLevel}
 use Rattle.html_flow_convert.specs.declared.convert.ConversionLevel.TheVariants.{Block, Inline}
 use Rattle.html_flow_convert.specs.declared.convert.Whitespace.{Whitespace}
 use Rattle.html_flow_convert.specs.declared.convert.Whitespace.TheVariants.{Normal, Pre}
+use Rattle.typst_html_spaces.specs.Changed.{Changed, at_tag, after_tag, around_text, at_element}
 use Rattle.typst_html_spaces.specs.ItemText.{chars_by_line}
 use Rattle.typst_html_spaces.specs.PlainFlow.{is_unseen_item, are_unseen_items, is_break, are_one_break, is_one_break}
+use Rattle.typst_html_spaces.proofs.Changed.{IsWrap, wrapped, wraps, protected_is_changed}
+use Rattle.typst_html_spaces.proofs.LoneNode.{of_tags, of_lone}
+use Rattle.typst_html_spaces.proofs.OwnPieces.{list_pieces}
 use Rattle.typst_html_spaces.proofs.Runs.{with_runs}
-use Rattle.typst_html_spaces.proofs.TextPieces.{in_stretch_no_line}
+use Rattle.typst_html_spaces.proofs.TextPieces.{text_item_pieces}
 
 -- what a list holds, tags aside
 pub data Content : Type 0 where
@@ -39,27 +41,19 @@ add other w = other
 
 add_nothing : (v : Content) → add v nothing ≡ v
 add_nothing nothing = refl
-add_nothing one_break = refl
-add_nothing other = refl
+add_nothing v = refl
 
 add_other : (v : Content) → add v other ≡ other
 add_other nothing = refl
-add_other one_break = refl
-add_other other = refl
+add_other v = refl
 
 add_assoc : (u v w : Content) → add (add u v) w ≡ add u (add v w)
-add_assoc nothing v w = refl
-add_assoc one_break nothing w = refl
-add_assoc one_break one_break nothing = refl
 add_assoc one_break one_break one_break = refl
-add_assoc one_break one_break other = refl
-add_assoc one_break other w = refl
-add_assoc other v w = refl
+add_assoc u v w = refl
 
 two_breaks : (w : Content) → add one_break (add one_break w) ≡ other
 two_breaks nothing = refl
-two_breaks one_break = refl
-two_breaks other = refl
+two_breaks w = refl
 
 abbrev pub node_content : NodeView → Content
 node_content (tag_node t) = nothing
@@ -85,9 +79,8 @@ list_content-append (x ∷ xs) ys =
 
 blank_content : (n : NodeView) → is_blank_node n ≡ true → node_content n ≡ other
 blank_content (tag_node t) e = absurd (false≢true e)
-blank_content (text_node s span) e = refl
 blank_content (element_node h ns) e = absurd (false≢true e)
-blank_content (frame_node f) e = refl
+blank_content n e = refl
 
 kept_content : (ns : List NodeView) → are_kept (filter is_blank_node ns) ≡ true →
     list_content ns ≡ other
@@ -110,27 +103,16 @@ run_content ns =
 
 -- spaces in spans of their own
 
-protected_content : (bare : List Bool) (n : NodeView) →
-    node_content (node_by_answers bare n) ≡ node_content n
-unfolding node_by_answers stands_in
-protected_content bare (tag_node t) = refl
-protected_content bare (text_node s span) =
-    elim (cases_Bool (is_one 32 s)) [
-      | inl e ↦ elim (cases_Bool (is_bare bare)) [ inl b ↦ rw (e, b) refl | inr b ↦ rw (e, b) refl ]
-      | inr e ↦ rw e refl
-    ]
-protected_content bare (element_node h ns) =
-    elim (cases_Bool (is_entered h)) [ inl e ↦ rw e refl | inr e ↦ rw e refl ]
-protected_content bare (frame_node f) = refl
+wrapped_content : {h : Head} {s : List ℕ} → IsWrap h s → is_line_break h.name ≡ false
+unfolding stands_in
+wrapped_content (wrapped span e) = refl
 
-nodes_protected_content : (bare : List Bool) (ns : NodesView) →
-    nodes_content (nodes_by_answers bare ns) ≡ nodes_content ns
-unfolding node_by_answers
-nodes_protected_content bare none = refl
-nodes_protected_content bare (node n ns) =
-    let left : List Bool = drop (space_count (node_things n)) bare in
-    ap (λ v. add v (nodes_content (nodes_by_answers left ns))) (protected_content bare n)
-    ∙ ap (add (node_content n)) (nodes_protected_content left ns)
+wraps_content : {ns ms : NodesView} → Changed wraps ns ms → nodes_content ms ≡ nodes_content ns
+wraps_content (at_tag d) = wraps_content d
+wraps_content (after_tag i d) = absurd i
+wraps_content (around_text i d) = rw (wrapped_content i) refl
+wraps_content (at_element e d f) = rw (e, wraps_content f) refl
+wraps_content d = refl
 
 pub list_nodes_content : (level : ConversionLevel) (whitespace : Whitespace) (ns : List NodeView) →
     nodes_content (list_nodes level whitespace ns) ≡ list_content ns
@@ -139,7 +121,7 @@ list_nodes_content Inline Normal ns =
     with_runs list_content add list_content-append run_content ns
 list_nodes_content Block Normal ns =
     let runs = nodes_of (nodes_with_runs ns) in
-    nodes_protected_content (bare_spaces runs) runs
+    wraps_content (protected_is_changed runs (bare_spaces runs))
     ∙ with_runs list_content add list_content-append run_content ns
 
 -- texts
@@ -156,47 +138,6 @@ pieces_content (p ∷ ps) = add (piece_content p) (pieces_content ps)
 
 abbrev made_content : (span : ℕ) → List PieceView → Content
 made_content span ps = list_content (map (piece_node span) ps)
-
-in_stretch_content : (span c : ℕ) (ps : List PieceView) →
-    made_content span (in_stretch c ps) ≡ other
-in_stretch_content span c [] = refl
-in_stretch_content span c (stretch s ∷ ps) = refl
-in_stretch_content span c (alone d ∷ ps) = refl
-in_stretch_content span c (line_break ∷ ps) = refl
-
-break_content : (span : ℕ) (ps : List PieceView) →
-    made_content span (line_break ∷ ps) ≡ add one_break (made_content span ps)
-unfolding stands_in
-break_content span ps = refl
-
-made_is : (span : ℕ) (before : Option ℕ) (cs : List ℕ) →
-    made_content span (pieces_after before cs)
-    ≡ pieces_content (chars_by_line (is_carriage_return before) cs)
-unfolding pieces_after
-made_is span before [] = refl
-made_is span before (c ∷ cs) =
-    let others = pieces_after (Some c) cs in
-    let more : made_content span others ≡ pieces_content (chars_by_line (c == 13) cs) =
-    made_is span (Some c) cs in
-    elim (cases_Bool (is_in_stretch before c cs)) [
-      | inl e ↦
-          let plain = in_stretch_no_line before c cs e in
-          rw (e, plain.0, plain.1) (in_stretch_content span c others)
-      | inr e ↦ elim (cases_Bool (c == 13)) [
-        | inl f ↦ rw (e, f) (break_content span others
-            ∙ ap (add one_break) (more ∙ ap (λ b. pieces_content (chars_by_line b cs)) f))
-        | inr f ↦
-            let on : made_content span others ≡ pieces_content (chars_by_line false cs) =
-            more ∙ ap (λ b. pieces_content (chars_by_line b cs)) f in
-            elim (cases_Bool (c == 10)) [
-              | inl g ↦ elim (cases_Bool (is_carriage_return before)) [
-                | inl h ↦ rw (e, f, g, h) on
-                | inr h ↦ rw (e, f, g, h) (break_content span others ∙ ap (add one_break) on)
-              ]
-              | inr g ↦ rw (e, f, g) refl
-            ]
-      ]
-    ]
 
 -- a break and a character more
 more_than_break : (c : ℕ) (cs : List ℕ) →
@@ -287,15 +228,12 @@ holds_one_break other = false
 
 break_and_nothing : (w : Content) → holds_one_break (add one_break w) ≡ holds_nothing w
 break_and_nothing nothing = refl
-break_and_nothing one_break = refl
-break_and_nothing other = refl
+break_and_nothing w = refl
 
 not_nothing : (b : Bool) (w : Content) →
     holds_nothing (add (cond b one_break other) w) ≡ false
 not_nothing true nothing = refl
-not_nothing true one_break = refl
-not_nothing true other = refl
-not_nothing false w = refl
+not_nothing b w = refl
 
 are_nothing_is : (whitespace : Whitespace) (items : ItemsView) →
     holds_nothing (items_content whitespace items) ≡ are_unseen_items items
@@ -324,15 +262,27 @@ pub is_one_break_is : (whitespace : Whitespace) (body : BodyView) →
 is_one_break_is whitespace absent = refl
 is_one_break_is whitespace (present items) = are_one_break_is whitespace items
 
+-- the nodes of the pieces of a text hold as much as is seen of them, or more
+pieces_at_most : (span : ℕ) (ps : List PieceView) →
+    AtMost (made_content span ps) (pieces_content (list_pieces (map (piece_node span) ps)))
+unfolding stands_in
+pieces_at_most span [] = inl refl
+pieces_at_most span (line_break ∷ ps) = elim (pieces_at_most span ps) [
+  | inl e ↦ inl (ap (add one_break) e)
+  | inr e ↦ inr (ap (add one_break) e)
+]
+pieces_at_most span (p ∷ ps) = inr refl
+
 pub text_at_most : (whitespace : Whitespace) (s : List ℕ) (span : ℕ) →
     AtMost (list_content (text_item_nodes whitespace s span))
     (item_content whitespace (text_item s span))
 text_at_most Pre s span = inr refl
-text_at_most Normal s span =
-    elim (break_or_other s) [
-      | inl e ↦ inr (made_is span None s ∙ e)
-      | inr e ↦ inl (made_is span None s ∙ known s e)
-    ]
+text_at_most Normal s span = elim (pieces_at_most span (pieces s)) [
+  | inl e ↦
+      let is = e ∙ ap pieces_content (text_item_pieces Normal s span) in
+      elim (break_or_other s) [ inl f ↦ inr (is ∙ f) | inr f ↦ inl (is ∙ known s f) ]
+  | inr e ↦ inr e
+]
   where
     known : (s : List ℕ) → BreakOrNothing s →
         pieces_content (chars_by_line false s) ≡ item_content Normal (text_item s span)
@@ -346,50 +296,18 @@ text_at_most Normal s span =
 displayed_content : (change : DisplayChangeView) (n : NodeView) →
     node_content (node_with_display change n) ≡ node_content n
 displayed_content change (tag_node t) = refl
-displayed_content change (text_node s span) = refl
-displayed_content change (element_node h ns) = refl
-displayed_content change (frame_node f) = refl
+displayed_content change n = refl
 
 pub all_displayed_content : (change : DisplayChangeView) (ns : NodesView) →
     list_content (map (node_with_display change) (node_list ns)) ≡ nodes_content ns
 unfolding node_list
 all_displayed_content change none = refl
 all_displayed_content change (node n ns) =
-    ap (λ v. add v (list_content (map (node_with_display change) (node_list ns))))
-    (displayed_content change n)
-    ∙ ap (add (node_content n)) (all_displayed_content change ns)
-
-tags_content : (ns : NodesView) → are_tags ns ≡ true → nodes_content ns ≡ nothing
-tags_content none e = refl
-tags_content (node (tag_node t) ns) e = tags_content ns e
-tags_content (node (text_node s span) ns) e = absurd (false≢true e)
-tags_content (node (element_node h kids) ns) e = absurd (false≢true e)
-tags_content (node (frame_node f) ns) e = absurd (false≢true e)
+    rw (displayed_content change n, all_displayed_content change ns) refl
 
 pub lone_content : (ns : NodesView) (n : NodeView) → lone_node ns ≡ Some n →
     nodes_content ns ≡ node_content n
-unfolding lone_node
-lone_content none n e = cc
-lone_content (node (tag_node t) ns) n e = lone_content ns n e
-lone_content (node (text_node s span) ns) n e =
-    elim (cases_Bool (are_tags ns)) [
-      | inl f ↦ let g : None ≡ Some n = rw f at e in cc
-      | inr f ↦ let g : None ≡ Some n = rw f at e in cc
-    ]
-lone_content (node (element_node h kids) ns) n e =
-    elim (cases_Bool (are_tags ns)) [
-      | inl f ↦
-          let g : Some (element_node h kids) ≡ Some n = rw f at e in
-          let same : element_node h kids ≡ n = cc in
-          ap (add (node_content (element_node h kids))) (tags_content ns f)
-          ∙ (add_nothing (node_content (element_node h kids)) ∙ ap node_content same)
-      | inr f ↦ let g : None ≡ Some n = rw f at e in cc
-    ]
-lone_content (node (frame_node b) ns) n e =
-    elim (cases_Bool (are_tags ns)) [
-      | inl f ↦
-          let g : Some (frame_node b) ≡ Some n = rw f at e in
-          let same : frame_node b ≡ n = cc in
-          ap node_content same
-      | inr f ↦ let g : None ≡ Some n = rw f at e in cc
-    ]
+lone_content ns n = of_lone (λ ms. nodes_content ms ≡ node_content n) (λ t ms e. e) n (λ ms tags.
+    ap (add (node_content n))
+    (of_tags (λ us. nodes_content us ≡ nothing) (λ t us e. e) refl ms tags)
+    ∙ add_nothing (node_content n)) ns

@@ -12,12 +12,12 @@ use Rattle.html_names.specs.Texts.{TextPair}
 use Rattle.html_names.specs.declared.property.Display.{Display}
 use Rattle.html_names.specs.declared.property.Display.TheVariants as display
 use Rattle.html_values_css.specs.Properties.{with_value, without}
-use Rattle.html_dom_tree.specs.Attributes.{first}
+use Rattle.html_dom_tree.specs.Attributes.{first, or_else}
 use Rattle.html_dom_tree.specs.Styled.{styled_attrs}
 use Rattle.html_dom_tree.specs.Tree.{Head, element_node, NodesView}
 use Rattle.html_flow_convert.specs.BareSpaces.{is_border_element, makes_block}
 use Rattle.html_flow_convert.specs.LoneNode.{DisplayChangeView, removed, set_to, css_with_display, change_by_display, block_change}
-use Rattle.typst_html_encode.specs.Collapsing.{preserves, has_border, style_is}
+use Rattle.typst_html_encode.specs.Collapsing.{preserves, has_border}
 use Rattle.typst_html_spaces.specs.PlainFlow.{is_inline, is_plain_name, unplain_names}
 
 -- the css of what conversion makes
@@ -46,22 +46,18 @@ is_wrap block = false
 is_wrap wrap = true
 is_wrap block_wrap = true
 
-style_added : (attrs : List TextPair) (text : List ℕ) → first attrs (codes "style") ≡ None →
-    first (attrs ++ (codes "style", text) ∷ []) (codes "style") ≡ Some text
-style_added [] text e = refl
-style_added (p ∷ ps) text e =
-    elim (cases_Bool (bytes_eq p.0 (codes "style"))) [
-      | inl t ↦ let f : Some p.1 ≡ None = rw t at e in cc
-      | inr t ↦ let f : first ps (codes "style") ≡ None = rw t at e in rw t (style_added ps text f)
-    ]
+pub first-append : (xs ys : List TextPair) (name : List ℕ) →
+    first (xs ++ ys) name ≡ or_else (first xs name) (first ys name)
+first-append [] ys name = refl
+first-append (x ∷ xs) ys name = elim (cases_Bool (bytes_eq x.0 name)) [
+  | inl e ↦ rw e refl
+  | inr e ↦ rw e (first-append xs ys name)
+]
 
 pub made_style_is : (c : MadeCss) (attrs : List TextPair) → first attrs (codes "style") ≡ None →
     first (styled_attrs (made_css c) attrs) (codes "style") ≡ made_style c
 made_style_is plain attrs e = e
-made_style_is block attrs e = rw e (style_added attrs (codes "display: block") e)
-made_style_is wrap attrs e = rw e (style_added attrs (codes "white-space: pre-wrap") e)
-made_style_is block_wrap attrs e =
-    rw e (style_added attrs (codes "display: block; white-space: pre-wrap") e)
+made_style_is c attrs e = rw (e, first-append, e) refl
 
 -- an element as conversion makes it in plain flow
 pub record MadeHead (h : Head) : Type 0 where
@@ -94,30 +90,22 @@ block_css : (c : MadeCss) →
     with_value (made_css c) (codes "display") (codes "block") ≡ made_css (with_block c)
 unfolding with_block lib.Utf8.encode
 block_css plain = refl
-block_css block = refl
-block_css wrap = refl
-block_css block_wrap = refl
+block_css c = refl
 
 removed_css : (c : MadeCss) → without (made_css c) (codes "display") ≡ made_css (without_block c)
 unfolding without_block lib.Utf8.encode
 removed_css plain = refl
-removed_css block = refl
-removed_css wrap = refl
-removed_css block_wrap = refl
+removed_css c = refl
 
 block_wraps : (c : MadeCss) → is_wrap (with_block c) ≡ is_wrap c
 unfolding with_block
 block_wraps plain = refl
-block_wraps block = refl
-block_wraps wrap = refl
-block_wraps block_wrap = refl
+block_wraps c = refl
 
 removed_wraps : (c : MadeCss) → is_wrap (without_block c) ≡ is_wrap c
 unfolding without_block
 removed_wraps plain = refl
-removed_wraps block = refl
-removed_wraps wrap = refl
-removed_wraps block_wrap = refl
+removed_wraps c = refl
 
 -- names
 
@@ -130,11 +118,8 @@ is_away (Some display.TableColumnGroup) = true
 is_away _ = false
 
 inline_is_there : (d : Option Display) → is_inline d ≡ true → is_away d ≡ false
-inline_is_there (Some display.None) e = absurd (false≢true e)
-inline_is_there (Some display.Contents) e = absurd (false≢true e)
-inline_is_there (Some display.TableColumn) e = absurd (false≢true e)
-inline_is_there (Some display.TableColumnGroup) e = absurd (false≢true e)
-inline_is_there _ e = refl
+inline_is_there (Some display.Inline) e = refl
+inline_is_there _ e = absurd (false≢true e)
 
 border_is_there : (d : Option Display) → shows_border d ≡ true → is_away d ≡ false
 border_is_there (Some display.None) e = absurd (false≢true e)
@@ -208,49 +193,25 @@ style_border : (name : List ℕ) (attrs : List TextPair) (c : MadeCss) →
     first attrs (codes "style") ≡ made_style (with_block c) → has_border name attrs ≡ true
 unfolding has_border with_block
 style_border name attrs plain e = rw e (or_right (shows_border (default_display name)) true refl)
-style_border name attrs block e = rw e (or_right (shows_border (default_display name)) true refl)
-style_border name attrs wrap e = rw e (or_right (shows_border (default_display name)) true refl)
-style_border name attrs block_wrap e = rw e (or_right (shows_border (default_display name)) true refl)
+style_border name attrs c e = rw e (or_right (shows_border (default_display name)) true refl)
 
 name_border : (name : List ℕ) (attrs : List TextPair) → shows_border (default_display name) ≡ true →
     has_border name attrs ≡ true
 unfolding has_border
 name_border name attrs e = rw e refl
 
-preserves_by : (name : List ℕ) (attrs others : List TextPair) →
-    (style_is (codes "white-space: pre-wrap") attrs
-    || style_is (codes "display: block; white-space: pre-wrap") attrs)
-    ≡ (style_is (codes "white-space: pre-wrap") others
-    || style_is (codes "display: block; white-space: pre-wrap") others) →
-    preserves name attrs ≡ preserves name others
+pub wrap_preserves : (name : List ℕ) (attrs : List TextPair) (c : MadeCss) →
+    first attrs (codes "style") ≡ made_style c →
+    preserves name attrs ≡ (bytes_eq name (codes "pre") || is_wrap c)
 unfolding preserves
-preserves_by name attrs others e = ap (λ b. bytes_eq name (codes "pre") || b) e
-
-block_preserves : (name : List ℕ) (attrs others : List TextPair) (c : MadeCss) →
-    first attrs (codes "style") ≡ made_style (with_block c) →
-    first others (codes "style") ≡ made_style c → preserves name attrs ≡ preserves name others
-unfolding with_block
-block_preserves name attrs others plain e f = preserves_by name attrs others (rw (e, f) refl)
-block_preserves name attrs others block e f = preserves_by name attrs others (rw (e, f) refl)
-block_preserves name attrs others wrap e f = preserves_by name attrs others (rw (e, f) refl)
-block_preserves name attrs others block_wrap e f = preserves_by name attrs others (rw (e, f) refl)
-
-removed_preserves : (name : List ℕ) (attrs others : List TextPair) (c : MadeCss) →
-    first attrs (codes "style") ≡ made_style (without_block c) →
-    first others (codes "style") ≡ made_style c → preserves name attrs ≡ preserves name others
-unfolding without_block
-removed_preserves name attrs others plain e f = preserves_by name attrs others (rw (e, f) refl)
-removed_preserves name attrs others block e f = preserves_by name attrs others (rw (e, f) refl)
-removed_preserves name attrs others wrap e f = preserves_by name attrs others (rw (e, f) refl)
-removed_preserves name attrs others block_wrap e f = preserves_by name attrs others (rw (e, f) refl)
+wrap_preserves name attrs plain e = rw e refl
+wrap_preserves name attrs c e = rw e refl
 
 css_border : (h : Head) (c : MadeCss) (css : List TextPair) → css ≡ made_css (with_block c) →
     is_border_element (record h { css = css }) ≡ true
 unfolding is_border_element with_block
 css_border h plain css e = rw e refl
-css_border h block css e = rw e refl
-css_border h wrap css e = rw e refl
-css_border h block_wrap css e = rw e refl
+css_border h c css e = rw e refl
 
 pub name_is_border : (h : Head) → shows_border (default_display h.name) ≡ true → is_border_element h ≡ true
 unfolding is_border_element
@@ -265,26 +226,36 @@ pub record StandsForBlock (h : Head) (css : List TextPair) : Type 0 where
       ≡ preserves h.name (styled_attrs h.css h.attrs)
   pub is_one : is_border_element (record h { css = css }) ≡ true
 
+stands_as : (h : Head) (m : MadeHead h) (css : List TextPair) (k : MadeCss) → css ≡ made_css k →
+    is_wrap k ≡ is_wrap m.kind →
+    (first (styled_attrs css h.attrs) (codes "style") ≡ made_style k →
+    has_border h.name (styled_attrs css h.attrs) ≡ true) →
+    is_border_element (record h { css = css }) ≡ true → StandsForBlock h css
+stands_as h m css k c w borders one =
+    let style = ap (λ l. first (styled_attrs l h.attrs) (codes "style")) c
+    ∙ made_style_is k h.attrs m.no_style in
+    record {
+      made = record {
+        kind = k;
+        css_is = c;
+        no_style = m.no_style;
+        named = m.named;
+        in_line = λ e. m.in_line (sym w ∙ e);
+      };
+      borders = borders style;
+      preserved = wrap_preserves h.name (styled_attrs css h.attrs) k style
+          ∙ (ap (λ b. bytes_eq h.name (codes "pre") || b) w
+          ∙ sym (wrap_preserves h.name (styled_attrs h.css h.attrs) m.kind (head_style_is h m)));
+      is_one = one;
+    }
+
 set_block : (h : Head) (m : MadeHead h) (css : List TextPair) →
     with_value h.css (codes "display") (codes "block") ≡ css → StandsForBlock h css
 set_block h m css e =
     let c : css ≡ made_css (with_block m.kind) = sym e
     ∙ (ap (λ l. with_value l (codes "display") (codes "block")) m.css_is ∙ block_css m.kind) in
-    let made : MadeHead (record h { css = css }) = record {
-      kind = with_block m.kind;
-      css_is = c;
-      no_style = m.no_style;
-      named = m.named;
-      in_line = λ w. m.in_line (sym (block_wraps m.kind) ∙ w);
-    } in
-    let style = head_style_is (record h { css = css }) made in
-    record {
-      made = made;
-      borders = style_border h.name (styled_attrs css h.attrs) m.kind style;
-      preserved = block_preserves h.name (styled_attrs css h.attrs) (styled_attrs h.css h.attrs)
-          m.kind style (head_style_is h m);
-      is_one = css_border h m.kind css c;
-    }
+    stands_as h m css (with_block m.kind) c (block_wraps m.kind)
+    (style_border h.name (styled_attrs css h.attrs) m.kind) (css_border h m.kind css c)
 
 drop_block : (h : Head) (m : MadeHead h) (css : List TextPair) →
     without h.css (codes "display") ≡ css → shows_border (default_display h.name) ≡ true →
@@ -292,21 +263,9 @@ drop_block : (h : Head) (m : MadeHead h) (css : List TextPair) →
 drop_block h m css e s =
     let c : css ≡ made_css (without_block m.kind) = sym e
     ∙ (ap (λ l. without l (codes "display")) m.css_is ∙ removed_css m.kind) in
-    let made : MadeHead (record h { css = css }) = record {
-      kind = without_block m.kind;
-      css_is = c;
-      no_style = m.no_style;
-      named = m.named;
-      in_line = λ w. m.in_line (sym (removed_wraps m.kind) ∙ w);
-    } in
-    record {
-      made = made;
-      borders = name_border h.name (styled_attrs css h.attrs) s;
-      preserved = removed_preserves h.name (styled_attrs css h.attrs)
-          (styled_attrs h.css h.attrs) m.kind (head_style_is (record h { css = css }) made)
-          (head_style_is h m);
-      is_one = name_is_border (record h { css = css }) s;
-    }
+    stands_as h m css (without_block m.kind) c (removed_wraps m.kind)
+    (λ f. name_border h.name (styled_attrs css h.attrs) s)
+    (name_is_border (record h { css = css }) s)
 
 pub stands_for_block : (h : Head) (ns : NodesView) (c : DisplayChangeView) → MadeHead h →
     block_change (element_node h ns) ≡ Some c → StandsForBlock h (css_with_display c h.css)

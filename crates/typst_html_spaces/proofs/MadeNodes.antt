@@ -1,31 +1,28 @@
 -- Each element that items of plain flow become is made as conversion makes elements.
-use Rattle.std.proofs.Common.{◌≡◌, ℕ, Bool, true, false, not, List, [], ◌∷◌, refl, codes}
+use Rattle.std.proofs.Common.{◌≡◌, ℕ, true, false, not, [], refl, codes}
 use Rattle.std.proofs.lemmas.Bool.{false≢true, and_parts}
 use Rattle.html_names.specs.Displays.{default_display}
 use Rattle.html_names.specs.Kinds.{is_replaced, shows_border}
 use Rattle.html_names.specs.Names.{stands_in}
-use Rattle.html_dom_tree.specs.Tree.{NodeView, NodesView}
+use Rattle.html_dom_tree.specs.Tree.{NodesView}
 use Rattle.html_flow_convert.specs.Nodes.{made_head, pre_wrap_head}
-use Rattle.html_flow_convert.specs.Pieces.{PieceView, stretch, alone, line_break, piece_node, pieces}
-use Rattle.html_flow_convert.specs.Converted.{RoleText, item_role, body_level, body_whitespace, body_role, text_item_nodes, list_nodes, item_nodes, items_nodes, body_nodes}
-use Rattle.html_flow_convert.specs.Items.{ItemView, tag_item, element_item, space_item, text_item, hole_item, break_item, box_item, block_item, frame_item, ItemsView, no_items, item, BodyView, absent, present}
-use Rattle.html_flow_convert.specs.LoneNode.{block_head, block_nodes}
+use Rattle.html_flow_convert.specs.Converted.{RoleText, body_whitespace, body_nodes, converted_nodes}
+use Rattle.html_flow_convert.specs.Items.{ItemsView, BodyView}
+use Rattle.html_flow_convert.specs.LoneNode.{block_head}
 use Rattle.html_flow_convert.specs.declared.convert.ConversionLevel.{ConversionLevel}
-use Rattle.html_flow_convert.specs.declared.convert.ConversionLevel.TheVariants.{Block}
 use Rattle.html_flow_convert.specs.declared.convert.Whitespace.{Whitespace}
-use Rattle.html_flow_convert.specs.declared.convert.Whitespace.TheVariants.{Normal, Pre}
+use Rattle.typst_html_spaces.specs.DeepNodes.{Wanted, HoldsOfAll, of_heads}
 use Rattle.typst_html_spaces.specs.PlainFlow.{is_plain_name, is_plain_head, is_one_break, is_plain_item, are_plain_items, is_plain_body}
-use Rattle.typst_html_spaces.proofs.DeepNodes.{HoldsOf, HoldsOfAll, HoldsOnTheWay, of_list, of_block}
-use Rattle.typst_html_spaces.proofs.Each.{Each, Each-append, Each-map}
+use Rattle.typst_html_spaces.proofs.DeepNodes.{Known, HoldsOfItems, of_body, of_converted, HoldsOnTheWay, of_text}
 use Rattle.typst_html_spaces.proofs.MadeHeads.{plain, wrap, MadeHead, stands_for_block}
 use Rattle.typst_html_spaces.proofs.PlainParts.{plain_head as plain_parts, element_made}
 
 -- no frame, and each element is made as conversion makes it
-abbrev pub IsMade : (pre_span : Bool) → NodeView → Type 0
-IsMade = HoldsOf (λ h b. MadeHead h) (λ p s. Unit {0}) (λ t. Unit {0})
+abbrev pub made : Wanted
+made = of_heads MadeHead ⊥
 
-abbrev pub AreMade : (pre_span : Bool) → NodesView → Type 0
-AreMade = HoldsOfAll (λ h b. MadeHead h) (λ p s. Unit {0}) (λ t. Unit {0})
+abbrev pub AreMade : NodesView → Type 0
+AreMade = HoldsOfAll made false
 
 -- what conversion itself makes
 
@@ -47,80 +44,48 @@ wrap_made span = record { kind = wrap; css_is = refl; no_style = refl; named = m
 pub block_made : (span : ℕ) → MadeHead (block_head span)
 block_made span = record { kind = plain; css_is = refl; no_style = refl; named = made_are_named.2; in_line = λ e. absurd (false≢true e) }
 
-made_way : HoldsOnTheWay (λ h b. MadeHead h) (λ p s. Unit {0}) (λ t. Unit {0})
+made_way : HoldsOnTheWay made
 made_way = record {
   wrap = λ span b. wrap_made span;
   blank = λ s e. tt;
+  line = break_made;
   block = λ span b. block_made span;
   lone = λ h kids change m e. (stands_for_block h kids change m e).made;
 }
 
-pub list_made : (level : ConversionLevel) (whitespace : Whitespace) (ms : List NodeView) →
-    Each (IsMade false) ms → AreMade false (list_nodes level whitespace ms)
-list_made = of_list (λ h b. MadeHead h) (λ p s. Unit {0}) (λ t. Unit {0}) made_way
-
-pub block_nodes_made : (span : ℕ) (ns : NodesView) → AreMade false ns →
-    Each (IsMade false) (block_nodes span ns)
-block_nodes_made = of_block (λ h b. MadeHead h) (λ p s. Unit {0}) (λ t. Unit {0}) made_way
-
--- texts
-
-piece_made : (span : ℕ) (p : PieceView) → Unit {0} → IsMade false (piece_node span p)
-piece_made span (stretch s) r = tt
-piece_made span (alone c) r = tt
-piece_made span line_break r = (break_made span, tt)
-
-pub any_pieces : (ps : List PieceView) → Each (λ p. Unit {0}) ps
-any_pieces [] = tt
-any_pieces (p ∷ ps) = (tt, any_pieces ps)
-
-text_made : (whitespace : Whitespace) (s : List ℕ) (span : ℕ) →
-    Each (IsMade false) (text_item_nodes whitespace s span)
-text_made Pre s span = (tt, tt)
-text_made Normal s span = Each-map (λ p. Unit {0}) (IsMade false) (piece_node span)
-    (piece_made span) (pieces s) (any_pieces (pieces s))
-
 -- items
 
-mutual
-  unfolding item_nodes is_plain_item
+abbrev plain_flow : Known
+plain_flow = record {
+  item = λ s role i. is_plain_item s i ≡ true;
+  items = λ s role items. are_plain_items s items ≡ true;
+  body = λ s role body. is_plain_body s body ≡ true;
+}
 
-  pub item_made : (whitespace : Whitespace) (role : RoleText) (i : ItemView) →
-      is_plain_item whitespace i ≡ true → Each (IsMade false) (item_nodes whitespace role i)
-  item_made whitespace role (tag_item t) e = (tt, tt)
-  item_made whitespace role (element_item h body) e =
-      let both = and_parts (is_plain_head h) (is_plain_body (body_whitespace whitespace h) body) e in (
-        (
-          element_made role h (plain_parts h both.0),
-          body_made (body_level h) (body_whitespace whitespace h) (body_role role h) body both.1,
-        ),
-        tt,
-      )
-  item_made whitespace role (space_item span) e = (tt, tt)
-  item_made whitespace role (text_item s span) e = text_made whitespace s span
-  item_made whitespace role hole_item e = tt
-  item_made Pre role (break_item span) e = (tt, tt)
-  item_made Normal role (break_item span) e = ((break_made span, tt), tt)
-  item_made whitespace role (box_item body span) e = absurd (false≢true e)
-  item_made whitespace role (block_item body span) e =
-      block_nodes_made span (body_nodes Block whitespace role body)
-      (body_made Block whitespace role body (and_parts (not (is_one_break whitespace body))
-      (is_plain_body whitespace body) e).1)
-  item_made whitespace role (frame_item f) e = absurd (false≢true e)
+made_items : HoldsOfItems made plain_flow
+unfolding is_plain_item
+made_items = record {
+  tag = λ s role t e. tt;
+  element = λ s role h body e.
+      let both = and_parts (is_plain_head h) (is_plain_body (body_whitespace s h) body) e in
+      (element_made role h (plain_parts h both.0), both.1);
+  space = tt;
+  text = λ s role t span e. of_text made made_way (λ u. tt) s t span;
+  feed = tt;
+  box = λ s role body span e. absurd (false≢true e);
+  block = λ s role body span e.
+      (and_parts (not (is_one_break s body)) (is_plain_body s body) e).1;
+  frame = λ s role f e. false≢true e;
+  first = λ s role i own items e. and_parts (is_plain_item s i) (are_plain_items s items) e;
+  inside = λ s role items e. e;
+}
 
-  pub items_made : (whitespace : Whitespace) (role : RoleText) (items : ItemsView) →
-      are_plain_items whitespace items ≡ true → Each (IsMade false) (items_nodes whitespace role items)
-  items_made whitespace role no_items e = tt
-  items_made whitespace role (item i own items) e =
-      let both = and_parts (is_plain_item whitespace i) (are_plain_items whitespace items) e in
-      Each-append (IsMade false) (item_nodes whitespace (item_role role own) i)
-      (items_nodes whitespace role items) (item_made whitespace (item_role role own) i both.0)
-      (items_made whitespace role items both.1)
+pub items_made : (level : ConversionLevel) (whitespace : Whitespace) (role : RoleText)
+    (items : ItemsView) → are_plain_items whitespace items ≡ true →
+    AreMade (converted_nodes level whitespace role items)
+items_made = of_converted made made_way plain_flow made_items
 
-  pub body_made : (level : ConversionLevel) (whitespace : Whitespace) (role : RoleText)
-      (body : BodyView) → is_plain_body whitespace body ≡ true →
-      AreMade false (body_nodes level whitespace role body)
-  body_made level whitespace role absent e = tt
-  body_made level whitespace role (present items) e =
-      list_made level whitespace (items_nodes whitespace role items)
-      (items_made whitespace role items e)
+pub body_made : (level : ConversionLevel) (whitespace : Whitespace) (role : RoleText)
+    (body : BodyView) → is_plain_body whitespace body ≡ true →
+    AreMade (body_nodes level whitespace role body)
+body_made = of_body made made_way plain_flow made_items

@@ -1,5 +1,5 @@
 -- What is seen of nodes whose atoms all stay. Neither runs of blanks nor protected spaces change it.
-use Rattle.std.proofs.Common.{◌≡◌, ℕ, Bool, true, false, ◌||◌, cond, List, [], ◌∷◌, ◌++◌, map, drop, inl, inr, refl, ap, ◌∙◌, sym, append_assoc, append-nil}
+use Rattle.std.proofs.Common.{◌≡◌, ℕ, Bool, true, false, ◌||◌, cond, List, [], ◌∷◌, ◌++◌, map, inl, inr, refl, ap, ◌∙◌, sym, append_assoc, append-nil}
 use Rattle.std.proofs.lemmas.List.{map-append}
 use Rattle.std.proofs.lemmas.Bool.{cases_Bool}
 use Rattle.html_names.specs.Characters.{is_blank, is_ignorable}
@@ -7,15 +7,15 @@ use Rattle.html_names.specs.Displays.{default_display}
 use Rattle.html_names.specs.Kinds.{is_replaced, is_line_break}
 use Rattle.html_names.specs.Names.{stands_in}
 use Rattle.html_dom_tree.specs.Styled.{styled_attrs, styled_node, styled_nodes}
-use Rattle.html_dom_tree.specs.Tree.{NodeView, tag_node, text_node, element_node, frame_node, NodesView, none, node, TextPair}
+use Rattle.html_dom_tree.specs.Tree.{Head, NodeView, tag_node, text_node, element_node, frame_node, NodesView, none, node, TextPair}
 use Rattle.html_dom_tree.specs.Views.{nodes_of}
 use Rattle.typst_html_encode.specs.Collapsing.{Atom, visible, ignorable, collapsible, kept, border, object, Piece, char, thing, line, edge, char_atom, text_atoms, preserves, has_border, bordered_atoms, element_atoms}
 use Rattle.typst_html_encode.proofs.NodeAtoms.{node_atoms, nodes_atoms}
-use Rattle.html_flow_convert.specs.BareSpaces.{node_things, is_entered}
-use Rattle.html_flow_convert.specs.Nodes.{pre_wrap_head, is_one}
-use Rattle.html_flow_convert.specs.Protected.{space_count, is_bare, text_by_answer, node_by_answers, nodes_by_answers}
+use Rattle.html_flow_convert.specs.Nodes.{pre_wrap_head}
 use Rattle.typst_html_spaces.specs.AtomContexts.{own_piece, own_pieces}
+use Rattle.typst_html_spaces.specs.Changed.{Changed, at_end, at_tag, after_tag, at_text, around_text, at_element, at_frame}
 use Rattle.typst_html_spaces.specs.ItemText.{between_edges}
+use Rattle.typst_html_spaces.proofs.Changed.{IsWrap, wrapped, wraps}
 
 abbrev pub edged : Bool → List Piece → List Piece
 edged b ps = cond b (between_edges ps) ps
@@ -63,8 +63,7 @@ char_own k c =
 text_own : (k : Bool) (s : List ℕ) → own_pieces (text_atoms k s) ≡ map char s
 text_own k [] = refl
 text_own k (c ∷ cs) =
-    ap (λ p. p ∷ own_pieces (text_atoms k cs)) (char_own k c)
-    ∙ ap (λ ps. char c ∷ ps) (text_own k cs)
+    rw (char_own k c, text_own k cs) refl
 
 edged_own : (b : Bool) (xs : List Atom) → own_pieces (bordered_atoms b xs) ≡ edged b (own_pieces xs)
 edged_own true xs = ap (λ ps. edge ∷ ps) (map-append own_piece xs (border ∷ []))
@@ -91,21 +90,19 @@ mutual
 
   pub node_own : (k : Bool) (n : NodeView) →
       own_pieces (node_atoms k (styled_node n)) ≡ node_pieces n
-  node_own k (tag_node t) = refl
   node_own k (text_node s span) = text_own k s
   node_own k (element_node h ns) =
       let attrs : List TextPair = styled_attrs h.css h.attrs in
       head_own h.name attrs (nodes_atoms (k || preserves h.name attrs) (styled_nodes ns))
       ∙ ap (head_pieces h.name attrs) (nodes_own (k || preserves h.name attrs) ns)
-  node_own k (frame_node f) = refl
+  node_own k n = refl
 
   pub nodes_own : (k : Bool) (ns : NodesView) →
       own_pieces (nodes_atoms k (styled_nodes ns)) ≡ nodes_pieces ns
   nodes_own k none = refl
   nodes_own k (node n ns) =
       map-append own_piece (node_atoms k (styled_node n)) (nodes_atoms k (styled_nodes ns))
-      ∙ (ap (λ ps. ps ++ own_pieces (nodes_atoms k (styled_nodes ns))) (node_own k n)
-      ∙ ap (λ ps. node_pieces n ++ ps) (nodes_own k ns))
+      ∙ rw (node_own k n, nodes_own k ns) refl
 
 -- lists of nodes
 
@@ -124,35 +121,16 @@ pre_wrap_pieces span ns = refl
 
 -- spaces in spans of their own
 
-text_protected_pieces : (b : Bool) (s : List ℕ) (span : ℕ) →
-    node_pieces (text_by_answer b s span) ≡ map char s
-text_protected_pieces true s span = refl
-text_protected_pieces false s span =
-    pre_wrap_pieces span (node (text_node s span) none) ∙ append-nil (map char s)
+wrapped_pieces : {h : Head} {s : List ℕ} (span : ℕ) → IsWrap h s →
+    node_pieces (element_node h (node (text_node s span) none)) ≡ map char s
+wrapped_pieces span (wrapped {s = s} own e) =
+    pre_wrap_pieces own (node (text_node s span) none) ∙ append-nil (map char s)
 
-mutual
-  unfolding node_by_answers
-
-  node_protected_pieces : (bare : List Bool) (n : NodeView) →
-      node_pieces (node_by_answers bare n) ≡ node_pieces n
-  node_protected_pieces bare (tag_node t) = refl
-  node_protected_pieces bare (text_node s span) =
-      elim (cases_Bool (is_one 32 s)) [
-        | inl e ↦ rw e (text_protected_pieces (is_bare bare) s span)
-        | inr e ↦ rw e refl
-      ]
-  node_protected_pieces bare (element_node h ns) =
-      elim (cases_Bool (is_entered h)) [
-        | inl e ↦ rw e (ap (head_pieces h.name (styled_attrs h.css h.attrs))
-            (nodes_protected_pieces bare ns))
-        | inr e ↦ rw e refl
-      ]
-  node_protected_pieces bare (frame_node f) = refl
-
-  pub nodes_protected_pieces : (bare : List Bool) (ns : NodesView) →
-      nodes_pieces (nodes_by_answers bare ns) ≡ nodes_pieces ns
-  nodes_protected_pieces bare none = refl
-  nodes_protected_pieces bare (node n ns) =
-      let left : List Bool = drop (space_count (node_things n)) bare in
-      ap (λ ps. ps ++ nodes_pieces (nodes_by_answers left ns)) (node_protected_pieces bare n)
-      ∙ ap (λ ps. node_pieces n ++ ps) (nodes_protected_pieces left ns)
+pub wraps_pieces : {ns ms : NodesView} → Changed wraps ns ms → nodes_pieces ms ≡ nodes_pieces ns
+wraps_pieces at_end = refl
+wraps_pieces (at_tag d) = wraps_pieces d
+wraps_pieces (after_tag i d) = absurd i
+wraps_pieces (at_text {s = s} d) = ap (λ ps. map char s ++ ps) (wraps_pieces d)
+wraps_pieces (around_text {s = s} {span = span} i d) = rw (wrapped_pieces span i, wraps_pieces d) refl
+wraps_pieces (at_element e d f) = rw (e, wraps_pieces d, wraps_pieces f) refl
+wraps_pieces (at_frame d) = wraps_pieces d

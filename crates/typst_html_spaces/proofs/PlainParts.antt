@@ -1,5 +1,5 @@
 -- What holds of an element in plain flow.
-use Rattle.std.proofs.Common.{◌≡◌, ℕ, true, false, not, ◌&&◌, List, [], ◌∷◌, ◌++◌, Some, None, inl, inr, refl, codes, bytes_eq}
+use Rattle.std.proofs.Common.{◌≡◌, ℕ, true, false, not, ◌&&◌, List, [], ◌∷◌, Some, None, inl, inr, refl, codes}
 use Rattle.std.proofs.lemmas.Bool.{cases_Bool, false≢true, and_parts, not-true}
 use Rattle.std.proofs.Math.Bool.{or-false}
 use Rattle.html_names.specs.Displays.{default_display}
@@ -12,7 +12,7 @@ use Rattle.typst_html_encode.specs.Collapsing.{has_border}
 use Rattle.html_flow_convert.specs.Converted.{RoleText, passes_role, role_pairs, element_head}
 use Rattle.html_flow_convert.specs.Items.{ElemHead}
 use Rattle.typst_html_spaces.specs.PlainFlow.{is_plain_name, has_no_css, is_plain_head}
-use Rattle.typst_html_spaces.proofs.MadeHeads.{plain, MadeHead, listed_pass}
+use Rattle.typst_html_spaces.proofs.MadeHeads.{plain, MadeHead, first-append, listed_pass}
 
 no_css : (css : List TextPair) → has_no_css css ≡ true → css ≡ []
 no_css [] e = refl
@@ -38,15 +38,6 @@ plain_head h e =
 
 -- with a role it is made as plain flow makes it
 
-past_attrs : (attrs more : List TextPair) → first attrs (codes "style") ≡ None →
-    first more (codes "style") ≡ None → first (attrs ++ more) (codes "style") ≡ None
-past_attrs [] more e f = f
-past_attrs (p ∷ ps) more e f =
-    elim (cases_Bool (bytes_eq p.0 (codes "style"))) [
-      | inl t ↦ let g : Some p.1 ≡ None = rw t at e in cc
-      | inr t ↦ let g : first ps (codes "style") ≡ None = rw t at e in rw t (past_attrs ps more g f)
-    ]
-
 role_no_style : (role : RoleText) → first (role_pairs role) (codes "style") ≡ None
 role_no_style None = refl
 role_no_style (Some text) = refl
@@ -56,7 +47,7 @@ element_no_style : (role : RoleText) (h : ElemHead) → first h.attrs (codes "st
 element_no_style role h e =
     elim (cases_Bool (passes_role h.name)) [
       | inl t ↦ rw t e
-      | inr t ↦ rw t (past_attrs h.attrs (role_pairs role) e (role_no_style role))
+      | inr t ↦ rw (t, first-append h.attrs (role_pairs role) (codes "style"), e) (role_no_style role)
     ]
 
 pub element_made : (role : RoleText) (h : ElemHead) → PlainHead h → MadeHead (element_head role h)

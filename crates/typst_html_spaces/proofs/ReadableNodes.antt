@@ -1,49 +1,53 @@
 -- Nodes without a raw element and without a frame can be read back, and anchors leave them so.
 use Rattle.std.proofs.Common.{◌≡◌, ℕ, Bool, true, false, ◌&&◌, cond, List, Some, codes, bytes_eq, refl}
 use Rattle.std.proofs.lemmas.Bool.{both_ways}
+use Rattle.std.specs.Prelude.{◌↔◌}
 use Rattle.html_names.specs.Kinds.{is_raw}
 use Rattle.html_names.specs.Names.{stands_in}
-use Rattle.html_dom_tree.specs.Styled.{styled_node, styled_nodes}
-use Rattle.html_dom_tree.specs.Tree.{tag_node, text_node, element_node, frame_node, NodesView, none, node}
+use Rattle.html_dom_tree.specs.Styled.{styled_nodes}
+use Rattle.html_dom_tree.specs.Tree.{Head, tag_node, text_node, element_node, frame_node, NodesView, none, node}
 use Rattle.typst_html_encode.specs.Indented.{NodeEndsWell, NodesEndWell}
 use Rattle.typst_html_encode.specs.IndentsCollapse.{body_children}
 use Rattle.typst_html_encode.specs.Layout.{is_pretty_inside}
 use Rattle.html_dom_tree.specs.FrameFree.{NodeIsFrameFree, NodesAreFrameFree}
+use Rattle.typst_html_spaces.specs.DeepNodes.{Wanted, HoldsOfAll, of_heads}
 use Rattle.typst_html_spaces.specs.ReadableNodes.{AreReadable, ReadableNodesCanBeRead, AnchorsKeepReadable, AnchorsKeepFrameFree, AnchorsKeepBody}
-use Rattle.typst_html_spaces.specs.Anchored.{Anchored, at_end, at_tag, after_tag, at_text, around_text, at_element, of_element, at_frame, IsAny}
+use Rattle.typst_html_spaces.specs.Anchored.{NewAttribute, IsAnchor, anchor, IsGiven, nothing, given, Anchored, IsAny}
+use Rattle.typst_html_spaces.specs.Changed.{Change, Changed, at_end, at_tag, after_tag, at_text, around_text, at_element, at_frame}
+use Rattle.typst_html_spaces.proofs.Anchored.{heads_anchored}
+use Rattle.typst_html_spaces.proofs.Changed.{holds_then, heads_styled}
 
-pub readable_frame_free : (ns : NodesView) → AreReadable ns → NodesAreFrameFree ns
-unfolding NodeIsFrameFree
-readable_frame_free none r = tt
-readable_frame_free (node (tag_node t) ns) r = (tt, readable_frame_free ns r.1)
-readable_frame_free (node (text_node s span) ns) r = (tt, readable_frame_free ns r.1)
-readable_frame_free (node (element_node h kids) ns) r =
-    (readable_frame_free kids r.0.1, readable_frame_free ns r.1)
-readable_frame_free (node (frame_node f) ns) r = absurd r.0
+abbrev readable : Wanted
+readable = of_heads (λ h. is_raw h.name ≡ false) ⊥
 
-pub readable_end_well : (ns : NodesView) → AreReadable ns → (pretty : Bool) →
-    NodesEndWell pretty ns
-unfolding NodeEndsWell
-readable_end_well none r pretty = tt
-readable_end_well (node (tag_node t) ns) r pretty = (tt, readable_end_well ns r.1 pretty)
-readable_end_well (node (text_node s span) ns) r pretty = (tt, readable_end_well ns r.1 pretty)
-readable_end_well (node (element_node h kids) ns) r pretty = (
-  (
-    λ e. absurd (both_ways (is_raw h.name) r.0.0 e),
-    readable_end_well kids r.0.1 (pretty && is_pretty_inside h kids),
-  ),
-  readable_end_well ns r.1 pretty,
-)
-readable_end_well (node (frame_node f) ns) r pretty = absurd r.0
+read_back : (ns : NodesView) (p : Bool) → HoldsOfAll readable p ns →
+    NodesAreFrameFree ns × ((pretty : Bool) → NodesEndWell pretty ns)
+unfolding NodeIsFrameFree NodeEndsWell
+read_back none p r = (tt, λ pretty. tt)
+read_back (node (tag_node t) ns) p r =
+    let more = read_back ns p r.1 in ((tt, more.0), λ pretty. (tt, more.1 pretty))
+read_back (node (text_node s span) ns) p r =
+    let more = read_back ns p r.1 in ((tt, more.0), λ pretty. (tt, more.1 pretty))
+read_back (node (element_node h kids) ns) p r =
+    let inside = read_back kids h.pre_span r.0.1 in
+    let more = read_back ns p r.1 in (
+      (inside.0, more.0),
+      λ pretty. (
+        (
+          λ e. absurd (both_ways (is_raw h.name) r.0.0 e),
+          inside.1 (pretty && is_pretty_inside h kids),
+        ),
+        more.1 pretty,
+      ),
+    )
+read_back (node (frame_node f) ns) p r = absurd r.0
+
+pub readable_can_be_read : ReadableNodesCanBeRead
+readable_can_be_read ns r = read_back ns false r
 
 pub styled_readable : (ns : NodesView) → AreReadable ns → AreReadable (styled_nodes ns)
-unfolding styled_node
-styled_readable none r = tt
-styled_readable (node (tag_node t) ns) r = (tt, styled_readable ns r.1)
-styled_readable (node (text_node s span) ns) r = (tt, styled_readable ns r.1)
-styled_readable (node (element_node h kids) ns) r =
-    ((r.0.0, styled_readable kids r.0.1), styled_readable ns r.1)
-styled_readable (node (frame_node f) ns) r = absurd r.0
+styled_readable ns = heads_styled (λ h. is_raw h.name ≡ false) (λ h. is_raw h.name ≡ false) ⊥
+    (λ h e. e) ns false
 
 -- anchors
 
@@ -51,83 +55,64 @@ span_not_raw : is_raw (codes "span") ≡ false
 unfolding is_raw stands_in
 span_not_raw = refl
 
-module _ (Passes : List ℕ → Type 0) where
-  pub anchored_readable : {ns ms : NodesView} → Anchored Passes ns ms → AreReadable ns →
-      AreReadable ms
-  anchored_readable at_end r = tt
-  anchored_readable (at_tag a) r = (tt, anchored_readable a r.1)
-  anchored_readable (after_tag id span p a) r =
-      (tt, ((span_not_raw, tt), anchored_readable a r.1))
-  anchored_readable (at_text a) r = (tt, anchored_readable a r.1)
-  anchored_readable (around_text id own p a) r =
-      ((span_not_raw, (tt, tt)), anchored_readable a r.1)
-  anchored_readable (at_element a b) r =
-      ((r.0.0, anchored_readable a r.0.1), anchored_readable b r.1)
-  anchored_readable (of_element new v p a b) r =
-      ((r.0.0, anchored_readable a r.0.1), anchored_readable b r.1)
-  anchored_readable (at_frame a) r = absurd r.0
+pub anchors_keep_readable : AnchorsKeepReadable
+anchors_keep_readable ns ms a r = holds_then
+    (heads_anchored IsAny (λ h. is_raw h.name ≡ false) ⊥ (λ id span. span_not_raw)
+    (λ a value h i e. e)) a false r
 
-  anchored_frame_free : {ns ms : NodesView} → Anchored Passes ns ms → NodesAreFrameFree ns →
-      NodesAreFrameFree ms
+module _ {c : Change} where
+  frames_kept : {ns ms : NodesView} → Changed c ns ms →
+      (NodesAreFrameFree ms ↔ NodesAreFrameFree ns)
   unfolding NodeIsFrameFree
-  anchored_frame_free at_end e = tt
-  anchored_frame_free (at_tag r) e = (tt, anchored_frame_free r e.1)
-  anchored_frame_free (after_tag id span p r) e = (tt, (tt, anchored_frame_free r e.1))
-  anchored_frame_free (at_text r) e = (tt, anchored_frame_free r e.1)
-  anchored_frame_free (around_text id own p r) e = ((tt, tt), anchored_frame_free r e.1)
-  anchored_frame_free (at_element q r) e = (anchored_frame_free q e.0, anchored_frame_free r e.1)
-  anchored_frame_free (of_element a v p q r) e =
-      (anchored_frame_free q e.0, anchored_frame_free r e.1)
-  anchored_frame_free (at_frame r) e = absurd e.0
+  frames_kept at_end = (λ e. e, λ e. e)
+  frames_kept (at_tag a) =
+      let more = frames_kept a in (λ e. (tt, more.0 e.1), λ e. (tt, more.1 e.1))
+  frames_kept (after_tag i a) =
+      let more = frames_kept a in (λ e. (tt, more.0 e.1.1), λ e. (tt, (tt, more.1 e.1)))
+  frames_kept (at_text a) =
+      let more = frames_kept a in (λ e. (tt, more.0 e.1), λ e. (tt, more.1 e.1))
+  frames_kept (around_text i a) =
+      let more = frames_kept a in (λ e. (tt, more.0 e.1), λ e. ((tt, tt), more.1 e.1))
+  frames_kept (at_element i a b) =
+      let inside = frames_kept a in
+      let more = frames_kept b in
+      (λ e. (inside.0 e.0, more.0 e.1), λ e. (inside.1 e.0, more.1 e.1))
+  frames_kept (at_frame a) = (λ e. absurd e.0, λ e. absurd e.0)
 
-  free_before : {ns ms : NodesView} → Anchored Passes ns ms → NodesAreFrameFree ms →
-      NodesAreFrameFree ns
-  unfolding NodeIsFrameFree
-  free_before at_end e = tt
-  free_before (at_tag r) e = (tt, free_before r e.1)
-  free_before (after_tag id span p r) e = (tt, free_before r e.1.1)
-  free_before (at_text r) e = (tt, free_before r e.1)
-  free_before (around_text id own p r) e = (tt, free_before r e.1)
-  free_before (at_element q r) e = (free_before q e.0, free_before r e.1)
-  free_before (of_element a v p q r) e = (free_before q e.0, free_before r e.1)
-  free_before (at_frame r) e = absurd e.0
+pub anchors_keep_frame_free : AnchorsKeepFrameFree
+anchors_keep_frame_free ns ms a = frames_kept a
 
-  abbrev pub HasBody : NodesView → NodesView → Type 0
-  HasBody ms body = (new : NodesView) × (body_children ms ≡ Some new) × Anchored Passes body new
+-- the first `body`
 
-  past_element : (b : Bool) (kids new ns ms body : NodesView) → Anchored Passes kids new →
+module _ (P : NewAttribute → List ℕ → Type 0) where
+  abbrev HasBody : NodesView → NodesView → Type 0
+  HasBody ms body = (new : NodesView) × (body_children ms ≡ Some new) × Anchored P body new
+
+  past_element : (b : Bool) (kids new ns ms body : NodesView) → Anchored P kids new →
       (body_children ns ≡ Some body → HasBody ms body) → cond b (Some kids) (body_children ns) ≡ Some body →
-      (found : NodesView) × (cond b (Some new) (body_children ms) ≡ Some found)
-      × Anchored Passes body found
+      (found : NodesView) × (cond b (Some new) (body_children ms) ≡ Some found) × Anchored P body found
   past_element true kids new ns ms body a more e =
       let same : kids ≡ body = cc in (new, refl, rw (← same) a)
   past_element false kids new ns ms body a more e = more e
 
-  pub anchored_body : {ns ms : NodesView} (body : NodesView) → Anchored Passes ns ms →
+  no_anchor : {h : Head} → IsAnchor P h → bytes_eq h.name (codes "body") ≡ false
+  no_anchor (anchor id span i) = refl
+
+  same_name : {h g : Head} → IsGiven P h g → g.name ≡ h.name
+  same_name nothing = refl
+  same_name (given a value i) = refl
+
+  anchored_body : {ns ms : NodesView} (body : NodesView) → Anchored P ns ms →
       body_children ns ≡ Some body → HasBody ms body
   anchored_body body at_end e = cc
   anchored_body body (at_tag a) e = anchored_body body a e
-  anchored_body body (after_tag id span p a) e = anchored_body body a e
+  anchored_body body (after_tag i a) e = rw (no_anchor i) (anchored_body body a e)
   anchored_body body (at_text a) e = anchored_body body a e
-  anchored_body body (around_text id own p a) e = anchored_body body a e
-  anchored_body body (at_element {h} {kids} {new} {ns} {ms} a b) e =
-      past_element (bytes_eq h.name (codes "body")) kids new ns ms body a
-      (λ f. anchored_body body b f) e
-  anchored_body body (of_element {h} {kids} {new} {ns} {ms} added v p a b) e =
-      past_element (bytes_eq h.name (codes "body")) kids new ns ms body a
-      (λ f. anchored_body body b f) e
+  anchored_body body (around_text i a) e = rw (no_anchor i) (anchored_body body a e)
+  anchored_body body (at_element {h} {g} {kids} {new} {ns} {ms} i a b) e =
+      rw (same_name i) (past_element (bytes_eq h.name (codes "body")) kids new ns ms body a
+      (λ f. anchored_body body b f) e)
   anchored_body body (at_frame a) e = anchored_body body a e
-
--- whatever the anchors are
-
-pub readable_can_be_read : ReadableNodesCanBeRead
-readable_can_be_read ns r = (readable_frame_free ns r, readable_end_well ns r)
-
-pub anchors_keep_readable : AnchorsKeepReadable
-anchors_keep_readable ns ms a r = anchored_readable IsAny a r
-
-pub anchors_keep_frame_free : AnchorsKeepFrameFree
-anchors_keep_frame_free ns ms a = (free_before IsAny a, anchored_frame_free IsAny a)
 
 pub anchors_keep_body : AnchorsKeepBody
 anchors_keep_body ns ms body a e = anchored_body IsAny body a e

@@ -1,16 +1,17 @@
 -- The walk goes past an element of plain flow.
 use Rattle.std.proofs.Common.{◌≡◌, ℕ, Bool, true, false, not, cond, List, [], ◌∷◌, None, inl, inr, refl, ap, ◌∙◌, sym, codes, bytes_eq}
+use Rattle.std.specs.List.{list_all}
 use Rattle.std.proofs.lemmas.Bool.{cases_Bool, false≢true, or_left, or_right, not-true, false_from_ne_true}
 use Rattle.std.proofs.Math.Bool.{or-false}
 use Rattle.html_names.specs.Characters.{is_blank, is_ignorable}
 use Rattle.html_names.specs.Displays.{default_display}
-use Rattle.html_names.specs.Kinds.{is_replaced, is_line_break, is_raw, raw_names, is_escapable_raw, escapable_raw_names, shows_border, is_whitespace_collapsing}
+use Rattle.html_names.specs.Kinds.{is_replaced, is_line_break, is_raw, raw_names, is_escapable_raw, escapable_raw_names, is_foreign_self_closing, foreign_self_closing_names, shows_border, is_whitespace_collapsing}
 use Rattle.html_names.specs.Names.{stands_in}
 use Rattle.html_names.specs.Texts.{TextPair}
 use Rattle.html_names.proofs.Basics.{bytes_eq-same}
 use Rattle.html_dom_tree.specs.Attributes.{first}
 use Rattle.html_dom_tree.specs.Styled.{styled_attrs, styled_node, styled_nodes}
-use Rattle.html_dom_tree.specs.Tree.{Head, NodeView, tag_node, text_node, element_node, frame_node, NodesView, none, node}
+use Rattle.html_dom_tree.specs.Tree.{Head, NodeView, text_node, element_node, NodesView, none, node}
 use Rattle.html_dom_tree.specs.Views.{nodes_of}
 use Rattle.html_flow_convert.specs.BareSpaces.{is_border_element, makes_block, is_entered}
 use Rattle.html_flow_convert.specs.Runs.{nodes_with_runs}
@@ -73,11 +74,10 @@ kept_text (c ∷ cs) b a = (kept_char b _ c, kept_text cs _ a)
 
 mutual
   kept_node : (n : NodeView) (b a : Bool) → AtomsStay b a (node_atoms true n)
-  kept_node (tag_node t) b a = tt
   kept_node (text_node s span) b a = kept_text s b a
   kept_node (element_node h ns) b a =
       any_stays h.name h.attrs (nodes_atoms true ns) (kept_nodes ns) b a
-  kept_node (frame_node f) b a = tt
+  kept_node n b a = tt
 
   kept_nodes : (ns : NodesView) (b a : Bool) → AtomsStay b a (nodes_atoms true ns)
   kept_nodes none b a = tt
@@ -96,27 +96,30 @@ no_border_no_pre name e = false_from_ne_true (bytes_eq name (codes "pre")) (λ t
     ∙ (ap (λ n. shows_border (default_display n)) (bytes_eq-same name (codes "pre") t)
     ∙ pre_is_border)))
 
-pub raw_is_not_plain : (name : List ℕ) → is_raw name ≡ true → is_plain_name name ≡ false
-unfolding is_raw is_plain_name is_replaced default_display stands_in
-raw_is_not_plain name e =
-    not-true (is_plain_name name) (listed_pass (λ n. not (is_plain_name n)) raw_names name refl e)
+-- no name of such a list is plain
+plain_stands_out : (names : List (List ℕ)) → list_all (λ n. not (is_plain_name n)) names ≡ true →
+    (name : List ℕ) → is_plain_name name ≡ true → stands_in names name ≡ false
+plain_stands_out names all name p = false_from_ne_true (stands_in names name)
+    (λ e. false≢true (sym (not-true (is_plain_name name)
+    (listed_pass (λ n. not (is_plain_name n)) names name all e)) ∙ p))
 
 pub plain_is_not_raw : (name : List ℕ) → is_plain_name name ≡ true → is_raw name ≡ false
-plain_is_not_raw name p = false_from_ne_true (is_raw name)
-    (λ e. false≢true (sym (raw_is_not_plain name e) ∙ p))
+unfolding is_raw is_plain_name is_replaced default_display stands_in
+plain_is_not_raw = plain_stands_out raw_names refl
 
-pub escapable_is_not_plain : (name : List ℕ) → is_escapable_raw name ≡ true →
-    is_plain_name name ≡ false
+pub plain_is_not_escapable : (name : List ℕ) → is_plain_name name ≡ true →
+    is_escapable_raw name ≡ false
 unfolding is_escapable_raw is_plain_name is_replaced default_display stands_in
-escapable_is_not_plain name e = not-true (is_plain_name name)
-    (listed_pass (λ n. not (is_plain_name n)) escapable_raw_names name refl e)
+plain_is_not_escapable = plain_stands_out escapable_raw_names refl
+
+pub plain_is_not_foreign : (name : List ℕ) → is_plain_name name ≡ true →
+    is_foreign_self_closing name ≡ false
+unfolding is_foreign_self_closing is_plain_name is_replaced default_display stands_in
+plain_is_not_foreign = plain_stands_out foreign_self_closing_names refl
 
 plain_not_raw : (name : List ℕ) → is_plain_name name ≡ true →
     bytes_eq name (codes "pre") ≡ false → is_preformatted name ≡ false
-plain_not_raw name p e =
-    let escapable : is_escapable_raw name ≡ false = false_from_ne_true (is_escapable_raw name)
-    (λ g. false≢true (sym (escapable_is_not_plain name g) ∙ p)) in
-    rw (e, plain_is_not_raw name p, escapable) refl
+plain_not_raw name p e = rw (e, plain_is_not_raw name p, plain_is_not_escapable name p) refl
 
 collapses_inside : (h : ElemHead) → is_plain_name h.name ≡ true →
     bytes_eq h.name (codes "pre") ≡ false → body_whitespace Normal h ≡ Normal

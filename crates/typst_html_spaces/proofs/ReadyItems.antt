@@ -3,7 +3,7 @@ use Rattle.std.proofs.Common.{◌≡◌, true, not, inr}
 use Rattle.std.proofs.lemmas.Bool.{false≢true, and_parts}
 use Rattle.html_flow_convert.specs.Runs.{nodes_with_runs}
 use Rattle.html_flow_convert.specs.Converted.{RoleText, item_role, body_whitespace, body_role, item_nodes, items_nodes, body_nodes, converted_nodes}
-use Rattle.html_flow_convert.specs.Items.{ItemView, tag_item, element_item, space_item, text_item, hole_item, break_item, box_item, block_item, frame_item, ItemsView, no_items, item, BodyView, absent, present}
+use Rattle.html_flow_convert.specs.Items.{ItemView, tag_item, element_item, space_item, text_item, hole_item, break_item, block_item, ItemsView, no_items, item, BodyView, absent, present}
 use Rattle.html_flow_convert.specs.LoneNode.{block_nodes}
 use Rattle.html_flow_convert.specs.declared.convert.ConversionLevel.TheVariants.{Block}
 use Rattle.html_flow_convert.specs.declared.convert.Whitespace.TheVariants.{Normal}
@@ -34,13 +34,12 @@ mutual
   item_ready role (text_item s span) e = text_ready span s
   item_ready role hole_item e = tt
   item_ready role (break_item span) e = (inr (break_ready span), tt)
-  item_ready role (box_item body span) e = absurd (false≢true e)
   item_ready role (block_item body span) e =
       let f = (and_parts (not (is_one_break Normal body)) (is_plain_body Normal body) e).1 in
       let ns = body_nodes Block Normal role body in
       Each-weaker Ready AlmostReady (λ n s. inr s) (block_nodes span ns) (block_ready span ns (body_made Block Normal role body f)
       (block_body_stays role body (body_ready role body f)))
-  item_ready role (frame_item f) e = absurd (false≢true e)
+  item_ready role i e = absurd (false≢true e)
 
   items_ready : (role : RoleText) (items : ItemsView) → are_plain_items Normal items ≡ true →
       Each AlmostReady (items_nodes Normal role items)

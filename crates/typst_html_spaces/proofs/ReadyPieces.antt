@@ -6,13 +6,13 @@ use Rattle.html_names.specs.Characters.{is_blank, is_ignorable}
 use Rattle.html_dom_tree.specs.Tree.{NodeView, text_node}
 use Rattle.html_flow_convert.specs.BareSpaces.{visible as visible_thing, text_things}
 use Rattle.html_flow_convert.specs.Nodes.{is_one}
-use Rattle.html_flow_convert.specs.Pieces.{PieceView, stretch, alone, line_break, is_normal, is_normal_there, first_char, is_in_stretch, in_stretch, is_carriage_return, outside_stretch, pieces_after, piece_node, text_nodes}
+use Rattle.html_flow_convert.specs.Pieces.{PieceView, stretch, alone, line_break, is_normal, is_normal_there, first_char, is_in_stretch, in_stretch, outside_stretch, pieces_after, piece_node, text_nodes}
 use Rattle.html_flow_convert.specs.Runs.{is_tab}
 use Rattle.typst_html_encode.specs.Collapsing.{Atom, visible, ignorable, collapsible, char_atom, text_atoms}
 use Rattle.typst_html_spaces.proofs.Each.{Each, Each-map}
 use Rattle.typst_html_spaces.proofs.Walks.{Ready, Seen, Unseen}
 use Rattle.typst_html_spaces.proofs.ReadyNodes.{unseen_text, seen_text, space_ready, break_ready}
-use Rattle.typst_html_spaces.proofs.TextPieces.{normal_parts}
+use Rattle.typst_html_spaces.proofs.TextPieces.{normal_parts, each_outside}
 
 no_space : (c : ℕ) → is_blank c ≡ false → (c == 32) ≡ false
 no_space c h = grind (arith, nat_tests)
@@ -74,10 +74,8 @@ IsPiece line_break = Unit {0}
 
 -- they begin with a stretch
 abbrev BeginInStretch : List PieceView → Type 0
-BeginInStretch [] = ⊥
 BeginInStretch (stretch s ∷ ps) = IsStretch s × Each IsPiece ps
-BeginInStretch (alone c ∷ ps) = ⊥
-BeginInStretch (line_break ∷ ps) = ⊥
+BeginInStretch ps = ⊥
 
 -- a stretch and a space before it, after a normal character
 abbrev GoesOn : (before : Option ℕ) → List ℕ → Type 0
@@ -86,51 +84,39 @@ GoesOn before s =
 
 -- pieces after a character: the first may go on with the stretch there
 abbrev FollowPieces : (before : Option ℕ) → List PieceView → Type 0
-FollowPieces before [] = Unit {0}
 FollowPieces before (stretch s ∷ ps) = (IsStretch s ⊎ GoesOn before s) × Each IsPiece ps
-FollowPieces before (alone c ∷ ps) = IsLone c × Each IsPiece ps
-FollowPieces before (line_break ∷ ps) = Unit {0} × Each IsPiece ps
+FollowPieces before ps = Each IsPiece ps
 
 follow : (before : Option ℕ) (ps : List PieceView) → Each IsPiece ps → FollowPieces before ps
-follow before [] r = tt
 follow before (stretch s ∷ ps) r = (inl r.0, r.1)
-follow before (alone c ∷ ps) r = r
-follow before (line_break ∷ ps) r = r
+follow before ps r = r
 
 follow_in_stretch : (before : Option ℕ) (ps : List PieceView) → BeginInStretch ps →
     FollowPieces before ps
-follow_in_stretch before [] r = absurd r
 follow_in_stretch before (stretch s ∷ ps) r = (inl r.0, r.1)
-follow_in_stretch before (alone c ∷ ps) r = absurd r
-follow_in_stretch before (line_break ∷ ps) r = absurd r
+follow_in_stretch before ps r = absurd r
 
 all_pieces : (before : Option ℕ) (ps : List PieceView) → is_normal_there before ≡ false →
     FollowPieces before ps → Each IsPiece ps
-all_pieces before [] h r = tt
 all_pieces before (stretch s ∷ ps) h r = elim (r.0) [
   | inl t ↦ (t, r.1)
   | inr t ↦ absurd (false≢true (sym h ∙ t.1))
 ]
-all_pieces before (alone c ∷ ps) h r = r
-all_pieces before (line_break ∷ ps) h r = r
+all_pieces before ps h r = r
 
 normal_before : (c : ℕ) (ps : List PieceView) → is_normal c ≡ true → FollowPieces (Some c) ps →
     BeginInStretch (in_stretch c ps)
-normal_before c [] h r = (stretch_one c h, tt)
 normal_before c (stretch s ∷ ps) h r = elim (r.0) [
   | inl t ↦ (stretch_more c s h t, r.1)
   | inr t ↦ (rw (t.2) (stretch_gap c t.0 h t.3), r.1)
 ]
-normal_before c (alone d ∷ ps) h r = (stretch_one c h, r)
-normal_before c (line_break ∷ ps) h r = (stretch_one c h, r)
+normal_before c ps h r = (stretch_one c h, r)
 
 space_before : (before : Option ℕ) (c : ℕ) (ps : List PieceView) → (c == 32) ≡ true →
     is_normal_there before ≡ true → BeginInStretch ps → FollowPieces before (in_stretch c ps)
-space_before before c [] e h r = absurd r
 space_before before c (stretch s ∷ ps) e h r =
     (inr (s, h, ap (λ d. d ∷ s) (eqb-true c 32 e), r.0), r.1)
-space_before before c (alone d ∷ ps) e h r = absurd r
-space_before before c (line_break ∷ ps) e h r = absurd r
+space_before before c ps e h r = absurd r
 
 -- a character outside of stretches
 
@@ -148,19 +134,6 @@ lone_char c n e f = elim (cases_Bool (c == 32)) [
   | inr h ↦ elim (cases_Bool (c == 9)) [
     | inl k ↦ inl (eqb-true c 9 k)
     | inr k ↦ let b = no_blank c h k f e in inr (inr (b, ignored c n b))
-  ]
-]
-
-outside_before : (before : Option ℕ) (c : ℕ) (ps : List PieceView) → is_normal c ≡ false →
-    Each IsPiece ps → Each IsPiece (outside_stretch before c ps)
-outside_before before c ps n r = elim (cases_Bool (c == 13)) [
-  | inl e ↦ rw e (tt, r)
-  | inr e ↦ elim (cases_Bool (c == 10)) [
-    | inl f ↦ elim (cases_Bool (is_carriage_return before)) [
-      | inl g ↦ rw (e, f, g) r
-      | inr g ↦ rw (e, f, g) (tt, r)
-    ]
-    | inr f ↦ rw (e, f) (lone_char c n e f, r)
   ]
 ]
 
@@ -207,7 +180,7 @@ other_step before c cs e r =
     ((c == 32) && is_normal_there before && is_normal_there (first_char cs)) e).0 in
     let others = pieces_after (Some c) cs in (
       rw (outside_step before c cs e) (follow before (outside_stretch before c others)
-          (outside_before before c others n (all_pieces (Some c) others n r.0))),
+          (each_outside IsPiece before c others tt (lone_char c n) (all_pieces (Some c) others n r.0))),
       λ h. absurd (false≢true (sym n ∙ h)),
     )
 

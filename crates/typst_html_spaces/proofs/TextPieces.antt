@@ -9,7 +9,7 @@ use Rattle.html_dom_tree.specs.Views.{nodes_of}
 use Rattle.typst_html_encode.specs.Collapsing.{Piece, char, line}
 use Rattle.html_flow_convert.specs.BareSpaces.{bare_spaces}
 use Rattle.html_flow_convert.specs.Nodes.{break_node}
-use Rattle.html_flow_convert.specs.Pieces.{PieceView, stretch, alone, line_break, is_normal, is_normal_there, first_char, is_in_stretch, in_stretch, is_carriage_return, pieces_after, piece_node}
+use Rattle.html_flow_convert.specs.Pieces.{PieceView, stretch, alone, line_break, is_normal, is_normal_there, first_char, is_in_stretch, in_stretch, is_carriage_return, outside_stretch, pieces_after, piece_node}
 use Rattle.html_flow_convert.specs.Runs.{nodes_with_runs}
 use Rattle.html_flow_convert.specs.Converted.{list_nodes, text_item_nodes, break_item_node}
 use Rattle.html_flow_convert.specs.declared.convert.ConversionLevel.{ConversionLevel}
@@ -17,7 +17,9 @@ use Rattle.html_flow_convert.specs.declared.convert.ConversionLevel.TheVariants.
 use Rattle.html_flow_convert.specs.declared.convert.Whitespace.{Whitespace}
 use Rattle.html_flow_convert.specs.declared.convert.Whitespace.TheVariants.{Normal, Pre}
 use Rattle.typst_html_spaces.specs.ItemText.{chars_by_line, text_pieces, break_piece}
-use Rattle.typst_html_spaces.proofs.OwnPieces.{node_pieces, nodes_pieces, list_pieces, nodes_protected_pieces}
+use Rattle.typst_html_spaces.proofs.Changed.{protected_is_changed}
+use Rattle.typst_html_spaces.proofs.Each.{Each}
+use Rattle.typst_html_spaces.proofs.OwnPieces.{node_pieces, nodes_pieces, list_pieces, wraps_pieces}
 use Rattle.typst_html_spaces.proofs.Runs.{runs_pieces}
 
 pub break_node_pieces : (span : ℕ) → node_pieces (break_node span) ≡ line ∷ []
@@ -49,6 +51,22 @@ in_stretch_no_line before c after e =
           (is_normal_there (first_char after)) f).0).0
     ]
 
+-- pieces behind a character outside of stretches
+
+pub each_outside : (P : PieceView → Type 0) (before : Option ℕ) (c : ℕ) (ps : List PieceView) →
+    P line_break → ((c == 13) ≡ false → (c == 10) ≡ false → P (alone c)) → Each P ps →
+    Each P (outside_stretch before c ps)
+each_outside P before c ps broken other r = elim (cases_Bool (c == 13)) [
+  | inl e ↦ rw e (broken, r)
+  | inr e ↦ elim (cases_Bool (c == 10)) [
+    | inl f ↦ elim (cases_Bool (is_carriage_return before)) [
+      | inl g ↦ rw (e, f, g) r
+      | inr g ↦ rw (e, f, g) (broken, r)
+    ]
+    | inr f ↦ rw (e, f) (other e f, r)
+  ]
+]
+
 -- the nodes of pieces
 
 abbrev seen : (span : ℕ) → List PieceView → List Piece
@@ -56,10 +74,8 @@ seen span ps = list_pieces (map (piece_node span) ps)
 
 in_stretch_seen : (span c : ℕ) (ps : List PieceView) →
     seen span (in_stretch c ps) ≡ char c ∷ seen span ps
-in_stretch_seen span c [] = refl
 in_stretch_seen span c (stretch s ∷ ps) = refl
-in_stretch_seen span c (alone d ∷ ps) = refl
-in_stretch_seen span c (line_break ∷ ps) = refl
+in_stretch_seen span c ps = refl
 
 break_seen : (span : ℕ) (ps : List PieceView) → seen span (line_break ∷ ps) ≡ line ∷ seen span ps
 break_seen span ps = ap (λ qs. qs ++ seen span ps) (break_node_pieces span)
@@ -110,4 +126,4 @@ list_nodes_pieces level Pre ns = refl
 list_nodes_pieces Inline Normal ns = runs_pieces ns
 list_nodes_pieces Block Normal ns =
     let runs = nodes_of (nodes_with_runs ns) in
-    nodes_protected_pieces (bare_spaces runs) runs ∙ runs_pieces ns
+    wraps_pieces (protected_is_changed runs (bare_spaces runs)) ∙ runs_pieces ns

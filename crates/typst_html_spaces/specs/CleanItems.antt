@@ -8,7 +8,7 @@ use Rattle.html_flow_convert.specs.Converted.{RoleText, converted_nodes}
 use Rattle.html_flow_convert.specs.Items.{RoleView, inherits, sets, unsets, ItemView, tag_item, element_item, space_item, text_item, hole_item, break_item, box_item, block_item, frame_item, ItemsView, no_items, item, BodyView, absent, present}
 use Rattle.html_flow_convert.specs.declared.convert.ConversionLevel.TheVariants.{Block}
 use Rattle.html_flow_convert.specs.declared.convert.Whitespace.TheVariants.{Normal}
-use Rattle.typst_html_spaces.specs.CleanNodes.{is_clean_text, is_clean_tag, are_clean_values, are_clean_nodes}
+use Rattle.typst_html_spaces.specs.CleanNodes.{is_clean_text, is_clean_tag, are_clean_values, AreCleanNodes}
 use Rattle.typst_html_spaces.specs.PlainFlow.{is_plain_flow}
 
 abbrev pub is_clean_role : RoleView → Bool
@@ -46,4 +46,4 @@ unfoldable mutual
 abbrev pub CleanItemsMakeCleanNodes : Type 0
 CleanItemsMakeCleanNodes = (role : RoleText) (items : ItemsView) → is_clean_text role ≡ true →
     is_plain_flow items ≡ true → are_clean_items items ≡ true →
-    are_clean_nodes false (styled_nodes (converted_nodes Block Normal role items)) ≡ true
+    AreCleanNodes false (styled_nodes (converted_nodes Block Normal role items))

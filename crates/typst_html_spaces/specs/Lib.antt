@@ -1,7 +1,9 @@
 pub mod Anchored
 pub mod AtomContexts
+pub mod Changed
 pub mod CleanItems
 pub mod CleanNodes
+pub mod DeepNodes
 pub mod ItemText
 pub mod LineContexts
 pub mod PlainFlow

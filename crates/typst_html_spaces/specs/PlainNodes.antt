@@ -1,8 +1,8 @@
 -- Nodes of plain flow: elements of plain names alone, and no frame.
-use Rattle.std.specs.Prelude.{◌≡◌, ℕ, Bool, true, false, ◌&&◌, List, codes, bytes_eq}
+use Rattle.std.specs.Prelude.{◌≡◌, ℕ, Bool, true, false, List, codes, bytes_eq}
 use Rattle.html_names.specs.Kinds.{is_raw}
 use Rattle.html_dom_tree.specs.Styled.{styled_nodes}
-use Rattle.html_dom_tree.specs.Tree.{NodeView, tag_node, text_node, element_node, frame_node, NodesView, none, node}
+use Rattle.html_dom_tree.specs.Tree.{NodesView}
 use Rattle.typst_html_encode.specs.Indented.{NodesEndWell}
 use Rattle.typst_html_encode.specs.IndentsCollapse.{NodesAreEdged}
 use Rattle.html_dom_tree.specs.FrameFree.{NodesAreFrameFree}
@@ -10,29 +10,22 @@ use Rattle.html_flow_convert.specs.Converted.{RoleText, converted_nodes}
 use Rattle.html_flow_convert.specs.Items.{ItemsView}
 use Rattle.html_flow_convert.specs.declared.convert.ConversionLevel.TheVariants.{Block}
 use Rattle.html_flow_convert.specs.declared.convert.Whitespace.TheVariants.{Normal}
+use Rattle.typst_html_spaces.specs.DeepNodes.{HeadsAlone}
 use Rattle.typst_html_spaces.specs.PlainFlow.{is_plain_name, is_plain_flow}
 
 -- at any depth
-unfoldable mutual
-  pub is_plain_node : NodeView → Bool
-  is_plain_node (tag_node t) = true
-  is_plain_node (text_node s span) = true
-  is_plain_node (element_node h ns) = is_plain_name h.name && are_plain_nodes ns
-  is_plain_node (frame_node f) = false
-
-  pub are_plain_nodes : NodesView → Bool
-  are_plain_nodes none = true
-  are_plain_nodes (node n ns) = is_plain_node n && are_plain_nodes ns
+abbrev pub ArePlainNodes : NodesView → Type 0
+ArePlainNodes = HeadsAlone (λ h. is_plain_name h.name ≡ true)
 
 -- items in plain flow become such nodes, and in them what has indents is a border
 abbrev pub PlainFlowMakesPlainNodes : Type 0
 PlainFlowMakesPlainNodes = (role : RoleText) (items : ItemsView) → is_plain_flow items ≡ true →
-    (are_plain_nodes (converted_nodes Block Normal role items) ≡ true)
+    ArePlainNodes (converted_nodes Block Normal role items)
     × NodesAreEdged (styled_nodes (converted_nodes Block Normal role items))
 
 -- such nodes can be read back: they have no frame and no raw element
 abbrev pub PlainNodesCanBeRead : Type 0
-PlainNodesCanBeRead = (ns : NodesView) → are_plain_nodes ns ≡ true →
+PlainNodesCanBeRead = (ns : NodesView) → ArePlainNodes ns →
     NodesAreFrameFree (styled_nodes ns)
     × ((pretty : Bool) → NodesEndWell pretty (styled_nodes ns))
 

@@ -2,22 +2,15 @@
 -- back, and anchors leave them so.
 use Rattle.std.specs.Prelude.{◌≡◌, ◌↔◌, Bool, false, Some}
 use Rattle.html_names.specs.Kinds.{is_raw}
-use Rattle.html_dom_tree.specs.Tree.{NodeView, tag_node, text_node, element_node, frame_node, NodesView, none, node}
+use Rattle.html_dom_tree.specs.Tree.{NodesView}
 use Rattle.typst_html_encode.specs.Indented.{NodesEndWell}
 use Rattle.typst_html_encode.specs.IndentsCollapse.{body_children}
 use Rattle.html_dom_tree.specs.FrameFree.{NodesAreFrameFree}
 use Rattle.typst_html_spaces.specs.Anchored.{Anchored, IsAny}
+use Rattle.typst_html_spaces.specs.DeepNodes.{HeadsAlone}
 
-abbrev mutual
-  pub IsReadable : NodeView → Type 0
-  IsReadable (tag_node t) = Unit {0}
-  IsReadable (text_node s span) = Unit {0}
-  IsReadable (element_node h ns) = (is_raw h.name ≡ false) × AreReadable ns
-  IsReadable (frame_node f) = ⊥
-
-  pub AreReadable : NodesView → Type 0
-  AreReadable none = Unit {0}
-  AreReadable (node n ns) = IsReadable n × AreReadable ns
+abbrev pub AreReadable : NodesView → Type 0
+AreReadable = HeadsAlone (λ h. is_raw h.name ≡ false)
 
 abbrev pub ReadableNodesCanBeRead : Type 0
 ReadableNodesCanBeRead = (ns : NodesView) → AreReadable ns →

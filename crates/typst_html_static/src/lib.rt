@@ -1,4 +1,4 @@
-//! The static library for C and for what calls C: each call of `typst_html_c`, under its name.
+//! The static library for C and what calls C: each call of `typst_html_c`, under its name.
 #![tactic(auto)]
 
 ghost use Rattle.std.specs.Prelude.{◌≡◌};
@@ -12,15 +12,15 @@ ghost use Rattle.typst_html_c.specs.Unused.{unused_call_answer};
 use std::alloc::Global;
 use typst_html_c::Reply;
 
-/// As [`typst_html_c::typst_html_version`].
+/// Calls [`typst_html_c::typst_html_version`].
 #[unsafe(no_mangle)]
 pub extern "C" fn typst_html_version() -> u32
-    ensures { result ≡ 6 }
+    ensures { result ≡ 7 }
 {
     typst_html_c::typst_html_version()
 }
 
-/// As [`typst_html_c::typst_html_write`].
+/// Calls [`typst_html_c::typst_html_write`].
 #[unsafe(no_mangle)]
 pub extern "C" fn typst_html_write(
     alloc: Global,
@@ -35,7 +35,7 @@ pub extern "C" fn typst_html_write(
     typst_html_c::typst_html_write(alloc, kind, layout, input, output)
 }
 
-/// As [`typst_html_c::typst_html_document`].
+/// Calls [`typst_html_c::typst_html_document`].
 #[unsafe(no_mangle)]
 pub extern "C" fn typst_html_document(
     alloc: Global,
@@ -52,7 +52,7 @@ pub extern "C" fn typst_html_document(
     typst_html_c::typst_html_document(alloc, layout, links, limit, input, output)
 }
 
-/// As [`typst_html_c::typst_html_dead_links`].
+/// Calls [`typst_html_c::typst_html_dead_links`].
 #[unsafe(no_mangle)]
 pub extern "C" fn typst_html_dead_links(
     alloc: Global,
@@ -66,7 +66,7 @@ pub extern "C" fn typst_html_dead_links(
     typst_html_c::typst_html_dead_links(alloc, limit, input, output)
 }
 
-/// As [`typst_html_c::typst_html_unused`].
+/// Calls [`typst_html_c::typst_html_unused`].
 #[unsafe(no_mangle)]
 pub extern "C" fn typst_html_unused(
     alloc: Global,
@@ -80,7 +80,7 @@ pub extern "C" fn typst_html_unused(
     typst_html_c::typst_html_unused(alloc, limit, input, output)
 }
 
-/// As [`typst_html_c::typst_html_check`].
+/// Calls [`typst_html_c::typst_html_check`].
 #[unsafe(no_mangle)]
 pub extern "C" fn typst_html_check(
     alloc: Global,
@@ -94,7 +94,7 @@ pub extern "C" fn typst_html_check(
     typst_html_c::typst_html_check(alloc, limit, page, output)
 }
 
-/// As [`typst_html_c::typst_html_links`].
+/// Calls [`typst_html_c::typst_html_links`].
 #[unsafe(no_mangle)]
 pub extern "C" fn typst_html_links(
     alloc: Global,

@@ -1,4 +1,4 @@
-//! Calls that consume what they are given, and give it back where they are refused.
+//! Calls that consume their arguments, and return them if they fail.
 
 use crate::growths::lent::is_known;
 use html_dom_document::{DocumentInfo, HtmlDocument, HtmlOutput};
@@ -19,7 +19,7 @@ enum Way {
     SetInElement,
 }
 
-/// What a call is given.
+/// The arguments of a call.
 #[derive(Debug, Drop)]
 enum Given {
     Added(Way, HtmlElement, HtmlAttr, String),
@@ -27,7 +27,7 @@ enum Given {
     Folded(HtmlAttrs, HtmlAttrs),
     WithChild(HtmlElement, HtmlNode),
     WithText(HtmlElement),
-    /// With the text by which the information is shown.
+    /// With the text that shows the information.
     Document(HtmlOutput, DocumentInfo, String),
     Linked(HtmlDocument),
 }

@@ -1,4 +1,4 @@
-//! Calls that borrow what they are given, and leave it where they are refused.
+//! Calls that borrow their arguments, and leave them unchanged if they fail.
 
 use html_dom_check::{dead_fragments, repeated_ids};
 use html_dom_document::{DocumentInfo, HtmlDocument, HtmlIntrospector, HtmlOutput};
@@ -14,7 +14,7 @@ use tests_growth::{is_shown, refuses_lent, shown_of};
 
 pub(crate) type Targets = BTreeSet<Location>;
 
-/// A call, and what it borrows.
+/// A call, and its borrowed arguments.
 #[derive(Debug, Drop)]
 enum Lent {
     DeadFragments(HtmlElement),
@@ -22,7 +22,7 @@ enum Lent {
     ResolvedStyles(HtmlElement),
     FlatElement(HtmlElement),
     FlatNodes(Vec<HtmlNode>),
-    /// With the text by which the nodes are shown.
+    /// With the text that shows the nodes.
     ToNodes(FlatTree, String),
     Introspected(Vec<HtmlNode>),
     LinkTargets(HtmlIntrospector),
@@ -61,7 +61,7 @@ fn call(alloc: Global, lent: &mut Lent) -> Result<bool, AllocError> {
     }
 }
 
-/// Whether what is lent has what no text shows.
+/// Whether the arguments have what no text shows.
 fn is_whole(lent: &Lent) -> bool {
     match lent {
         Lent::LinkTargets(known) | Lent::CopiedIntrospector(known) => knows(known),
@@ -90,7 +90,7 @@ fn link_of(alloc: Global, href: &str) -> Result<HtmlNode, AllocError> {
     Ok(HtmlNode::from(HtmlElement { attrs, ..link }))
 }
 
-/// A dead link between elements of which the second has the ids of the first.
+/// A dead link between two elements, the second of which has the ids of the first.
 fn root_of(alloc: Global) -> Result<HtmlElement, AllocError> {
     let mut nodes = Vec::new(alloc);
     nodes.push(HtmlNode::from(element_of(alloc)?))?;
@@ -113,7 +113,7 @@ fn nodes_of(alloc: Global) -> Result<Vec<HtmlNode>, AllocError> {
     Ok(vec![in alloc; HtmlNode::from(element_of(alloc)?)]?)
 }
 
-/// Whether all nodes at all depths of `element_of` are there, itself included.
+/// Whether all nodes of `element_of`, at all depths, are there, with itself.
 fn has_all(tree: &FlatTree) -> bool {
     tree.nodes().len() == 7
 }
@@ -124,7 +124,7 @@ fn tree_of(alloc: Global) -> Result<Lent, AllocError> {
     Ok(Lent::ToNodes(FlatTree::from_nodes(alloc, &nodes)?, shown))
 }
 
-/// Whether the element is known that starts in the nodes, and what a frame in them links to.
+/// Whether the position of the element in the nodes is known, and the target of their frame's link.
 fn knows(introspector: &HtmlIntrospector) -> bool {
     introspector.position(Location(1)).is_some()
         && introspector.frame_link_targets().contains(&Location(3))
@@ -145,12 +145,12 @@ fn nodes(rt: HostRuntime) -> TestResult {
     assert_lent(alloc, Lent::Introspected(nodes_of(alloc)?))
 }
 
-/// Whether it is known where the element of the document starts.
+/// Whether the position of the element that starts in the document is known.
 pub(crate) fn is_known(document: &HtmlDocument) -> bool {
     document.introspector().position(Location(1)).is_some()
 }
 
-/// Of the places, one starts in the document, and one does not.
+/// Two locations, one of which starts in the document.
 pub(crate) fn targets_of(alloc: Global) -> Result<Targets, AllocError> {
     let mut targets = BTreeSet::new(alloc);
     targets.insert(Location(1))?;

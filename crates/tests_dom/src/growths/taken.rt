@@ -1,4 +1,4 @@
-//! Calls that consume what they are given, and do not give it back.
+//! Calls that consume their arguments, and do not return them.
 
 use crate::growths::lent::{Targets, has_anchor, has_style, targets_of};
 use html_dom_document::HtmlDocument;

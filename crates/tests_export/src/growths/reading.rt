@@ -1,4 +1,4 @@
-//! Texts that are read, and what is shown of a page that was read.
+//! Texts that are read, and the visible text of a page that was read.
 
 use html_dom_tree::HtmlElement;
 use std::alloc::{AllocError, Global};
@@ -7,7 +7,7 @@ use tests_growth::{refuses, refuses_lent};
 use typst_html_page::page_text;
 use typst_html_read::{ReadFault, read_html};
 
-/// A text with names of one's own, attributes, references, raw texts, and elements in one another.
+/// A text with names of the author's own, attributes, references, raw texts, and nested elements.
 const PAGE: &str = concat!(
     "<!DOCTYPE html>\n<div id=\"x &amp; y\" own=\"1\" hidden>one &lt; two &#xe9;<my-own>three</my-own>",
     "<pre>\n\nfour</pre><script>if (a < b) { f('</scrip'); }</script><br><mspace width=\"1em\"/>",
@@ -18,7 +18,7 @@ fn has(root: HtmlElement, attrs: usize, children: usize) -> bool {
     root.attrs.0.len() == attrs && root.children.len() == children
 }
 
-/// Whether so many bytes of a text are read, and no more.
+/// Returns whether reading stops at that offset of a text, in bytes.
 fn ends_at(alloc: Global, text: &str, offset: usize) -> Result<bool, ReadFault> {
     match read_html(alloc, text, 9) {
         Err(ReadFault::Syntax { place }) => Ok(place.offset == offset),
@@ -27,7 +27,7 @@ fn ends_at(alloc: Global, text: &str, offset: usize) -> Result<bool, ReadFault> 
     }
 }
 
-/// What stands before the place where reading ends takes memory too.
+/// The text before the place where reading stops takes memory too.
 #[test]
 fn texts(rt: HostRuntime) -> TestResult {
     let (alloc, wrong) = (rt.alloc(), "<!DOCTYPE html><p class=\"a\">b<i>c</i></b>");

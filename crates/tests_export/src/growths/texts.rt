@@ -16,7 +16,7 @@ use typst_html_export::{
     html_document_for_bundle,
 };
 
-/// What a document with a footnote is made of.
+/// The arguments of a document with a footnote.
 #[derive(Debug, Drop)]
 struct Content {
     items: Vec<Pair>,
@@ -55,7 +55,7 @@ fn assert_written(alloc: Global, options: &HtmlOptions, frames: &OneText) -> Tes
     })
 }
 
-/// Texts of what a document is made of.
+/// Texts of the arguments of a document.
 fn assert_exported(alloc: Global, options: &HtmlOptions, frames: &OneText) -> TestResult {
     assert_text(alloc, sources_of(alloc)?, |of: &mut Content| {
         let (items, info, notes) = (&of.items, &of.info, &of.footnotes);
@@ -81,7 +81,7 @@ fn texts(rt: HostRuntime) -> TestResult {
     Ok(())
 }
 
-/// Whether the root is all that a document has.
+/// Returns whether the root is the only node of a document.
 fn is_alone(document: HtmlDocument) -> bool {
     document.nodes().len() == 1
 }

@@ -1,4 +1,4 @@
-//! Items: copies, the nodes that they become, and elements that arguments make.
+//! Items: copies, the nodes that they become, and elements made from arguments.
 
 use html_dom_tree::{HtmlNode, Location, Span};
 use html_flow::{
@@ -25,7 +25,7 @@ fn copied_items(rt: HostRuntime) -> TestResult {
     refuses_copy(alloc, elem_of(alloc, tag::p)?, HtmlElem::try_clone)
 }
 
-/// A call that makes nodes of items.
+/// A call that makes nodes from items.
 #[derive(Clone, Copy, Debug)]
 enum Making {
     Block,
@@ -80,7 +80,7 @@ enum Way {
     Set,
 }
 
-/// A call, the element, and a pair that it is given.
+/// A call, the element, and a pair for it.
 type Given = (Way, HtmlElem, HtmlAttr, String);
 
 fn has_two(element: &HtmlElem) -> bool {
@@ -131,7 +131,7 @@ fn is_alone(element: HtmlElem) -> bool {
     element.body.is_some_and(|items| items.len() == 1)
 }
 
-/// Items, and a label and an item that are put behind them.
+/// Items, and a label and an item to append.
 type Located = (Vec<Pair>, Option<String>, Item);
 
 fn located((mut items, label, item): Located) -> Result<bool, Refused<Located>> {
@@ -147,8 +147,8 @@ fn located((mut items, label, item): Located) -> Result<bool, Refused<Located>> 
     }
 }
 
-/// A text is put into an element without a body, as an item and as a text, and between tags, into a
-/// list without room.
+/// Adds a text to an element without a body, as an item and as a text, and between tags to a list
+/// without room.
 #[test]
 fn changed_bodies(rt: HostRuntime) -> TestResult {
     let alloc = rt.alloc();
@@ -179,7 +179,7 @@ fn arg_of(alloc: Global, name: &str, value: Value) -> Result<Arg, AllocError> {
     })
 }
 
-/// The arguments `href`, `class`, one that no type is there for, and a body.
+/// The arguments `href`, `class`, one without a type, and a body.
 fn args_of(alloc: Global) -> Result<Args, AllocError> {
     let mut items = Vec::with_capacity(alloc, 4)?;
     let text = String::from_str(alloc, "x")?;
@@ -203,7 +203,7 @@ fn info_of(alloc: Global) -> Result<ElementInfo, AllocError> {
     Ok(ElementInfo::new(tag::a, vec![in alloc; class, href]?))
 }
 
-/// An element is made of arguments, and one of them is left.
+/// Makes an element from arguments, and leaves one of them.
 #[test]
 fn constructed_elements(rt: HostRuntime) -> TestResult {
     let (alloc, info) = (rt.alloc(), info_of(rt.alloc())?);

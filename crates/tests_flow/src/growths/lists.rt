@@ -8,12 +8,12 @@ use tests_asserts::TestResult;
 use tests_growth::{refuses_given, refuses_lent};
 use tests_items::text_item_of;
 
-/// A text for which that of another is not room enough.
+/// A text for which the room of another is not enough.
 const LONG: &str =
     " and vinegar, oil and pepper, bread and cheese, plums and pears, nuts and honey, \
     tea and milk, rice and beans, leeks and eggs, dill and thyme, and all that keeps through the winter";
 
-/// A call that adds to a list what has the list's span.
+/// A call that adds something with the list's span to a list.
 #[derive(Clone, Copy, Debug)]
 enum Adding {
     Text,
@@ -32,7 +32,7 @@ impl Adding {
     }
 }
 
-/// Into a list without items, and behind a text.
+/// Adds texts to a list without items, and behind a text.
 #[test]
 fn texts_in_lists(rt: HostRuntime) -> TestResult {
     let alloc = rt.alloc();
@@ -48,7 +48,7 @@ fn texts_in_lists(rt: HostRuntime) -> TestResult {
     })
 }
 
-/// A call that puts an element into a list.
+/// A call that adds an element to a list.
 #[derive(Clone, Copy, Debug)]
 enum Placing {
     Element,
@@ -56,7 +56,7 @@ enum Placing {
     Link,
 }
 
-/// A call, and what it is given.
+/// A call and its arguments.
 type Given = (Placing, ItemList, NamedPlaces, HtmlElem);
 
 fn placed((placing, mut list, mut places, element): Given) -> Result<bool, Refused<Given>> {

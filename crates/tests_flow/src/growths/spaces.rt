@@ -1,5 +1,5 @@
-//! Spaces that are bare, and calls that keep white space: they consume what they are called on, and do
-//! not give it back.
+//! Bare spaces, and calls that preserve white space: they consume their arguments, and do not
+//! return them.
 
 use html_dom_flat::FlatTree;
 use html_dom_tree::{HtmlElement, HtmlNode, Span};
@@ -10,7 +10,7 @@ use tests_asserts::TestResult;
 use tests_given::{start_of, text_of};
 use tests_growth::{SPARES, refuses, refuses_taken};
 
-/// How many nodes are made, and at which places a lone space and a tab stand.
+/// The number of nodes that are made, and the indices of a lone space and a tab.
 const COUNT: usize = 5;
 
 const SPACE: usize = 0;
@@ -28,19 +28,19 @@ fn nodes_of(alloc: Global) -> Result<Vec<HtmlNode>, AllocError> {
     Ok(nodes)
 }
 
-/// Whether there are as many nodes more as a text of three pieces has.
+/// Returns whether a text of three pieces adds that many nodes.
 fn adds_text(alloc: Global, mut nodes: Vec<HtmlNode>) -> Result<bool, AllocError> {
     let text = String::from_str(alloc, "two\twords")?;
     push_text_nodes(alloc, &mut nodes, text, Span(9))?;
     Ok(nodes.len() == COUNT + 3)
 }
 
-/// Whether they are as many as before, and the one at that place is no text any more.
+/// Whether there are as many as before, and the node at that index is no longer a text.
 fn is_kept_at(nodes: &[HtmlNode], place: usize) -> bool {
     nodes.len() == COUNT && !matches!(nodes.get(place), None | Some(HtmlNode::Text(_, _)))
 }
 
-/// Nodes for as many calls as are made.
+/// Nodes for each of the calls.
 fn taken_of(alloc: Global) -> Result<Vec<Vec<HtmlNode>>, AllocError> {
     let mut values = Vec::new(alloc);
     for _ in 0..SPARES {
@@ -58,7 +58,7 @@ enum Taking {
 }
 
 impl Taking {
-    /// Whether what is made of the nodes is right.
+    /// Returns whether the call makes the right nodes.
     fn call(self, alloc: Global, nodes: Vec<HtmlNode>) -> Result<bool, AllocError> {
         match self {
             Taking::KeepTab => Ok(is_kept_at(&keep_runs(alloc, nodes)?, TAB)),

@@ -6,7 +6,7 @@ use std::io;
 use std::io::{Error, ErrorKind, Read};
 use std::process::Abort;
 
-/// Gives one byte a read. The read numbered `fails_at`, and that one alone, fails.
+/// Reads one byte at a time. Only the read numbered `fails_at` fails.
 #[derive(Drop)]
 struct Drip<'a> {
     rest: &'a [u8],
@@ -54,7 +54,7 @@ impl Read for Endless {
     }
 }
 
-/// Gives all that is asked for, and records for how many bytes it was asked.
+/// Reads as much as is requested, and records the lengths of requests.
 #[derive(Drop)]
 struct Asked<'a> {
     rest: &'a [u8],
@@ -68,7 +68,7 @@ impl Read for Asked<'_> {
     }
 }
 
-/// The input whose only text is that many letters.
+/// Returns the input whose only text is that many letters.
 fn long_input(rt: &impl Abort, alloc: Global, letters: usize) -> String {
     let mut input = String::new(alloc);
     input
@@ -81,7 +81,7 @@ fn long_input(rt: &impl Abort, alloc: Global, letters: usize) -> String {
     input
 }
 
-/// Asserts that a read that fails ends the run: nothing is written, and nothing is read after that.
+/// Asserts that a failing read ends the run: nothing is written, and nothing is read after that.
 fn assert_failed(rt: &impl Abort, alloc: Global, case: &Case, fails_at: usize, kind: ErrorKind) {
     let Case { words, input, .. } = case;
     let mut reader = Drip::new(input.as_bytes(), fails_at, kind);
@@ -97,7 +97,7 @@ fn assert_each_failed(rt: &impl Abort, alloc: Global, case: &Case) {
     }
 }
 
-/// What the input spells, and whether it spells anything, makes no difference.
+/// It makes no difference what the input spells, or whether it spells anything.
 #[test]
 fn each_read_fails(rt: HostRuntime) {
     for case in &CASES {
@@ -105,7 +105,7 @@ fn each_read_fails(rt: HostRuntime) {
     }
 }
 
-/// A read that was interrupted is not tried again.
+/// An interrupted read is not tried again.
 #[test]
 fn interrupted_read(rt: HostRuntime) {
     assert_failed(&rt, rt.alloc(), &CASES[0], 5, ErrorKind::Interrupted);
@@ -132,7 +132,7 @@ fn thousands_of_reads(rt: HostRuntime) {
     assert!(rt; reader.reads == input.len().saturating_add(1));
 }
 
-/// The read that tells the end may be the 1,048,576th, and no later one.
+/// The read that reaches the end may be the 1,048,576th, and no later one.
 #[test]
 fn as_many_reads_as_there_may_be(rt: HostRuntime) {
     let input = long_input(&rt, rt.alloc(), 1_048_548);
@@ -146,7 +146,7 @@ fn as_many_reads_as_there_may_be(rt: HostRuntime) {
     assert_run(&rt, rt.alloc(), &mut reader, Status::Failed, "");
 }
 
-/// Each read asks for 4,096 bytes.
+/// Each read requests 4,096 bytes.
 #[test]
 fn lengths_of_reads(rt: HostRuntime) {
     let input = long_input(&rt, rt.alloc(), 9000);

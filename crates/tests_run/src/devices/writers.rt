@@ -6,8 +6,8 @@ use std::io;
 use std::io::{Error, ErrorKind, Write};
 use std::process::Abort;
 
-/// Takes at most `most` bytes a write. The write numbered `fails_at`, and that one alone, fails; so
-/// does each flush where `flush_fails`.
+/// Writes at most `most` bytes at a time. Only the write numbered `fails_at` fails, and each flush
+/// if `flush_fails`.
 #[derive(Drop)]
 struct Slow {
     taken: Vec<u8>,
@@ -57,7 +57,7 @@ impl Write for Slow {
     }
 }
 
-/// How the run ends. Asserts that the writer has taken that much of what is written.
+/// Returns the status of the run. Asserts that the writer has got that much of the output.
 fn status_of(
     rt: &impl Abort,
     alloc: Global,
@@ -77,7 +77,7 @@ fn assert_taken(rt: &impl Abort, case: &Case, writer: &Slow, length: usize) {
     assert!(rt; taken == Some(writer.taken.as_slice()), "{}", case.input);
 }
 
-/// Asserts that a run that remembers how its last call ended answers as one that does not.
+/// Asserts that a run that records how its last call ended returns the same as one that does not.
 fn assert_recorded(rt: &impl Abort, alloc: Global, case: &Case) {
     let words = words(rt, alloc, case.words);
     for fails_at in 0..=case.text.len() {
@@ -97,7 +97,7 @@ fn recorded_writes(rt: HostRuntime) {
     }
 }
 
-/// Asserts that a write that fails ends the run: a beginning was written, nothing is tried again,
+/// Asserts that a failing write ends the run: the beginning is written, nothing is tried again,
 /// nothing is flushed.
 fn assert_failed(rt: &impl Abort, alloc: Global, case: &Case, fails_at: usize) {
     let mut writer = Slow::new(alloc, 1);
@@ -120,7 +120,7 @@ fn each_write_fails(rt: HostRuntime) {
     }
 }
 
-/// Asserts that a write that takes no byte ends the run.
+/// Asserts that a write of no bytes ends the run.
 fn assert_none_taken(rt: &impl Abort, alloc: Global, case: &Case) {
     let mut writer = Slow::new(alloc, 0);
     let status = status_of(rt, alloc, case, &mut writer, 0);
@@ -135,8 +135,8 @@ fn no_byte_a_write(rt: HostRuntime) {
     }
 }
 
-/// Asserts that all is written, so many bytes a write, and that the flush comes once, after the last
-/// write.
+/// Asserts that everything is written, that many bytes at a time, and that the only flush comes
+/// after the last write.
 fn assert_whole(rt: &impl Abort, alloc: Global, case: &Case, most: usize) {
     let mut writer = Slow::new(alloc, most);
     let status = status_of(rt, alloc, case, &mut writer, case.text.len());
@@ -158,7 +158,7 @@ fn few_bytes_a_write(rt: HostRuntime) {
     }
 }
 
-/// Asserts that a flush that fails is a failed write, and is not tried again.
+/// Asserts that a failing flush is a failed write, and is not tried again.
 fn assert_not_flushed(rt: &impl Abort, alloc: Global, case: &Case) {
     let mut writer = Slow::new(alloc, 7);
     writer.flush_fails = true;

@@ -1,9 +1,7 @@
-use Rattle.std.proofs.Common.{◌≡◌, ◌+◌, ◌++◌, ◌∷◌, [], drop, ap, ◌∙◌, subst, refl}
-use Rattle.html_dom_tree.specs.Tree.{element_node}
-use Rattle.html_dom_tree.specs.Views.{element_view, node_view, nodes_view}
-use Rattle.html_dom_check.specs.PlacedTexts.{Takes, node_placed, nodes_placed, placed_at}
-use Rattle.html_dom_check.specs.WantedTexts.{texts_at}
-use Rattle.html_dom_check.proofs.Walks.{all_taken, both_taken, more_taken, none_placed, placed_in_turn}
+use Rattle.std.proofs.Common.{◌≡◌, ◌++◌, ◌∷◌, [], ap, ◌∙◌, append_assoc, refl}
+use Rattle.html_dom_check.specs.PlacedTexts.{node_placed}
+use Rattle.html_dom_check.specs.WantedTexts.{kind_of}
+use Rattle.html_dom_check.proofs.Walks.{all_left, all_taken, more_taken, none_placed, placed_in_turn}
 use Rattle.html_dom_check.proofs.walk.+walk.Goals as goal
 
 pub pass_element-returns-clause-path : goal.pass_element-returns-clause-path
@@ -12,46 +10,26 @@ pass_element-returns-clause-path g t c =
 
 pub pass_element-returns-clause-taken : goal.pass_element-returns-clause-taken
 unfolding node_placed
-pass_element-returns-clause-taken g t c =
-    let e = element_view c.args.element.now in
-    let texts = texts_at c.args.wanted in
-    let path = c.args.walk.now.path.items in
-    let made = g.S.TextSink.made_with in
-    let mid = made c.pass_own.new.walk.sink in
-    let new = made c.pass_nodes.new.walk.sink in
-    both_taken (made c.args.walk.now.sink) mid new (placed_at path (texts (element_node e.0 e.1)))
-    (nodes_placed texts path 0 e.1) c.in_ok-pass_own.ensures.taken
-    (subst (λ placed. Takes mid new placed)
-    (ap (λ p. nodes_placed texts p 0 (nodes_view c.deref.result.now)) c.in_ok-pass_own.ensures.path
-    ∙ ap (λ ns. nodes_placed texts path 0 (nodes_view ns)) c.deref.ensures.value)
-    c.in_ok-pass_nodes.ensures.taken)
+pass_element-returns-clause-taken g t c rest =
+    let own = c.in_ok-pass_own.ensures in
+    rw append_assoc
+    ((rw (own.path, c.deref.ensures.value) at c.in_ok-pass_nodes.ensures.taken rest) ∙ own.taken _)
 
 pub pass_nodes-loop-index-init : goal.pass_nodes-loop-index-init
-pass_nodes-loop-index-init g t c = record { path = refl; taken = λ rest. refl }
+pass_nodes-loop-index-init g t c = record { path = refl; taken = all_left }
 
 pub pass_nodes-loop-index-preserved : goal.pass_nodes-loop-index-preserved
 pass_nodes-loop-index-preserved g t c =
     let held = c.loop-index.invariant in
     let parent = c.args.walk.now.path.items in
-    let nodes = c.args.nodes.now in
     let i = c.loop-index.index in
-    let child = c.index-nodes-index.result in
-    let texts = texts_at c.args.wanted in
-    let made = g.S.TextSink.made_with in
-    let old = made c.loop-index.walk.sink in
-    let new = made c.pass_node.new.walk.sink in
     let there : c.push.new.self.items ≡ parent ++ i ∷ [] =
     c.in_ok-push.ensures.items ∙ ap (λ p. p ++ i ∷ []) held.path in
     record {
       path = c.leave.ensures parent i (c.in_ok-pass_node.ensures.path ∙ there);
-      taken = more_taken (made c.args.walk.now.sink) old new
-          (nodes_placed texts parent 0 (nodes_view nodes))
-          (nodes_placed texts parent i (nodes_view (drop i nodes)))
-          (node_placed texts (parent ++ i ∷ []) (node_view child))
-          (nodes_placed texts parent (i + 1) (nodes_view (drop (i + 1) nodes)))
-          (placed_in_turn texts parent nodes i child c.loop-index-test.true c.index-nodes-index.is) held.taken
-          (subst (λ p. Takes old new (node_placed texts p (node_view child))) there
-          c.in_ok-pass_node.ensures.taken);
+      taken = more_taken _ (placed_in_turn (kind_of c.args.wanted) parent c.args.nodes.now i
+          c.index-nodes-index.result c.loop-index-test.true c.index-nodes-index.is) held.taken
+          (rw there at c.in_ok-pass_node.ensures.taken);
     }
 
 pub pass_nodes-returns-clause-path : goal.pass_nodes-returns-clause-path
@@ -59,11 +37,5 @@ pass_nodes-returns-clause-path g t c = c.loop-index.invariant.path
 
 pub pass_nodes-returns-clause-taken : goal.pass_nodes-returns-clause-taken
 pass_nodes-returns-clause-taken g t c =
-    let made = g.S.TextSink.made_with in
-    let placed = nodes_placed (texts_at c.args.wanted) c.args.walk.now.path.items in
-    let nodes = c.args.nodes.now in
-    let i = c.loop-index.index in
-    all_taken (made c.args.walk.now.sink) (made c.loop-index.walk.sink) (placed 0 (nodes_view nodes))
-    (placed i (nodes_view (drop i nodes)))
-    (none_placed (texts_at c.args.wanted) c.args.walk.now.path.items nodes i c.loop-index-test.false)
-    c.loop-index.invariant.taken
+    all_taken (none_placed (kind_of c.args.wanted) c.args.walk.now.path.items c.args.nodes.now
+    c.loop-index.index c.loop-index-test.false) c.loop-index.invariant.taken

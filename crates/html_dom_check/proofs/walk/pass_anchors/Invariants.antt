@@ -3,7 +3,7 @@ use Rattle.html_dom_tree.specs.FrameViews.{anchors_view}
 use Rattle.html_dom_tree.specs.declared.frame.Point.{Point}
 use Rattle.html_dom_link.specs.NewNames.{anchor_names}
 use Rattle.html_dom_check.specs.PlacedTexts.{Placed, placed_at}
-use Rattle.html_dom_check.proofs.Walks.{TakesUpTo}
+use Rattle.html_dom_check.proofs.Walks.{Left}
 use Rattle.html_dom_check.proofs.walk.pass_anchors.Given as goal
 
 abbrev pub invariant-loop-anchor : goal.invariant-loop-anchor
@@ -14,6 +14,6 @@ invariant-loop-anchor g l =
     λ anchors. placed_at first.path.items (anchor_names (anchors_view anchors)) in
     record {
       path : l.walk.path.items ≡ first.path.items;
-      taken : TakesUpTo (made first.sink) (made l.walk.sink) (placed l.anchors)
+      taken : Left (made first.sink) (made l.walk.sink) (placed l.anchors)
           (placed (drop l.anchor-index l.anchors));
     }

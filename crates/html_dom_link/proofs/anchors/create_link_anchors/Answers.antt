@@ -1,43 +1,4 @@
-use Rattle.std.proofs.Common.{◌≡◌, ap, ◌∙◌, refl}
-use Rattle.html_dom_tree.specs.Views.{nodes_view, element_view}
-use Rattle.html_dom_tree.specs.declared.node.HtmlElement.{HtmlElement}
-use Rattle.html_dom_document.specs.Views.{document_view}
-use Rattle.html_dom_document.specs.Documents.{document_root}
-use Rattle.html_dom_document.specs.Introspectors.{has_location, introspector_view}
-use Rattle.html_dom_link.specs.LinkAnchors.{targets_in, document_targets}
-use Rattle.html_dom_link.specs.UsedNames.{used_in}
-use Rattle.html_dom_link.specs.AnchorWalk.{Walked, at_first, walk, element_walk}
-use Rattle.html_dom_link.specs.WalkViews.{walk_view}
-use Rattle.html_dom_link.proofs.DocumentNames.{anchors_are_new, anchors_are_serving, anchors_are_shown, ids_stay_distinct}
-use Rattle.html_dom_link.proofs.WholeWalk.{root_walked, root_written, answers_are}
 use Rattle.html_dom_link.proofs.anchors.create_link_anchors.Goals as goal
 
-pub returns : goal.returns
-returns c =
-    let d = document_view c.args.document.now in
-    let is_target = has_location c.args.targets.now in
-    let known = introspector_view c.introspector.result.now in
-    let used = used_in c.in_ok-names.names.used in
-    let root : HtmlElement = c.root_mut.result.now in
-    let last : HtmlElement = record root { children = c.in_ok-children-2.children } in
-    let w : Walked =
-    (nodes_view c.in_ok-children-2.children.items, walk_view c.in_ok-children-2.state) in
-    let whole : w ≡ element_walk (document_targets is_target d) (document_root d) =
-    root_walked is_target d known (element_view c.root.result.now)
-    (element_view c.root-2.result.now) used w
-    c.introspector.ensures c.root.ensures c.root-2.ensures c.in_ok-names.ensures
-    (c.in_ok-children-2.ensures.walk
-    ∙ ap (λ e. walk (targets_in known is_target) e.1 (at_first used)) c.in_ok-children.ensures) in
-    let tree = root_written is_target d _ (element_view root) (element_view last) w whole
-    c.root_mut.ensures.value refl (c.root_mut.ensures.written last) in
-    let anchors = answers_are is_target d w whole in
-    let fresh = anchors_are_new is_target d w whole c.in_ok-children-2.ensures.bounded in
-    record {
-      tree = tree;
-      anchors = anchors;
-      fresh = fresh;
-      shown = anchors_are_shown is_target d _ _ tree anchors;
-      serves = anchors_are_serving is_target d _ _ tree anchors;
-      distinct = ids_stay_distinct is_target d _ tree fresh;
-      kept = tt;
-    }
+pub returns-clause-made : goal.returns-clause-made
+returns-clause-made c = rw c.in_ok-copy.ensures at c.in_ok-made.ensures

@@ -1,9 +1,9 @@
-use Rattle.std.proofs.Common.{◌≡◌, ℕ, ◌==◌, Bool, String, Global, not, List, ◌++◌, length, map, codes, append_assoc, refl, ap, sym, ◌∙◌, Option, Some, None, is_some, option_map}
-use Rattle.std.proofs.lemmas.List.{map-append}
+use Rattle.std.proofs.Common.{◌≡◌, ℕ, ◌==◌, Bool, String, Global, not, List, ◌++◌, length, map, codes, refl, ap, sym, ◌∙◌, Option, Some, None, is_some, option_map}
 use Rattle.serde_json.specs.Data.{string}
 use Rattle.serde_json.specs.View.{view}
 use Rattle.html_dom_document.specs.Views.{info_view, locale_view}
 use Rattle.html_names.specs.Texts.{text_view, texts_view}
+use Rattle.html_tool_run.proofs.PushedNames.{more}
 use Rattle.html_tool_run.specs.UnusedInformation.{name_if}
 use Rattle.html_tool_run.proofs.unused.push_known_names.Goals as goal
 
@@ -11,13 +11,6 @@ use Rattle.html_tool_run.proofs.unused.push_known_names.Goals as goal
 seen_some : {A B : Type 0} (f : A → B) (o : Option A) → is_some o ≡ is_some (option_map f o)
 seen_some f None = refl
 seen_some f (Some a) = refl
-
--- names behind those that were added
-more : {A B : Type 0} (f : A → B) (old x y : List B) (ns ms : List A) → x ≡ old ++ map f ns
-    → y ≡ x ++ map f ms → y ≡ old ++ map f (ns ++ ms)
-more f old x y ns ms so_far next =
-    next ∙ (ap (λ z. z ++ map f ms) so_far ∙ (append_assoc old (map f ns) (map f ms)
-    ∙ ap (λ z. old ++ z) (sym (map-append f ns ms))))
 
 -- the names by what tells something
 abbrev names_by : (title description authors keywords lang region : Bool) → List (List ℕ)

@@ -13,25 +13,26 @@ use Rattle.html_tool_spell.proofs.NodeRows.{nodes_row, joined-nodes, own_first, 
 use Rattle.html_tool_spell.proofs.Readings.{read_element}
 use Rattle.html_tool_spell.proofs.Rows.{none_read, one_read, all_read, wrong_one}
 use Rattle.html_tool_spell.specs.Fields.{pairs_at}
+use Rattle.html_tool_spell.specs.Marks.{Mark}
 use Rattle.html_tool_spell.specs.NameRefusals.{name_refusals, all_name_refusals}
-use Rattle.html_tool_spell.specs.Reading.{AddsNode}
+use Rattle.html_tool_spell.specs.Reading.{AddsNode, mark}
 use Rattle.html_tool_spell.specs.Spelled.{element_made, form, list_at, spelled_all}
 use Rattle.html_tool_spell.proofs.nodes.+spell.Goals as goal
 
 pub push_node-returns : goal.push_node-returns
 push_node-returns t c =
-    let Opened : ℕ → Type 0 = λ n. AddsNode c.push_list.result
-    (form (items_view c.in-Array.list.items) n) c.args.nodes.now c.push_list.new.nodes
+    let Opened : Mark → Type 0 = λ m. AddsNode c.push_list.result
+    (form (items_view c.in-Array.list.items) m) c.args.nodes.now c.push_list.new.nodes
     c.args.reader.now c.push_list.new.reader in
     rw (c.in-Array.is, view-Array)
-    (subst Opened c.in_ok-open.ensures.lists
+    (subst Opened c.in_ok-open.ensures.mark
     (added_from c.push_list.result _ c.args.nodes.now c.push_list.new.nodes c.args.reader.now
     c.open.new.self c.push_list.new.reader c.in_ok-open.ensures.refused c.push_list.ensures))
 
 pub push_list-returns-in-Some : goal.push_list-returns-in-Some
 push_list-returns-in-Some t c =
     rw (
-      form-kind c.args.list.items c.args.reader.now.lists,
+      form-kind c.args.list.items (mark c.args.reader.now),
       ← c.deref.ensures.value,
       ← c.list_kind.ensures,
       c.in-Some.is,
@@ -41,7 +42,7 @@ push_list-returns-in-Some t c =
 pub push_list-returns-in-None : goal.push_list-returns-in-None
 push_list-returns-in-None t c =
     rw (
-      form-kind c.args.list.items c.args.reader.now.lists,
+      form-kind c.args.list.items (mark c.args.reader.now),
       ← c.deref.ensures.value,
       ← c.list_kind.ensures,
       c.in-None.is,
@@ -85,8 +86,8 @@ push_element_with-returns t c = record {
 pub list_of-loop-value-init : goal.list_of-loop-value-init
 list_of-loop-value-init t c =
     let left = into_iter_items c.into_iter-value-iterator.result in
-    let is : list_at (view c.args.value) c.args.reader.now.lists
-    ≡ spelled_all (items_view left) c.args.reader.now.lists =
+    let is : list_at (view c.args.value) (mark c.args.reader.now)
+    ≡ spelled_all (items_view left) (mark c.args.reader.now) =
     rw (
       c.in-Array.is,
       view-Array,

@@ -6,6 +6,7 @@ use Rattle.serde_json.specs.View.{view}
 use Rattle.html_dom_tree.specs.Views.{node_view}
 use Rattle.html_tool_spell.proofs.NodeRows.{nodes_row}
 use Rattle.html_tool_spell.proofs.Rows.{IsPartRead}
+use Rattle.html_tool_spell.specs.Reading.{mark}
 use Rattle.html_tool_spell.specs.Spelled.{list_at}
 use Rattle.html_tool_spell.proofs.nodes.+spell.Given as goal
 
@@ -33,7 +34,7 @@ abbrev pub invariant-list_of-loop-value : goal.invariant-list_of-loop-value
 invariant-list_of-loop-value l =
     let left = into_iter_items l.value-iterator in
     record {
-      read : IsPartRead nodes_row node_view (list_at (view l.fn.value) l.fn.reader.lists) left
+      read : IsPartRead nodes_row node_view (list_at (view l.fn.value) (mark l.fn.reader)) left
           l.nodes.items l.fn.reader l.reader;
       long : into_iter_len l.value-iterator ≡ length left;
       room : vec_len l.nodes + into_iter_len l.value-iterator ≤ vec_capacity l.nodes;

@@ -1,19 +1,28 @@
-use Rattle.std.proofs.Common.{refl}
-use Rattle.html_dom_tree.specs.Views.{node_view}
+use Rattle.std.proofs.Common.{option_map}
+use Rattle.std.proofs.lemmas.Result.{err_from_is_err_and}
+use Rattle.html_dom_tree.specs.FrameViews.{tag_view}
+use Rattle.html_dom_tree.specs.Tree.{tag_node}
 use Rattle.html_dom_tree.specs.declared.node.HtmlNode as HtmlNode
 use Rattle.html_dom_tree.proofs.Basics.{node_view-Tag}
-use Rattle.html_tool_spell.proofs.Readings.{read_clean}
-use Rattle.html_tool_spell.specs.NameRefusals.{name_refusals}
+use Rattle.html_tool_spell.proofs.Tags.{node_tag_read, tag_wrong}
+use Rattle.html_tool_spell.specs.Reading.{mark}
 use Rattle.html_tool_spell.proofs.nodes.push_tag.Goals as goal
 
-pub returns-in-Some : goal.returns-in-Some
-unfolding name_refusals
-returns-in-Some c = record {
-  made = HtmlNode.Tag c.in-Some.tag;
+pub returns-in_err-tag : goal.returns-in_err-tag
+returns-in_err-tag c =
+    let failed = err_from_is_err_and c.from_residual.result c.from_residual.ensures.1 in
+    rw (failed.1, failed.2)
+    (tag_wrong tag_node (option_map tag_view c.args.tag) (mark c.args.reader.now)
+    c.in_err-tag.field-0.0 c.in_err-tag.ensures)
+
+pub returns : goal.returns
+returns c = record {
+  made = HtmlNode.Tag c.in_ok-tag.tag;
   added = c.push_reserved.ensures.items;
   count = c.push_reserved.ensures.len;
   room = c.push_reserved.ensures.capacity;
   read =
-      read_clean name_refusals (node_view (HtmlNode.Tag c.in-Some.tag)) _ c.args.reader.now
-      c.args.reader.now (rw (c.in-Some.is, node_view-Tag) refl) (rw node_view-Tag refl) refl;
+      rw node_view-Tag
+      (node_tag_read (tag_view c.in_ok-tag.tag) (option_map tag_view c.args.tag)
+      (mark c.args.reader.now) c.args.reader.now c.numbered.new.self c.in_ok-tag.ensures);
 }

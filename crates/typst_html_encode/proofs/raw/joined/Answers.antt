@@ -1,5 +1,5 @@
 use Rattle.std.proofs.Common.{◌++◌, ap, ◌∙◌}
-use Rattle.typst_html_encode.specs.Siblings.{siblings_view}
+use Rattle.html_dom_flat.specs.Siblings.{siblings_view}
 use Rattle.typst_html_encode.specs.Text.{escaped_text, nodes_raw_text}
 use Rattle.typst_html_encode.specs.declared.escape.Escaping.TheVariants as escaping
 use Rattle.typst_html_encode.proofs.Escapes.{escaped_text-raw}

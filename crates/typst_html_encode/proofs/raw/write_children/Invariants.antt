@@ -1,12 +1,11 @@
-use Rattle.std.proofs.Common.{◌+◌, drop}
-use Rattle.html_dom_flat.specs.Flat.{spelled_nodes}
-use Rattle.html_dom_flat.specs.FlatViews.{flat_nodes_view}
-use Rattle.typst_html_encode.specs.Siblings.{siblings_view}
+use Rattle.html_dom_flat.specs.Flat.{nodes_count}
+use Rattle.html_dom_flat.specs.Siblings.{siblings_view}
 use Rattle.typst_html_encode.proofs.RawChildren.{RawLeft}
 use Rattle.typst_html_encode.proofs.raw.write_children.Given as goal
 
-abbrev pub invariant-loop-node : goal.invariant-loop-node
-invariant-loop-node l =
-    let s = l.children in
-    RawLeft l.escaping (spelled_nodes (s.first + l.node-index)
-    (flat_nodes_view s.names.now (drop l.node-index s.nodes.now))) (siblings_view s) l.out l.fn.out
+abbrev pub invariant-loop-child : goal.invariant-loop-child
+invariant-loop-child l =
+    RawLeft l.escaping (siblings_view l.left) (siblings_view l.children) l.out l.fn.out
+
+abbrev pub decreases-loop-child : goal.decreases-loop-child
+decreases-loop-child l = nodes_count (siblings_view l.left)

@@ -1,13 +1,12 @@
-use Rattle.std.proofs.Common.{◌≡◌, ◌+◌, drop}
-use Rattle.html_dom_flat.specs.Flat.{spelled_nodes}
-use Rattle.html_dom_flat.specs.FlatViews.{flat_nodes_view}
-use Rattle.typst_html_encode.specs.Siblings.{siblings_view}
+use Rattle.std.proofs.Common.{◌≡◌}
+use Rattle.html_dom_flat.specs.Flat.{nodes_count}
+use Rattle.html_dom_flat.specs.Siblings.{siblings_view}
 use Rattle.typst_html_encode.specs.Text.{begins_with_feed}
 use Rattle.typst_html_encode.proofs.tags.begins_with_feed.Given as goal
 
-abbrev pub invariant-loop-node : goal.invariant-loop-node
-invariant-loop-node l =
-    let s = l.children in
-    begins_with_feed (spelled_nodes (s.first + l.node-index)
-    (flat_nodes_view s.names.now (drop l.node-index s.nodes.now)))
-    ≡ begins_with_feed (siblings_view s)
+abbrev pub invariant-loop-child : goal.invariant-loop-child
+invariant-loop-child l =
+    begins_with_feed (siblings_view l.left) ≡ begins_with_feed (siblings_view l.children)
+
+abbrev pub decreases-loop-child : goal.decreases-loop-child
+decreases-loop-child l = nodes_count (siblings_view l.left)

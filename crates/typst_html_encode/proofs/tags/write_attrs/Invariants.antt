@@ -7,11 +7,12 @@ use Rattle.typst_html_encode.proofs.tags.write_attrs.Given as goal
 
 abbrev pub invariant-loop-number : goal.invariant-loop-number
 invariant-loop-number l =
-    let head = l.head in
-    let left = map (flat_pair head.names.now) (drop l.number-index l.number-items) in
-    let all = map (flat_pair head.names.now) l.number-items in
+    let names = l.element.children.names.now in
+    let span = l.element.flat.now.span.0 in
+    let left = map (flat_pair names) (drop l.number-index l.number-items) in
+    let all = map (flat_pair names) l.number-items in
     record {
       told : l.out ++ attrs_text left ≡ l.initial.out ++ attrs_text all;
-      clean : attrs_faults head.flat.now.span.0 left ≡ attrs_faults head.flat.now.span.0 all;
+      clean : attrs_faults span left ≡ attrs_faults span all;
       named : PairsAreNamed left → PairsAreNamed all;
     }

@@ -1,13 +1,14 @@
-use Rattle.std.proofs.Common.{◌+◌, ◌-◌, ◌*◌, length, drop}
 use Rattle.html_dom_flat.specs.FlatTrees.{tree_nodes}
-use Rattle.html_dom_flat.specs.FlatViews.{flat_nodes_view}
-use Rattle.typst_html_encode.specs.WriterWalk.{IsAt}
+use Rattle.html_dom_flat.specs.Siblings.{siblings_view}
+use Rattle.typst_html_encode.specs.OpenElements.{open_elements_view}
+use Rattle.typst_html_encode.proofs.Turns.{IsAt}
+use Rattle.typst_html_encode.proofs.Walk.{rest_size}
 use Rattle.typst_html_encode.proofs.write.write_tree.Given as goal
 
-abbrev pub invariant-loop-element : goal.invariant-loop-element
-invariant-loop-element g l =
-    IsAt (g.F.FrameWriter.drawing l.frames) l.outer (tree_nodes l.tree) l.fn.out l.place l.due
-    l.open_elements (flat_nodes_view l.names (drop l.place l.nodes)) l.out
+abbrev pub invariant-loop-node : goal.invariant-loop-node
+invariant-loop-node g l =
+    IsAt (g.F.FrameWriter.drawing l.frames) l.outer (tree_nodes l.tree) l.fn.out l.due
+    (siblings_view l.left) (open_elements_view l.open_elements) l.out
 
-abbrev pub decreases-loop-element : goal.decreases-loop-element
-decreases-loop-element g l = (length l.nodes - l.place) * 2 + length l.open_elements
+abbrev pub decreases-loop-node : goal.decreases-loop-node
+decreases-loop-node g l = rest_size (siblings_view l.left) (open_elements_view l.open_elements)

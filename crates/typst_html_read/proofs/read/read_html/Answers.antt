@@ -1,4 +1,4 @@
-use Rattle.std.proofs.Common.{◌≡◌, false, ◌++◌, bytes_eq, chars, take, refl, sym, ap, ◌∙◌, subst}
+use Rattle.std.proofs.Common.{◌≡◌, false, ◌++◌, arith, bytes_eq, chars, length, length-append, take, refl, sym, ap, ◌∙◌, subst}
 use Rattle.typst_html_encode.specs.Reader.{read}
 use Rattle.typst_html_read.specs.Endings.{Gives}
 use Rattle.typst_html_read.specs.PlainElements.{accepted}
@@ -16,8 +16,20 @@ returns-in-None c =
     record {
       made = tt;
       clean = tt;
-      fault = rw (c.syntax_at.ensures, c.common_length.ensures, own, other) (refl, refl, refl);
+      fault = rw (c.place_at-place.ensures, c.common_length.ensures, own, other) (refl, refl, refl);
     }
+
+pub read_root-requires : goal.read_root-requires
+read_root-requires c =
+    let found = c.in-Some.ensures.cases in
+    let whole : c.args.text.now ≡ document_type ++ c.in-Some.rest.now =
+    found.1.1 ∙ sym (ap (λ l. document_type ++ l) found.2) in
+    let rest = c.in-Some.rest.now in
+    omega (
+      arith,
+      ap length (chars_after_word document_type c.args.text.now rest refl whole),
+      length-append document_type (chars rest),
+    )
 
 pub returns-in-Some : goal.returns-in-Some
 returns-in-Some c =

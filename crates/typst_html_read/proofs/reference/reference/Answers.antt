@@ -1,4 +1,5 @@
 use Rattle.std.proofs.Common.{codes, refl, sym, ap, ◌∙◌, ◌∷◌}
+use Rattle.std.specs.Fmt.{digits}
 use Rattle.typst_html_encode.specs.References as definition
 use Rattle.typst_html_read.proofs.References.{by_number, no_reference}
 use Rattle.typst_html_read.proofs.Words.{word_is}
@@ -23,6 +24,11 @@ returns-in-quot c =
 pub returns-in-apos : goal.returns-in-apos
 returns-in-apos c =
     sym (ap definition.reference (word_is (codes "apos") c.args.words.now refl c.in-apos.is))
+
+pub returns-in-text : goal.returns-in-text
+unfolding digits
+returns-in-text c =
+    sym (ap definition.reference (word_is (codes "#x20") c.args.words.now refl c.in-text.is))
 
 pub returns-in_ok-numbered-in-Some : goal.returns-in_ok-numbered-in-Some
 returns-in_ok-numbered-in-Some c =

@@ -1,5 +1,5 @@
 use Rattle.std.proofs.Common.{rules, ◌≡◌, ◌<◌, ap, ◌∙◌, vec_len, length, get_or}
-use Rattle.html_dom_flat.specs.Numbering.{with_end}
+use Rattle.html_dom_flat.specs.Numbering.{node_with_past}
 use Rattle.html_dom_flat.proofs.Closings.{given_closed, closed}
 use Rattle.html_dom_flat.proofs.builder.Builder.close_element.Goals as goal
 
@@ -7,11 +7,11 @@ pub invariant_of-self : goal.invariant_of-self
 invariant_of-self c =
     let old = c.args.self.now in
     let node = c.index_mut.result.now in
-    let place = c.args.place in
-    let set : c.set_past.new.node ≡ with_end c.len-past.result (get_or old.nodes.items place node)
-    = c.set_past.ensures ∙ ap (with_end c.len-past.result) c.index_mut.ensures.value in
+    let index = c.args.index in
+    let set : c.set_past.new.node ≡ node_with_past c.len-past.result (get_or old.nodes.items index node)
+    = c.set_past.ensures ∙ ap (node_with_past c.len-past.result) c.index_mut.ensures.value in
     record {
-      given = given_closed old.names old.nodes.items place c.len-past.result
+      given = given_closed old.names old.nodes.items index c.len-past.result
           c.set_past.new.node node set old.given;
     }
 
@@ -19,9 +19,9 @@ pub returns-clause-list : goal.returns-clause-list
 returns-clause-list c =
     let old = c.args.self.now in
     let node = c.index_mut.result.now in
-    let place = c.args.place in
+    let index = c.args.index in
     let past : c.len-past.result ≡ vec_len old.nodes = search rules in
-    let set : c.set_past.new.node ≡ with_end (vec_len old.nodes) (get_or old.nodes.items place node)
-    = c.set_past.ensures ∙ rw past (ap (with_end (vec_len old.nodes)) c.index_mut.ensures.value) in
-    let below : place < length old.nodes.items = rw (← old.nodes.ok.0) c.requires in
-    closed old.names old.nodes.items place (vec_len old.nodes) c.set_past.new.node node set below
+    let set : c.set_past.new.node ≡ node_with_past (vec_len old.nodes) (get_or old.nodes.items index node)
+    = c.set_past.ensures ∙ rw past (ap (node_with_past (vec_len old.nodes)) c.index_mut.ensures.value) in
+    let below : index < length old.nodes.items = rw (← old.nodes.ok.0) c.requires in
+    closed old.names old.nodes.items index (vec_len old.nodes) c.set_past.new.node node set below

@@ -8,14 +8,14 @@ use Rattle.html_dom_tree.specs.Views.{pair_view}
 use Rattle.html_tool_spell.proofs.PairRows.{pairs_row, joined-pairs}
 use Rattle.html_tool_spell.proofs.Rows.{none_read, one_read, all_read, wrong_one}
 use Rattle.html_tool_spell.specs.Fields.{pairs_at, pairs_of}
-use Rattle.html_tool_spell.specs.Reading.{with_lists}
+use Rattle.html_tool_spell.specs.Reading.{mark, marked}
 use Rattle.html_tool_spell.proofs.reader.Reader.pairs.Goals as goal
 
 pub loop-value-init : goal.loop-value-init
 loop-value-init c =
     let left = into_iter_items c.into_iter-value-iterator.result in
-    let is : with_lists c.args.self.now.lists (pairs_at (view c.args.value))
-    ≡ with_lists c.args.self.now.lists (pairs_of (items_view left)) =
+    let is : marked (mark c.args.self.now) (pairs_at (view c.args.value))
+    ≡ marked (mark c.args.self.now) (pairs_of (items_view left)) =
     rw (
       c.in-Array.is,
       view-Array,

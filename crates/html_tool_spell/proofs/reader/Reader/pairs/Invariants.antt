@@ -3,7 +3,7 @@ use Rattle.std.specs.Vec.Iter.{into_iter_items, into_iter_len}
 use Rattle.serde_json.specs.View.{view}
 use Rattle.html_dom_tree.specs.Views.{pair_view}
 use Rattle.html_tool_spell.specs.Fields.{pairs_at}
-use Rattle.html_tool_spell.specs.Reading.{with_lists}
+use Rattle.html_tool_spell.specs.Reading.{mark, marked}
 use Rattle.html_tool_spell.proofs.PairRows.{pairs_row}
 use Rattle.html_tool_spell.proofs.Rows.{IsPartRead}
 use Rattle.html_tool_spell.proofs.reader.Reader.pairs.Given as goal
@@ -13,6 +13,6 @@ invariant-loop-value l =
     let left = into_iter_items l.value-iterator in
     record {
       read : IsPartRead (pairs_row l.fn.span.0) pair_view
-          (with_lists l.fn.self.lists (pairs_at (view l.fn.value))) left l.pairs.items l.fn.self l.self;
+          (marked (mark l.fn.self) (pairs_at (view l.fn.value))) left l.pairs.items l.fn.self l.self;
       long : into_iter_len l.value-iterator ≡ length left;
     }

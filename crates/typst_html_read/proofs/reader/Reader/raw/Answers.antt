@@ -39,20 +39,20 @@ returns c =
     ∙ (ap (λ l. chars (take c.in-Some.length l))
     (text_views c.take-text.result self.text c.take-text.ensures.taken) ∙ end.before) in
     let own : Open = record { name = name; attrs = attrs; children = no_plains } in
-    let element : open_of c.in_ok-element.element
+    let element : open_of c.add_text.new.self
     ≡ record own { children = with_text (before_closing name text) no_plains } =
-    c.in_ok-element.ensures
+    c.in_ok-add_text.ensures
     ∙ (ap (λ (o : Open). record o {
       children = with_text (text_view c.truncate.new.self) o.children;
     })
-    c.take_tag.ensures.element
+    c.take_tag-element.ensures.element
     ∙ ap (λ t. record own { children = with_text t no_plains }) left) in
     let step = raw_step name attrs text stack d end.tag_end end.ends c.if-c-ne62.false
     (sym end.exact ∙ c.if-not-is_exact.false) in
     subst (λ s. OnOk c.complete.result (reader_state c.complete.new.self ≡ s))
-    (ap (λ (o : Open). complete o.name o.attrs o.children (stack_of c.take_tag.new.self.stack))
+    (ap (λ (o : Open). complete o.name o.attrs o.children (stack_of c.take_tag-element.new.self.stack))
     element
     ∙ (ap (λ (s : Stack). complete name attrs (with_text (before_closing name text) no_plains)
     (stack_of s))
-    c.take_tag.ensures.stack
+    c.take_tag-element.ensures.stack
     ∙ (step ∙ ap (λ m. next_state (state_at m self) d) (sym c.requires)))) c.complete.ensures

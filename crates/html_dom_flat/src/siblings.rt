@@ -1,0 +1,140 @@
+//! Parts of a flat tree.
+
+ghost use Rattle.std.specs.Prelude.{◌≡◌, ◌+◌, ◌<◌, ◌^◌, true, length};
+ghost use Rattle.std.proofs.Props.{props};
+ghost use Rattle.html_names.specs.NameTables.{NamesView};
+ghost use Rattle.html_dom_flat.specs.Flat.{IsSpelling, past_of};
+ghost use Rattle.html_dom_flat.specs.FlatViews.{flat_node_view, flat_nodes_view, are_given, is_given};
+ghost use Rattle.html_dom_flat.specs.Sets.{flat_node_is_set};
+
+use crate::flat_node::{FlatElement, FlatNode};
+use crate::flat_tree::FlatTree;
+use html_dom_tree::{HtmlFrame, Span, Tag};
+use html_names::{HtmlTag, NameTable};
+
+/// Nodes of a flat tree that follow one another, with all that is inside them.
+#[derive(Clone, Copy)]
+pub struct Siblings<'a> {
+    /// The table that the numbers are of.
+    pub names: &'a NameTable,
+    /// The nodes at all depths.
+    pub(crate) nodes: &'a [FlatNode],
+    /// The index of the first in the tree.
+    pub(crate) first: usize,
+    ghost fits: { first + length nodes.now < 2 ^ 64 },
+    ghost given: { are_given names.now nodes.now ≡ true },
+    ghost spells: { let list = flat_nodes_view names.now nodes.now in
+        IsSpelling first list } by { Prim.hlevel (props, flat_node_is_set) },
+}
+
+/// A node of a flat tree, with all that is inside it.
+#[derive(Clone, Copy)]
+pub enum Node<'a> {
+    /// Where a located element starts or ends.
+    Tag(&'a Tag),
+    /// A text, and where it comes from.
+    Text(&'a String, Span),
+    /// A laid-out frame.
+    Frame(&'a HtmlFrame),
+    /// An element.
+    Element(Element<'a>),
+}
+
+/// An element of a flat tree, with all that is inside it.
+#[derive(Clone, Copy)]
+pub struct Element<'a> {
+    /// The element apart from its children.
+    pub flat: &'a FlatElement,
+    /// Its children.
+    pub children: Siblings<'a>,
+    ghost given: { is_given children.names.now flat.now ≡ true },
+}
+
+impl<'a> Siblings<'a> {
+    ghost use Rattle.html_dom_flat.specs.FlatTrees.{tree_nodes};
+    ghost use Rattle.html_dom_flat.specs.Siblings.{siblings_view, SplitsFirst};
+
+    /// The nodes of a tree that are inside no other.
+    pub fn of(tree: &'a FlatTree) -> Siblings<'a>
+        ensures { siblings_view result ≡ tree_nodes tree.now }
+    {
+        Siblings {
+            names: &tree.names,
+            nodes: &tree.nodes,
+            first: 0,
+        }
+    }
+
+    /// The first node, and the siblings after it, or `None` if there is no node.
+    ///
+    /// Cost: constant.
+    #[inline(always)]
+    pub fn split_first(&self) -> Option<(Node<'a>, Siblings<'a>)>
+        ensures { SplitsFirst (siblings_view self.now) result }
+    {
+        let Some((flat, rest)) = self.nodes.split_first() else {
+            return None;
+        };
+        let next = self.first + 1;
+        let past = past_of(flat, next);
+        let (inside, after) = rest.split_at(past - next);
+        let children = Siblings {
+            names: self.names,
+            nodes: inside,
+            first: next,
+        };
+        let others = Siblings {
+            names: self.names,
+            nodes: after,
+            first: past,
+        };
+        Some((Node::new(flat, children), others))
+    }
+}
+
+impl<'a> Node<'a> {
+    ghost use Rattle.html_dom_flat.specs.FlatViews.{is_node_given};
+    ghost use Rattle.html_dom_flat.specs.Siblings.{node_view, node_with, siblings_view};
+
+    #[inline(always)]
+    fn new(flat: &'a FlatNode, children: Siblings<'a>) -> Node<'a>
+        requires { is_node_given children.names.now flat.now ≡ true }
+        ensures { node_view result ≡ node_with
+            (flat_node_view children.entry.names.now flat.now) (siblings_view children.entry) }
+    {
+        match flat {
+            FlatNode::Tag(tag) => Node::Tag(tag),
+            FlatNode::Text(text, span) => Node::Text(text, *span),
+            FlatNode::Frame(frame) => Node::Frame(frame),
+            FlatNode::Element(flat) => Node::Element(Element { flat, children }),
+        }
+    }
+}
+
+impl<'a> Element<'a> {
+    ghost use Rattle.html_dom_flat.specs.Siblings.{head_view};
+
+    /// The table that the numbers of its names are of.
+    pub fn names(&self) -> &'a NameTable
+        ensures { result.now ≡ self.now.children.names.now }
+    {
+        self.children.names
+    }
+
+    /// The tag.
+    pub fn tag(&self) -> &'a HtmlTag
+        ensures { result.now ≡ (head_view self.now).name }
+    {
+        self.names().tag_at(self.flat.tag)
+    }
+}
+
+/// The index after a node and all that is inside it, where `next` is the index after it alone.
+fn past_of(flat: &FlatNode, next: usize) -> usize
+    ensures { (names : NamesView) → result ≡ past_of next (flat_node_view names flat.now) }
+{
+    match flat {
+        FlatNode::Element(element) => element.past,
+        FlatNode::Tag(_) | FlatNode::Text(_, _) | FlatNode::Frame(_) => next,
+    }
+}

@@ -1,0 +1,29 @@
+-- The text of nodes by themselves, with no document type before them: a piece of a page that another
+-- program makes (HTML Standard 13.1.2, what stands between the tags of an element).
+use Rattle.std.specs.Prelude.{◌≡◌, ℕ, List, [], ◌++◌, codes, Some, None, false, true}
+use Rattle.html_dom_tree.specs.PlainTree.{element_normal}
+use Rattle.html_dom_tree.specs.Tree.{Head, NodesView}
+use Rattle.typst_html_encode.specs.ExportFaults.{nodes_faults}
+use Rattle.typst_html_encode.specs.FrameWriters.{Frames}
+use Rattle.typst_html_encode.specs.Reader.{read}
+use Rattle.typst_html_encode.specs.Text.{nodes_text, plain_options, root_margin}
+use Rattle.typst_html_encode.specs.declared.fault.ExportFault.{ExportFault}
+
+-- what an element that isn't pretty has between its tags
+abbrev pub fragment_text : Frames → NodesView → List ℕ
+fragment_text frames ns = nodes_text frames false true (root_margin plain_options) ns
+
+abbrev pub fragment_faults : Frames → NodesView → List ExportFault
+fragment_faults frames ns = nodes_faults frames false false ns
+
+abbrev pub div_head : Head
+div_head =
+    record { name = codes "div"; attrs = []; css = []; parent = None; span = 0; pre_span = false }
+
+-- a page whose root is a `div` around a text
+abbrev pub text_in_div : List ℕ → List ℕ
+text_in_div text = codes "<!DOCTYPE html><div>" ++ (text ++ codes "</div>")
+
+-- there the text reads as these nodes
+abbrev pub ReadsInDiv : List ℕ → NodesView → Type 0
+ReadsInDiv text ns = read (text_in_div text) ≡ Some (element_normal (div_head, ns))
