@@ -3,7 +3,7 @@
 //! in place, and the tree as one list.
 //!
 //! Re-exports the public names of its parts `html_dom_tree`, `html_dom_document`, `html_dom_link`,
-//! `html_dom_check`, `html_dom_nest` and `html_dom_flat` that users need.
+//! `html_dom_findings`, `html_dom_nest` and `html_dom_flat` that users need.
 //!
 //! ```
 //! use html_dom::{HtmlElement, HtmlNode, Span};
@@ -22,7 +22,7 @@
 
 pub mod laws;
 
-pub use html_dom_check::{DeadFragment, RepeatedId, dead_fragments, element_at, repeated_ids};
+pub use html_dom_findings::{DeadFragment, RepeatedId, dead_fragments, element_at, repeated_ids};
 pub use html_dom_document::{
     DocumentInfo, DomIndices, HtmlDocument, HtmlIntrospector, HtmlOutput, HtmlPosition,
     HtmlSliceExt, Locale,

@@ -51,8 +51,8 @@ pub use Rattle.typst_html_export.specs.Linked
 pub use Rattle.typst_html_export.specs.OwnHead
 pub use Rattle.typst_html_export.specs.SpacesInDocuments
 pub use Rattle.typst_html_nest.specs.TreesStay
-pub use Rattle.typst_html_check.specs.ItemHyperlinks
-pub use Rattle.typst_html_check.specs.SoundLinks
+pub use Rattle.typst_html_laws.specs.ItemHyperlinks
+pub use Rattle.typst_html_laws.specs.SoundLinks
 pub use Rattle.html_names.specs.Characters
 pub use Rattle.html_names.specs.Displays
 pub use Rattle.html_names.specs.Kinds

@@ -4,7 +4,7 @@ pub use html_dom::laws as dom;
 pub use html_flow::laws as flow;
 pub use html_names::laws as names;
 pub use html_values::laws as values;
-pub use typst_html_check::laws as check;
+pub use typst_html_laws::laws as check;
 pub use typst_html_encode::laws as encode;
 pub use typst_html_export::laws as export;
 pub use typst_html_nest::laws as nest;

@@ -6,8 +6,8 @@ use Rattle.std.specs.Prelude.{◌==◌, ℕ, List, [], ◌∷◌, map, drop, cod
 use lib.Utf8.{encodes}
 use Rattle.serde_json.specs.Data.{Data, number, string, array, object, unsigned, Members, member, no_members}
 use Rattle.serde_json.specs.View.{items_of}
-use Rattle.html_dom_check.specs.ElementPaths.{element_at}
-use Rattle.html_dom_check.specs.PlacedTexts.{Placed}
+use Rattle.html_dom_findings.specs.ElementPaths.{element_at}
+use Rattle.html_dom_findings.specs.PlacedTexts.{Placed}
 use Rattle.html_dom_tree.specs.Tree.{ElementView}
 use Rattle.typst_html_parse.specs.PagePlaces.{place_at}
 use Rattle.typst_html_read.specs.declared.place.Place.{Place}

@@ -3,8 +3,8 @@
 --     "misnested":[{"rule":t,"why":t,..},..]}
 use Rattle.std.specs.Prelude.{ℕ, List, codes}
 use Rattle.serde_json.specs.Data.{Data, object, member, no_members}
-use Rattle.html_dom_check.specs.Fragments.{dead_fragments}
-use Rattle.html_dom_check.specs.RepeatedIds.{repeated_ids}
+use Rattle.html_dom_findings.specs.Fragments.{dead_fragments}
+use Rattle.html_dom_findings.specs.RepeatedIds.{repeated_ids}
 use Rattle.html_dom_nest.specs.Misnested.{misnested_nodes}
 use Rattle.html_dom_tree.specs.Tree.{ElementView}
 use Rattle.typst_html_c.specs.FindingLists.{element_place, findings}

@@ -3,8 +3,8 @@
 --     {"ids":[{"id":t,..},..],"names":[{"name":t,..},..],"links":[{"href":t,..},..]}
 use Rattle.std.specs.Prelude.{ℕ, List, codes}
 use Rattle.serde_json.specs.Data.{Data, object, member, no_members}
-use Rattle.html_dom_check.specs.PlacedTexts.{TextKind, element_placed}
-use Rattle.html_dom_check.specs.WantedTexts.{hrefs, linked_ids, linked_names}
+use Rattle.html_dom_findings.specs.PlacedTexts.{TextKind, element_placed}
+use Rattle.html_dom_findings.specs.WantedTexts.{hrefs, linked_ids, linked_names}
 use Rattle.html_dom_tree.specs.Tree.{ElementView}
 use Rattle.typst_html_c.specs.FindingLists.{element_place, findings}
 use Rattle.typst_html_c.specs.PageTold.{Told, told_by}

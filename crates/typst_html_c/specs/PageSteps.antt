@@ -4,7 +4,7 @@ use Rattle.std.specs.declared.alloc.Global.{Global}
 use Rattle.serde_json.specs.Data.{Data}
 use Rattle.serde_json.specs.View.{items_of}
 use Rattle.serde_json.specs.Written.{items_text}
-use Rattle.html_dom_check.specs.PlacedTexts.{Placed}
+use Rattle.html_dom_findings.specs.PlacedTexts.{Placed}
 use Rattle.html_dom_tree.specs.Tree.{ElementView}
 use Rattle.html_dom_tree.specs.Views.{element_view}
 use Rattle.typst_html_parse.specs.PlaceViews.{text_of}

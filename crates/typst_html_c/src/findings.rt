@@ -9,7 +9,7 @@ ghost use Rattle.typst_html_c.specs.PageFindings.{page_findings};
 use crate::lists::{begun, ended, push_key};
 use crate::misnested::push_misnested;
 use crate::page::Page;
-use html_dom_check::{tell_dead_fragments, tell_repeated_ids};
+use html_dom_findings::{tell_dead_fragments, tell_repeated_ids};
 use html_dom_nest::misnested;
 use std::alloc::{AllocError, Global};
 

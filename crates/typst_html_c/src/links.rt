@@ -8,7 +8,7 @@ ghost use Rattle.typst_html_c.specs.PageLinks.{page_links};
 
 use crate::lists::{begun, ended, push_key};
 use crate::page::Page;
-use html_dom_check::{Wanted, tell_texts};
+use html_dom_findings::{Wanted, tell_texts};
 use std::alloc::{AllocError, Global};
 
 /// The ids, the names and the links of a page, as JSON.

@@ -3,12 +3,12 @@
 ghost use Rattle.std.specs.Prelude.{◌≡◌, ◌≤◌, true, ℕ, List, [], ◌++◌, drop, length, codes, decimal, string_bytes, IfOk, OnOk};
 ghost use Rattle.serde_json.specs.Data.{number, string, unsigned};
 ghost use Rattle.serde_json.specs.Written.{comma_if, compact_text, members_text};
-ghost use Rattle.html_dom_check.specs.PlacedTexts.{Placed};
+ghost use Rattle.html_dom_findings.specs.PlacedTexts.{Placed};
 ghost use Rattle.typst_html_c.specs.FindingLists.{finding_data, findings, kept_count, path_data, where_behind, where_members};
 ghost use Rattle.typst_html_c.specs.PageSteps.{place_in, text_with};
 
 use crate::page::Page;
-use html_dom_check::TextSink;
+use html_dom_findings::TextSink;
 use serde_json::Value;
 use std::alloc::{AllocError, Global};
 use typst_html_read::Place;

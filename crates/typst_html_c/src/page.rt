@@ -5,7 +5,7 @@ ghost use Rattle.html_dom_tree.specs.Views.{element_view};
 ghost use Rattle.typst_html_c.specs.FindingLists.{offset_at};
 ghost use Rattle.typst_html_c.specs.PageSteps.{place_in};
 
-use html_dom_check::element_at;
+use html_dom_findings::element_at;
 use html_dom_tree::HtmlElement;
 use typst_html_parse::Places;
 use typst_html_read::Place;

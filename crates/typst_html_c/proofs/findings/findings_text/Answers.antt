@@ -1,8 +1,8 @@
 use Rattle.std.proofs.Common.{◌≡◌, ◌++◌, ◌∷◌, [], false, true, codes, string_bytes, ap, ◌∙◌}
 use Rattle.serde_json.specs.Data.{member, no_members}
 use Rattle.serde_json.specs.Written.{compact_text}
-use Rattle.html_dom_check.specs.Fragments.{dead_fragments}
-use Rattle.html_dom_check.specs.RepeatedIds.{repeated_ids}
+use Rattle.html_dom_findings.specs.Fragments.{dead_fragments}
+use Rattle.html_dom_findings.specs.RepeatedIds.{repeated_ids}
 use Rattle.html_dom_nest.specs.Misnested.{misnested_nodes}
 use Rattle.html_dom_nest.specs.MisnestedViews.{findings_view}
 use Rattle.html_dom_tree.specs.Views.{element_view}

@@ -1,7 +1,7 @@
 use Rattle.std.proofs.Common.{◌≡◌, ◌++◌, ◌∷◌, [], false, true, codes, string_bytes, ap, ◌∙◌}
 use Rattle.serde_json.specs.Data.{member, no_members}
-use Rattle.html_dom_check.specs.PlacedTexts.{element_placed}
-use Rattle.html_dom_check.specs.WantedTexts.{hrefs, linked_ids, linked_names}
+use Rattle.html_dom_findings.specs.PlacedTexts.{element_placed}
+use Rattle.html_dom_findings.specs.WantedTexts.{hrefs, linked_ids, linked_names}
 use Rattle.html_dom_tree.specs.Views.{element_view}
 use Rattle.typst_html_c.specs.FindingLists.{findings}
 use Rattle.typst_html_c.specs.PageSteps.{place_in}

@@ -1,7 +1,7 @@
 use Rattle.std.proofs.Common.{◌≡◌, ◌++◌, ◌∷◌, true, ap, ◌∙◌, refl, string_bytes}
 use Rattle.serde_json.specs.View.{items_of}
 use Rattle.serde_json.specs.Written.{compact_text, items_text}
-use Rattle.html_dom_check.specs.PlacedTexts.{Placed}
+use Rattle.html_dom_findings.specs.PlacedTexts.{Placed}
 use Rattle.html_dom_tree.specs.Views.{text_view}
 use Rattle.typst_html_c.specs.FindingLists.{finding, finding_data, findings_behind, where_behind}
 use Rattle.typst_html_c.specs.PageSteps.{place_in, text_with}

@@ -1,0 +1,166 @@
+-- Checks of a tree whose links are given an `href`, and of one whose names differ.
+use Rattle.std.proofs.Common.{◌≡◌, ℕ, Bool, true, false, not, ◌||◌, List, [], ◌∷◌, ◌++◌, Option, Some, None, chars, codes, bytes_eq, refl, ap, ◌∙◌, arith}
+use Rattle.std.specs.Prelude.{if◌then◌else◌, option_to_list}
+use Rattle.std.proofs.lemmas.Bool.{and_parts}
+use Rattle.std.proofs.lemmas.List.{append-nil}
+use Rattle.std.proofs.lemmas.List.Elements.{filter-append}
+use Rattle.html_names.specs.Names.{stands_in}
+use Rattle.html_dom_tree.specs.Tree.{Head, element_node, none, node, ElementView}
+use Rattle.html_dom_document.specs.Documents.{DocumentView, document_root}
+use Rattle.html_dom_document.specs.Views.{document_view}
+use Rattle.html_dom_document.specs.declared.document.HtmlDocument.{HtmlDocument}
+use Rattle.html_dom_link.specs.Answered.{shown_names}
+use Rattle.html_dom_link.specs.Distinct.{are_distinct, occurrences}
+use Rattle.html_dom_link.specs.GivenLinks.{AnchorsAreTexts, KnownAnchorsAreShown, LeadsTo}
+use Rattle.html_dom_link.specs.Indicated.{decoding, element_places, indicated_name, is_top, leads, place_names, url_fragment}
+use Rattle.html_dom_link.specs.Links.{Hrefs, attrs_with_href, document_hrefs, head_with_link, href_of, is_open, root_with_links}
+use Rattle.html_dom_link.specs.NewNames.{Name, all_ids, element_names, nodes_names, with_used_name}
+use Rattle.html_dom_link.proofs.ChangedRoots.{root_has_links}
+use Rattle.html_dom_link.proofs.Counting.{shown_count}
+use Rattle.html_dom_link.proofs.Differing.{are_new, at_most_one, distinct_once, new_distinct, once_distinct}
+use Rattle.html_dom_link.proofs.GivenLinks.{location_leads, no_href, shown_is_place, texts_in}
+use Rattle.html_dom_link.proofs.LeadingLinks.{id_stays, names_stay}
+use Rattle.html_dom_findings.specs.CheckLaws.{DistinctAreNotRepeated, HrefsLead, LinksAddNoDeadFragment, LinksRepeatNoId, LinksStaySound, ResolvedStaySound, texts_of}
+use Rattle.html_dom_findings.specs.Fragments.{dead_among, dead_fragments, fragment_links, fragments}
+use Rattle.html_dom_findings.specs.PlacedTexts.{Placed, head_texts, placed_at}
+use Rattle.html_dom_findings.specs.RepeatedIds.{ids, placed_ids, repeated, repeated_ids, tree_ids}
+use Rattle.html_dom_findings.proofs.TreeTexts.{placed_ids_are_ids, tree_stays}
+
+none_repeated : (used : Name → Bool) (ps : List Placed) → are_new used (texts_of ps) ≡ true →
+    repeated used ps ≡ []
+unfolding repeated
+none_repeated used [] new = refl
+none_repeated used (p ∷ ps) new =
+    let parts = and_parts (not (used p.1)) (are_new (with_used_name p.1 used) (texts_of ps)) new in
+    by (used p.1) parts.0 (none_repeated (with_used_name p.1 used) ps parts.1)
+  where
+    by : (b : Bool) → not b ≡ true → repeated (with_used_name p.1 used) ps ≡ [] →
+        (if b then p ∷ [] else []) ++ repeated (with_used_name p.1 used) ps ≡ []
+    by true e so = cc
+    by false e so = so
+
+all_names : (e : ElementView) → nodes_names (node (element_node e.0 e.1) none) ≡ element_names e
+unfolding nodes_names
+all_names e = ap (λ l. all_ids e.0.attrs ++ l) (append-nil (nodes_names e.1))
+
+ids_differ : (e : ElementView) → are_distinct (element_names e) ≡ true →
+    are_distinct (tree_ids e) ≡ true
+ids_differ e distinct = once_distinct (tree_ids e) (λ n.
+    let whole : occurrences (nodes_names (node (element_node e.0 e.1) none)) n
+    ≡ occurrences (element_names e) n = ap (λ names. occurrences names n) (all_names e) in
+    omega (
+      arith,
+      shown_count n (node (element_node e.0 e.1) none),
+      whole,
+      distinct_once (element_names e) n distinct,
+      at_most_one (stands_in (element_names e) n),
+    ))
+
+pub distinct_are_not_repeated : DistinctAreNotRepeated
+distinct_are_not_repeated e distinct =
+    none_repeated (stands_in []) (placed_ids e)
+    (ap (are_new (stands_in [])) (placed_ids_are_ids e)
+    ∙ (new_distinct (tree_ids e) ∙ ids_differ e distinct))
+
+-- the `href` of a link is no `id`
+pub links_repeat_no_id : LinksRepeatNoId
+links_repeat_no_id hrefs e =
+    ap (repeated (stands_in []))
+    (tree_stays ids hrefs (λ ps. ps) (λ ps qs. refl)
+    (λ path dest h. ap (λ id. placed_at path (option_to_list id)) (id_stays hrefs dest h)) e)
+
+module _ (hrefs : Hrefs) (is_place : Name → Bool)
+    (lead : (location : ℕ) (href : List ℕ) → hrefs location ≡ Some href →
+    (name : Name) × LeadsTo is_place href name) where
+  name_leads : (name fragment : List ℕ) → indicated_name is_place fragment ≡ Some name →
+      leads is_place fragment ≡ true
+  unfolding leads indicated_name
+  name_leads name fragment is =
+      let f = url_fragment fragment in
+      by (is_place f) (is_place (chars (decoding f))) is
+    where
+      by : (a b : Bool) → (if a then Some (url_fragment fragment)
+          else (if b then Some (chars (decoding (url_fragment fragment))) else None)) ≡ Some name →
+          (a || (b || is_top (decoding (url_fragment fragment)))) ≡ true
+      by true b e = refl
+      by false true e = refl
+      by false false e = cc
+
+  abbrev dead_at : (path : List ℕ) → Head → List Placed
+  dead_at path h = dead_among is_place (placed_at path (head_texts fragments h))
+
+  -- a link that got its `href`
+  given_stays : (path : List ℕ) (h : Head) (href name : List ℕ) → is_open h ≡ true →
+      LeadsTo is_place href name →
+      dead_at path (record h { attrs = attrs_with_href (Some href) h.attrs }) ≡ dead_at path h
+  given_stays path h href name lacks leading =
+      let is_a = and_parts (bytes_eq h.name (codes "a")) _ lacks in
+      rw (
+        is_a.0,
+        no_href (bytes_eq h.name (codes "a")) h.attrs lacks,
+        leading.taken,
+        name_leads name leading.fragment leading.indicates,
+      ) refl
+
+  head_stays : (path : List ℕ) (dest : Option ℕ) (h : Head) →
+      dead_at path (head_with_link hrefs dest h) ≡ dead_at path h
+  head_stays path dest h = by (is_open h) refl dest
+    where
+      by_href : (location : ℕ) → is_open h ≡ true → (href : Option (List ℕ)) →
+          hrefs location ≡ href →
+          dead_at path (record h { attrs = attrs_with_href href h.attrs }) ≡ dead_at path h
+      by_href location lacks None is = refl
+      by_href location lacks (Some href) is =
+          let leading = lead location href is in
+          given_stays path h href leading.0 lacks leading.1
+
+      by : (lacks : Bool) → is_open h ≡ lacks → (dest : Option ℕ) →
+          dead_at path (record h {
+            attrs = attrs_with_href (href_of hrefs (if lacks then dest else None)) h.attrs;
+          }) ≡ dead_at path h
+      by true is None = refl
+      by true is (Some location) = by_href location is (hrefs location) refl
+      by false is dest = refl
+
+  pub dead_stay : (e : ElementView) → dead_among is_place (fragment_links (root_with_links hrefs e))
+      ≡ dead_among is_place (fragment_links e)
+  dead_stay =
+      let made = dead_among is_place in
+      tree_stays fragments hrefs made (filter-append (λ (link : Placed). not (leads is_place link.1)))
+      head_stays
+
+places_stay : (hrefs : Hrefs) (e : ElementView) →
+    element_places (root_with_links hrefs e) ≡ element_places e
+places_stay hrefs e =
+    ap (λ names. place_names e.0.name e.0.attrs ++ names) (names_stay hrefs [] e.1).places
+
+pub links_add_no_dead_fragment : LinksAddNoDeadFragment
+links_add_no_dead_fragment hrefs e lead =
+    ap (λ names. dead_among (stands_in names) (fragment_links (root_with_links hrefs e)))
+    (places_stay hrefs e)
+    ∙ dead_stay hrefs (stands_in (element_places e)) lead e
+
+hrefs_lead : (d : DocumentView) → AnchorsAreTexts d.introspector.anchor → KnownAnchorsAreShown d →
+    HrefsLead (document_hrefs d) (document_root d)
+hrefs_lead d texts shown location href is =
+    let root = document_root d in
+    let leading = location_leads d.introspector.anchor (element_places root) (shown_names root.1)
+    texts shown (shown_is_place root) location href is in
+    (leading.name, leading.leads)
+
+pub resolved_stay_sound : ResolvedStaySound
+resolved_stay_sound d texts =
+    let hrefs = document_hrefs d in
+    let root = document_root d in
+    let same = ap repeated_ids (root_has_links d) ∙ links_repeat_no_id hrefs root in
+    record {
+      dead = λ shown. ap dead_fragments (root_has_links d)
+          ∙ links_add_no_dead_fragment hrefs root (hrefs_lead d texts shown);
+      repeated = same;
+      distinct = λ distinct. same ∙ distinct_are_not_repeated root distinct;
+    }
+
+-- the anchors of a document that a program holds are texts
+pub document_stays_sound : (d : HtmlDocument) → LinksStaySound (document_view d)
+document_stays_sound d =
+    resolved_stay_sound (document_view d) (texts_in d.introspector.anchors)

@@ -1,0 +1,38 @@
+-- The texts of a tree that are looked for; those of its elements alone tell where links between pages
+-- lead.
+use Rattle.std.specs.Prelude.{ℕ, Bool, ◌||◌, List, [], codes, bytes_eq, if◌then◌else◌, Option, Some, None, option_to_list}
+use Rattle.html_dom_tree.specs.Attributes.{first}
+use Rattle.html_dom_link.specs.Indicated.{link_name, unless_empty}
+use Rattle.html_dom_findings.specs.Fragments.{fragments}
+use Rattle.html_dom_findings.specs.PlacedTexts.{TextKind, of_elements}
+use Rattle.html_dom_findings.specs.RepeatedIds.{ids}
+use Rattle.html_dom_findings.specs.declared.wanted.Wanted.{Wanted}
+use Rattle.html_dom_findings.specs.declared.wanted.Wanted.TheVariants as wanted
+
+abbrev pub filled : Option (List ℕ) → List (List ℕ)
+filled None = []
+filled (Some value) = unless_empty value
+
+-- the first `id` of an element, unless it is empty (DOM 4.9)
+abbrev pub linked_ids : TextKind
+linked_ids = of_elements (λ name attrs. filled (first attrs (codes "id")))
+
+-- the first `name` of an `a`, unless it is empty: a place too (HTML Standard 7.4.6.3)
+abbrev pub linked_names : TextKind
+linked_names = of_elements (λ name attrs. filled (link_name name attrs))
+
+-- such an element is a link, if it has an `href` (HTML Standard 4.6.1)
+abbrev pub may_link : (name : List ℕ) → Bool
+may_link name = bytes_eq name (codes "a") || bytes_eq name (codes "area")
+
+-- the first `href` of a link
+abbrev pub hrefs : TextKind
+hrefs = of_elements (λ name attrs.
+    if may_link name then option_to_list (first attrs (codes "href")) else [])
+
+abbrev pub kind_of : Wanted → TextKind
+kind_of wanted.Fragments = fragments
+kind_of wanted.Ids = ids
+kind_of wanted.LinkedIds = linked_ids
+kind_of wanted.LinkedNames = linked_names
+kind_of wanted.Hrefs = hrefs

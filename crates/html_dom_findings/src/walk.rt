@@ -1,0 +1,171 @@
+//! The walk over a tree that finds its texts.
+
+ghost use Rattle.std.specs.Prelude.{◌≡◌, ◌++◌, [], ◌∷◌, ℕ, List, IfOk, OnOk, option_map, option_to_list};
+ghost use Rattle.html_dom_tree.specs.FrameViews.{anchors_view, html_frame_view};
+ghost use Rattle.html_dom_tree.specs.Tree.{element_node};
+ghost use Rattle.html_dom_tree.specs.Views.{element_view, node_view, nodes_view, text_view};
+ghost use Rattle.html_dom_link.specs.NewNames.{anchor_names};
+ghost use Rattle.html_dom_findings.specs.PlacedTexts.{Takes, element_placed, head_texts, node_placed, nodes_placed, placed_at};
+ghost use Rattle.html_dom_findings.specs.WantedTexts.{kind_of};
+
+use crate::text_sink::TextSink;
+use crate::wanted::{Wanted, copy_of, own_text};
+use html_dom_tree::{HtmlElement, HtmlFrame, HtmlNode, Point};
+use std::alloc::{AllocError, Global};
+
+#[derive(Drop)]
+struct Walk<S> {
+    alloc: Global,
+    path: Vec<usize>,
+    sink: S,
+}
+
+/// Reports the wanted texts of a tree to a sink, the root's among them, in document order, and returns
+/// the sink. It fails only where an allocation does, or the sink.
+pub fn tell_texts<S: TextSink>(
+    alloc: Global,
+    root: &HtmlElement,
+    wanted: Wanted,
+    sink: S,
+) -> Result<S, AllocError>
+    ensures { IfOk result (λ told. S.made_with told []
+        ≡ S.made_with sink (element_placed (kind_of wanted) (element_view root.now))) }
+{
+    let mut walk = Walk {
+        alloc,
+        path: Vec::new(alloc),
+        sink,
+    };
+    pass_element(root, wanted, &mut walk)?;
+    let Walk { sink, .. } = walk;
+    Ok(sink)
+}
+
+fn leave(path: &mut Vec<usize>)
+    ensures { (parent : List ℕ) → (index : ℕ) → path.old.items ≡ parent ++ index ∷ [] →
+        path.new.items ≡ parent }
+{
+    let _ = path.pop();
+}
+
+fn pass_text<S: TextSink>(text: String, walk: &mut Walk<S>) -> Result<(), AllocError>
+    ensures path { OnOk result (walk.new.path.items ≡ walk.old.path.items) }
+    ensures taken { OnOk result (Takes (S.made_with walk.old.sink) (S.made_with walk.new.sink)
+        (placed_at walk.old.path.items (text_view text ∷ []))) }
+{
+    walk.sink.take(walk.alloc, &walk.path, text)
+}
+
+fn pass_optional<S: TextSink>(text: Option<String>, walk: &mut Walk<S>) -> Result<(), AllocError>
+    ensures path { OnOk result (walk.new.path.items ≡ walk.old.path.items) }
+    ensures taken { OnOk result (Takes (S.made_with walk.old.sink) (S.made_with walk.new.sink)
+        (placed_at walk.old.path.items (option_to_list (option_map text_view text)))) }
+{
+    match text {
+        Some(text) => pass_text(text, walk),
+        None => Ok(()),
+    }
+}
+
+fn pass_anchors<S: TextSink>(
+    anchors: &[(Point, String)],
+    walk: &mut Walk<S>,
+) -> Result<(), AllocError>
+    ensures path { OnOk result (walk.new.path.items ≡ walk.old.path.items) }
+    ensures taken { OnOk result (Takes (S.made_with walk.old.sink) (S.made_with walk.new.sink)
+        (placed_at walk.old.path.items (anchor_names (anchors_view anchors.now)))) }
+{
+    for anchor in anchors {
+        pass_text(anchor.1.clone()?, walk)?;
+    }
+    Ok(())
+}
+
+fn pass_frame<S: TextSink>(
+    frame: &HtmlFrame,
+    wanted: Wanted,
+    walk: &mut Walk<S>,
+) -> Result<(), AllocError>
+    ensures path { OnOk result (walk.new.path.items ≡ walk.old.path.items) }
+    ensures taken { OnOk result (Takes (S.made_with walk.old.sink) (S.made_with walk.new.sink)
+        (placed_at walk.old.path.items ((kind_of wanted).framed (html_frame_view frame.now)))) }
+{
+    match wanted {
+        Wanted::Ids => {
+            pass_optional(copy_of(frame.id.as_ref())?, walk)?;
+            pass_anchors(&frame.anchors, walk)?;
+            Ok(())
+        }
+        Wanted::Fragments | Wanted::LinkedIds | Wanted::LinkedNames | Wanted::Hrefs => Ok(()),
+    }
+}
+
+/// Gives the sink the text of an element. What that takes is no part of the walk's own frame, of which
+/// one stands for each level.
+#[inline(never)]
+fn pass_own<S: TextSink>(
+    element: &HtmlElement,
+    wanted: Wanted,
+    walk: &mut Walk<S>,
+) -> Result<(), AllocError>
+    ensures path { OnOk result (walk.new.path.items ≡ walk.old.path.items) }
+    ensures taken { let e = element_view element.now in
+        OnOk result (Takes (S.made_with walk.old.sink) (S.made_with walk.new.sink)
+        (placed_at walk.old.path.items (head_texts (kind_of wanted) e.0))) }
+{
+    pass_optional(own_text(walk.alloc, element, wanted)?, walk)
+}
+
+// Each node stands first among the parameters: its depth shows that the calls end.
+
+#[cycle(walk)]
+fn pass_element<S: TextSink>(
+    element: &HtmlElement,
+    wanted: Wanted,
+    walk: &mut Walk<S>,
+) -> Result<(), AllocError>
+    ensures path { OnOk result (walk.new.path.items ≡ walk.old.path.items) }
+    ensures taken { let e = element_view element.now in
+        OnOk result (Takes (S.made_with walk.old.sink) (S.made_with walk.new.sink)
+        (node_placed (kind_of wanted) walk.old.path.items (element_node e.0 e.1))) }
+{
+    pass_own(element, wanted, walk)?;
+    pass_nodes(&element.children, wanted, walk)?;
+    Ok(())
+}
+
+#[cycle(walk)]
+#[tactic(auto, unfolding(crate::specs::PlacedTexts::node_placed))]
+fn pass_node<S: TextSink>(
+    child: &HtmlNode,
+    wanted: Wanted,
+    walk: &mut Walk<S>,
+) -> Result<(), AllocError>
+    ensures path { OnOk result (walk.new.path.items ≡ walk.old.path.items) }
+    ensures taken { OnOk result (Takes (S.made_with walk.old.sink) (S.made_with walk.new.sink)
+        (node_placed (kind_of wanted) walk.old.path.items (node_view child.now))) }
+{
+    match child {
+        HtmlNode::Tag(_) | HtmlNode::Text(_, _) => Ok(()),
+        HtmlNode::Element(element) => pass_element(element, wanted, walk),
+        HtmlNode::Frame(frame) => pass_frame(frame, wanted, walk),
+    }
+}
+
+#[cycle(walk)]
+fn pass_nodes<S: TextSink>(
+    nodes: &[HtmlNode],
+    wanted: Wanted,
+    walk: &mut Walk<S>,
+) -> Result<(), AllocError>
+    ensures path { OnOk result (walk.new.path.items ≡ walk.old.path.items) }
+    ensures taken { OnOk result (Takes (S.made_with walk.old.sink) (S.made_with walk.new.sink)
+        (nodes_placed (kind_of wanted) walk.old.path.items 0 (nodes_view nodes.now))) }
+{
+    for (index, child) in nodes.iter().enumerate() {
+        walk.path.push(index)?;
+        pass_node(child, wanted, walk)?;
+        leave(&mut walk.path);
+    }
+    Ok(())
+}
