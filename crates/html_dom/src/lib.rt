@@ -22,11 +22,11 @@
 
 pub mod laws;
 
-pub use html_dom_findings::{DeadFragment, RepeatedId, dead_fragments, element_at, repeated_ids};
 pub use html_dom_document::{
     DocumentInfo, DomIndices, HtmlDocument, HtmlIntrospector, HtmlOutput, HtmlPosition,
     HtmlSliceExt, Locale,
 };
+pub use html_dom_findings::{DeadFragment, RepeatedId, dead_fragments, element_at, repeated_ids};
 pub use html_dom_flat::{FlatElement, FlatNode, FlatTree};
 pub use html_dom_link::{
     DeadLink, create_link_anchors, dead_links, fragment_in, fragment_leads, href_is_script,

@@ -1,7 +1,7 @@
 //! Tests of positions and links in a tree, and of the elements that paths lead to.
 
-use html_dom_findings::element_at;
 use html_dom_document::{HtmlIntrospector, HtmlPosition, HtmlSliceExt};
+use html_dom_findings::element_at;
 use html_dom_tree::{Frame, FrameItem, HtmlElement, HtmlFrame, HtmlNode, Location, Point, Span};
 use html_names::tag;
 use html_values_css::Abs;

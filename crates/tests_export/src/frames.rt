@@ -1,7 +1,7 @@
 //! Frames: their ids and anchors, and links to them.
 
-use html_dom_findings::{dead_fragments, repeated_ids};
 use html_dom_document::{DocumentInfo, HtmlDocument};
+use html_dom_findings::{dead_fragments, repeated_ids};
 use html_dom_link::{ids_are_distinct, resolve_links};
 use html_dom_tree::{Frame, FrameItem, HtmlElement, HtmlFrame, HtmlNode, Location, Point, Span};
 use html_flow_convert::{FrameElem, HtmlElem, Item, Pair};

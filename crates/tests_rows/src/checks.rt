@@ -3,8 +3,8 @@
 use crate::documents::{document_of, linked_of, separate};
 use crate::pages::root_of;
 use anyhow::{Result, ensure};
-use html_dom_findings::{dead_fragments, repeated_ids};
 use html_dom_document::HtmlDocument;
+use html_dom_findings::{dead_fragments, repeated_ids};
 use html_dom_link::{DeadLink, dead_links, href_is_script, ids_are_distinct};
 use html_dom_nest::misnested;
 use std::alloc::Global;

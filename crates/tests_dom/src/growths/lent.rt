@@ -1,7 +1,7 @@
 //! Calls that borrow their arguments, and leave them unchanged if they fail.
 
-use html_dom_findings::{dead_fragments, repeated_ids};
 use html_dom_document::{DocumentInfo, HtmlDocument, HtmlIntrospector, HtmlOutput};
+use html_dom_findings::{dead_fragments, repeated_ids};
 use html_dom_flat::FlatTree;
 use html_dom_link::{create_link_anchors, dead_links, href_to, ids_are_distinct, resolve_links};
 use html_dom_tree::{HtmlAttrs, HtmlElement, HtmlNode, Location, Span, resolve_inline_styles};
