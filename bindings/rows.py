@@ -1,9 +1,9 @@
 #!/usr/bin/env python3
 """rows.py json|c: the rows of crates/tests_rows, as the tests of the bindings read them.
 
-Runs of the program on trees and items are calls of typst_html_write, and rows of whole documents calls of
-typst_html_document, if its JSON has everything in them. With links, those that lead nowhere are listed as the row
-`dead-links` of that input says; without such a row, all lead. Rows about the program's words are left out, since
+Runs of the program on trees and items are calls of typst_html_write, rows of whole documents calls of
+typst_html_document, if its JSON has everything in them; rows of items by themselves are calls of typst_html_fragment.
+With links, those that lead nowhere are listed as the row `dead-links` of that input says; without such a row, all lead. Rows about the program's words are left out, since
 the library has none; so are, for JSON and C, rows whose input or text is longer than MOST bytes.
 """
 
@@ -14,7 +14,8 @@ from pathlib import Path
 from typing import Any, NamedTuple
 
 READER = Path(__file__).resolve().parent.parent / ".ci" / "rows.py"
-KINDS = {"tree": 0, "doc": 1, "document": 2, "links": 2}
+KINDS = {"tree": 0, "doc": 1, "document": 2, "links": 2, "fragment-text": 3}
+LEVELS = {"block": 0, "inline": 1}
 MOST = 1 << 16
 
 # The lengths of the lists of a document's items. The library has no frames.
@@ -39,6 +40,7 @@ class Row(NamedTuple):
     line: int
     column: int
     text: bytes
+    level: int
     dead: bytes
     """What typst_html_dead_links writes, where links get an `href`."""
 
@@ -83,12 +85,17 @@ def rows(most: int | None = None) -> list[Row]:
     dead = {row.input: dead_links(row.output) for row in files.rows() if row.words == ("dead-links",)}
     for row in files.rows():
         word, *more = row.words or [""]
+        level = LEVELS[more.pop(0)] if word == "fragment-text" else 0
         if row.words in files.FRAMES:
             layout, links, limit, given, answer = len(more), 0, 50, row.input, files.answer(row)
         elif word in ("document", "links") and not row.output.startswith("refused"):
             # (of a refusal, a row says more than the library does)
             layout, links, limit = 0, int(word == "links"), int("".join(more).removeprefix("limit=") or 50)
             given, answer = document(row.input), files.answer(row._replace(words=("doc",)))
+        elif word == "fragment-text":
+            layout, links, limit = 0, 0, int("".join(more).removeprefix("limit=") or 50)
+            is_refused = row.output.startswith("refused")
+            given, answer = row.input, files.answer(row) if is_refused else files.Answer(0, row.output)
         else:
             continue
         text, listed = answer.text.encode() if answer.status == 0 else b"", b""
@@ -98,7 +105,7 @@ def rows(most: int | None = None) -> list[Row]:
             answer = answer._replace(status=5, span=nowhere[0]["span"]) if nowhere else answer
         if given is not None and (most is None or max(len(given), len(text)) <= most):
             status, _, *place = answer
-            found.append(Row(KINDS[word], layout, links, limit, given, status, *place, text, listed))
+            found.append(Row(KINDS[word], layout, links, limit, given, status, *place, text, level, listed))
     return found
 
 
@@ -117,16 +124,19 @@ def as_c(found: list[Row]) -> str:
     """Returns the rows as an array of C."""
     lines = [
         f"    {{{r.kind}, {r.layout}, {r.links}, {r.limit}, {r.status}, {r.number}, {r.span}, {r.line}, {r.column}, "
-        f"{len(r.input)}, {len(r.text)}, {quoted(r.input)}, {quoted(r.text)}, {quoted(r.dead)}}},"
+        f"{r.level}, {len(r.input)}, {len(r.text)}, {quoted(r.input)}, {quoted(r.text)}, {quoted(r.dead)}}},"
         for r in found
     ]
     fields = (
         "uint8_t kind, layout, links; uint32_t limit; uint8_t status, number; uint64_t span; "
-        "size_t line, column, length, text_length; "
+        "size_t line, column; uint8_t level; size_t length, text_length; "
         "const char *input, *text, *dead;"
     )
     return "\n".join(
-        [f"enum {{ DOCUMENT = {KINDS['document']}, MOST = {MOST} }};", f"static const struct row {{ {fields} }} rows[] = {{", *lines, "};", ""]
+        [
+            f"enum {{ DOCUMENT = {KINDS['document']}, FRAGMENT = {KINDS['fragment-text']}, MOST = {MOST} }};",
+            f"static const struct row {{ {fields} }} rows[] = {{", *lines, "};", "",
+        ]  # fmt: skip
     )
 
 

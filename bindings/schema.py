@@ -24,7 +24,9 @@ from rows import document, reader
 
 SCHEMA = Path(__file__).resolve().parent / "items.schema.json"
 RUNS = {"tree": "tree", "doc": "items"}
-CALLS = {"c-write": ("tree", "items"), "c-document": ("document",), "c-dead-links": ("document",)}
+CALLS = {
+    "c-write": ("tree", "items"), "c-document": ("document",), "c-dead-links": ("document",), "c-fragment": ("items_of_document",),
+}  # fmt: skip
 OF_TESTS = ("document", "links", "dead-links")
 
 # Inputs that leave the form where no row does.
@@ -84,7 +86,7 @@ def of_call(row: Any) -> Case | None:
     numbers = {name: int(number) for name, number in (one.split("=") for one in more)}
     reply = {name: int(number) for name, number in re.findall(r"(\w+): (\d+)", row.output.partition("}")[0])}
     kinds, kind = CALLS[word], numbers.get("kind", 0)
-    right = kind < len(kinds) and numbers.get("layout", 0) < 2 and numbers.get("links", 0) < 2
+    right = kind < len(kinds) and all(numbers.get(name, 0) < 2 for name in ("layout", "links", "level"))
     if not (right and 1 <= numbers.get("limit", 1) <= 10_000):
         return None
     end = "read" if reply["status"] != 2 else "no JSON" if reply["line"] else "left"
@@ -176,7 +178,7 @@ def why_no_json(text: bytes) -> str | None:
 
 def validators(schema: Any) -> dict[str, Draft202012Validator]:
     """Returns a validator for each definition."""
-    kinds = ("tree", "items", "document")
+    kinds = ("tree", "items", "document", "items_of_document")
     return {kind: Draft202012Validator({"$ref": f"#/$defs/{kind}", "$defs": schema["$defs"]}) for kind in kinds}
 
 
@@ -193,7 +195,7 @@ def judged(case: Case, by: dict[str, Draft202012Validator], whole: Draft202012Va
         return "valid" if valid and strictly and whole.is_valid(value) else None
     if valid and not strictly:
         return "a number not in digits alone"
-    if valid and case.kind == "document" and has_names_and_numbers(value):
+    if valid and case.kind in ("document", "items_of_document") and has_names_and_numbers(value):
         return "names beside numbers"
     return None if valid else "invalid"
 

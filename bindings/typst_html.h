@@ -173,6 +173,12 @@ enum typst_html_layout {
     TYPST_HTML_PRETTY = 1, /* indented, where that can't be seen */
 };
 
+/* Where the text of typst_html_fragment is put. */
+enum typst_html_level {
+    TYPST_HTML_BLOCK = 0,  /* on lines of its own: in a `div`, say */
+    TYPST_HTML_INLINE = 1, /* in a line: in a `p`, say */
+};
+
 /* typst_html_version() of the library that is linked. */
 uint32_t typst_html_version(void);
 
@@ -209,6 +215,18 @@ struct typst_html_reply typst_html_write(uint8_t kind, uint8_t layout, const uin
 struct typst_html_reply typst_html_document(uint8_t layout, uint8_t links, uint32_t limit,
                                             const uint8_t *input, size_t length, uint8_t *output,
                                             size_t room);
+
+/*
+ * The text of items by themselves, with no document type, head and body: a piece of a page that another
+ * program makes. The input spells a list of items, which are those of typst_html_document:
+ *     [item, ..]
+ * Put into a `div`, the text is read as the nodes of these items, and at the level of blocks the spaces of
+ * items in plain flow stay. At the level of a line, a space at either end of the text is left as it is. Links get
+ * neither anchors nor an `href`, since both depend on the ids of the whole page. Bodies may stand `limit` deep,
+ * from 1 to 10,000.
+ */
+struct typst_html_reply typst_html_fragment(uint8_t level, uint32_t limit, const uint8_t *input,
+                                            size_t length, uint8_t *output, size_t room);
 
 /*
  * The links that lead nowhere in that document with links = 1, as JSON, in document order:
@@ -291,6 +309,14 @@ static inline struct typst_html_reply typst_html_document_string(uint8_t layout,
     return typst_html_ended(typst_html_document(layout, links, limit, (const uint8_t *)input,
                                                 strlen(input), (uint8_t *)output,
                                                 room ? room - 1 : 0),
+                            output);
+}
+
+static inline struct typst_html_reply typst_html_fragment_string(uint8_t level, uint32_t limit,
+                                                                 const char *input, char *output,
+                                                                 size_t room) {
+    return typst_html_ended(typst_html_fragment(level, limit, (const uint8_t *)input, strlen(input),
+                                                (uint8_t *)output, room ? room - 1 : 0),
                             output);
 }
 

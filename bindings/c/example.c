@@ -1,6 +1,6 @@
 /*
  * example tree|items|document [--pretty] [--links]: JSON from standard input becomes HTML on standard
- * output. example dead-links: the links that lead nowhere in a document are told in JSON. example check:
+ * output. example fragment: items by themselves do. example dead-links: the links that lead nowhere in a document are told in JSON. example check:
  * a page from standard input is checked, and what is wrong in it is told in JSON. example links: its ids and
  * its links are. It ends with the status of the call, and tells of a refusal, or of links that lead nowhere,
  * on standard error.
@@ -17,9 +17,10 @@ struct bytes {
     size_t length;
 };
 
-enum task { TREE, ITEMS, DOCUMENT, DEAD_LINKS, CHECK, LINKS };
+enum task { TREE, ITEMS, DOCUMENT, FRAGMENT, DEAD_LINKS, CHECK, LINKS };
 
-static const char *const names[] = {"tree", "items", "document", "dead-links", "check", "links"};
+static const char *const names[] = {"tree",       "items", "document", "fragment",
+                                    "dead-links", "check", "links"};
 
 static struct typst_html_reply call(enum task task, bool pretty, bool links, struct bytes input,
                                     struct bytes output) {
@@ -27,6 +28,8 @@ static struct typst_html_reply call(enum task task, bool pretty, bool links, str
         return typst_html_check(1000, input.at, input.length, output.at, output.length);
     if (task == LINKS)
         return typst_html_links(1000, input.at, input.length, output.at, output.length);
+    if (task == FRAGMENT)
+        return typst_html_fragment(TYPST_HTML_BLOCK, 50, input.at, input.length, output.at, output.length);
     if (task == DEAD_LINKS)
         return typst_html_dead_links(50, input.at, input.length, output.at, output.length);
     if (task == DOCUMENT)
@@ -71,7 +74,7 @@ int main(int count, char **words) {
     while (task <= LINKS && (count < 2 || strcmp(words[1], names[task])))
         task++;
     if (task > LINKS) {
-        fputs("wanted: example tree|items|document|dead-links|check|links\n", stderr);
+        fputs("wanted: example tree|items|document|fragment|dead-links|check|links\n", stderr);
         return TYPST_HTML_BAD_INPUT;
     }
     for (int i = 2; i < count; i++) {

@@ -29,6 +29,8 @@ static struct typst_html_reply of_row(const struct row *row, uint8_t *output, si
     const uint8_t *input = (const uint8_t *)row->input;
     if (row->kind == DOCUMENT)
         return typst_html_document(row->layout, row->links, row->limit, input, row->length, output, room);
+    if (row->kind == FRAGMENT)
+        return typst_html_fragment(row->level, row->limit, input, row->length, output, room);
     return typst_html_write(row->kind, row->layout, input, row->length, output, room);
 }
 
@@ -169,6 +171,31 @@ static void unused_members_are_listed(void) {
                                             begins_with(output, sizeof output, found, room));
     reply = typst_html_unused(0, json, length, output, room);
     expect("unused members with limit 0", reply.status == TYPST_HTML_BAD_INPUT);
+}
+
+static void fragments_have_a_level_and_a_limit(void) {
+    const char *input = "[[\"text\",\"a \"],[\"el\",\"b\",[],[[\"color\",\"red\"]],[]]]";
+    const char *found = "a <b style=\"color: red\"></b>";
+    const uint8_t *json = (const uint8_t *)input;
+    uint8_t output[64];
+    size_t length = strlen(input), room = strlen(found);
+    memset(output, '.', sizeof output);
+    struct typst_html_reply reply = typst_html_fragment(TYPST_HTML_INLINE, 50, json, length, output, room - 1);
+    expect("a fragment in a short buffer",
+           reply.status == TYPST_HTML_TOO_SHORT && reply.length == room && output[0] == '.');
+    reply = typst_html_fragment(TYPST_HTML_INLINE, 50, json, length, output, room);
+    expect("a fragment", reply.status == TYPST_HTML_DONE && reply.length == room &&
+                             begins_with(output, sizeof output, found, room));
+    bool all = true;
+    for (unsigned level = 2; level < 256; level++) {
+        reply = typst_html_fragment((uint8_t)level, 50, json, length, output, sizeof output);
+        all &= reply.status == TYPST_HTML_BAD_INPUT;
+    }
+    expect("other levels", all);
+    reply = typst_html_fragment(TYPST_HTML_BLOCK, 0, json, length, output, sizeof output);
+    expect("a fragment with limit 0", reply.status == TYPST_HTML_BAD_INPUT);
+    reply = typst_html_fragment(TYPST_HTML_BLOCK, 10001, json, length, output, sizeof output);
+    expect("a fragment with limit 10001", reply.status == TYPST_HTML_BAD_INPUT);
 }
 
 static struct typst_html_reply checked(uint32_t limit, const char *page, uint8_t *output, size_t room) {
@@ -434,6 +461,7 @@ int main(int count, char **words) {
     wrong_numbers_are_bad_input();
     dead_links_are_told();
     unused_members_are_listed();
+    fragments_have_a_level_and_a_limit();
     pages_are_checked();
     misnested_nodes_are_told();
     pages_tell_their_links();

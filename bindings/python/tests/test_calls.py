@@ -24,7 +24,8 @@ from typst_html_proved import Info, Refused, element  # noqa: E402
 from typst_html_proved._library import LIBRARY, Reply  # noqa: E402
 from typst_html_proved._places import left  # noqa: E402
 
-ROWS = rows.rows()
+ROWS = [row for row in rows.rows() if row.kind != rows.KINDS["fragment-text"]]
+FRAGMENTS = [row for row in rows.rows() if row.kind == rows.KINDS["fragment-text"]]
 KINDS = ("tree", "items", "document")
 
 # The ends of rows whose JSON is as deep as the reader accepts, so that it can't be inside an object.
@@ -148,6 +149,26 @@ class Calls(unittest.TestCase):
                     settings = {"pretty": bool(row.layout), "links": bool(row.links), "limit": row.limit}
                     found = outcome(html.write_json, row.input, kind="document", **settings)
                     self.assertEqual(found, wanted(row))
+
+    def test_rows_of_fragments_are_as_the_library_writes_them(self):
+        self.assertGreater(len(FRAGMENTS), 10)
+        for row in FRAGMENTS:
+            settings = {"level": ("block", "inline")[row.level], "limit": row.limit}
+            for call, given in ((html.write_fragment_json, row.input), (html.write_fragment, json.loads(row.input))):
+                with self.subTest((call, row.input)):
+                    self.assertEqual(outcome(call, given, **settings), wanted(row))
+
+    def test_fragments_name_the_item(self):
+        with self.assertRaises(Refused) as caught:
+            html.write_fragment(["a", element("div", element("br", "no"))])
+        self.assertEqual((caught.exception.path, caught.exception.item), ((1, 3, 0), element("br", "no")))
+        with self.assertRaises(html.BadInput) as caught:
+            html.write_fragment_json('[["space"],["role",null,["text",7]]]')
+        self.assertEqual((caught.exception.path, caught.exception.where), ((1, 2), "write_fragment_json(data[1][2])"))
+        for arguments, where in (({"level": "line"}, "level"), ({"limit": 0}, "limit"), ({"limit": 10_001}, "limit")):
+            with self.assertRaises(html.BadInput) as caught:
+                html.write_fragment([], **arguments)
+            self.assertEqual(caught.exception.where, f"write_fragment({where})")
 
     def test_a_short_buffer_stays(self):
         data = b'["el","p",[],[["text","a"]]]'

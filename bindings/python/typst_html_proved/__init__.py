@@ -41,6 +41,7 @@ from __future__ import annotations
 
 import json
 from dataclasses import dataclass, field
+from types import MappingProxyType
 from typing import Any, Final, Iterable, Iterator, Literal, Mapping, Sequence, Union, ValuesView, overload
 
 from ._library import VERSION, Reply, Status, called
@@ -52,9 +53,9 @@ from ._words import WORDS
 
 __all__ = [
     "BREAK", "HOLE", "SPACE", "VERSION", "Attrs", "BadInput", "DeadFragment", "DeadLink", "DeadLinks", "Failure", "Findings",
-    "Info", "Item", "ItemPath", "Items", "Kind", "Mark", "Misnested", "Node", "OtherLibrary", "OutOfMemory", "PageId", "PageLink",
+    "Info", "Item", "ItemPath", "Items", "Kind", "Level", "Mark", "Misnested", "Node", "OtherLibrary", "OutOfMemory", "PageId", "PageLink",
     "PageLinks", "PageName", "Place", "Refused", "RepeatedId", "Texts", "WORDS", "block", "box", "check", "element", "end", "link", "links",
-    "place", "role", "start", "text", "unused", "write", "write_json", "write_tree",
+    "place", "role", "start", "text", "unused", "write", "write_fragment", "write_fragment_json", "write_json", "write_tree",
 ]  # fmt: skip
 
 __version__: Final = "0.1.0"
@@ -93,6 +94,11 @@ Texts = Union[list[str], tuple[str, ...]]
 
 Attrs = Union[Mapping[str, str], Iterable[tuple[str, str]]]
 """Names and values, in their order."""
+
+Level = Literal["block", "inline"]
+"""Where the text of `write_fragment` is put: on lines of its own, or in a line."""
+
+LEVELS: Final[Mapping[str, int]] = MappingProxyType({"block": 0, "inline": 1})
 
 Kind = Literal["tree", "items", "document"]
 """What JSON spells."""
@@ -546,10 +552,10 @@ def _json(value: Any) -> bytes:
 class _Given:
     """What a call is to write: JSON that is given, or a value that JSON can hold."""
 
-    OUTSIDE: Final[Mapping[str, int]] = {"tree": 0, "items": 1, "document": 2}
+    OUTSIDE: Final[Mapping[str, int]] = {"tree": 0, "items": 1, "fragment": 1, "document": 2}
     """How long the paths are, at the least, that lead to items."""
 
-    def __init__(self, call: str, argument: ItemPath, kind: Kind, *, data: bytes = b"", value: Any = None) -> None:
+    def __init__(self, call: str, argument: ItemPath, kind: Kind | Literal["fragment"], *, data: bytes = b"", value: Any = None) -> None:
         self.call, self.argument, self.kind, self.is_json = call, argument, kind, value is None
         self.data, self._value = data, value
         if not self.is_json:
@@ -678,6 +684,43 @@ def unused(items: Items, *, info: Info = Info(), head: Items = (), limit: int = 
     """
     given = _document("unused", items, (), head, info, limit)
     return tuple(json.loads(given.text("typst_html_unused", limit=limit))["unused"])
+
+
+def _fragment(given: _Given, level: Level, limit: int) -> str:
+    """The text of items by themselves."""
+    if level not in LEVELS:
+        raise BadInput(f"{level!r} is no level: block or inline", where=f"{given.call}(level)")
+    _number("the limit", limit, 1, 10_000, f"{given.call}(limit)")
+    return given.text("typst_html_fragment", level=LEVELS[level], limit=limit)
+
+
+def write_fragment(items: Items, *, level: Level = "block", limit: int = 50) -> str:
+    """The text of items by themselves, with no document type, head and body: a piece of a page that another program makes,
+    such as a template engine.
+
+    Put into a `div`, the text is read as the nodes of these items. At the level `block` the spaces of items in plain flow
+    stay; at the level `inline` a space at either end of the text is left as it is. Links get neither anchors nor an
+    `href`, since both depend on the ids of the whole page. Bodies may stand `limit` deep, from 1 to 10,000.
+
+    >>> write_fragment([element("p", "Salt & vinegar", css={"color": "red"})])
+    '<p style="color: red">Salt &amp; vinegar</p>'
+
+    Raises `Refused`, `BadInput` or `OutOfMemory`.
+    """
+    listed = _listed("write_fragment", "items", items)
+    return _fragment(_Given("write_fragment", ("items",), "fragment", value=listed), level, limit)
+
+
+def write_fragment_json(data: bytes | str, *, level: Level = "block", limit: int = 50) -> str:
+    """The text of items by themselves, which a JSON list spells: the items are those of a `document` of `write_json`.
+
+    >>> write_fragment_json('[["text","a < b"]]', level="inline")
+    'a &lt; b'
+
+    Raises `Refused`, `BadInput` or `OutOfMemory`.
+    """
+    given = _Given("write_fragment_json", ("data",), "fragment", data=_bytes(data, "write_fragment_json(data)"))
+    return _fragment(given, level, limit)
 
 
 def write_tree(root: Item, *, pretty: bool = False) -> str:

@@ -49,6 +49,10 @@ DECLARED: Final[Mapping[str, tuple[Any, dict[str, Any]]]] = MappingProxyType({
         "layout": ctypes.c_uint8, "links": ctypes.c_uint8, "limit": ctypes.c_uint32, "input": ctypes.c_char_p,
         "length": ctypes.c_size_t, "output": ctypes.c_void_p, "room": ctypes.c_size_t,
     }),
+    "typst_html_fragment": (Reply, {
+        "level": ctypes.c_uint8, "limit": ctypes.c_uint32, "input": ctypes.c_char_p, "length": ctypes.c_size_t,
+        "output": ctypes.c_void_p, "room": ctypes.c_size_t,
+    }),
     "typst_html_dead_links": (Reply, {
         "limit": ctypes.c_uint32, "input": ctypes.c_char_p, "length": ctypes.c_size_t,
         "output": ctypes.c_void_p, "room": ctypes.c_size_t,

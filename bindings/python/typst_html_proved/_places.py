@@ -108,7 +108,7 @@ def _outermost(kind: str, given: Any) -> Iterator[tuple[ItemPath, Any]]:
     """What stands in no other item."""
     if kind == "tree":
         return iter([((), given)])
-    if kind == "items":
+    if kind in ("items", "fragment"):
         return _listed((), given)
     return chain.from_iterable(_listed((name,), given.get(name, [])) for name in LISTS)
 
@@ -172,7 +172,9 @@ def _forms(kind: str, path: ItemPath) -> Forms:
     """The forms of what stands there."""
     if kind == "tree":
         return NODES if path else {"el": NODES["el"]}
-    return ITEMS if kind == "items" else NODES if path[0] == "head" else ITEMS_OF_DOCUMENTS
+    if kind == "items":
+        return ITEMS
+    return NODES if kind == "document" and path[0] == "head" else ITEMS_OF_DOCUMENTS
 
 
 def left(kind: str, given: Any) -> Spot | None:

@@ -157,6 +157,15 @@ pub enum Kind {
     Items,
 }
 
+/// Where the text of a fragment is put.
+#[derive(Clone, Copy, Debug, PartialEq, Eq)]
+pub enum Level {
+    /// On lines of its own: in a `div`, say. The spaces of items in plain flow stay.
+    Block,
+    /// In a line: in a `p`, say. A space at either end of the text is left as it is.
+    Inline,
+}
+
 /// The version of the calls of the library that is linked, to be compared with [`VERSION`].
 pub fn version() -> u32 {
     raw::version()
@@ -174,6 +183,42 @@ pub fn write_tree(root: &Element, pretty: bool) -> Result<String, Refusal> {
     let given = Given::Tree(root);
     let json = spelled(root, given)?;
     raw::write(Kind::Tree, pretty, &json).map_err(|refusal| refusal.located(given))
+}
+
+/// The text of items by themselves, with no document type, head and body: a piece of a page that another
+/// program makes, such as a template engine.
+///
+/// Put into a `div`, the text is read as the nodes of these items. Links get neither anchors nor an `href`,
+/// since both depend on the ids of the whole page. Bodies may stand `limit` deep, from 1 to 10,000.
+/// [`ItemPath::item_in`] gives the item of a refusal.
+///
+/// ```
+/// use typst_html_proved::{write_fragment, Element, Level, Refusal};
+///
+/// let card = Element::new("p").css("color", "red").child("Salt & vinegar");
+/// let text = write_fragment(&[card.into()], Level::Block, 50)?;
+/// assert_eq!(text, r#"<p style="color: red">Salt &amp; vinegar</p>"#);
+/// # Ok::<(), Refusal>(())
+/// ```
+pub fn write_fragment(items: &[Item], level: Level, limit: u32) -> Result<String, Refusal> {
+    let given = Given::Fragment(items);
+    let json = spelled(&items, given)?;
+    raw::fragment(level, limit, &json).map_err(|refusal| refusal.located(given))
+}
+
+/// The text of items by themselves, which a JSON list spells: the items are those of
+/// [`write_document_json`].
+///
+/// ```
+/// use typst_html_proved::{write_fragment_json, Level, Refusal};
+///
+/// let text = write_fragment_json(br#"[["text","a < b"]]"#, Level::Inline, 50)?;
+/// assert_eq!(text, "a &lt; b");
+/// # Ok::<(), Refusal>(())
+/// ```
+pub fn write_fragment_json(json: &[u8], level: Level, limit: u32) -> Result<String, Refusal> {
+    let given = Given::Json(Form::Fragment, json);
+    raw::fragment(level, limit, json).map_err(|refusal| refusal.located(given))
 }
 
 /// The text of a tree or of the document of a list of items, which JSON spells. Where it is refused or bad,

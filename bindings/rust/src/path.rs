@@ -35,6 +35,20 @@ impl ItemPath {
         &self.0
     }
 
+    /// The item in these to which the path leads that [`write_fragment`](crate::write_fragment) told.
+    ///
+    /// ```
+    /// use typst_html_proved::{write_fragment, Element, Item, Level};
+    ///
+    /// let items: [Item; 2] = ["a".into(), Element::new("br").child("no").into()];
+    /// let refusal = write_fragment(&items, Level::Block, 50).unwrap_err();
+    /// let item = refusal.path().and_then(|path| path.item_in(&items));
+    /// assert_eq!(item.unwrap().to_string(), "<br>");
+    /// ```
+    pub fn item_in<'a>(&self, items: &'a [Item]) -> Option<&'a Item> {
+        item_in(items, self.steps())
+    }
+
     fn of(name: &str) -> ItemPath {
         ItemPath(vec![Step::Name(name.to_owned())])
     }
@@ -269,6 +283,7 @@ pub(crate) enum Form {
     Tree,
     Items,
     Document,
+    Fragment,
 }
 
 /// What is written, of which places are told.
@@ -276,6 +291,7 @@ pub(crate) enum Form {
 pub(crate) enum Given<'a> {
     Document(&'a Document),
     Tree(&'a Element),
+    Fragment(&'a [Item]),
     Json(Form, &'a [u8]),
 }
 
@@ -312,6 +328,9 @@ impl Given<'_> {
                 let _root = note(&[], 1);
                 nodes_of(root, |_: &Item, path, number| note(path, number))
             }
+            Given::Fragment(items) => {
+                Walk::new(|_: &Item, path: &[Step], number| note(path, number)).parts(items)
+            }
         };
         found
     }
@@ -336,7 +355,7 @@ impl Given<'_> {
                 let value = serde_json::from_slice(json).unwrap_or_default();
                 spots(form, &value, |value, path, _| note(value.name(), path))
             }
-            Given::Tree(_) => Continue(()),
+            Given::Tree(_) | Given::Fragment(_) => Continue(()),
         };
         found
     }
@@ -363,6 +382,7 @@ impl Given<'_> {
         let _ended = match self {
             Given::Document(document) => items_of(document, see),
             Given::Tree(root) => nodes_of(root, see),
+            Given::Fragment(items) => Walk::new(see).parts(items),
             Given::Json(..) => Continue(()),
         };
         found
@@ -406,7 +426,7 @@ where
     };
     match form {
         Form::Tree => walk.part(value),
-        Form::Items => listed(&mut walk, value),
+        Form::Items | Form::Fragment => listed(&mut walk, value),
         Form::Document => {
             for name in LISTS {
                 if let Some(value) = value.get(name) {
@@ -432,7 +452,7 @@ fn left_in(form: Form, value: &Value) -> Option<ItemPath> {
             Form::Tree => is_node(value, path.is_empty()),
             Form::Items => is_item(value),
             Form::Document if is_in_head(path) => is_node(value, false),
-            Form::Document => is_item_of_document(value),
+            Form::Document | Form::Fragment => is_item_of_document(value),
         };
         // Tags have names or numbers, never both.
         if fits && is_named(value).map_or(true, |named| *tagged.get_or_insert(named) == named) {

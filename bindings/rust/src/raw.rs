@@ -1,6 +1,6 @@
 //! The calls of the static library, as typst_html.h has them.
 
-use crate::{Kind, Options, Place, Refusal, VERSION};
+use crate::{Kind, Level, Options, Place, Refusal, VERSION};
 use std::sync::atomic::{AtomicBool, Ordering::Relaxed};
 use std::sync::Once;
 
@@ -65,6 +65,15 @@ extern "C" {
     fn typst_html_document(
         layout: u8,
         links: u8,
+        limit: u32,
+        input: *const u8,
+        length: usize,
+        output: *mut u8,
+        room: usize,
+    ) -> Reply;
+
+    fn typst_html_fragment(
+        level: u8,
         limit: u32,
         input: *const u8,
         length: usize,
@@ -151,6 +160,27 @@ pub(crate) fn document(options: Options, input: &[u8]) -> Result<(String, bool),
                 options.pretty.into(),
                 options.links.into(),
                 options.limit,
+                input.as_ptr(),
+                input.len(),
+                output.as_mut_ptr(),
+                output.len(),
+            )
+        }
+    })
+}
+
+/// The text of items by themselves.
+pub(crate) fn fragment(level: Level, limit: u32, input: &[u8]) -> Result<String, Refusal> {
+    let level = match level {
+        Level::Block => 0,
+        Level::Inline => 1,
+    };
+    text_by(input.len(), Reply::of_json, |output| {
+        // SAFETY: as in `write`.
+        unsafe {
+            typst_html_fragment(
+                level,
+                limit,
                 input.as_ptr(),
                 input.len(),
                 output.as_mut_ptr(),

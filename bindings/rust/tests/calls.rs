@@ -64,9 +64,27 @@ fn dead_links(listed: &str) -> Vec<(u64, u64)> {
         .collect()
 }
 
-fn row(value: &Value) -> Row {
-    let number = |name: &str| value[name].as_u64().unwrap();
+fn number(value: &Value, name: &str) -> u64 {
+    value[name].as_u64().unwrap()
+}
+
+fn wanted(value: &Value) -> Told {
+    let number = |name: &str| number(value, name);
     let text = |name: &str| String::from_utf8(bytes(&value[name])).unwrap();
+    match number("status") {
+        0 => Told::Text(text("text")),
+        5 => Told::DeadLinks(text("text"), dead_links(&text("dead"))),
+        1 => Told::Refused(number("number") as u8, number("span")),
+        _ => Told::BadInput(
+            number("span"),
+            number("line") as usize,
+            number("column") as usize,
+        ),
+    }
+}
+
+fn row(value: &Value) -> Row {
+    let number = |name: &str| number(value, name);
     Row {
         kind: [Some(Kind::Tree), Some(Kind::Items), None][number("kind") as usize],
         options: Options::new()
@@ -74,27 +92,27 @@ fn row(value: &Value) -> Row {
             .links(number("links") == 1)
             .limit(number("limit") as u32),
         input: bytes(&value["input"]),
-        wanted: match number("status") {
-            0 => Told::Text(text("text")),
-            5 => Told::DeadLinks(text("text"), dead_links(&text("dead"))),
-            1 => Told::Refused(number("number") as u8, number("span")),
-            _ => Told::BadInput(
-                number("span"),
-                number("line") as usize,
-                number("column") as usize,
-            ),
-        },
+        wanted: wanted(value),
     }
 }
 
+/// The number of the kind of rows that are about items by themselves.
+const FRAGMENT: u64 = 3;
+
 /// The rows of crates/tests_rows, which bindings/rows.py writes into the file that TYPST_HTML_ROWS
 /// names.
-fn rows() -> Vec<Row> {
+fn all_rows() -> Vec<Value> {
     let path = std::env::var("TYPST_HTML_ROWS")
         .unwrap_or_else(|_| format!("{}/../out/rows.json", env!("CARGO_MANIFEST_DIR")));
     let text = std::fs::read(&path).unwrap_or_else(|error| panic!("{path}: {error}"));
-    let found: Vec<Value> = serde_json::from_slice(&text).unwrap();
-    found.iter().map(row).collect()
+    serde_json::from_slice(&text).unwrap()
+}
+
+/// The rows about trees, items and documents.
+fn rows() -> Vec<Row> {
+    let all = all_rows();
+    let others = all.iter().filter(|value| number(value, "kind") != FRAGMENT);
+    others.map(row).collect()
 }
 
 /// How rows end whose JSON is as deep as it is read, so that it can't stand in an object.
@@ -201,6 +219,47 @@ fn documents_without_information_are_their_items() {
             }
         }
     }
+}
+
+/// From JSON and from items that are read of it, with the item of a refusal.
+#[test]
+fn rows_of_fragments_are_as_the_library_writes_them() {
+    let all = all_rows();
+    let mut seen = 0;
+    for value in all.iter().filter(|value| number(value, "kind") == FRAGMENT) {
+        let json = bytes(&value["input"]);
+        let level = [Level::Block, Level::Inline][number(value, "level") as usize];
+        let limit = number(value, "limit") as u32;
+        let items: Vec<Item> = serde_json::from_slice(&json).unwrap();
+        let written = write_fragment_json(&json, level, limit);
+        assert_eq!(told(&written), wanted(value));
+        assert_eq!(write_fragment(&items, level, limit), written);
+        if let Err(refusal) = written {
+            let path = refusal.path().unwrap();
+            let there = path.item_in(&items).unwrap();
+            let given: Value = serde_json::from_slice(&json).unwrap();
+            assert_eq!(&serde_json::to_value(there).unwrap(), at(&given, path));
+        }
+        seen += 1;
+    }
+    assert!(seen > 10, "{seen}");
+}
+
+#[test]
+fn fragments_have_the_forms_of_documents() {
+    let json = br#"[["role","note",["el","div",[],[["color","red"]],[["text","a"]]]]]"#;
+    let text = write_fragment_json(json, Level::Block, 50).unwrap();
+    assert_eq!(text, r#"<div role="note" style="color: red">a</div>"#);
+    let refusal = write_fragment_json(br#"[["space"],["role",null,["text",7]]]"#, Level::Block, 50);
+    assert_eq!(refusal.unwrap_err().to_string(), "bad input at 3, [1][2]");
+    let refusal = write_fragment_json(br#"{"items":[]}"#, Level::Block, 50);
+    assert_eq!(refusal.unwrap_err().path().unwrap().steps(), []);
+    for limit in [0, 10_001] {
+        let refusal = write_fragment(&["a".into()], Level::Block, limit);
+        assert!(matches!(refusal, Err(Refusal::BadInput { .. })));
+    }
+    let refusal = write_fragment_json(br#"[["el","p","#, Level::Block, 50).unwrap_err();
+    assert_eq!((refusal.span(), refusal.path()), (0, None));
 }
 
 #[test]

@@ -69,6 +69,18 @@ extern "C" fn typst_html_document(
 }
 
 #[no_mangle]
+extern "C" fn typst_html_fragment(
+    _: u8,
+    _: u32,
+    _: *const u8,
+    _: usize,
+    _: *mut u8,
+    _: usize,
+) -> Reply {
+    reply(11)
+}
+
+#[no_mangle]
 extern "C" fn typst_html_dead_links(_: u32, _: *const u8, _: usize, _: *mut u8, _: usize) -> Reply {
     reply(8)
 }
@@ -98,6 +110,8 @@ fn all_are_refused() {
     }
     let document = write(&Document::new(), Options::new());
     assert_eq!(document, Err(Refusal::OtherLibrary));
+    let fragment = write_fragment(&[], Level::Block, 50);
+    assert_eq!(fragment, Err(Refusal::OtherLibrary));
     assert_eq!(unused(&Document::new(), 50), Err(Refusal::OtherLibrary));
     assert_eq!(check("", 50), Err(Refusal::OtherLibrary));
     assert_eq!(links("", 50), Err(Refusal::OtherLibrary));
@@ -110,7 +124,7 @@ fn another_library_is_told() {
         LINKED.store(VERSION + 1, SeqCst);
     }
     all_are_refused();
-    let wanted = if is_other { 0 } else { 8 };
+    let wanted = if is_other { 0 } else { 9 };
     assert_eq!(CALLS.load(SeqCst), wanted, "another version is not called");
     // It is looked at once.
     LINKED.store(VERSION + 2, SeqCst);

@@ -8,4 +8,5 @@ pub mod PageRoots
 pub mod NestingRules
 pub mod Misnested
 pub mod MisnestedViews
+pub mod MisnestingWords
 pub mod Walks

@@ -1,5 +1,8 @@
 //! Why a browser does not leave a node where it is.
 
+ghost use Rattle.std.specs.Prelude.{◌≡◌};
+ghost use Rattle.html_dom_nest.specs.MisnestingWords.{rule_words};
+
 use std::fmt;
 
 /// Why a browser does not leave a node where it is when it parses the written text (HTML Standard
@@ -76,7 +79,11 @@ pub enum Misnesting {
 }
 
 impl Misnesting {
-    fn words(self) -> &'static str {
+    /// Returns what becomes of the node, in English: `closes the p that it stands in`.
+    #[tactic(auto, unfolding(crate::specs::MisnestingWords::rule_words))]
+    pub fn words(self) -> &'static str
+        ensures { result.now ≡ rule_words self }
+    {
         match self {
             Misnesting::NoPage => "is no html with a head and a body alone",
             Misnesting::TooDeep => "stands too deep, and is put beside its parent",

@@ -11,6 +11,7 @@
 #![tactic(auto)]
 
 mod documents;
+mod fragment;
 mod program;
 mod recorded;
 mod status;
@@ -19,6 +20,7 @@ mod whole;
 mod words;
 
 pub use documents::{DocumentText, Settings, text_of_document};
+pub use fragment::text_of_fragment;
 pub use html_tool_spell::{Fault, InputPlace, element_in, items_in};
 pub use program::{run, run_recorded, text_of_input};
 pub use recorded::{LastCall, Recorded, WriteFailed};

@@ -13,10 +13,9 @@ use Rattle.html_tool_spell.specs.Marks.{at_start}
 use Rattle.html_tool_spell.specs.NameRefusals.{item_refusals, items_refusals}
 use Rattle.html_tool_spell.specs.Reading.{IsRead, mark, part_refusals}
 use Rattle.html_tool_spell.specs.Refusals.{IsFirst}
-use Rattle.html_tool_spell.specs.SpelledItems.{Part, element_made, with_part, spelled_part, spelled_list, list_at, spelled_items}
+use Rattle.html_tool_spell.specs.SpelledItems.{Part, element_made, with_part, spelled_part, spelled_list, list_at, items_at}
 use Rattle.html_tool_spell.specs.declared.fault.Fault.TheVariants.{Refused}
 use Rattle.html_tool_spell.specs.declared.input_forms.Forms.{Forms}
-use Rattle.html_tool_spell.specs.declared.input_forms.Forms.TheVariants.{Program}
 use Rattle.html_tool_spell.specs.declared.reader.Reader.{Reader}
 
 pub none_clean : items_refusals flow.no_items ≡ []
@@ -60,11 +59,12 @@ pub box_same : (span : ℕ) (items : ItemsView)
 unfolding item_refusals
 box_same span items = refl
 
-pub told_items : (d : Data) (made : ItemsView) (before after : Reader) (code : ℕ) (span : Span)
+pub told_items : (forms : Forms) (d : Data) (made : ItemsView) (before after : Reader) (code : ℕ)
+    (span : Span)
     → mark before ≡ at_start → before.refused ≡ None → after.refused ≡ Some (code, span)
-    → IsRead items_refusals made (list_at Program d (mark before)) before after
-    → IsOkAnd (spelled_items d) (λ items. IsFirst (Refused code span) (items_refusals items))
-told_items d made before after code span first clear is r =
+    → IsRead items_refusals made (list_at forms d (mark before)) before after
+    → IsOkAnd (items_at forms d) (λ items. IsFirst (Refused code span) (items_refusals items))
+told_items forms d made before after code span first clear is r =
     rw (← first, r.spelled)
-    (refused_whole items_refusals made (list_at Program d (mark before)) before after code span clear
+    (refused_whole items_refusals made (list_at forms d (mark before)) before after code span clear
     is r)

@@ -166,6 +166,14 @@ abbrev pub part_of_kind : Forms → Kind → Items → Mark → Left (Part × Ma
 part_of_kind forms kind fields m =
     part_from kind (item_of_kind forms kind fields m) (role_form forms fields m)
 
--- the items that a list spells, in the forms of the program
+-- the items that a list spells, in these forms
+abbrev pub items_at : Forms → Data → Left ItemsView
+items_at forms d = mapped (λ p. p.0) (list_at forms d at_start)
+
+-- in the forms of the program
 abbrev pub spelled_items : Data → Left ItemsView
-spelled_items d = mapped (λ p. p.0) (list_at Program d at_start)
+spelled_items = items_at Program
+
+-- and in those of documents
+abbrev pub spelled_document_items : Data → Left ItemsView
+spelled_document_items = items_at Document

@@ -7,7 +7,8 @@ ghost use Rattle.html_flow_convert.specs.Items.{tag_item, space_item, break_item
 ghost use Rattle.html_flow_convert.specs.Views.{role_view};
 ghost use Rattle.html_tool_spell.specs.Fields.{numbered_leaf, text_at, pairs_at, element_from};
 ghost use Rattle.html_tool_spell.specs.Reading.{ReadsItem, ReadsItems, ReadsPart, mark};
-ghost use Rattle.html_tool_spell.specs.SpelledItems.{spelled_items, spelled_part, part_form, part_of_kind, item_of_kind};
+ghost use Rattle.html_tool_spell.specs.SpelledItems.{items_at, spelled_document_items, spelled_items};
+ghost use Rattle.html_tool_spell.specs.SpelledItems.{spelled_part, part_form, part_of_kind, item_of_kind};
 ghost use Rattle.html_tool_spell.specs.SpelledItems.{element_form, block_form, box_form, body_form, role_form};
 ghost use Rattle.html_tool_spell.specs.SpelledItems.{lone, spelled_link, spelled_place, spelled_text};
 ghost use Rattle.html_tool_spell.specs.SpelledItems.{css_at, element_made, is_role, list_at, role_at, role_from};
@@ -39,8 +40,22 @@ pub fn items_in(alloc: Global, value: &Value) -> Result<Vec<Pair>, Fault>
 pub fn into_items(alloc: Global, value: Value) -> Result<Vec<Pair>, Fault>
     ensures { GivesItems result (spelled_items (view value)) }
 {
+    items_by(alloc, Forms::Program, value)
+}
+
+/// Returns the items that a value spells in the forms of documents, which are more than those of
+/// [`into_items`]: those of [`document_in`](crate::document_in). Consumes the value.
+pub fn document_items_in(alloc: Global, value: Value) -> Result<Vec<Pair>, Fault>
+    ensures { GivesItems result (spelled_document_items (view value)) }
+{
+    items_by(alloc, Forms::Document, value)
+}
+
+fn items_by(alloc: Global, forms: Forms, value: Value) -> Result<Vec<Pair>, Fault>
+    ensures { GivesItems result (items_at forms (view value)) }
+{
     let mut reader = Reader::new(alloc);
-    let items = list_of(&mut reader, Forms::Program, value)?;
+    let items = list_of(&mut reader, forms, value)?;
     match reader.refused() {
         Some((number, span)) => Err(Fault::Refused(number, span)),
         None => Ok(items),

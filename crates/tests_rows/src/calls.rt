@@ -54,8 +54,8 @@
 //! For an input of the library for C, its reply and its buffer, which had `room=N` points:
 //!
 //! - `c-write [kind=N] [layout=N]`, `c-document [layout=N] [links=N] [limit=N]`,
-//!   `c-dead-links [limit=N]`, `c-check [limit=N]`, `c-links [limit=N]`, by default with limit 50
-//!   and else 0
+//!   `c-fragment [level=N] [limit=N]`, `c-dead-links [limit=N]`, `c-unused [limit=N]`,
+//!   `c-check [limit=N]`, `c-links [limit=N]`, by default with limit 50 and else 0
 //! - `c-version`: the version of these calls
 //!
 //! A refusal is `refused`, its number, `at` and its span.
@@ -98,8 +98,8 @@ impl Caller for Library {
             "dead-fragments" => checks::dead_fragment_list(alloc, row),
             "repeated-ids" => checks::repeated_id_list(alloc, row),
             "misnested" => checks::misnested_list(alloc, row),
-            "c-check" | "c-dead-links" | "c-document" | "c-links" | "c-unused" | "c-write" =>
-                replies::reply(alloc, row, call),
+            "c-check" | "c-dead-links" | "c-document" | "c-fragment" | "c-links" | "c-unused"
+            | "c-write" => replies::reply(alloc, row, call),
             "c-version" => replies::version(alloc),
             _ => runs::output(alloc, row),
         }

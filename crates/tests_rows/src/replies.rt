@@ -4,8 +4,8 @@ use anyhow::Result;
 use std::alloc::Global;
 use tests_rows_run::Row;
 use typst_html_c::{
-    Reply, typst_html_check, typst_html_dead_links, typst_html_document, typst_html_links,
-    typst_html_unused, typst_html_version, typst_html_write,
+    Reply, typst_html_check, typst_html_dead_links, typst_html_document, typst_html_fragment,
+    typst_html_links, typst_html_unused, typst_html_version, typst_html_write,
 };
 
 /// Returns the reply to a call whose buffer is full of points, and the buffer after it.
@@ -20,6 +20,9 @@ fn reply_to(alloc: Global, row: &Row<'_>, call: &str, output: &mut [u8]) -> Resu
     Ok(match call {
         "c-check" => typst_html_check(alloc, limit, &row.input, output),
         "c-dead-links" => typst_html_dead_links(alloc, limit, &row.input, output),
+        "c-fragment" => {
+            typst_html_fragment(alloc, small(row, "level")?, limit, &row.input, output)
+        }
         "c-links" => typst_html_links(alloc, limit, &row.input, output),
         "c-unused" => typst_html_unused(alloc, limit, &row.input, output),
         "c-document" => {

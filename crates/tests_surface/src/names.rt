@@ -40,7 +40,7 @@ mod values {
 mod program {
     use html_tool_run::{
         DocumentText, Fault, InputPlace, LastCall, Recorded, Settings, Status, Task, WriteFailed,
-        element_in, items_in, run, run_recorded, text_of_document, text_of_input,
+        element_in, items_in, run, run_recorded, text_of_document, text_of_fragment, text_of_input,
         unused_of_document, wanted_task, words_of,
     };
 }

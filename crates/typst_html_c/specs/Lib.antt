@@ -1,6 +1,7 @@
 pub mod CallReplies
 pub mod DeadLinks
 pub mod FindingLists
+pub mod Fragments
 pub mod MisnestedNodes
 pub mod PageFindings
 pub mod PageLinks

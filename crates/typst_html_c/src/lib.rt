@@ -11,6 +11,7 @@ ghost use Rattle.html_tool_run.specs.DocumentAnswers.{text_given};
 ghost use Rattle.html_tool_run.specs.Replies.{GivesAnswerAt};
 ghost use Rattle.typst_html_c.specs.CallReplies.{RepliesAt, RepliesWithAt, call_dead_links, document_call_answer, write_answer};
 ghost use Rattle.typst_html_c.specs.DeadLinks.{dead_links_answer};
+ghost use Rattle.typst_html_c.specs.Fragments.{fragment_call_answer};
 ghost use Rattle.typst_html_c.specs.PageFindings.{check_told};
 ghost use Rattle.typst_html_c.specs.PageLinks.{links_told};
 ghost use Rattle.typst_html_c.specs.PageTold.{Tells};
@@ -28,9 +29,10 @@ mod told;
 
 use dead_links::dead_links_text;
 use html_tool_run::{
-    DocumentText, Fault, InputPlace, text_of_document, text_of_input, unused_of_document,
+    DocumentText, Fault, InputPlace, text_of_document, text_of_fragment, text_of_input,
+    unused_of_document,
 };
-use numbers::{limit_of, wanted_settings, wanted_task};
+use numbers::{limit_of, wanted_fragment, wanted_settings, wanted_task};
 pub use reply::Reply;
 use reply::{reply_with, reply_with_document};
 use std::alloc::Global;
@@ -120,6 +122,38 @@ pub fn typst_html_document(
 {
     let made = text_of_settings(alloc, layout, links, limit, input);
     reply_with_document(made, output)
+}
+
+/// Returns the text of the items that the input spells, by themselves, if both numbers are right.
+fn fragment_of(alloc: Global, level: u8, limit: u32, input: &[u8]) -> Result<String, Fault>
+    ensures { GivesAnswerAt result (fragment_call_answer level limit input.now) }
+{
+    match wanted_fragment(level, limit) {
+        Some((level, limit)) => text_of_fragment(alloc, input, level, limit),
+        None => Err(Fault::BadInput(InputPlace::Unknown)),
+    }
+}
+
+/// Makes the HTML text of the items that the input spells in JSON, a list, with no document type, head
+/// and body: a piece of a page that another program makes, such as a template engine. The text is copied
+/// into the buffer, where it fits.
+///
+/// The items have the forms of those of [`typst_html_document`]. The level says where the text is put:
+/// on lines of its own (0) or in a line (1). Links get neither anchors nor an `href`, since both depend on
+/// the ids of the whole page. The text is that of [`text_of_fragment`]; another level or limit is bad
+/// input without a place. Buffers and replies are those of [`typst_html_write`].
+pub fn typst_html_fragment(
+    alloc: Global,
+    level: u8,
+    limit: u32,
+    input: &[u8],
+    output: &mut [u8],
+) -> Reply
+    ensures answered { RepliesAt (fragment_call_answer level limit input.now)
+        output.old result output.new }
+    ensures kept { ¬ (result.status ≡ 0) → output.new ≡ output.old }
+{
+    reply_with(fragment_of(alloc, level, limit, input), output)
 }
 
 /// The links that lead nowhere in the document that the input spells, as JSON.

@@ -4,7 +4,7 @@ ghost use Rattle.std.specs.Prelude.{◌≡◌, ◌++◌, chars, string_bytes, On
 ghost use Rattle.serde_json.specs.Written.{compact_text};
 ghost use Rattle.html_dom_nest.specs.MisnestedViews.{finding_view, findings_view};
 ghost use Rattle.typst_html_parse.specs.PlaceViews.{text_of};
-ghost use Rattle.typst_html_c.specs.MisnestedNodes.{misnested_data, misnested_node, rule_name, rule_words};
+ghost use Rattle.typst_html_c.specs.MisnestedNodes.{misnested_data, misnested_node, rule_name};
 
 use crate::lists::{push_comma_if, push_key, push_string, push_where};
 use html_dom_nest::{Misnested, Misnesting};
@@ -52,7 +52,7 @@ fn push_node(
     push_key(alloc, text, false, "rule")?;
     push_string(alloc, text, rule_name(node.why))?;
     push_key(alloc, text, true, "why")?;
-    push_string(alloc, text, rule_words(node.why))?;
+    push_string(alloc, text, node.why.words())?;
     push_where(alloc, text, previous, &node.path, place)?;
     Ok(())
 }
@@ -90,41 +90,5 @@ fn rule_name(rule: Misnesting) -> &'static str
         Misnesting::ClosesRubyPart => "ClosesRubyPart",
         Misnesting::LeavesForeign => "LeavesForeign",
         Misnesting::Filled => "Filled",
-    }
-}
-
-/// What becomes of a node that breaks it.
-#[tactic(auto, unfolding(crate::specs::MisnestedNodes::rule_words))]
-fn rule_words(rule: Misnesting) -> &'static str
-    ensures { result.now ≡ rule_words rule }
-{
-    match rule {
-        Misnesting::NoPage => "is no html with a head and a body alone",
-        Misnesting::TooDeep => "stands too deep, and is put beside its parent",
-        Misnesting::TagName => "has a name that is read otherwise",
-        Misnesting::AttributeName => "has an attribute whose name is read otherwise",
-        Misnesting::RepeatedAttribute => "has an attribute twice, and loses one",
-        Misnesting::CarriageReturn => "has a carriage return, which is read as a line feed",
-        Misnesting::StaysOpen => "has no end tag here, and holds what follows",
-        Misnesting::UnreadEnd => "has an end tag that is not read, and loses what it holds",
-        Misnesting::RawText => "holds elements or references, which are read as text",
-        Misnesting::ForeignText => "has a & or < in svg or math, which is no text there",
-        Misnesting::FirstLineFeed => "begins with a line feed, which is not read as one",
-        Misnesting::ScriptComment => "has a <!--, behind which it may not end",
-        Misnesting::NotInHead => "closes the head or noscript that it stands in",
-        Misnesting::NotInTable => "is moved before the table that it stands in",
-        Misnesting::NotInColumns => "closes the colgroup that it stands in",
-        Misnesting::OutsideTable => "is dropped outside of its part of a table",
-        Misnesting::NeverRead => "is ignored here, or read as another",
-        Misnesting::FormInForm => "is ignored in a form",
-        Misnesting::ClosesParagraph => "closes the p that it stands in",
-        Misnesting::ClosesHeading => "closes the heading that it stands in",
-        Misnesting::ClosesItem => "closes the li, dd or dt that it stands in",
-        Misnesting::ClosesSame => "closes the one of its name that it stands in",
-        Misnesting::ClosesOption => "closes the option or the part of a select that it stands in",
-        Misnesting::ClosesSelect => "closes the select that it stands in",
-        Misnesting::ClosesRubyPart => "closes the part of a ruby that it stands in",
-        Misnesting::LeavesForeign => "closes the svg or math that it stands in",
-        Misnesting::Filled => "is filled with what the chosen option holds",
     }
 }

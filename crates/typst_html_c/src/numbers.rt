@@ -2,7 +2,9 @@
 
 ghost use Rattle.std.specs.Prelude.{◌≡◌};
 ghost use Rattle.typst_html_c.specs.CallReplies.{limit_of, page_limit_of, pretty_of, task_of, yes_or_no, wanted_settings, wanted_task};
+ghost use Rattle.typst_html_c.specs.Fragments.{level_of, wanted_fragment};
 
+use html_flow_convert::ConversionLevel;
 use html_tool_run::{Settings, Task};
 
 /// The task, and whether pretty text is wanted, where both numbers are right.
@@ -31,6 +33,23 @@ pub(crate) fn wanted_settings(layout: u8, links: u8, limit: u32) -> Option<Setti
         links: yes_or_no(links)?,
         limit: limit_of(limit)?,
     })
+}
+
+/// The level of items by themselves and how deep their bodies may stand, where both numbers are right.
+pub(crate) fn wanted_fragment(level: u8, limit: u32) -> Option<(ConversionLevel, usize)>
+    ensures { result ≡ wanted_fragment level limit }
+{
+    Some((level_of(level)?, limit_of(limit)?))
+}
+
+fn level_of(level: u8) -> Option<ConversionLevel>
+    ensures { result ≡ level_of level }
+{
+    match level {
+        0 => Some(ConversionLevel::Block),
+        1 => Some(ConversionLevel::Inline),
+        _ => None,
+    }
 }
 
 fn pretty_of(layout: u8) -> Option<bool>

@@ -4,6 +4,7 @@
 ghost use Rattle.std.specs.Prelude.{◌≡◌};
 ghost use Rattle.typst_html_c.specs.CallReplies.{RepliesAt, RepliesWithAt, call_dead_links, document_call_answer, write_answer};
 ghost use Rattle.typst_html_c.specs.DeadLinks.{dead_links_answer};
+ghost use Rattle.typst_html_c.specs.Fragments.{fragment_call_answer};
 ghost use Rattle.typst_html_c.specs.PageFindings.{check_told};
 ghost use Rattle.typst_html_c.specs.PageLinks.{links_told};
 ghost use Rattle.typst_html_c.specs.PageTold.{Tells};
@@ -50,6 +51,22 @@ pub extern "C" fn typst_html_document(
     ensures kept { ¬ (result.status ≡ 0) → ¬ (result.status ≡ 5) → output.new ≡ output.old }
 {
     typst_html_c::typst_html_document(alloc, layout, links, limit, input, output)
+}
+
+/// Calls [`typst_html_c::typst_html_fragment`].
+#[unsafe(no_mangle)]
+pub extern "C" fn typst_html_fragment(
+    alloc: Global,
+    level: u8,
+    limit: u32,
+    input: &[u8],
+    output: &mut [u8],
+) -> Reply
+    ensures answered { RepliesAt (fragment_call_answer level limit input.now)
+        output.old result output.new }
+    ensures kept { ¬ (result.status ≡ 0) → output.new ≡ output.old }
+{
+    typst_html_c::typst_html_fragment(alloc, level, limit, input, output)
 }
 
 /// Calls [`typst_html_c::typst_html_dead_links`].

@@ -5,7 +5,8 @@ use Rattle.html_dom_nest.specs.MisnestedViews.{finding_view}
 use Rattle.typst_html_parse.specs.PagePlaces.{place_at}
 use Rattle.typst_html_parse.specs.PlaceViews.{text_of}
 use Rattle.typst_html_c.specs.FindingLists.{where_behind}
-use Rattle.typst_html_c.specs.MisnestedNodes.{rule_name, rule_words}
+use Rattle.html_dom_nest.specs.MisnestingWords.{rule_words}
+use Rattle.typst_html_c.specs.MisnestedNodes.{rule_name}
 use Rattle.typst_html_c.proofs.Pages.{no_member_yet, one_more_member}
 use Rattle.typst_html_c.proofs.misnested.push_node.Goals as goal
 
@@ -31,4 +32,4 @@ returns-clause-text c =
     c.in_ok-push_key.ensures (c.in_ok-push_string.ensures
     ∙ ap (λ name. named ++ compact_text (string name)) c.rule_name.ensures))
     c.in_ok-push_key-2.ensures (c.in_ok-push_string-2.ensures
-    ∙ ap (λ words. worded ++ compact_text (string words)) c.rule_words.ensures)))
+    ∙ ap (λ words. worded ++ compact_text (string words)) c.words.ensures)))
